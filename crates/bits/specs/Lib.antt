@@ -1,0 +1,5 @@
+pub mod Pick
+pub mod First
+pub mod Bit
+pub mod Little
+pub mod Laid

@@ -1,0 +1,275 @@
+//! Frames: one table of fields for each kind. Reading, writing and cutting
+//! follow the tables and know nothing else about a kind.
+
+/// Refusal numbers of this layer.
+pub const BAD_FRAME: u8 = 24;
+pub const BAD_VALUE: u8 = 25;
+pub const NO_ROOM: u8 = 26;
+
+/// The one kind whose length is not fixed.
+pub const DATA: u8 = 0x46;
+
+/// A data frame: 4 bytes of header, then the payload.
+const DATA_HEADER: usize = 4;
+
+/// Neighbouring bits: `bits` of them, from bit `at` of the bytes (bit 0 of
+/// byte 0 comes first), standing for the value's bits from `to` upwards.
+#[derive(Clone, Copy)]
+struct Run {
+    at: usize,
+    to: usize,
+    bits: usize,
+}
+
+/// A named field. None has more than two runs of bits.
+pub struct Field {
+    pub name: &'static str,
+    runs: [Run; 2],
+}
+
+const NO_RUN: Run = Run { at: 0, to: 0, bits: 0 };
+
+const fn run(byte: usize, low: usize, to: usize, bits: usize) -> Run {
+    Run { at: 8 * byte + low, to: to, bits: bits }
+}
+
+/// `bits` bits from bit `low` of byte `byte`.
+pub const fn part(name: &'static str, byte: usize, low: usize, bits: usize) -> Field {
+    Field { name: name, runs: [run(byte, low, 0, bits), NO_RUN] }
+}
+
+/// Whole bytes, the lowest first.
+pub const fn whole(name: &'static str, byte: usize, bytes: usize) -> Field {
+    part(name, byte, 0, 8 * bytes)
+}
+
+/// Bytes 4-6 are LBA 0-23, bytes 8-10 are LBA 24-47, wherever there is an LBA.
+pub const fn lba() -> Field {
+    Field { name: "lba", runs: [run(4, 0, 0, 24), run(8, 0, 24, 24)] }
+}
+
+/// The status of A1h: bits 6:4 and 2:0 of byte 2 are those bits of status.
+const fn set_bits_status() -> Field {
+    Field { name: "status", runs: [run(2, 0, 0, 3), run(2, 4, 4, 3)] }
+}
+
+impl Field {
+    /// Each bit of the field: (its bit in the bytes, its bit in the value).
+    fn places(&self) -> impl Iterator<Item = (usize, usize)> + '_ {
+        self.runs.iter().flat_map(|r| (0..r.bits).map(move |i| (r.at + i, r.to + i)))
+    }
+
+    /// The field's value in these bytes.
+    pub fn take(&self, bytes: &[u8]) -> u64 {
+        self.places().map(|(at, to)| u64::from(bytes[at / 8] >> (at % 8) & 1) << to).sum()
+    }
+
+    /// Sets the field in bytes where it is still 0.
+    pub fn put(&self, value: u64, bytes: &mut [u8]) {
+        for (at, to) in self.places() {
+            bytes[at / 8] |= ((value >> to & 1) as u8) << (at % 8);
+        }
+    }
+
+    /// No bit of the value lies outside the field (refusal 25 otherwise).
+    pub fn holds(&self, value: u64) -> bool {
+        let room: u128 = self.places().map(|(_, to)| 1u128 << to).sum();
+        u128::from(value) & !room == 0
+    }
+}
+
+/// What a kind looks like. `length` of 46h is that of its header.
+pub struct Layout {
+    pub kind: u8,
+    pub length: usize,
+    pub fields: &'static [Field],
+}
+
+/// The eight kinds; all that is not named is written 0 and dropped on reading.
+pub static LAYOUTS: [Layout; 8] = [
+    Layout {
+        kind: 0x27,
+        length: 20,
+        fields: &[
+            part("C", 1, 7, 1),
+            whole("command", 2, 1),
+            whole("features", 3, 1),
+            lba(),
+            whole("device", 7, 1),
+            whole("features_high", 11, 1),
+            whole("count", 12, 2),
+            whole("control", 15, 1),
+        ],
+    },
+    Layout {
+        kind: 0x34,
+        length: 20,
+        fields: &[
+            part("I", 1, 6, 1),
+            whole("status", 2, 1),
+            whole("error", 3, 1),
+            lba(),
+            whole("device", 7, 1),
+            whole("count", 12, 2),
+        ],
+    },
+    Layout {
+        kind: 0xA1,
+        length: 8,
+        fields: &[
+            part("I", 1, 6, 1),
+            set_bits_status(),
+            whole("error", 3, 1),
+            whole("sactive", 4, 4),
+        ],
+    },
+    Layout {
+        kind: 0x41,
+        length: 28,
+        fields: &[
+            part("A", 1, 7, 1),
+            part("I", 1, 6, 1),
+            part("D", 1, 5, 1),
+            whole("tag", 4, 4),
+            whole("offset", 16, 4),
+            whole("byte_count", 20, 4),
+        ],
+    },
+    Layout { kind: 0x39, length: 4, fields: &[] },
+    Layout { kind: DATA, length: DATA_HEADER, fields: &[] },
+    Layout { kind: 0x58, length: 12, fields: &[] },
+    Layout {
+        kind: 0x5F,
+        length: 20,
+        fields: &[
+            part("I", 1, 6, 1),
+            part("D", 1, 5, 1),
+            whole("status", 2, 1),
+            whole("error", 3, 1),
+            lba(),
+            whole("device", 7, 1),
+            whole("count", 12, 2),
+            whole("ending_status", 15, 1),
+            whole("pio_byte_count", 16, 2),
+        ],
+    },
+];
+
+/// The layout of a kind, if the kind is known.
+pub fn layout(kind: u8) -> Option<&'static Layout> {
+    LAYOUTS.iter().find(|l| l.kind == kind)
+}
+
+/// A frame taken apart: the values stand in the order of the kind's fields.
+#[derive(Clone, Debug, PartialEq)]
+pub struct Frame {
+    pub kind: u8,
+    pub values: Vec<u64>,
+    pub payload: Vec<u8>,
+}
+
+impl Frame {
+    /// A frame of a known kind; `value_of` gives each field by its name.
+    pub fn new(kind: u8, payload: &[u8], value_of: impl Fn(&str) -> u64) -> Frame {
+        let fields = layout(kind).expect("a known kind").fields;
+        Frame {
+            kind: kind,
+            values: fields.iter().map(|f| value_of(f.name)).collect(),
+            payload: payload.to_vec(),
+        }
+    }
+
+    /// The value of a field that this kind has.
+    pub fn get(&self, name: &str) -> u64 {
+        let fields = layout(self.kind).expect("a known kind").fields;
+        let place = fields.iter().position(|f| f.name == name).expect("a field of this kind");
+        self.values[place]
+    }
+}
+
+/// 46h: 8 to 8,196 bytes in steps of 4. Every other kind: its own length.
+fn length_fits(layout: &Layout, length: usize) -> bool {
+    match layout.kind {
+        DATA => (8..=8196).step_by(4).any(|good| good == length),
+        _ => length == layout.length,
+    }
+}
+
+/// Reads one frame; refusal 24 by kind and length alone.
+pub fn read(bytes: &[u8]) -> Result<Frame, u8> {
+    let kind = *bytes.first().ok_or(BAD_FRAME)?;
+    let layout = layout(kind).ok_or(BAD_FRAME)?;
+    if !length_fits(layout, bytes.len()) {
+        return Err(BAD_FRAME);
+    }
+    Ok(Frame {
+        kind: kind,
+        values: layout.fields.iter().map(|f| f.take(bytes)).collect(),
+        payload: bytes[layout.length..].iter().copied().filter(|_| kind == DATA).collect(),
+    })
+}
+
+/// Refusal 25 is not due: each value fits, and a payload is 4 to 8,192 bytes
+/// in steps of 4.
+fn may_be_written(layout: &Layout, frame: &Frame) -> bool {
+    let values_fit = layout.fields.iter().zip(&frame.values).all(|(f, &v)| f.holds(v));
+    let payload_fits = layout.kind != DATA || length_fits(layout, DATA_HEADER + frame.payload.len());
+    values_fit && payload_fits
+}
+
+/// Writes one frame at the start of the buffer and gives its length.
+/// Refusal 25 comes before 26; neither changes a byte.
+pub fn write(frame: &Frame, buffer: &mut [u8]) -> Result<usize, u8> {
+    let layout = layout(frame.kind).expect("a known kind");
+    if !may_be_written(layout, frame) {
+        return Err(BAD_VALUE);
+    }
+    let mut image = vec![0; layout.length];
+    image[0] = frame.kind;
+    for (field, &value) in layout.fields.iter().zip(&frame.values) {
+        field.put(value, &mut image);
+    }
+    image.extend(&frame.payload);
+    place(&image, buffer)
+}
+
+/// Copies a finished image to the start of the buffer; refusal 26 if it is
+/// longer than the buffer. Bytes behind it stay.
+pub fn place(image: &[u8], buffer: &mut [u8]) -> Result<usize, u8> {
+    buffer.get_mut(..image.len()).ok_or(NO_ROOM)?.copy_from_slice(image);
+    Ok(image.len())
+}
+
+/// The length of the first piece: the kind fixes it; 46h, an unknown kind and
+/// a frame that is cut short take all that is left.
+fn piece_length(rest: &[u8]) -> usize {
+    match layout(rest[0]) {
+        Some(l) if l.kind != DATA => l.length.min(rest.len()),
+        _ => rest.len(),
+    }
+}
+
+/// Several frames behind one another, cut apart.
+pub fn cut(bytes: &[u8]) -> Vec<&[u8]> {
+    let mut pieces = Vec::new();
+    let mut rest = bytes;
+    while !rest.is_empty() {
+        let (piece, left) = rest.split_at(piece_length(rest));
+        pieces.push(piece);
+        rest = left;
+    }
+    pieces
+}
+
+/// A queued command's tag: bits 7:3 of byte 12, the low byte of the count.
+pub fn queued_tag(count: u16) -> u8 {
+    (count >> 3 & 31) as u8
+}
+
+/// A queued command's sectors: features and features high, 0 = 65,536.
+pub fn queued_sectors(features: u8, features_high: u8) -> u32 {
+    match u16::from_le_bytes([features, features_high]) {
+        0 => 65_536,
+        count => u32::from(count),
+    }
+}
