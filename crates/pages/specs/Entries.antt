@@ -1,0 +1,70 @@
+-- The entries of page 11h. Assumes nothing.
+use Prim.Native.Nat.{ℕ, zero, suc, _+_, _*_, _/_, _%_}
+use mathlib.Core.Bool.{Bool, true, false, not, _&&_, _||_}
+use mathlib.Core.List.{List, [], _∷_}
+use lib.Dec.{ltb, leb, eqb}
+use Rattle.bits.specs.Pick.{pick}
+use Rattle.bits.specs.Bit.{bitIn}
+use Rattle.bits.specs.Little.{leAt}
+
+-- an entry: where its identifier stands, and the identifier
+pub record Entry : Type 0 where
+  pub place : ℕ
+  pub id : ℕ
+
+-- width bits 14:12; the low 12 bits, which are the counter's number; bit 15, a vendor's
+abbrev pub widthOf : ℕ → ℕ
+widthOf id = id / 4096 % 8
+
+abbrev pub numberOf : ℕ → ℕ
+numberOf id = id % 4096
+
+abbrev pub vendorOf : ℕ → Bool
+vendorOf id = bitIn 32 id 15
+
+-- widths of 1 to 4 mean 2, 4, 6, 8 value bytes
+abbrev pub bytesIn : ℕ → ℕ
+bytesIn id = 2 * widthOf id
+
+-- where an entry's value ends
+abbrev pub endOf : Entry → ℕ
+endOf e = e .place + 2 + bytesIn (e .id)
+
+-- 22, first clause, of one entry: its width is not 1 to 4
+abbrev pub wrongWidth : Entry → Bool
+wrongWidth e = ltb (widthOf (e .id)) 1 || ltb 4 (widthOf (e .id))
+
+-- 22, second clause, of one entry: identifier or value pass 508 (the value ends behind the identifier)
+abbrev pub pastEnd : Entry → Bool
+pastEnd e = ltb 508 (endOf e)
+
+-- 22, third clause, of one entry: not a vendor's, and its low 12 bits are 0
+abbrev pub nameless : Entry → Bool
+nameless e = not (vendorOf (e .id)) && eqb (numberOf (e .id)) 0
+
+-- the entry is the asked counter's; identifiers with bit 15 are stepped over
+abbrev pub asks : ℕ → Entry → Bool
+asks number e = not (vendorOf (e .id)) && eqb (numberOf (e .id)) number
+
+-- the entries from a place on: they end at identifier 0000h or at 508, and with one behind which no next place is known.
+-- Each is at least 4 bytes long, so that a fuel of 508 is never used up (`entries-fuel`)
+unfoldable pub entriesFrom : List ℕ → ℕ → ℕ → List Entry
+entriesFrom page zero at = []
+entriesFrom page (suc fuel) at =
+    pick (leb 508 at || eqb (leAt page at 2) 0) []
+    (record { place = at; id = leAt page at 2 } ∷ pick (wrongWidth (record { place = at; id = leAt page at 2 }) || pastEnd (record { place = at; id = leAt page at 2 })) []
+    (entriesFrom page fuel (endOf (record { place = at; id = leAt page at 2 }))))
+
+-- the walk starts at 4
+unfoldable pub entries : List ℕ → List Entry
+entries page = entriesFrom page 508 4
+
+-- some entry of a list is so
+unfoldable pub someOf : (Entry → Bool) → List Entry → Bool
+someOf p [] = false
+someOf p (e ∷ es) = p e || someOf p es
+
+-- how many entries of a list are so
+unfoldable pub howMany : (Entry → Bool) → List Entry → ℕ
+howMany p [] = 0
+howMany p (e ∷ es) = pick (p e) 1 0 + howMany p es

@@ -1,0 +1,5 @@
+pub mod Sum
+pub mod Rows
+pub mod Entries
+pub mod Page11
+pub mod Step

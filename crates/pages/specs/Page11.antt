@@ -1,0 +1,40 @@
+-- Log page 11h as it is read: a counter's value, or absent, or a refusal. Assumes nothing.
+use Prim.Native.Nat.{ℕ, _+_}
+use mathlib.Core.Bool.{Bool, not, _&&_, _||_}
+use mathlib.Core.List.{List, [], _∷_}
+use lib.ListN.{length}
+use lib.Dec.{ltb, leb, eqb}
+use Rattle.bits.specs.Pick.{pick}
+use Rattle.bits.specs.First.{Rung, firstOf}
+use Rattle.bits.specs.Little.{leAt}
+use Rattle.pages.specs.Sum.{sum256}
+use Rattle.pages.specs.Entries.{Entry, bytesIn, wrongWidth, pastEnd, nameless, asks, entries, someOf, howMany}
+use Rattle.pages.specs.declared.page11.Counter.{Counter}
+use Rattle.pages.specs.declared.page11.Counter.the-variants.{Value, Absent, Refused}
+
+-- 22: width not 1 to 4, identifier or value past 508, a non-vendor identifier other than 0000h with low 12 bits 0, or the asked number found twice
+unfoldable pub damaged : ℕ → List Entry → Bool
+damaged number es = ((someOf wrongWidth es || someOf pastEnd es) || someOf nameless es) || leb 2 (howMany (asks number) es)
+
+-- the value of the entry that is asked for, or absent
+unfoldable pub valueIn : List ℕ → ℕ → List Entry → Counter
+valueIn page number [] = Absent
+valueIn page number (e ∷ es) = pick (asks number e) (Value (leAt page (e .place + 2) (bytesIn (e .id)))) (valueIn page number es)
+
+-- reader order: 20, 23, 21, 22
+abbrev pub ladder11 : List ℕ → ℕ → List Rung
+ladder11 page number =
+    record { number = 20; holds = not (eqb (length page) 512) }
+    ∷ record { number = 23; holds = ltb number 1 || ltb 4095 number }
+    ∷ record { number = 21; holds = not (eqb (sum256 page) 0) }
+    ∷ record { number = 22; holds = damaged number (entries page) } ∷ []
+
+-- the answer: value or absent, unless the page is refused
+unfoldable pub readCounter : List ℕ → ℕ → Counter
+readCounter page number = pick (eqb (firstOf (ladder11 page number)) 0) (valueIn page number (entries page)) (Refused (firstOf (ladder11 page number)))
+
+-- the number that 01 gives to each answer: 0 for a value and for absent, else the refusal's
+unfoldable pub counterNumber : Counter → ℕ
+counterNumber (Value v) = 0
+counterNumber Absent = 0
+counterNumber (Refused n) = n

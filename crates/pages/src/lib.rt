@@ -1,0 +1,13 @@
+// Log pages 10h and 11h, read and written.
+mod page11;
+mod rows;
+mod sums;
+mod walk;
+
+pub use page11::Counter;
+pub use page11::read_counter;
+pub use rows::Place;
+pub use rows::row_of;
+pub use walk::Step;
+pub use walk::Walk;
+pub use walk::walk_step;
