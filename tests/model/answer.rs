@@ -1,4 +1,24 @@
 //! The expected line of a case: takes the 544 bytes apart and asks the model.
+//!
+//! A case is 544 bytes, a header of 16 and a body of 528. Header: byte 0 the
+//! operation, 1 a, 2-3 n, 4-5 m, 6 f, the rest 0; numbers little-endian.
+//!
+//! Reading, of n bytes (the body's, behind them as many bytes a as it takes):
+//!   R  a frame: `24`, or `0`, kind, fields (46h: the payload's length)
+//!   Q  page 10h: the refusal, or `0 NQ tag status error lba device count`
+//!   L  counter m of page 11h: the refusal, `0 absent`, or `0 value V`
+//!   C  frames cut apart: kind:length of each, or `none`
+//! Writing, into n bytes that are EEh beforehand; the line is the refusal (0 =
+//! written), the length, a digest over the n bytes, the first 32 bytes in hex:
+//!   W  a frame of kind a, fields in the body (see `body_field`); 46h has a
+//!      payload of m bytes, byte i being f + i modulo 256
+//!   P  page 10h: body 0 NQ, 1 tag, 2 status, 3 error, 4-11 LBA, 12 device,
+//!      13-14 count
+//!   K  page 11h: body 0-1 mask, 2-65 the sixteen values, row 0 first
+//! Small questions:
+//!   O  the row of identifier m, or `none`
+//!   T  tag and sectors of a queued command: body 0 features, 1 features high,
+//!      2-3 count
 
 use crate::frames::{self, Frame};
 use crate::pages::{self, little_endian};
@@ -21,7 +41,7 @@ struct Parts<'a> {
     body: &'a [u8],
 }
 
-fn parts(case: &[u8; SIZE]) -> Parts {
+fn parts(case: &[u8; SIZE]) -> Parts<'_> {
     Parts {
         op: case[0],
         a: case[1],
@@ -154,7 +174,11 @@ fn counter_read(bytes: &[u8], number: u16) -> String {
 fn pieces(bytes: &[u8]) -> String {
     let words: Vec<String> =
         frames::cut(bytes).iter().map(|piece| format!("{}:{}", piece[0], piece.len())).collect();
-    if words.is_empty() { "none".to_string() } else { words.join(" ") }
+    if words.is_empty() {
+        "none".to_string()
+    } else {
+        words.join(" ")
+    }
 }
 
 fn queued(body: &[u8]) -> String {

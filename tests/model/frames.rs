@@ -30,12 +30,12 @@ pub struct Field {
 const NO_RUN: Run = Run { at: 0, to: 0, bits: 0 };
 
 const fn run(byte: usize, low: usize, to: usize, bits: usize) -> Run {
-    Run { at: 8 * byte + low, to: to, bits: bits }
+    Run { at: 8 * byte + low, to, bits }
 }
 
 /// `bits` bits from bit `low` of byte `byte`.
 pub const fn part(name: &'static str, byte: usize, low: usize, bits: usize) -> Field {
-    Field { name: name, runs: [run(byte, low, 0, bits), NO_RUN] }
+    Field { name, runs: [run(byte, low, 0, bits), NO_RUN] }
 }
 
 /// Whole bytes, the lowest first.
@@ -173,7 +173,7 @@ impl Frame {
     pub fn new(kind: u8, payload: &[u8], value_of: impl Fn(&str) -> u64) -> Frame {
         let fields = layout(kind).expect("a known kind").fields;
         Frame {
-            kind: kind,
+            kind,
             values: fields.iter().map(|f| value_of(f.name)).collect(),
             payload: payload.to_vec(),
         }
@@ -203,7 +203,7 @@ pub fn read(bytes: &[u8]) -> Result<Frame, u8> {
         return Err(BAD_FRAME);
     }
     Ok(Frame {
-        kind: kind,
+        kind,
         values: layout.fields.iter().map(|f| f.take(bytes)).collect(),
         payload: bytes[layout.length..].iter().copied().filter(|_| kind == DATA).collect(),
     })
@@ -213,7 +213,8 @@ pub fn read(bytes: &[u8]) -> Result<Frame, u8> {
 /// in steps of 4.
 fn may_be_written(layout: &Layout, frame: &Frame) -> bool {
     let values_fit = layout.fields.iter().zip(&frame.values).all(|(f, &v)| f.holds(v));
-    let payload_fits = layout.kind != DATA || length_fits(layout, DATA_HEADER + frame.payload.len());
+    let payload_fits =
+        layout.kind != DATA || length_fits(layout, DATA_HEADER + frame.payload.len());
     values_fit && payload_fits
 }
 

@@ -13,13 +13,21 @@ pub const PAGE: usize = 512;
 
 /// Refusal 20.
 fn check_length(bytes: &[u8]) -> Result<(), u8> {
-    if bytes.len() == PAGE { Ok(()) } else { Err(NOT_512) }
+    if bytes.len() == PAGE {
+        Ok(())
+    } else {
+        Err(NOT_512)
+    }
 }
 
 /// Refusal 21.
 fn check_sum(bytes: &[u8]) -> Result<(), u8> {
     let sum: usize = bytes.iter().map(|&b| usize::from(b)).sum();
-    if sum % 256 == 0 { Ok(()) } else { Err(BAD_SUM) }
+    if sum % 256 == 0 {
+        Ok(())
+    } else {
+        Err(BAD_SUM)
+    }
 }
 
 /// Sets byte 511, which is still 0, so that all bytes sum to 0 modulo 256.
@@ -168,7 +176,7 @@ fn walk(area: &[u8]) -> Option<Vec<Entry>> {
             break;
         }
         let end = 2 + value_length(identifier)?;
-        let entry = Entry { identifier: identifier, value: little_endian(rest.get(2..end)?) };
+        let entry = Entry { identifier, value: little_endian(rest.get(2..end)?) };
         if !entry.lawful() {
             return None;
         }
@@ -187,11 +195,8 @@ pub fn read_11h(bytes: &[u8], number: u16) -> Result<Option<u64>, u8> {
     }
     check_sum(bytes)?;
     let entries = walk(&bytes[FIRST..LAST]).ok_or(BAD_WALK)?;
-    let hits: Vec<u64> = entries
-        .iter()
-        .filter(|e| !e.vendor() && e.number() == number)
-        .map(|e| e.value)
-        .collect();
+    let hits: Vec<u64> =
+        entries.iter().filter(|e| !e.vendor() && e.number() == number).map(|e| e.value).collect();
     match hits.len() {
         0 => Ok(None),
         1 => Ok(Some(hits[0])),

@@ -1,11 +1,12 @@
 -- A loop that copies s over the front of d. Assumes nothing.
-use mathlib.Core.Path.{_≡_, refl, sym, ap, _∙_}
-use mathlib.Core.List.{List, [], _∷_, _++_}
-use Prim.Native.Nat.{ℕ, zero, suc, _+_, _≤_, _<_}
-use native.Mathlib.Nat.{not-suc-le-zero, le-of-suc-le-suc}
+use mathlib.Core.Path.{_≡_, refl, sym, ap, ap₂, _∙_}
+use mathlib.Core.List.{List, [], _∷_, _++_, append-assoc, append-nil}
+use Prim.Native.Nat.{ℕ, zero, suc, _+_, _-_, _≤_, _<_}
+use native.Mathlib.Nat.{not-suc-le-zero, le-of-suc-le-suc, le-of-eq}
 use native.Mathlib.Numerals.{add-one}
-use lib.ListN.{length, getD, set, take, drop}
-use lib.Seq.{take-length}
+use lib.ListN.{length, getD, set, take, drop, length-append, length-drop, drop-of-length-le}
+use lib.Seq.{take-length, take-all, take-at, drop-at, drop-drop}
+use borrow.Rule.Slice.PartMut.{midOf, putMid}
 use lib.Dec.{leb}
 use borrow.Author.Tests.{le-leb, lt-leb}
 use Rattle.bits.specs.Laid.{laid, over}
@@ -31,3 +32,18 @@ over-yes s d h = pick-yes (leb (length s) (length d)) (laid s d) d (le-leb (leng
 -- the loop's end: all of s is there
 pub front-all : (i : ℕ) (s d t : List ℕ) → i ≡ length s → length s ≤ length d → t ≡ take i s ++ drop i d → t ≡ over s d
 front-all i s d t e h q = q ∙ rw (e, take-length, over-yes s d h)
+
+-- one behind the other: p stands in the first n places of xs, and q is laid over the part that p left
+pub laid-next : (n : ℕ) (p q l xs ys : List ℕ) → length p ≡ n → xs ≡ laid p l → ys ≡ laid q (midOf n (length xs - n) xs)
+    → putMid n (length xs - n) xs ys ≡ laid (p ++ q) l
+laid-next n p q l xs ys e x y =
+    let x′ : xs ≡ p ++ drop n l = x ∙ rw e in
+    let d : drop n xs ≡ drop n l = ap (drop n) x′ ∙ drop-at p (drop n l) n e in
+    let k : length (drop n xs) ≡ length xs - n = length-drop n xs in
+    let t : take n xs ≡ p = ap (take n) x′ ∙ take-at p (drop n l) n e in
+    let mid : midOf n (length xs - n) xs ≡ drop n l = take-all (length xs - n) (drop n xs) (le-of-eq k) ∙ d in
+    let post : drop (length xs - n) (drop n xs) ≡ [] = drop-of-length-le (drop n xs) (le-of-eq k) in
+    let y′ : ys ≡ q ++ drop (n + length q) l = y ∙ ap (λ (z : List ℕ). q ++ z) (ap (drop (length q)) mid ∙ drop-drop (length q) n l) in
+    let w : length (p ++ q) ≡ n + length q = length-append p q ∙ ap (λ (m : ℕ). m + length q) e in
+    ap₂ (λ (a b : List ℕ). a ++ b) t (ap (λ (z : List ℕ). ys ++ z) post ∙ append-nil ys ∙ y′)
+    ∙ sym (append-assoc p q (drop (n + length q) l)) ∙ sym (ap (λ (m : ℕ). (p ++ q) ++ drop m l) w)

@@ -4,3 +4,4 @@ pub mod Picks
 pub mod Firsts
 pub mod Littles
 pub mod Fronts
+pub mod Unique

@@ -1,0 +1,8 @@
+pub mod PieceLaws
+pub mod ReadLaws
+pub mod WriteLaws
+pub mod RoundTrip
+pub mod TripBack
+pub mod Exactly
+pub mod Cuts
+pub mod Unique

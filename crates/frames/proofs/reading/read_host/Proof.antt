@@ -1,0 +1,53 @@
+use borrow.Author.Needs.{needs}
+use Rattle.frames.proofs.reading.read_host.Statement.{statement}
+use Rattle.frames.proofs.reading.read_host.Tie as tie
+use Rattle.frames.proofs.reading.read_host.Reads as reads
+use Rattle.frames.proofs.reading.read_host.Lts as lts
+use Rattle.frames.proofs.pieces.byte_of.Reads as byte-of-reads
+use Rattle.frames.proofs.pieces.flag.Reads as flag-reads
+use Rattle.frames.proofs.pieces.task_of.Reads as task-of-reads
+
+-- src/reading.rt:57:27
+byte-of-requires : tie.Need-byte-of-requires
+byte-of-requires c κs = search needs
+
+-- src/reading.rt:57:22
+flag-requires : tie.Need-flag-requires
+flag-requires c κs = search needs
+
+-- src/reading.rt:58:18
+byte-of-requires-2 : tie.Need-byte-of-requires-2
+byte-of-requires-2 c κs = search needs
+
+-- src/reading.rt:59:19
+byte-of-requires-3 : tie.Need-byte-of-requires-3
+byte-of-requires-3 c κs = search needs
+
+-- src/reading.rt:60:15
+task-of-requires : tie.Need-task-of-requires
+task-of-requires c κs = search needs
+
+-- src/reading.rt:61:24
+byte-of-requires-4 : tie.Need-byte-of-requires-4
+byte-of-requires-4 c κs = search needs
+
+-- src/reading.rt:62:18
+byte-of-requires-5 : tie.Need-byte-of-requires-5
+byte-of-requires-5 c κs = search needs
+
+-- src/reading.rt:53:1
+returns : tie.Need-returns
+returns c = cc
+
+pub read-host-spec : {M : Type 1} → statement M
+read-host-spec =
+    tie.close
+    (tie.spec
+    byte-of-requires
+    flag-requires
+    byte-of-requires-2
+    byte-of-requires-3
+    task-of-requires
+    byte-of-requires-4
+    byte-of-requires-5
+    returns)

@@ -1,0 +1,55 @@
+use Rattle.frames.specs.Write.{bitsBytes}
+use borrow.Author.Needs.{needs}
+use Rattle.frames.proofs.writing.bits_bytes.Statement.{statement}
+use Rattle.frames.proofs.writing.bits_bytes.Tie as tie
+use Rattle.frames.proofs.writing.bits_bytes.Reads as reads
+use Rattle.frames.proofs.writing.bits_bytes.Lts as lts
+use Rattle.bits.proofs.byte.Reads as byte-reads
+use Rattle.frames.proofs.pieces.flags.Reads as flags-reads
+use Rattle.frames.proofs.pieces.halves.Reads as halves-reads
+
+-- src/writing.rt:88:13
+cast-a : tie.Need-cast-a
+cast-a c = search needs
+
+-- src/writing.rt:91:9
+flags-requires : tie.Need-flags-requires
+flags-requires c κs = search needs
+
+-- src/writing.rt:92:9
+halves-requires : tie.Need-halves-requires
+halves-requires c κs = search needs
+
+-- src/writing.rt:94:9
+byte-requires : tie.Need-byte-requires
+byte-requires c κs = search needs
+
+-- src/writing.rt:95:9
+byte-requires-2 : tie.Need-byte-requires-2
+byte-requires-2 c κs = search needs
+
+-- src/writing.rt:96:9
+byte-requires-3 : tie.Need-byte-requires-3
+byte-requires-3 c κs = search needs
+
+-- src/writing.rt:97:9
+byte-requires-4 : tie.Need-byte-requires-4
+byte-requires-4 c κs = search needs
+
+-- src/writing.rt:85:1
+returns : tie.Need-returns
+unfolding bitsBytes
+returns c = cc
+
+pub bits-bytes-spec : {M : Type 1} → statement M
+bits-bytes-spec =
+    tie.close
+    (tie.spec
+    cast-a
+    flags-requires
+    halves-requires
+    byte-requires
+    byte-requires-2
+    byte-requires-3
+    byte-requires-4
+    returns)

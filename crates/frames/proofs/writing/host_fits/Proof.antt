@@ -1,0 +1,22 @@
+use borrow.Author.Tests.{lt-ltb}
+use Rattle.frames.specs.Write.{fits}
+use borrow.Author.Needs.{needs}
+use Rattle.frames.proofs.writing.host_fits.Statement.{statement}
+use Rattle.frames.proofs.writing.host_fits.Tie as tie
+use Rattle.frames.proofs.writing.host_fits.Reads as reads
+use Rattle.frames.proofs.writing.host_fits.Lts as lts
+use Rattle.frames.proofs.writing.task_fits.Reads as task-fits-reads
+
+-- src/writing.rt:53:5
+task-fits-requires : tie.Need-task-fits-requires
+task-fits-requires c κs = search needs
+
+-- src/writing.rt:49:1
+returns : tie.Need-returns
+unfolding fits
+returns c =
+    let f = c .before .before .args .f in
+    rw (lt-ltb (f .command) 256 (search needs), lt-ltb (f .features) 256 (search needs), lt-ltb (f .«features_high») 256 (search needs), lt-ltb (f .control) 256 (search needs)) (c .task-fits .ensures)
+
+pub host-fits-spec : {M : Type 1} → statement M
+host-fits-spec = tie.close (tie.spec task-fits-requires returns)

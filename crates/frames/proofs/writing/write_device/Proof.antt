@@ -1,0 +1,51 @@
+use Rattle.frames.specs.Write.{encode}
+use borrow.Author.Needs.{needs}
+use Rattle.frames.proofs.writing.write_device.Statement.{statement}
+use Rattle.frames.proofs.writing.write_device.Tie as tie
+use Rattle.frames.proofs.writing.write_device.Reads as reads
+use Rattle.frames.proofs.writing.write_device.Lts as lts
+use Rattle.frames.proofs.pieces.flags.Reads as flags-reads
+use Rattle.frames.proofs.pieces.register_bytes.Reads as register-bytes-reads
+use Rattle.frames.proofs.writing.device_fits.Reads as device-fits-reads
+use Rattle.frames.proofs.writing.emit.Reads as emit-reads
+
+-- src/writing.rt:85:9
+flags-requires : tie.Need-flags-requires
+flags-requires c κs = search needs
+
+-- src/writing.rt:86:13
+register-bytes-requires : tie.Need-register-bytes-requires
+register-bytes-requires c κs = search needs
+
+-- src/writing.rt:87:15
+device-fits-requires : tie.Need-device-fits-requires
+device-fits-requires c κs = search needs
+
+-- src/writing.rt:87:31
+slice-aggregate-emit : tie.Need-slice-aggregate-emit
+slice-aggregate-emit c = search needs
+
+-- src/writing.rt:87:5
+emit-requires : tie.Need-emit-requires
+emit-requires c κs = search needs
+
+-- src/writing.rt:81:1
+same-length : tie.Need-same-length
+same-length c = search needs
+
+-- src/writing.rt:81:1
+returns : tie.Need-returns
+unfolding encode
+returns c = rw (c .before .before .before .before .before .before .register-bytes .ensures, c .before .before .before .before .before .before .before .flags .ensures, c .before .before .before .before .device-fits .ensures) at (c .before .before .emit .ensures)
+
+pub write-device-spec : {M : Type 1} → statement M
+write-device-spec =
+    tie.close
+    (tie.spec
+    flags-requires
+    register-bytes-requires
+    device-fits-requires
+    slice-aggregate-emit
+    emit-requires
+    same-length
+    returns)

@@ -1,0 +1,44 @@
+-- Several frames one behind the other, cut by kind and length. Assumes nothing.
+use mathlib.Core.Path.{_≡_}
+use mathlib.Core.Bool.{Bool, true, false, _&&_}
+use mathlib.Core.List.{List, [], _∷_, _++_}
+use Prim.Native.Nat.{ℕ, zero, suc}
+use lib.ListN.{length, getD, take, drop}
+use lib.Dec.{eqb, leb}
+use Rattle.bits.specs.Pick.{pick}
+use Rattle.frames.specs.Size.{fixedSize}
+use Rattle.frames.specs.Write.{Sent, host, device, setBits, setup, activate, payload, bist, pio}
+
+-- the length of the first frame: its kind's, where so much is there; 46h, an unknown kind and a frame cut short take what is left
+unfoldable pub pieceOf : List ℕ → ℕ
+pieceOf l = pick (leb 1 (fixedSize (getD l 0 0)) && leb (fixedSize (getD l 0 0)) (length l)) (fixedSize (getD l 0 0)) (length l)
+
+-- the pieces of l, at most n of them; nothing is left of l once n is its length (`cut-all`)
+unfoldable pub cutTo : ℕ → List ℕ → List (List ℕ)
+cutTo zero l = []
+cutTo (suc n) l = pick (eqb (length l) 0) [] (take (pieceOf l) l ∷ cutTo n (drop (pieceOf l) l))
+
+-- all the frames of l, each as its bytes
+unfoldable pub cut : List ℕ → List (List ℕ)
+cut l = cutTo (length l) l
+
+-- pieces one behind the other
+unfoldable pub joined : List (List ℕ) → List ℕ
+joined [] = []
+joined (p ∷ ps) = p ++ joined ps
+
+-- a data frame takes what is left
+abbrev pub isPayload : Sent → Bool
+isPayload (host f) = false
+isPayload (device f) = false
+isPayload (setBits f) = false
+isPayload (setup f) = false
+isPayload activate = false
+isPayload (payload p) = true
+isPayload bist = false
+isPayload (pio f) = false
+
+-- of frames one behind the other only the last is a data frame
+unfoldable pub Neat : List Sent → Type 0
+Neat [] = Unit
+Neat (f ∷ fs) = (isPayload f ≡ true → fs ≡ []) × Neat fs

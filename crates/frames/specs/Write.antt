@@ -1,0 +1,81 @@
+-- The frames as they are written: unnamed bits and bytes are 0. Assumes nothing.
+use mathlib.Core.Path.{_≡_}
+use mathlib.Core.Bool.{Bool, true, false, not, _&&_}
+use mathlib.Core.List.{List, [], _∷_, _++_}
+use Prim.Native.Nat.{ℕ}
+use lib.ListN.{length}
+use lib.Dec.{eqb, ltb}
+use Rattle.bits.specs.Pick.{pick}
+use Rattle.bits.specs.Bit.{bitIn}
+use Rattle.bits.specs.First.{Rung, firstOf}
+use Rattle.bits.specs.Little.{leBytes}
+use Rattle.bits.specs.Laid.{laid}
+use Rattle.frames.specs.Piece.{flagsOf, halvesOf, registerBytes, below, taskFits}
+use Rattle.frames.specs.Size.{payloadSize}
+use Rattle.frames.specs.declared.shapes.HostReg.{HostReg}
+use Rattle.frames.specs.declared.shapes.DevReg.{DevReg}
+use Rattle.frames.specs.declared.shapes.SetBits.{SetBits}
+use Rattle.frames.specs.declared.shapes.DmaSetup.{DmaSetup}
+use Rattle.frames.specs.declared.shapes.PioSetup.{PioSetup}
+use Rattle.frames.specs.declared.writing.Written.{Written}
+
+-- a frame that can be sent: its values, and of a data frame its payload
+pub data Sent : Type 0 where
+  host : HostReg → Sent
+  device : DevReg → Sent
+  setBits : SetBits → Sent
+  setup : DmaSetup → Sent
+  activate : Sent
+  payload : List ℕ → Sent
+  bist : Sent
+  pio : PioSetup → Sent
+
+-- A1h, 8 bytes
+unfoldable pub bitsBytes : SetBits → List ℕ
+bitsBytes f = 0xA1 ∷ flagsOf false (f .interrupt) false ∷ halvesOf (f .status) ∷ f .error ∷ leBytes 4 (f .active)
+
+-- 41h, 28 bytes
+unfoldable pub setupBytes : DmaSetup → List ℕ
+setupBytes f =
+    0x41 ∷ flagsOf (f .auto) (f .interrupt) (f .«to_host») ∷ 0 ∷ 0
+    ∷ leBytes 4 (f .tag) ++ 0 ∷ 0 ∷ 0 ∷ 0 ∷ 0 ∷ 0 ∷ 0 ∷ 0 ∷ leBytes 4 (f .offset) ++ leBytes 4 (f .count) ++ 0 ∷ 0 ∷ 0 ∷ 0 ∷ []
+
+-- the bytes of a frame
+unfoldable pub encode : Sent → List ℕ
+encode (host f) = registerBytes 0x27 (flagsOf (f .«command_bit») false false) (f .command) (f .features) (f .task) (f .«features_high») (f .control) 0
+encode (device f) = registerBytes 0x34 (flagsOf false (f .interrupt) false) (f .status) (f .error) (f .task) 0 0 0
+encode (setBits f) = bitsBytes f
+encode (setup f) = setupBytes f
+encode activate = 0x39 ∷ 0 ∷ 0 ∷ 0 ∷ []
+encode (payload p) = 0x46 ∷ 0 ∷ 0 ∷ 0 ∷ p
+encode bist = 0x58 ∷ 0 ∷ 0 ∷ 0 ∷ 0 ∷ 0 ∷ 0 ∷ 0 ∷ 0 ∷ 0 ∷ 0 ∷ 0 ∷ []
+encode (pio f) = registerBytes 0x5F (flagsOf false (f .interrupt) (f .«to_host»)) (f .status) (f .error) (f .task) 0 (f .ending) (f .bytes)
+
+-- no value is too large for its bits, status bits 7 and 3 of A1h are not set, the payload is 4 to 8,192 bytes in steps of 4
+unfoldable pub fits : Sent → Bool
+fits (host f) = below 8 (f .command) && below 8 (f .features) && below 8 (f .«features_high») && below 8 (f .control) && taskFits (f .task)
+fits (device f) = below 8 (f .status) && below 8 (f .error) && taskFits (f .task)
+fits (setBits f) = below 8 (f .status) && below 8 (f .error) && below 32 (f .active) && not (bitIn 32 (f .status) 7) && not (bitIn 32 (f .status) 3)
+fits (setup f) = below 32 (f .tag) && below 32 (f .offset) && below 32 (f .count)
+fits activate = true
+fits (payload p) = payloadSize (length p)
+fits bist = true
+fits (pio f) = below 8 (f .status) && below 8 (f .error) && below 8 (f .ending) && below 16 (f .bytes) && taskFits (f .task)
+
+-- 25: a value too large for its bits (or what `fits` forbids besides); 26: buffer too short for n bytes
+abbrev pub ladderWrite : Bool → ℕ → ℕ → List Rung
+ladderWrite fit n room = record { number = 25; holds = not fit } ∷ record { number = 26; holds = ltb room n } ∷ []
+
+-- the number that a writer of n bytes gives
+unfoldable pub writeNumber : Bool → ℕ → ℕ → ℕ
+writeNumber fit n room = firstOf (ladderWrite fit n room)
+
+-- what a writer of the bytes s into the buffer d answers, and what d then holds: s in front and the rest as it was, or all as it was
+pub record Emitted (fit : Bool) (s d : List ℕ) (r : Written) (d′ : List ℕ) : Type 0 where
+  pub number : r .number ≡ writeNumber fit (length s) (length d)
+  pub len : r .len ≡ pick (eqb (writeNumber fit (length s) (length d)) 0) (length s) 0
+  pub bytes : d′ ≡ pick (eqb (writeNumber fit (length s) (length d)) 0) (laid s d) d
+
+-- the same of a frame
+abbrev pub Wrote : Sent → List ℕ → Written → List ℕ → Type 0
+Wrote f d r d′ = Emitted (fits f) (encode f) d r d′

@@ -1,0 +1,30 @@
+// The frames of Serial ATA: a reader and a writer for each kind, and the cut of several frames in one buffer.
+mod cutting;
+mod pieces;
+mod reading;
+mod shapes;
+mod writing;
+
+pub use cutting::cut;
+pub use pieces::register_bytes;
+pub use pieces::sectors_of;
+pub use pieces::tag_of;
+pub use pieces::task_of;
+pub use reading::read_frame;
+pub use shapes::DevReg;
+pub use shapes::DmaSetup;
+pub use shapes::Frame;
+pub use shapes::HostReg;
+pub use shapes::PioSetup;
+pub use shapes::SetBits;
+pub use shapes::Task;
+pub use writing::Written;
+pub use writing::emit;
+pub use writing::write_activate;
+pub use writing::write_bist;
+pub use writing::write_bits;
+pub use writing::write_data;
+pub use writing::write_device;
+pub use writing::write_host;
+pub use writing::write_pio;
+pub use writing::write_setup;

@@ -1,0 +1,220 @@
+// The frame writers: the frame in front of the buffer, or 25, or 26, and then no byte is changed.
+ghost use mathlib.Core.Path.{_≡_};
+ghost use lib.ListN.{length};
+ghost use Rattle.frames.specs.Piece.{below, taskFits};
+ghost use Rattle.frames.specs.Write.{bitsBytes, setupBytes, fits, Emitted, Wrote};
+ghost use Rattle.frames.specs.Write.Sent.{host, device, setBits, setup, activate, payload, bist, pio};
+use crate::pieces::flag;
+use crate::pieces::flags;
+use crate::pieces::halves;
+use crate::pieces::register_bytes;
+use crate::reading::payload_size;
+use crate::shapes::DevReg;
+use crate::shapes::DmaSetup;
+use crate::shapes::HostReg;
+use crate::shapes::PioSetup;
+use crate::shapes::SetBits;
+use crate::shapes::Task;
+
+// What a writer answers: 0, 25 or 26, and the length written.
+pub struct Written {
+    pub number: u8,
+    pub len: usize,
+}
+
+// Writes s to the front of buf, if its values fit and buf has room.
+pub fn emit(buf: &mut [u8], fit: bool, s: &[u8]) -> Written
+    ensures { λ r. ⌜ Emitted fit (now (s .entry)) (now (buf .entry)) r (now (buf .exit)) ⌝ }
+{
+    if !fit {
+        return Written { number: 25, len: 0 };
+    }
+    if bits::lay(buf, s) {
+        Written {
+            number: 0,
+            len: s.len(),
+        }
+    } else {
+        Written { number: 26, len: 0 }
+    }
+}
+
+// Of the values that a frame repeats from a command only the LBA can be too large for its bits.
+pub fn task_fits(t: Task) -> bool
+    ensures { λ r. ⌜ r ≡ taskFits t ⌝ }
+{
+    t.lba >> 48 == 0
+}
+
+fn host_fits(f: HostReg) -> bool
+    ensures { λ r. ⌜ r ≡ fits (host f) ⌝ }
+{
+    let t = f.task;
+    task_fits(t)
+}
+
+pub fn write_host(buf: &mut [u8], f: HostReg) -> Written
+    ensures { λ r. ⌜ Wrote (host f) (now (buf .entry)) r (now (buf .exit)) ⌝ }
+{
+    let t = f.task;
+    let one = flags(f.command_bit, false, false);
+    let b = register_bytes(
+        0x27,
+        one,
+        f.command,
+        f.features,
+        t,
+        f.features_high,
+        f.control,
+        0,
+    );
+    emit(buf, host_fits(f), &b)
+}
+
+fn device_fits(f: DevReg) -> bool
+    ensures { λ r. ⌜ r ≡ fits (device f) ⌝ }
+{
+    let t = f.task;
+    task_fits(t)
+}
+
+pub fn write_device(buf: &mut [u8], f: DevReg) -> Written
+    ensures { λ r. ⌜ Wrote (device f) (now (buf .entry)) r (now (buf .exit)) ⌝ }
+{
+    let t = f.task;
+    let one = flags(false, f.interrupt, false);
+    let b = register_bytes(0x34, one, f.status, f.error, t, 0, 0, 0);
+    emit(buf, device_fits(f), &b)
+}
+
+fn pio_fits(f: PioSetup) -> bool
+    ensures { λ r. ⌜ r ≡ fits (pio f) ⌝ }
+{
+    let t = f.task;
+    task_fits(t)
+}
+
+pub fn write_pio(buf: &mut [u8], f: PioSetup) -> Written
+    ensures { λ r. ⌜ Wrote (pio f) (now (buf .entry)) r (now (buf .exit)) ⌝ }
+{
+    let t = f.task;
+    let one = flags(false, f.interrupt, f.to_host);
+    let b = register_bytes(0x5F, one, f.status, f.error, t, 0, f.ending, f.bytes);
+    emit(buf, pio_fits(f), &b)
+}
+
+fn bits_bytes(f: SetBits) -> [u8; 8]
+    ensures { λ r. ⌜ r ≡ bitsBytes f ⌝ }
+{
+    let a = f.active as u64;
+    [
+        0xA1,
+        flags(false, f.interrupt, false),
+        halves(f.status),
+        f.error,
+        bits::byte(a, 0),
+        bits::byte(a, 1),
+        bits::byte(a, 2),
+        bits::byte(a, 3),
+    ]
+}
+
+// Status bits 7 and 3 have no place in A1h.
+fn bits_fit(f: SetBits) -> bool
+    ensures { λ r. ⌜ r ≡ fits (setBits f) ⌝ }
+{
+    !flag(f.status, 7) & !flag(f.status, 3)
+}
+
+pub fn write_bits(buf: &mut [u8], f: SetBits) -> Written
+    ensures { λ r. ⌜ Wrote (setBits f) (now (buf .entry)) r (now (buf .exit)) ⌝ }
+{
+    let b = bits_bytes(f);
+    emit(buf, bits_fit(f), &b)
+}
+
+fn setup_bytes(f: DmaSetup) -> [u8; 28]
+    ensures { λ r. ⌜ r ≡ setupBytes f ⌝ }
+{
+    let tag = f.tag as u64;
+    let offset = f.offset as u64;
+    let count = f.count as u64;
+    [
+        0x41,
+        flags(f.auto, f.interrupt, f.to_host),
+        0,
+        0,
+        bits::byte(tag, 0),
+        bits::byte(tag, 1),
+        bits::byte(tag, 2),
+        bits::byte(tag, 3),
+        0,
+        0,
+        0,
+        0,
+        0,
+        0,
+        0,
+        0,
+        bits::byte(offset, 0),
+        bits::byte(offset, 1),
+        bits::byte(offset, 2),
+        bits::byte(offset, 3),
+        bits::byte(count, 0),
+        bits::byte(count, 1),
+        bits::byte(count, 2),
+        bits::byte(count, 3),
+        0,
+        0,
+        0,
+        0,
+    ]
+}
+
+// Every value of a DMA Setup has the width of its field.
+fn setup_fits(f: DmaSetup) -> bool
+    ensures { λ r. ⌜ r ≡ fits (setup f) ⌝ }
+{
+    true
+}
+
+pub fn write_setup(buf: &mut [u8], f: DmaSetup) -> Written
+    ensures { λ r. ⌜ Wrote (setup f) (now (buf .entry)) r (now (buf .exit)) ⌝ }
+{
+    let b = setup_bytes(f);
+    emit(buf, setup_fits(f), &b)
+}
+
+pub fn write_activate(buf: &mut [u8]) -> Written
+    ensures { λ r. ⌜ Wrote activate (now (buf .entry)) r (now (buf .exit)) ⌝ }
+{
+    let b: [u8; 4] = [0x39, 0, 0, 0];
+    emit(buf, true, &b)
+}
+
+pub fn write_bist(buf: &mut [u8]) -> Written
+    ensures { λ r. ⌜ Wrote bist (now (buf .entry)) r (now (buf .exit)) ⌝ }
+{
+    let b: [u8; 12] = [0x58, 0, 0, 0, 0, 0, 0, 0, 0, 0, 0, 0];
+    emit(buf, true, &b)
+}
+
+// The data frame's payload is copied once, from the caller's slice to behind the header.
+pub fn write_data(buf: &mut [u8], p: &[u8]) -> Written
+    ensures { λ r. ⌜ Wrote (payload (now (p .entry))) (now (buf .entry)) r (now (buf .exit)) ⌝ }
+{
+    let n = p.len();
+    if !payload_size(n) {
+        return Written { number: 25, len: 0 };
+    }
+    if buf.len() < 4 + n {
+        return Written { number: 26, len: 0 };
+    }
+    let h: [u8; 4] = [0x46, 0, 0, 0];
+    bits::lay(buf, &h);
+    bits::lay(&mut buf[4..], p);
+    Written {
+        number: 0,
+        len: 4 + n,
+    }
+}
