@@ -1,0 +1,5 @@
+pub mod RowLaws
+pub mod Rest
+pub mod Walking
+pub mod Exactly11
+pub mod ByWidth
