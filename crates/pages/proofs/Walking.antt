@@ -3,7 +3,7 @@ use mathlib.Core.Path.{_≡_, refl, ap, sym, _∙_}
 use mathlib.Core.Bool.{Bool, true, false, not, _&&_, _||_, true≢false}
 use mathlib.Core.Logic.{⊎-elim}
 use mathlib.Core.List.{List, [], _∷_}
-use Prim.Native.Nat.{ℕ, zero, suc, _+_, _*_, _-_, _<_, _≤_}
+use Prim.Native.Nat.{ℕ, zero, suc, _+_, _*_, _-_, _<_, _≤_, min}
 use native.Mathlib.Omega.{arith}
 use lib.Dec.{ltb, leb, eqb}
 use borrow.Author.Tests.{ltb-false, le-leb}
@@ -24,6 +24,12 @@ use Rattle.pages.proofs.Rest.{restOf, rest-none, rest-fault, rest-hit, 
 pub id-read : (page : List ℕ) (at r : ℕ) → Number page at 2 r → r ≡ idAt page at
 unfolding idAt
 id-read page at r n = n .value
+
+-- a value is never wider than 8 bytes, so that the reader of numbers takes all of it
+pub value-read : (page : List ℕ) (start len r : ℕ) → len ≤ 8 → Number page start (min len 8) r → r ≡ leAt page start len
+value-read page start len r h n =
+    let e : min len 8 ≡ len = omega arith in
+    rw e at (n .value)
 
 -- ---- where a row lies
 

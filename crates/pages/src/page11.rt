@@ -18,7 +18,7 @@ pub enum Counter {
 }
 
 // One turn of the reader: the answer, or the next place and what is found so far.
-pub enum Turn {
+enum Turn {
     Done(Counter),
     Next { at: usize, found: Counter },
 }

@@ -1,3 +1,8 @@
+use mathlib.Core.Path.{_≡_, _∙_, sym, ap}
+use native.Mathlib.Omega.{arith}
+use Rattle.bits.specs.Pick.{pick}
+use Rattle.pages.specs.Step.{turnOf, onStep}
+use Rattle.pages.proofs.Walking.{row-lies, value-read}
 use borrow.Author.Needs.{needs}
 use Rattle.pages.proofs.page11.take_turn.Statement.{statement}
 use Rattle.pages.proofs.page11.take_turn.Tie as tie
@@ -33,7 +38,9 @@ enum-told-3 c = search needs
 
 -- src/page11.rt:47:29
 add-t14 : tie.Need-add-t14
-add-t14 c = search needs
+add-t14 c =
+    let l = row-lies _ _ _ _ _ (sym (c .before .before .before .before .before .before .before .walk-step .ensures) ∙ c .before .before .before .before .before .id .given .1) in
+    omega arith
 
 -- src/page11.rt:48:47
 le-requires : tie.Need-le-requires
@@ -49,31 +56,49 @@ enum-told-5 c = search needs
 
 -- src/page11.rt:55:25
 add-t19 : tie.Need-add-t19
-add-t19 c = search needs
+add-t19 c =
+    let l = row-lies _ _ _ _ _ (sym (c .before .before .before .before .before .walk-step .ensures) ∙ c .before .before .before .id .given .1) in
+    omega arith
 
 -- src/page11.rt:37:1
 returns : tie.Need-returns
-returns c = search needs
+unfolding turnOf
+returns c = ap (onStep _ _ _) (sym (c .enum-told .given .1) ∙ c .before .before .walk-step .ensures)
 
 -- src/page11.rt:37:1
 returns-2 : tie.Need-returns-2
-returns-2 c = search needs
+unfolding turnOf
+returns-2 c = ap (onStep _ _ _) (sym (c .enum-told2 .given .1) ∙ c .before .before .walk-step .ensures)
 
 -- src/page11.rt:37:1
 returns-3 : tie.Need-returns-3
-returns-3 c = search needs
+unfolding turnOf pick
+returns-3 c =
+    let l = row-lies _ _ _ _ _ (sym (c .before .before .before .before .before .before .before .before .walk-step .ensures) ∙ c .before .before .before .before .before .before .id .given .1) in
+    rw (← sym (c .before .before .before .before .before .before .id .given .1) ∙ c .before .before .before .before .before .before .before .before .walk-step .ensures)
+    (simp (sym (c .before .before .before .before .is-asked .ensures) ∙ c .before .before .before .if1 .taken)
+    (rw (c .before .enum-told3 .given .1, value-read _ _ _ _ (l .most) (c .le .ensures))))
 
 -- src/page11.rt:37:1
 returns-4 : tie.Need-returns-4
-returns-4 c = search needs
+unfolding turnOf pick
+returns-4 c =
+    rw (← sym (c .before .before .before .before .before .id .given .1) ∙ c .before .before .before .before .before .before .before .walk-step .ensures)
+    (simp (sym (c .before .before .before .is-asked .ensures) ∙ c .before .before .if1 .taken) (rw (c .enum-told4 .given .1)))
 
 -- src/page11.rt:37:1
 returns-5 : tie.Need-returns-5
-returns-5 c = search needs
+unfolding turnOf pick
+returns-5 c =
+    rw (← sym (c .before .before .before .before .before .id .given .1) ∙ c .before .before .before .before .before .before .before .walk-step .ensures)
+    (simp (sym (c .before .before .before .is-asked .ensures) ∙ c .before .before .if1 .taken) (rw (c .enum-told5 .given .1)))
 
 -- src/page11.rt:37:1
 returns-6 : tie.Need-returns-6
-returns-6 c = search needs
+unfolding turnOf pick
+returns-6 c =
+    rw (← sym (c .before .before .before .id .given .1) ∙ c .before .before .before .before .before .walk-step .ensures)
+    (simp (sym (c .before .is-asked .ensures) ∙ c .if1 .left))
 
 pub take-turn-spec : {M : Type 1} → statement M
 take-turn-spec =
