@@ -5,7 +5,7 @@ use mathlib.Core.List.{List, [], _∷_}
 use Prim.Native.Nat.{ℕ, zero, suc, _+_, _-_, _<_, _≤_}
 use native.Mathlib.Nat.{not-suc-le-zero, le-of-suc-le-suc}
 use native.Mathlib.Omega.{arith}
-use lib.Dec.{T, eqb, eqb→eq}
+use lib.Dec.{T, eqb, ltb, eqb→eq, ltb→lt}
 use lib.ListN.{length, getD, drop, List·getD-eq-default}
 use lib.Seq.{drop-cons}
 use borrow.Author.Tests.{eqb-true, eqb-false}
@@ -55,6 +55,27 @@ finds k = atRow k (rowOf (idOf k))
 pub row-found : (k : ℕ) → k < 16 → rowOf (idOf k) ≡ Row k
 unfolding finds atRow rowOf rowFrom ids pick
 row-found k h = at-row k (rowOf (idOf k)) (below-all 16 finds tt k h)
+
+-- two rows have two identifiers
+pub id-other : (j k : ℕ) → j < 16 → k < 16 → (j ≡ k → ⊥) → idOf j ≡ idOf k → ⊥
+id-other j k hj hk d e =
+    let r : Row j ≡ Row k = sym (row-found j hj) ∙ ap rowOf e ∙ row-found k hk in
+    d (cc)
+
+-- identifiers are numbers of 12 bits, and not 0
+positive : ℕ → Bool
+positive k = ltb 0 (idOf k)
+
+small : ℕ → Bool
+small k = ltb (idOf k) 4096
+
+pub id-positive : (k : ℕ) → k < 16 → 0 < idOf k
+unfolding positive ids
+id-positive k h = ltb→lt 0 (idOf k) (below-all 16 positive tt k h)
+
+pub id-small : (k : ℕ) → k < 16 → idOf k < 4096
+unfolding small ids
+id-small k h = ltb→lt (idOf k) 4096 (below-all 16 small tt k h)
 
 never : (k : ℕ) → Nowhere ≡ Row k → ⊥
 never k e = let z : _≡_ {A = ℕ} 0 1 = cc in omega arith

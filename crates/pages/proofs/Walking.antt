@@ -6,12 +6,15 @@ use mathlib.Core.List.{List, [], _∷_}
 use Prim.Native.Nat.{ℕ, zero, suc, _+_, _*_, _-_, _<_, _≤_, min}
 use native.Mathlib.Omega.{arith}
 use lib.Dec.{ltb, leb, eqb}
-use borrow.Author.Tests.{ltb-false, le-leb}
+use lib.ListN.{length}
+use borrow.Author.Tests.{ltb-false, le-leb, le-ltb, eq-eqb}
 use Rattle.bits.specs.Pick.{pick}
+use Rattle.bits.specs.First.{firstOf}
 use Rattle.bits.specs.Little.{leAt, Number}
 use Rattle.bits.proofs.Picks.{by-test, pick-yes, pick-no, tested}
 use Rattle.pages.specs.Entries.{Entry, entryAt, idAt, endOf, bytesIn, widthOf, wrongWidth, pastEnd, nameless, asked, asks, entriesFrom, entries}
-use Rattle.pages.specs.Page11.{damaged, valueIn}
+use Rattle.pages.specs.Page11.{damaged, valueIn, readCounter}
+use Rattle.pages.specs.Sum.{sum256}
 use Rattle.pages.specs.Step.{faulty, stepAt, hit, onStep, turnOf}
 use Rattle.pages.specs.declared.walk.Step.{Step}
 use Rattle.pages.specs.declared.walk.Step.the-variants.{Row, End, Fault}
@@ -229,3 +232,16 @@ module _ (page : List ℕ) (number at : ℕ) (found : Counter) where
 pub walk-starts : (page : List ℕ) (number : ℕ) → pick (damaged number (entries page)) (Refused 22) (valueIn page number (entries page)) ≡ fromHere page number 4 Absent
 unfolding entries restOf
 walk-starts page number = rw (entries-fuel page 508 504 4 (omega arith) (omega arith))
+
+-- the last rung alone: 22, or what is found
+pub last-rung : (d : Bool) (v : Counter) → pick d (Refused 22) v ≡ pick (eqb (pick d 22 0) 0) v (Refused (pick d 22 0))
+unfolding pick
+last-rung true v = refl
+last-rung false v = refl
+
+-- a page that is refused neither for its length, nor for the number, nor for its sum is walked
+pub reads-walk : (page : List ℕ) (number : ℕ) → length page ≡ 512 → 0 < number → number < 4096 → sum256 page ≡ 0 → readCounter page number ≡ fromHere page number 4 Absent
+unfolding readCounter firstOf pick
+reads-walk page number l p q s =
+    simp (eq-eqb (length page) 512 l, le-ltb number 1 p, le-ltb 4095 number (omega arith), eq-eqb (sum256 page) 0 s)
+    (sym (last-rung (damaged number (entries page)) (valueIn page number (entries page))) ∙ walk-starts page number)

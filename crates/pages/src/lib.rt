@@ -1,4 +1,5 @@
 // Log pages 10h and 11h, read and written.
+mod made11;
 mod page11;
 mod rows;
 mod sums;

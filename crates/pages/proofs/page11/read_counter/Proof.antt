@@ -2,14 +2,11 @@ use denote.Ref.{now}
 use Rattle.pages.specs.Entries.{entries}
 use Rattle.pages.specs.Page11.{damaged, valueIn}
 use mathlib.Core.Path.{_≡_, refl, _∙_, sym, ap}
-use mathlib.Core.Bool.{Bool, true, false}
-use lib.Dec.{eqb}
 use borrow.Author.Tests.{eq-eqb, ne-eqb, lt-ltb, le-ltb}
 use Rattle.bits.specs.Pick.{pick}
 use Rattle.bits.specs.First.{firstOf}
 use Rattle.pages.specs.Page11.{readCounter}
-use Rattle.pages.specs.declared.page11.Counter.{Counter}
-use Rattle.pages.specs.declared.page11.Counter.the-variants.{Refused}
+use Rattle.pages.proofs.Walking.{last-rung}
 use borrow.Author.Needs.{needs}
 use Rattle.pages.proofs.page11.read_counter.Statement.{statement}
 use Rattle.pages.proofs.page11.read_counter.Tie as tie
@@ -17,12 +14,6 @@ use Rattle.pages.proofs.page11.read_counter.Reads as reads
 use Rattle.pages.proofs.page11.read_counter.Lts as lts
 use Rattle.pages.proofs.page11.walk_page.Reads as walk-page-reads
 use Rattle.pages.proofs.sums.byte_sum.Reads as byte-sum-reads
-
--- the last rung alone: 22, or what is found
-last-rung : (d : Bool) (v : Counter) → pick d (Refused 22) v ≡ pick (eqb (pick d 22 0) 0) v (Refused (pick d 22 0))
-unfolding pick
-last-rung true v = refl
-last-rung false v = refl
 
 -- src/page11.rt:91:9
 returns : tie.Need-returns
