@@ -6,3 +6,4 @@ pub mod ByWidth
 pub mod Filling
 pub mod Bytes11
 pub mod Trip11
+pub mod Straddle

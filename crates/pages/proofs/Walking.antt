@@ -42,7 +42,7 @@ pub record Lies (at start len : ℕ) : Type 0 where
   pub most : len ≤ 8
   pub within : start + len ≤ 508
 
-or-left : (a b : Bool) → (a || b) ≡ false → a ≡ false
+pub or-left : (a b : Bool) → (a || b) ≡ false → a ≡ false
 or-left true b e = e
 or-left false b e = refl
 
@@ -116,7 +116,7 @@ module _ (page : List ℕ) (at : ℕ) where
   entries-end (suc fuel) h = pick-yes ends [] _ h
 
   -- a first entry, and some behind it
-  entries-some : (fuel : ℕ) → ends ≡ false
+  pub entries-some : (fuel : ℕ) → ends ≡ false
       → entriesFrom page (suc fuel) at ≡ entryAt page at ∷ pick (wrongWidth (entryAt page at) || pastEnd (entryAt page at)) [] (entriesFrom page fuel (endOf (entryAt page at)))
   unfolding entriesFrom
   entries-some fuel h = pick-no ends [] _ h

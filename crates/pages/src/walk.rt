@@ -1,6 +1,6 @@
 // The walk over the entries of page 11h.
 // Places are even: the walk starts at 4, an identifier takes 2 bytes and a value 2, 4, 6 or 8. So an identifier never
-// straddles 508, and it is enough to test where each value ends.
+// straddles 508 (`no-straddle`), and it is enough to test where each value ends.
 ghost use mathlib.Core.Path.{_≡_};
 ghost use Prim.Native.Nat.{_<_};
 ghost use Rattle.pages.specs.Entries.{entryOf, widthOf, numberOf, vendorOf};
