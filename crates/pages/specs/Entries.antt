@@ -12,6 +12,16 @@ pub record Entry : Type 0 where
   pub place : ℕ
   pub id : ℕ
 
+abbrev pub entryOf : ℕ → ℕ → Entry
+entryOf place id = record { place = place; id = id }
+
+-- the identifier that stands at a place, and its entry
+unfoldable pub idAt : List ℕ → ℕ → ℕ
+idAt page at = leAt page at 2
+
+abbrev pub entryAt : List ℕ → ℕ → Entry
+entryAt page at = entryOf at (idAt page at)
+
 -- width bits 14:12; the low 12 bits, which are the counter's number; bit 15, a vendor's
 abbrev pub widthOf : ℕ → ℕ
 widthOf id = id / 4096 % 8
@@ -42,18 +52,20 @@ pastEnd e = ltb 508 (endOf e)
 abbrev pub nameless : Entry → Bool
 nameless e = not (vendorOf (e .id)) && eqb (numberOf (e .id)) 0
 
--- the entry is the asked counter's; identifiers with bit 15 are stepped over
+-- the identifier is the asked counter's; those with bit 15 are stepped over
+abbrev pub asked : ℕ → ℕ → Bool
+asked number id = not (vendorOf id) && eqb (numberOf id) number
+
 abbrev pub asks : ℕ → Entry → Bool
-asks number e = not (vendorOf (e .id)) && eqb (numberOf (e .id)) number
+asks number e = asked number (e .id)
 
 -- the entries from a place on: they end at identifier 0000h or at 508, and with one behind which no next place is known.
 -- Each is at least 4 bytes long, so that a fuel of 508 is never used up (`entries-fuel`)
 unfoldable pub entriesFrom : List ℕ → ℕ → ℕ → List Entry
 entriesFrom page zero at = []
 entriesFrom page (suc fuel) at =
-    pick (leb 508 at || eqb (leAt page at 2) 0) []
-    (record { place = at; id = leAt page at 2 } ∷ pick (wrongWidth (record { place = at; id = leAt page at 2 }) || pastEnd (record { place = at; id = leAt page at 2 })) []
-    (entriesFrom page fuel (endOf (record { place = at; id = leAt page at 2 }))))
+    pick (leb 508 at || eqb (idAt page at) 0) []
+    (entryAt page at ∷ pick (wrongWidth (entryAt page at) || pastEnd (entryAt page at)) [] (entriesFrom page fuel (endOf (entryAt page at))))
 
 -- the walk starts at 4
 unfoldable pub entries : List ℕ → List Entry

@@ -3,3 +3,4 @@ pub mod Rows
 pub mod Entries
 pub mod Page11
 pub mod Step
+pub mod Made11

@@ -5,20 +5,35 @@ use mathlib.Core.List.{List}
 use lib.Dec.{ltb, leb, eqb}
 use Rattle.bits.specs.Pick.{pick}
 use Rattle.bits.specs.Little.{leAt}
-use Rattle.pages.specs.Entries.{Entry, bytesIn, wrongWidth, pastEnd, nameless, asks}
+use Rattle.pages.specs.Entries.{Entry, entryAt, idAt, bytesIn, wrongWidth, pastEnd, nameless, asked}
 use Rattle.pages.specs.declared.walk.Step.{Step}
 use Rattle.pages.specs.declared.walk.Step.the-variants.{Row, End, Fault}
+use Rattle.pages.specs.declared.page11.Counter.{Counter}
+use Rattle.pages.specs.declared.page11.Counter.the-variants.{Value, Absent, Refused}
+use Rattle.pages.specs.declared.page11.Turn.{Turn}
+use Rattle.pages.specs.declared.page11.Turn.the-variants.{Done, Next}
 
 -- an entry that the page may not have
 abbrev pub faulty : Entry → Bool
 faulty e = (wrongWidth e || pastEnd e) || nameless e
 
--- the entry whose identifier stands at a place
-abbrev pub entryAt : List ℕ → ℕ → Entry
-entryAt page at = record { place = at; id = leAt page at 2 }
-
 -- what stands at a place: the end at 508 or at 0000h, a fault, or a row with its identifier, the place of its value and the value's length
 unfoldable pub stepAt : List ℕ → ℕ → Step
 stepAt page at =
-    pick (leb 508 at || eqb (leAt page at 2) 0) End
-    (pick (faulty (entryAt page at)) Fault (Row (leAt page at 2) (at + 2) (bytesIn (leAt page at 2))))
+    pick (leb 508 at || eqb (idAt page at) 0) End
+    (pick (faulty (entryAt page at)) Fault (Row (idAt page at) (at + 2) (bytesIn (idAt page at))))
+
+-- a row of the asked number, with what is found so far: its value, or the fault that it stands there twice
+abbrev pub hit : Counter → ℕ → ℕ → Turn
+hit Absent next v = Next next (Value v)
+hit (Value w) next v = Done (Refused 22)
+hit (Refused n) next v = Done (Refused 22)
+
+-- one turn of the reader: by what stands at the place, and what is found so far
+abbrev pub onStep : List ℕ → ℕ → Counter → Step → Turn
+onStep page number found End = Done found
+onStep page number found Fault = Done (Refused 22)
+onStep page number found (Row id start len) = pick (asked number id) (hit found (start + len) (leAt page start len)) (Next (start + len) found)
+
+unfoldable pub turnOf : List ℕ → ℕ → ℕ → Counter → Turn
+turnOf page number at found = onStep page number found (stepAt page at)

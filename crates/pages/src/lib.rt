@@ -1,4 +1,5 @@
 // Log pages 10h and 11h, read and written.
+mod made11;
 mod page11;
 mod rows;
 mod sums;
@@ -7,7 +8,11 @@ mod walk;
 pub use page11::Counter;
 pub use page11::read_counter;
 pub use rows::Place;
+pub use rows::id_of;
+pub use rows::is_kept;
 pub use rows::row_of;
+pub use sums::byte_sum;
 pub use walk::Step;
 pub use walk::Walk;
+pub use walk::entry_at;
 pub use walk::walk_step;

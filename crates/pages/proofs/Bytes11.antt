@@ -1,0 +1,156 @@
+-- What stands where in page 11h as it is made: 512 bytes, a sum of 0, each kept row, and then zeros. Assumes nothing.
+use mathlib.Core.Path.{_≡_, refl, ap, sym, _∙_}
+use mathlib.Core.Bool.{Bool, true, false}
+use mathlib.Core.Logic.{⊎-elim}
+use mathlib.Core.List.{List, [], _∷_, _++_}
+use Prim.Native.Nat.{ℕ, zero, suc, _+_, _*_, _-_, _%_, _^_, _<_, _≤_}
+use native.Mathlib.Omega.{arith}
+use borrow.Author.Tests.{leb-true, leb-false}
+use lib.Dec.{leb}
+use lib.ListN.{length, getD, set, replicate, length-set, getD-replicate, List·getD-append}
+use lib.Seq.{getD-set-same, getD-set-other, getD-append-add}
+use Rattle.bits.specs.Little.{leAt, leBytes}
+use Rattle.bits.proofs.Picks.{tested}
+use Rattle.pages.specs.Rows.{idOf, kept}
+use Rattle.pages.specs.Sum.{sumTo, sum256, sumByte, sealed}
+use Rattle.pages.specs.Entries.{idAt}
+use Rattle.pages.specs.Made11.{rowBytes, rowsTo, openTo, page11}
+use Rattle.pages.proofs.ByWidth.{le-stands}
+use Rattle.pages.proofs.RowLaws.{id-small}
+use Rattle.pages.proofs.Filling.{rows-kept, length-kept, length-skip, rows-short, length-open}
+
+-- ---- the sum
+
+sum-last : (s : List ℕ) (n : ℕ) → sumTo s (suc n) ≡ sumTo s n + getD s n 0
+unfolding sumTo
+sum-last s n = refl
+
+sum-set : (p : List ℕ) (x k n : ℕ) → n ≤ k → sumTo (set p k x) n ≡ sumTo p n
+unfolding sumTo
+sum-set p x k zero h = refl
+sum-set p x k (suc n) h =
+    let i = sum-set p x k n (omega arith) in
+    let g = getD-set-other p k n x 0 (λ e. omega arith) in
+    omega arith
+
+-- the sum byte does what it is for
+pub sum-sealed : (p : List ℕ) → length p ≡ 512 → getD p 511 0 ≡ 0 → sum256 (sealed p) ≡ 0
+unfolding sealed sum256
+sum-sealed p l z =
+    let x = (256 - sumTo p 512 % 256) % 256 in
+    let g : getD (set p 511 x) 511 0 ≡ x = getD-set-same p 511 x 0 (omega arith) in
+    let b : sumTo (set p 511 x) 511 ≡ sumTo p 511 = sum-set p x 511 511 (omega arith) in
+    rw (length-set, l) (omega (arith, sum-last (set p 511 x) 511, sum-last p 511))
+
+-- ---- the two numbers of a row
+
+row-head : (id v j : ℕ) → j < 2 → getD (rowBytes id v) j 0 ≡ getD (leBytes 2 (8192 + id)) j 0
+unfolding rowBytes
+row-head id v j h = List·getD-append (leBytes 2 (8192 + id)) (leBytes 4 v) 0 j h
+
+row-value : (id v j : ℕ) → getD (rowBytes id v) (2 + j) 0 ≡ getD (leBytes 4 v) j 0
+unfolding rowBytes
+row-value id v j = getD-append-add (leBytes 2 (8192 + id)) (leBytes 4 v) j 0
+
+module _ (mask : ℕ) (values : List ℕ) where
+  -- how long the kept ones of the first n rows are
+  abbrev pub L : ℕ → ℕ
+  L n = length (rowsTo mask values n)
+
+  abbrev pub page : List ℕ
+  page = page11 mask values
+
+  open-zero : (i : ℕ) → L 16 ≤ i → i < 508 → getD (openTo mask values 16) (4 + i) 0 ≡ 0
+  unfolding openTo
+  open-zero i h k =
+      let s = rows-short mask values 16 in
+      let m = 508 - L 16 in
+      let e : L 16 + (i - L 16) ≡ i = omega arith in
+      getD-append-add (replicate 4 0) (rowsTo mask values 16 ++ replicate m 0) i 0
+      ∙ (rw e at (getD-append-add (rowsTo mask values 16) (replicate m 0) (i - L 16) 0))
+      ∙ getD-replicate m (i - L 16) 0 0 (omega arith)
+
+  open-row : (i : ℕ) → i < L 16 → getD (openTo mask values 16) (4 + i) 0 ≡ getD (rowsTo mask values 16) i 0
+  unfolding openTo
+  open-row i h =
+      getD-append-add (replicate 4 0) (rowsTo mask values 16 ++ replicate (508 - L 16) 0) i 0
+      ∙ List·getD-append (rowsTo mask values 16) (replicate (508 - L 16) 0) 0 i h
+
+  rows-grow : (n : ℕ) → L n ≤ L (suc n)
+  rows-grow n = ⊎-elim (λ e. omega (arith, length-kept mask values n e)) (λ e. omega (arith, length-skip mask values n e)) (tested (kept mask n))
+
+  rows-same : (n i : ℕ) → i < L n → getD (rowsTo mask values (suc n)) i 0 ≡ getD (rowsTo mask values n) i 0
+  unfolding rowsTo
+  rows-same n i h = List·getD-append (rowsTo mask values n) _ 0 i h
+
+  -- the first rows stand in front of all
+  rows-prefix : (n r : ℕ) → r ≤ n → (L r ≤ L n) × ((i : ℕ) → i < L r → getD (rowsTo mask values n) i 0 ≡ getD (rowsTo mask values r) i 0)
+  rows-prefix zero r h =
+      let e : r ≡ 0 = omega arith in
+      rw e (omega arith, λ i k. refl)
+  rows-prefix (suc n) r h =
+      ⊎-elim
+      (λ t.
+      let p = rows-prefix n r (leb-true r n t) in
+      let g = rows-grow n in
+      (omega arith, λ i k. rows-same n i (omega arith) ∙ p .1 i k))
+      (λ f.
+      let l = leb-false r n f in
+      let e : r ≡ suc n = omega arith in
+      rw e (omega arith, λ i k. refl))
+      (tested (leb r n))
+
+  -- the page's bytes but the last are those of the open page
+  page-byte : (i : ℕ) → i < 511 → getD page i 0 ≡ getD (openTo mask values 16) i 0
+  unfolding page11 sealed
+  page-byte i h = getD-set-other (openTo mask values 16) 511 i (sumByte (openTo mask values 16)) 0 (λ e. omega arith)
+
+  page-row : (r j : ℕ) → r < 16 → kept mask r ≡ true → j < 6 → getD page (4 + L r + j) 0 ≡ getD (rowBytes (idOf r) (getD values r 0)) j 0
+  page-row r j h e k =
+      let s = rows-short mask values 16 in
+      let p = rows-prefix 16 (suc r) h in
+      let l = length-kept mask values r e in
+      let a : 4 + L r + j ≡ 4 + (L r + j) = omega arith in
+      rw a
+      (page-byte (4 + (L r + j)) (omega arith) ∙ open-row (L r + j) (omega arith) ∙ p .1 (L r + j) (omega arith)
+      ∙ ap (λ (x : List ℕ). getD x (L r + j) 0) (rows-kept mask values r e)
+      ∙ getD-append-add (rowsTo mask values r) (rowBytes (idOf r) (getD values r 0)) j 0)
+
+  pub page-length : length page ≡ 512
+  unfolding page11 sealed
+  page-length = length-set (openTo mask values 16) 511 (sumByte (openTo mask values 16)) ∙ length-open mask values 16 (omega arith)
+
+  pub page-sum : sum256 page ≡ 0
+  unfolding page11
+  page-sum =
+      let s = rows-short mask values 16 in
+      sum-sealed (openTo mask values 16) (length-open mask values 16 (omega arith)) (open-zero 507 (omega arith) (omega arith))
+
+  -- a kept row's identifier and value are read where it stands
+  pub page-id : (r : ℕ) → r < 16 → kept mask r ≡ true → idAt page (4 + L r) ≡ 8192 + idOf r
+  unfolding idAt
+  page-id r h e =
+      let q = id-small r h in
+      le-stands 2 (8192 + idOf r) (omega arith) page (4 + L r)
+      (λ j k. page-row r j h e (omega arith) ∙ row-head (idOf r) (getD values r 0) j k)
+
+  pub page-value : (r : ℕ) → r < 16 → kept mask r ≡ true → getD values r 0 < 2 ^ 32 → leAt page (4 + L r + 2) 4 ≡ getD values r 0
+  page-value r h e small =
+      le-stands 4 (getD values r 0) small page (4 + L r + 2)
+      (λ j k.
+      let a : 4 + L r + 2 + j ≡ 4 + L r + (2 + j) = omega arith in
+      rw a (page-row r (2 + j) h e (omega arith) ∙ row-value (idOf r) (getD values r 0) j))
+
+  page-zero : (i : ℕ) → L 16 ≤ i → i < 507 → getD page (4 + i) 0 ≡ 0
+  page-zero i h k = page-byte (4 + i) (omega arith) ∙ open-zero i h (omega arith)
+
+  two-zeros : (a : ℕ) → getD page a 0 ≡ 0 → getD page (suc a) 0 ≡ 0 → idAt page a ≡ 0
+  unfolding idAt
+  two-zeros a p q = omega arith
+
+  -- behind the last row stands 0000h
+  pub page-end : idAt page (4 + L 16) ≡ 0
+  page-end =
+      let s = rows-short mask values 16 in
+      let a : 4 + (L 16 + 1) ≡ suc (4 + L 16) = omega arith in
+      two-zeros (4 + L 16) (page-zero (L 16) (omega arith) (omega arith)) (rw a at (page-zero (L 16 + 1) (omega arith) (omega arith)))

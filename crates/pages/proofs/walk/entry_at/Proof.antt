@@ -1,0 +1,71 @@
+use mathlib.Core.Path.{_≡_, _∙_, sym, ap}
+use borrow.Author.Tests.{eq-eqb, ne-eqb, le-leb, lt-leb}
+use Rattle.bits.specs.Pick.{pick}
+use Rattle.pages.specs.Step.{stepAt}
+use Rattle.pages.proofs.Walking.{id-read}
+use borrow.Author.Needs.{needs}
+use Rattle.pages.proofs.walk.entry_at.Statement.{statement}
+use Rattle.pages.proofs.walk.entry_at.Tie as tie
+use Rattle.pages.proofs.walk.entry_at.Reads as reads
+use Rattle.pages.proofs.walk.entry_at.Lts as lts
+use Rattle.bits.proofs.le.Reads as le-reads
+use Rattle.pages.proofs.walk.is_faulty.Reads as is-faulty-reads
+use Rattle.pages.proofs.walk.width_of.Reads as width-of-reads
+
+-- src/walk.rt:64:9
+returns : tie.Need-returns
+unfolding stepAt pick
+returns c = simp (le-leb 508 _ (c .if1 .taken))
+
+-- src/walk.rt:66:9
+le-requires : tie.Need-le-requires
+le-requires c κs = search needs
+
+-- src/walk.rt:68:9
+returns-2 : tie.Need-returns-2
+unfolding stepAt pick
+returns-2 c = rw (← id-read _ _ _ (c .before .le .ensures)) (simp (lt-leb 508 _ (c .before .before .if1 .left), eq-eqb _ 0 (c .if2 .taken)))
+
+-- src/walk.rt:70:8
+is-faulty-requires : tie.Need-is-faulty-requires
+is-faulty-requires c κs = search needs
+
+-- src/walk.rt:71:9
+returns-3 : tie.Need-returns-3
+unfolding stepAt pick
+returns-3 c =
+    rw (← id-read _ _ _ (c .before .before .before .le .ensures))
+    (simp (lt-leb 508 _ (c .before .before .before .before .if1 .left), ne-eqb _ 0 (c .before .before .if2 .left), sym (c .before .is-faulty .ensures) ∙ c .if3 .taken))
+
+-- src/walk.rt:73:17
+add-start : tie.Need-add-start
+add-start c = search needs
+
+-- src/walk.rt:74:19
+width-of-requires : tie.Need-width-of-requires
+width-of-requires c κs = search needs
+
+-- src/walk.rt:74:15
+mul-len : tie.Need-mul-len
+mul-len c = search needs
+
+-- src/walk.rt:60:1
+returns-4 : tie.Need-returns-4
+unfolding stepAt pick
+returns-4 c =
+    rw (← id-read _ _ _ (c .before .before .before .before .le .ensures), c .width-of .ensures)
+    (simp (lt-leb 508 _ (c .before .before .before .before .before .if1 .left), ne-eqb _ 0 (c .before .before .before .if2 .left), sym (c .before .before .is-faulty .ensures) ∙ c .before .if3 .left))
+
+pub entry-at-spec : {M : Type 1} → statement M
+entry-at-spec =
+    tie.close
+    (tie.spec
+    returns
+    le-requires
+    returns-2
+    is-faulty-requires
+    returns-3
+    add-start
+    width-of-requires
+    mul-len
+    returns-4)

@@ -1,0 +1,16 @@
+use lib.Bits.{and-mask}
+use lib.Dec.{eqb}
+use mathlib.Core.Path.{ap}
+use Prim.Native.Nat.{ℕ, _/_}
+use borrow.Author.Needs.{needs}
+use Rattle.pages.proofs.walk.is_vendor.Statement.{statement}
+use Rattle.pages.proofs.walk.is_vendor.Tie as tie
+use Rattle.pages.proofs.walk.is_vendor.Reads as reads
+use Rattle.pages.proofs.walk.is_vendor.Lts as lts
+
+-- src/walk.rt:32:1
+returns : tie.Need-returns
+returns c = ap (λ (k : ℕ). eqb k 1) (and-mask (c .args .id / 32768) 1)
+
+pub is-vendor-spec : {M : Type 1} → statement M
+is-vendor-spec = tie.close (tie.spec returns)

@@ -1,0 +1,14 @@
+use lib.Bits.{and-mask}
+use Prim.Native.Nat.{_/_}
+use borrow.Author.Needs.{needs}
+use Rattle.pages.proofs.walk.width_of.Statement.{statement}
+use Rattle.pages.proofs.walk.width_of.Tie as tie
+use Rattle.pages.proofs.walk.width_of.Reads as reads
+use Rattle.pages.proofs.walk.width_of.Lts as lts
+
+-- src/walk.rt:18:1
+returns : tie.Need-returns
+returns c = and-mask (c .args .id / 4096) 3
+
+pub width-of-spec : {M : Type 1} → statement M
+width-of-spec = tie.close (tie.spec returns)
