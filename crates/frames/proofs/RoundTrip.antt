@@ -93,7 +93,7 @@ same-task : {l l′ d d′ n n′ : ℕ} → l ≡ l′ → d ≡ d′ → n ≡
 same-task p q r = cc
 
 -- the command's bytes come back out of 27h, 34h and 5Fh
-task-all : (k g s d : ℕ) (t : Task) (e f n : ℕ) → taskFits t ≡ true → taskOf (registerBytes k g s d t e f n) ≡ t
+pub task-all : (k g s d : ℕ) (t : Task) (e f n : ℕ) → taskFits t ≡ true → taskOf (registerBytes k g s d t e f n) ≡ t
 unfolding registerBytes
 task-all k g s d t e f n h =
     same-task (lba-all (small 48 (t .lba) (and-right (below 8 (t .device) && below 16 (t .count)) (below 48 (t .lba)) h))) refl

@@ -4,7 +4,7 @@ use mathlib.Core.Bool.{Bool}
 use mathlib.Core.List.{List}
 use Prim.Native.Nat.{ℕ}
 use Rattle.bits.proofs.Unique.{same}
-use Rattle.frames.specs.Piece.{taskOf, tagOf, sectorsOf, registerBytes}
+use Rattle.frames.specs.Piece.{taskOf, tagOf, sectorsOf, registerBytes, taskFits}
 use Rattle.frames.specs.Read.{readFrame}
 use Rattle.frames.specs.Write.{Sent, host, device, setBits, setup, activate, payload, bist, pio, Emitted, Wrote}
 use Rattle.frames.specs.Cut.{pieceOf}
@@ -36,6 +36,7 @@ pub unique : ((f : HostReg) → Once (host f)) × ((f : DevReg) → Once (device
     × ((s : List ℕ) (r r′ : Frame) → r ≡ readFrame s → r′ ≡ readFrame s → r ≡ r′)
     × ((s : List ℕ) (r r′ : ℕ) → r ≡ pieceOf s → r′ ≡ pieceOf s → r ≡ r′)
     × ((s : List ℕ) (r r′ : Task) → r ≡ taskOf s → r′ ≡ taskOf s → r ≡ r′)
+    × ((t : Task) (r r′ : Bool) → r ≡ taskFits t → r′ ≡ taskFits t → r ≡ r′)
     × ((n : ℕ) (r r′ : ℕ) → r ≡ tagOf n → r′ ≡ tagOf n → r ≡ r′)
     × ((f h : ℕ) (r r′ : ℕ) → r ≡ sectorsOf f h → r′ ≡ sectorsOf f h → r ≡ r′)
     × ((k g s d : ℕ) (t : Task) (e f n : ℕ) (r r′ : List ℕ) → r ≡ registerBytes k g s d t e f n → r′ ≡ registerBytes k g s d t e f n → r ≡ r′)
@@ -51,6 +52,7 @@ unique = (
   λ s r r′ p q. same p q,
   λ s r r′ p q. same p q,
   λ s r r′ p q. same p q,
+  λ t r r′ p q. same p q,
   λ n r r′ p q. same p q,
   λ f h r r′ p q. same p q,
   λ k g s d t e f n r r′ p q. same p q,

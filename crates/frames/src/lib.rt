@@ -20,6 +20,7 @@ pub use shapes::SetBits;
 pub use shapes::Task;
 pub use writing::Written;
 pub use writing::emit;
+pub use writing::task_fits;
 pub use writing::write_activate;
 pub use writing::write_bist;
 pub use writing::write_bits;

@@ -4,3 +4,4 @@ pub mod Entries
 pub mod Page11
 pub mod Step
 pub mod Made11
+pub mod Page10

@@ -1,0 +1,59 @@
+use borrow.Author.Needs.{needs}
+use Rattle.pages.proofs.page10.page10_bytes.Statement.{statement}
+use Rattle.pages.proofs.page10.page10_bytes.Tie as tie
+use Rattle.pages.proofs.page10.page10_bytes.Reads as reads
+use Rattle.pages.proofs.page10.page10_bytes.Lts as lts
+use Rattle.bits.proofs.lay.Reads as lay-reads
+use Rattle.frames.proofs.register_bytes.Reads as register-bytes-reads
+use Rattle.pages.proofs.page10.first_byte.Reads as first-byte-reads
+use Rattle.pages.proofs.sums.sum_byte.Reads as sum-byte-reads
+
+-- src/page10.rt:43:9
+first-byte-requires : tie.Need-first-byte-requires
+first-byte-requires c κs = search needs
+
+-- src/page10.rt:44:16
+register-bytes-requires : tie.Need-register-bytes-requires
+register-bytes-requires c κs = search needs
+
+-- src/page10.rt:46:15
+slice-aggregate-lay : tie.Need-slice-aggregate-lay
+slice-aggregate-lay c = search needs
+
+-- src/page10.rt:46:26
+slice-aggregate-lay-2 : tie.Need-slice-aggregate-lay-2
+slice-aggregate-lay-2 c = search needs
+
+-- src/page10.rt:46:5
+lay-requires : tie.Need-lay-requires
+lay-requires c κs = search needs
+
+-- src/page10.rt:47:26
+slice-aggregate-sum-byte : tie.Need-slice-aggregate-sum-byte
+slice-aggregate-sum-byte c = search needs
+
+-- src/page10.rt:47:17
+sum-byte-requires : tie.Need-sum-byte-requires
+sum-byte-requires c κs = search needs
+
+-- src/page10.rt:47:5
+array-write-page : tie.Need-array-write-page
+array-write-page c = search needs
+
+-- src/page10.rt:39:1
+returns : tie.Need-returns
+returns c = search needs
+
+pub page10-bytes-spec : {M : Type 1} → statement M
+page10-bytes-spec =
+    tie.close
+    (tie.spec
+    first-byte-requires
+    register-bytes-requires
+    slice-aggregate-lay
+    slice-aggregate-lay-2
+    lay-requires
+    slice-aggregate-sum-byte
+    sum-byte-requires
+    array-write-page
+    returns)

@@ -1,0 +1,16 @@
+use borrow.Author.Needs.{needs}
+use Rattle.pages.proofs.page10.tag_in.Statement.{statement}
+use Rattle.pages.proofs.page10.tag_in.Tie as tie
+use Rattle.pages.proofs.page10.tag_in.Reads as reads
+use Rattle.pages.proofs.page10.tag_in.Lts as lts
+
+-- src/page10.rt:52:1
+returns : tie.Need-returns
+returns c = search needs
+
+-- src/page10.rt:52:1
+returns-2 : tie.Need-returns-2
+returns-2 c = search needs
+
+pub tag-in-spec : {M : Type 1} → statement M
+tag-in-spec = tie.close (tie.spec returns returns-2)

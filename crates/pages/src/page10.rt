@@ -1,0 +1,83 @@
+// Log page 10h: the error record, made by value and read.
+ghost use mathlib.Core.Path.{_≡_};
+ghost use Rattle.pages.specs.Page10.{firstByte, tagIn, fits10, page10, fields10, readLog};
+use crate::sums::byte_sum;
+use crate::sums::sum_byte;
+use frames::Task;
+
+// The named fields of page 10h.
+pub struct ErrorLog {
+    pub nq: bool,
+    pub tag: u8,
+    pub status: u8,
+    pub error: u8,
+    pub task: Task,
+}
+
+// What reading page 10h gives: its fields, or the refusal's number.
+pub enum Page10 {
+    Fields(ErrorLog),
+    Refused(u8),
+}
+
+// Byte 0: bit 7 NQ, bits 4:0 tag.
+fn first_byte(nq: bool, tag: u8) -> u8
+    ensures { λ r. ⌜ r ≡ firstByte nq tag ⌝ }
+{
+    ((nq as u8) << 7) | (tag & 31)
+}
+
+// The tag has five bits, and is 0 under NQ. All else but the LBA has the width of its field.
+pub fn log_fits(f: ErrorLog) -> bool
+    ensures { λ r. ⌜ r ≡ fits10 f ⌝ }
+{
+    let t = f.task;
+    frames::task_fits(t) & (f.tag >> 5 == 0) & (!f.nq | (f.tag == 0))
+}
+
+// The page of a record. Private to the crate: a writer that refuses stands over it.
+pub fn page10_bytes(f: ErrorLog) -> [u8; 512]
+    ensures { λ r. ⌜ r ≡ page10 f ⌝ }
+{
+    let t = f.task;
+    let first = first_byte(f.nq, f.tag);
+    let head = frames::register_bytes(first, 0, f.status, f.error, t, 0, 0, 0);
+    let mut page = [0u8; 512];
+    bits::lay(&mut page, &head);
+    page[511] = sum_byte(&page);
+    page
+}
+
+// The tag as it stands, and 0 under NQ.
+fn tag_in(first: u8, nq: bool) -> u8
+    ensures { λ r. ⌜ r ≡ tagIn first nq ⌝ }
+{
+    if nq { 0 } else { first & 31 }
+}
+
+fn read_fields(page: &[u8]) -> ErrorLog
+    ensures { λ r. ⌜ r ≡ fields10 (now (page .entry)) ⌝ }
+{
+    let first = bits::byte_at(page, 0, 0);
+    let nq = bits::bit(first as u32, 7);
+    ErrorLog {
+        nq,
+        tag: tag_in(first, nq),
+        status: bits::byte_at(page, 2, 0),
+        error: bits::byte_at(page, 3, 0),
+        task: frames::task_of(page),
+    }
+}
+
+// Page 10h is read.
+pub fn read_log(page: &[u8]) -> Page10
+    ensures { λ r. ⌜ r ≡ readLog (now (page .entry)) ⌝ }
+{
+    if page.len() != 512 {
+        return Page10::Refused(20);
+    }
+    if byte_sum(page) != 0 {
+        return Page10::Refused(21);
+    }
+    Page10::Fields(read_fields(page))
+}
