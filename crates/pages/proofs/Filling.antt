@@ -25,7 +25,7 @@ length-row id v = refl
 module _ (mask : ℕ) (values : List ℕ) (n : ℕ) where
   pub rows-kept : kept mask n ≡ true → rowsTo mask values (suc n) ≡ rowsTo mask values n ++ rowBytes (idOf n) (getD values n 0)
   unfolding rowsTo
-  rows-kept e = ap (λ (l : List ℕ). rowsTo mask values n ++ l) (pick-yes (kept mask n) (rowBytes (idOf n) (getD values n 0)) [] e)
+  rows-kept e = ap (λ (l : List ℕ). rowsTo mask values n ++ l) (pick-yes (kept mask n) (rowBytes (idOf n) (getD values n 0)) _ e)
 
   pub rows-skip : kept mask n ≡ false → rowsTo mask values (suc n) ≡ rowsTo mask values n
   unfolding rowsTo
