@@ -1,6 +1,6 @@
 // The pieces that several frames share: single bytes, flags, the status halves of A1h, the command's bytes, and the layout of 27h, 34h and 5Fh.
 ghost use mathlib.Core.Path.{_≡_};
-ghost use Prim.Native.Nat.{_<_, _^_};
+ghost use Prim.Native.Nat.{_%_};
 ghost use lib.ListN.{getD};
 ghost use Rattle.bits.specs.Bit.{bitIn};
 ghost use Rattle.frames.specs.Piece.{flagsOf, halvesOf, Lba, taskOf, tagOf, sectorsOf, registerBytes};
@@ -51,11 +51,17 @@ pub fn task_of(s: &[u8]) -> Task
     }
 }
 
+fn low5(x: u16) -> u8
+    ensures { λ r. ⌜ r ≡ x % 32 ⌝ }
+{
+    (x & 31) as u8
+}
+
 // Bits 7:3 of byte 12, the low byte of the count, hold the tag.
 pub fn tag_of(count: u16) -> u8
     ensures { λ r. ⌜ r ≡ tagOf count ⌝ }
 {
-    ((count >> 3) & 31) as u8
+    low5(count >> 3)
 }
 
 // Features and features high are the sector count (0 = 65,536).

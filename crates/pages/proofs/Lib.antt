@@ -7,3 +7,8 @@ pub mod Filling
 pub mod Bytes11
 pub mod Trip11
 pub mod Straddle
+pub mod Laws10
+pub mod Trip10
+pub mod Written11
+pub mod Unique
+pub mod Examples

@@ -5,3 +5,4 @@ pub mod Page11
 pub mod Step
 pub mod Made11
 pub mod Page10
+pub mod Example

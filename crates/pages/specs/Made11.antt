@@ -4,8 +4,12 @@ use mathlib.Core.List.{List, [], _++_}
 use lib.ListN.{length, getD, replicate}
 use Rattle.bits.specs.Pick.{pick}
 use Rattle.bits.specs.Little.{leBytes}
-use Rattle.pages.specs.Rows.{idOf, kept}
+use Rattle.pages.specs.Rows.{idOf, kept, rowOf}
 use Rattle.pages.specs.Sum.{sealed}
+use Rattle.pages.specs.declared.rows.Place.{Place}
+use Rattle.pages.specs.declared.rows.Place.the-variants.{Row, Nowhere}
+use Rattle.pages.specs.declared.page11.Counter.{Counter}
+use Rattle.pages.specs.declared.page11.Counter.the-variants.{Value, Absent}
 
 -- a row: 2000h + identifier, which says 4 value bytes, then the value
 unfoldable pub rowBytes : ℕ → ℕ → List ℕ
@@ -23,3 +27,12 @@ openTo mask values n = (replicate 4 0 ++ rowsTo mask values n) ++ replicate (508
 -- the page of all sixteen rows, with its sum byte
 unfoldable pub page11 : ℕ → List ℕ → List ℕ
 page11 mask values = sealed (openTo mask values 16)
+
+-- what the page shows of a row: its value if it is kept, and absent for a number that has no row
+unfoldable pub onRow : ℕ → List ℕ → Place → Counter
+onRow mask values (Row k) = pick (kept mask k) (Value (getD values k 0)) Absent
+onRow mask values Nowhere = Absent
+
+-- what the page shows of a counter's number
+unfoldable pub shownFor : ℕ → List ℕ → ℕ → Counter
+shownFor mask values number = onRow mask values (rowOf number)

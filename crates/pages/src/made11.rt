@@ -1,15 +1,17 @@
 // Log page 11h made by value. Private to the crate: a writer that refuses stands over it.
 ghost use mathlib.Core.Path.{_≡_};
+ghost use Prim.Native.Nat.{_<_};
 ghost use Rattle.pages.specs.Made11.{rowBytes, page11};
 use crate::rows::id_of;
 use crate::rows::is_kept;
 use crate::sums::sum_byte;
 
-// A row: 2000h + identifier, then the value.
+// A row: 2000h + identifier, then the value. Width bits of 2 stand above the identifier's 12.
 fn row_bytes(id: u16, value: u32) -> [u8; 6]
+    requires { ⌜ id < 4096 ⌝ }
     ensures { λ r. ⌜ r ≡ rowBytes id value ⌝ }
 {
-    let n = 0x2000 + id as u64;
+    let n = (2 << 12) | id as u64;
     let v = value as u64;
     [
         bits::byte(n, 0),

@@ -1,3 +1,4 @@
+use lib.Bits.{or-shifted}
 use Rattle.pages.specs.Made11.{rowBytes}
 use borrow.Author.Needs.{needs}
 use Rattle.pages.proofs.made11.row_bytes.Statement.{statement}
@@ -6,44 +7,39 @@ use Rattle.pages.proofs.made11.row_bytes.Reads as reads
 use Rattle.pages.proofs.made11.row_bytes.Lts as lts
 use Rattle.bits.proofs.byte.Reads as byte-reads
 
--- src/made11.rt:12:13
-add-n : tie.Need-add-n
-add-n c = search needs
-
--- src/made11.rt:15:9
+-- src/made11.rt:17:9
 byte-requires : tie.Need-byte-requires
 byte-requires c κs = search needs
 
--- src/made11.rt:16:9
+-- src/made11.rt:18:9
 byte-requires-2 : tie.Need-byte-requires-2
 byte-requires-2 c κs = search needs
 
--- src/made11.rt:17:9
+-- src/made11.rt:19:9
 byte-requires-3 : tie.Need-byte-requires-3
 byte-requires-3 c κs = search needs
 
--- src/made11.rt:18:9
+-- src/made11.rt:20:9
 byte-requires-4 : tie.Need-byte-requires-4
 byte-requires-4 c κs = search needs
 
--- src/made11.rt:19:9
+-- src/made11.rt:21:9
 byte-requires-5 : tie.Need-byte-requires-5
 byte-requires-5 c κs = search needs
 
--- src/made11.rt:20:9
+-- src/made11.rt:22:9
 byte-requires-6 : tie.Need-byte-requires-6
 byte-requires-6 c κs = search needs
 
--- src/made11.rt:9:1
+-- src/made11.rt:10:1
 returns : tie.Need-returns
 unfolding rowBytes
-returns c = cc
+returns c = cc (or-shifted 2 12 (c .before .before .before .before .before .before .args .id) (c .before .before .before .before .before .before .pre))
 
 pub row-bytes-spec : {M : Type 1} → statement M
 row-bytes-spec =
     tie.close
     (tie.spec
-    add-n
     byte-requires
     byte-requires-2
     byte-requires-3

@@ -1,3 +1,4 @@
+use Rattle.pages.proofs.Laws10.{first-or}
 use borrow.Author.Needs.{needs}
 use Rattle.pages.proofs.page10.first_byte.Statement.{statement}
 use Rattle.pages.proofs.page10.first_byte.Tie as tie
@@ -10,7 +11,7 @@ cast-result c = search needs
 
 -- src/page10.rt:24:1
 returns : tie.Need-returns
-returns c = search needs
+returns c = first-or (c .args .nq) (c .args .tag)
 
 pub first-byte-spec : {M : Type 1} → statement M
 first-byte-spec = tie.close (tie.spec cast-result returns)

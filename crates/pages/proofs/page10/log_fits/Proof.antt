@@ -1,3 +1,6 @@
+use borrow.Author.Tests.{lt-ltb}
+use Rattle.frames.proofs.PieceLaws.{high-zero}
+use Rattle.pages.specs.Page10.{fits10}
 use borrow.Author.Needs.{needs}
 use Rattle.pages.proofs.page10.log_fits.Statement.{statement}
 use Rattle.pages.proofs.page10.log_fits.Tie as tie
@@ -11,7 +14,10 @@ task-fits-requires c κs = search needs
 
 -- src/page10.rt:31:1
 returns : tie.Need-returns
-returns c = search needs
+unfolding fits10
+returns c =
+    let f = c .before .before .before .before .before .args .f in
+    rw (lt-ltb (f .status) 256 (search needs), lt-ltb (f .error) 256 (search needs), ← c .before .before .before .task-fits .ensures, ← high-zero 5 (f .tag))
 
 pub log-fits-spec : {M : Type 1} → statement M
 log-fits-spec = tie.close (tie.spec task-fits-requires returns)

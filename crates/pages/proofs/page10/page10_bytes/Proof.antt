@@ -1,3 +1,11 @@
+use mathlib.Core.Path.{refl, ap, _∙_}
+use Prim.Native.Nat.{ℕ}
+use mathlib.Core.List.{List}
+use lib.ListN.{replicate}
+use Rattle.bits.specs.Laid.{over}
+use Rattle.frames.specs.Piece.{registerBytes}
+use Rattle.pages.specs.Page10.{page10}
+use Rattle.pages.proofs.Laws10.{made}
 use borrow.Author.Needs.{needs}
 use Rattle.pages.proofs.page10.page10_bytes.Statement.{statement}
 use Rattle.pages.proofs.page10.page10_bytes.Tie as tie
@@ -42,7 +50,10 @@ array-write-page c = search needs
 
 -- src/page10.rt:39:1
 returns : tie.Need-returns
-returns c = search needs
+unfolding page10 registerBytes
+returns c =
+    let h = rw (c .before .before .before .before .before .before .before .first-byte .ensures) at (c .before .before .before .before .before .before .register-bytes .ensures) in
+    made _ (c .before .before .before .lay .last .0) (c .sum-byte .result) refl (c .before .before .before .lay .ensures .1 ∙ ap (λ (x : List ℕ). over x (replicate 512 0)) h) (c .sum-byte .ensures)
 
 pub page10-bytes-spec : {M : Type 1} → statement M
 page10-bytes-spec =

@@ -38,7 +38,7 @@ task-of-requires c κs = search needs
 
 -- src/page10.rt:58:1
 returns : tie.Need-returns
-returns c = search needs
+returns c = cc
 
 pub read-fields-spec : {M : Type 1} → statement M
 read-fields-spec =

@@ -1,3 +1,11 @@
+use mathlib.Core.Path.{ap}
+use denote.Ref.{now}
+use lib.ListN.{length}
+use borrow.Author.Tests.{eq-eqb, ne-eqb}
+use Rattle.bits.specs.Pick.{pick}
+use Rattle.bits.specs.First.{firstOf}
+use Rattle.pages.specs.Page10.{readLog}
+use Rattle.pages.specs.declared.page10.Page10.the-variants.{Fields}
 use borrow.Author.Needs.{needs}
 use Rattle.pages.proofs.page10.read_log.Statement.{statement}
 use Rattle.pages.proofs.page10.read_log.Tie as tie
@@ -8,7 +16,8 @@ use Rattle.pages.proofs.sums.byte_sum.Reads as byte-sum-reads
 
 -- src/page10.rt:77:9
 returns : tie.Need-returns
-returns c = search needs
+unfolding readLog firstOf pick
+returns c = rw (ne-eqb (length (now (c .before .before .args .page))) 512 (c .if1 .taken))
 
 -- src/page10.rt:79:8
 byte-sum-requires : tie.Need-byte-sum-requires
@@ -16,7 +25,8 @@ byte-sum-requires c κs = search needs
 
 -- src/page10.rt:80:9
 returns-2 : tie.Need-returns-2
-returns-2 c = search needs
+unfolding readLog firstOf pick
+returns-2 c = rw (eq-eqb (length (now (c .before .before .before .before .args .page))) 512 (c .before .before .if1 .left), ← c .before .byte-sum .ensures, ne-eqb _ 0 (c .if2 .taken))
 
 -- src/page10.rt:82:20
 read-fields-requires : tie.Need-read-fields-requires
@@ -24,7 +34,8 @@ read-fields-requires c κs = search needs
 
 -- src/page10.rt:73:1
 returns-3 : tie.Need-returns-3
-returns-3 c = search needs
+unfolding readLog firstOf pick
+returns-3 c = rw (eq-eqb (length (now (c .before .before .before .before .before .args .page))) 512 (c .before .before .before .if1 .left), ← c .before .before .byte-sum .ensures, eq-eqb _ 0 (c .before .if2 .left)) (ap Fields (c .read-fields .ensures))
 
 pub read-log-spec : {M : Type 1} → statement M
 read-log-spec =

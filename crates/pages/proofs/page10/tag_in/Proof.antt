@@ -1,3 +1,5 @@
+use lib.Bits.{and-mask}
+use Rattle.bits.specs.Pick.{pick}
 use borrow.Author.Needs.{needs}
 use Rattle.pages.proofs.page10.tag_in.Statement.{statement}
 use Rattle.pages.proofs.page10.tag_in.Tie as tie
@@ -6,11 +8,13 @@ use Rattle.pages.proofs.page10.tag_in.Lts as lts
 
 -- src/page10.rt:52:1
 returns : tie.Need-returns
-returns c = search needs
+unfolding pick
+returns c = rw (c .if1 .taken)
 
 -- src/page10.rt:52:1
 returns-2 : tie.Need-returns-2
-returns-2 c = search needs
+unfolding pick
+returns-2 c = rw (c .if1 .left) (and-mask (c .before .args .first) 5)
 
 pub tag-in-spec : {M : Type 1} → statement M
 tag-in-spec = tie.close (tie.spec returns returns-2)

@@ -33,7 +33,7 @@ same-length c = search needs
 
 -- src/writing.rt:21:1
 returns : tie.Need-returns
-returns c = search needs
+returns c = rw (c .before .before .before .before .before .before .before .page11-bytes .ensures, c .before .before .before .before .before .is-kept .ensures, c .before .before .before .before .is-kept2 .ensures) at (c .before .before .emit .ensures)
 
 pub write-counters-spec : {M : Type 1} → statement M
 write-counters-spec =

@@ -29,7 +29,7 @@ same-length c = search needs
 
 -- src/writing.rt:13:1
 returns : tie.Need-returns
-returns c = search needs
+returns c = rw (c .before .before .before .before .before .before .page10-bytes .ensures, c .before .before .before .before .log-fits .ensures) at (c .before .before .emit .ensures)
 
 pub write-log-spec : {M : Type 1} → statement M
 write-log-spec =

@@ -1,0 +1,73 @@
+// One case, taken apart by its op.
+ghost use mathlib.Core.Path.{_≡_};
+ghost use lib.ListN.{length};
+use crate::printing::number;
+use crate::printing::next;
+use crate::printing::word;
+use crate::reads;
+use crate::writes;
+use pages::Place;
+
+fn two(s: &[u8], at: usize) -> u16 {
+    bits::le(s, at, 2) as u16
+}
+
+// The input is n bytes long: the body's, and every further byte is the fill.
+fn read_case(op: u8, fill: u8, n: usize, asked: u16, body: &[u8]) {
+    if n > 8300 {
+        return;
+    }
+    let mut input = [fill; 8300];
+    bits::lay(&mut input, body);
+    let s = &input[..n];
+    match op {
+        0x52 => reads::say_frame(s),
+        0x51 => reads::say_log(s),
+        0x4C => reads::say_counter(s, asked),
+        _ => reads::say_cut(s),
+    }
+}
+
+fn write_case(op: u8, kind: u8, n: usize, m: usize, first: u8, body: &[u8]) {
+    if n > 8300 {
+        return;
+    }
+    let mut room = [0xEEu8; 8300];
+    let buf = &mut room[..n];
+    match op {
+        0x57 => writes::say_frame(buf, kind, body, m, first),
+        0x50 => writes::say_log(buf, body),
+        _ => writes::say_counters(buf, body),
+    }
+}
+
+fn say_row(asked: u16) {
+    match pages::row_of(asked) {
+        Place::Row(k) => number(k as u64),
+        Place::Nowhere => word(b"none"),
+    }
+}
+
+fn say_queued(body: &[u8]) {
+    number(frames::tag_of(two(body, 2)) as u64);
+    next(frames::sectors_of(bits::byte_at(body, 0, 0), bits::byte_at(body, 1, 0)) as u64);
+}
+
+pub fn answer(case: &[u8]) {
+    if case.len() < 544 {
+        return;
+    }
+    let body = &case[16..544];
+    let op = case[0];
+    let a = case[1];
+    let n = two(case, 2);
+    let m = two(case, 4);
+    let f = case[6];
+    match op {
+        0x52 | 0x51 | 0x4C | 0x43 => read_case(op, a, n as usize, m, body),
+        0x57 | 0x50 | 0x4B => write_case(op, a, n as usize, m as usize, f, body),
+        0x4F => say_row(m),
+        0x54 => say_queued(body),
+        _ => word(b"unknown"),
+    }
+}

@@ -1,0 +1,188 @@
+// The writing ops: a frame of a kind, page 10h, page 11h, each into a buffer of EEh bytes.
+ghost use Prim.Native.Nat.{_≤_};
+ghost use lib.ListN.{length};
+use crate::printing::hex;
+use crate::printing::next;
+use crate::printing::number;
+use frames::DevReg;
+use frames::DmaSetup;
+use frames::HostReg;
+use frames::PioSetup;
+use frames::SetBits;
+use frames::Task;
+use frames::Written;
+use pages::ErrorLog;
+
+// A digest of all bytes of the buffer.
+fn digest(s: &[u8]) -> u32 {
+    let mut d: u32 = 0;
+    let mut i: usize = 0;
+    while i < s.len() {
+        d = (d * 31 + s[i] as u32 + 1) % 65521;
+        i += 1;
+    }
+    d
+}
+
+fn say_written(w: Written, buf: &[u8]) {
+    number(w.number as u64);
+    next(w.len as u64);
+    next(digest(buf) as u64);
+    hex(buf);
+}
+
+fn byte(s: &[u8], k: usize) -> u8 {
+    bits::byte_at(s, k, 0)
+}
+
+fn flag(s: &[u8], k: u32) -> bool {
+    bits::bit(byte(s, 0) as u32, k)
+}
+
+fn two(s: &[u8], at: usize) -> u16 {
+    bits::le(s, at, 2) as u16
+}
+
+fn four(s: &[u8], at: usize) -> u32 {
+    bits::le(s, at, 4) as u32
+}
+
+fn task(s: &[u8], at: usize) -> Task
+    requires { ⌜ at ≤ 16 ⌝ }
+{
+    Task {
+        lba: bits::le(s, at, 8),
+        device: byte(s, at + 8),
+        count: two(s, at + 9),
+    }
+}
+
+fn write_host(buf: &mut [u8], s: &[u8]) -> Written {
+    let t = task(s, 3);
+    frames::write_host(
+        buf,
+        HostReg {
+            command_bit: flag(s, 7),
+            command: byte(s, 1),
+            features: byte(s, 2),
+            task: t,
+            features_high: byte(s, 14),
+            control: byte(s, 15),
+        },
+    )
+}
+
+fn write_device(buf: &mut [u8], s: &[u8]) -> Written {
+    let t = task(s, 3);
+    frames::write_device(
+        buf,
+        DevReg {
+            interrupt: flag(s, 6),
+            status: byte(s, 1),
+            error: byte(s, 2),
+            task: t,
+        },
+    )
+}
+
+fn write_bits(buf: &mut [u8], s: &[u8]) -> Written {
+    frames::write_bits(
+        buf,
+        SetBits {
+            interrupt: flag(s, 6),
+            status: byte(s, 1),
+            error: byte(s, 2),
+            active: four(s, 18),
+        },
+    )
+}
+
+fn write_setup(buf: &mut [u8], s: &[u8]) -> Written {
+    frames::write_setup(
+        buf,
+        DmaSetup {
+            auto: flag(s, 7),
+            interrupt: flag(s, 6),
+            to_host: flag(s, 5),
+            tag: four(s, 18),
+            offset: four(s, 22),
+            count: four(s, 26),
+        },
+    )
+}
+
+fn write_pio(buf: &mut [u8], s: &[u8]) -> Written {
+    let t = task(s, 3);
+    frames::write_pio(
+        buf,
+        PioSetup {
+            interrupt: flag(s, 6),
+            to_host: flag(s, 5),
+            status: byte(s, 1),
+            error: byte(s, 2),
+            task: t,
+            ending: byte(s, 15),
+            bytes: two(s, 16),
+        },
+    )
+}
+
+// A payload of n bytes that count up from first.
+fn write_data(buf: &mut [u8], n: usize, first: u8) -> Written {
+    let mut payload = [0u8; 8300];
+    let mut i: usize = 0;
+    let mut b = first as u32;
+    while i < 8300 {
+        payload[i] = (b & 0xff) as u8;
+        b = (b & 0xff) + 1;
+        i += 1;
+    }
+    if n > 8300 {
+        return Written { number: 0, len: 0 };
+    }
+    frames::write_data(buf, &payload[..n])
+}
+
+fn write_kind(buf: &mut [u8], kind: u8, s: &[u8], n: usize, first: u8) -> Written {
+    match kind {
+        0x27 => write_host(buf, s),
+        0x34 => write_device(buf, s),
+        0xA1 => write_bits(buf, s),
+        0x41 => write_setup(buf, s),
+        0x39 => frames::write_activate(buf),
+        0x58 => frames::write_bist(buf),
+        0x5F => write_pio(buf, s),
+        _ => write_data(buf, n, first),
+    }
+}
+
+pub fn say_frame(buf: &mut [u8], kind: u8, s: &[u8], n: usize, first: u8) {
+    let w = write_kind(buf, kind, s, n, first);
+    say_written(w, buf);
+}
+
+pub fn say_log(buf: &mut [u8], s: &[u8]) {
+    let t = task(s, 4);
+    let w = pages::write_log(
+        buf,
+        ErrorLog {
+            nq: byte(s, 0) == 1,
+            tag: byte(s, 1),
+            status: byte(s, 2),
+            error: byte(s, 3),
+            task: t,
+        },
+    );
+    say_written(w, buf);
+}
+
+pub fn say_counters(buf: &mut [u8], s: &[u8]) {
+    let mut values = [0u32; 16];
+    let mut row: usize = 0;
+    while row < 16 {
+        values[row] = four(s, 2 + 4 * row);
+        row += 1;
+    }
+    let w = pages::write_counters(buf, two(s, 0), values);
+    say_written(w, buf);
+}

@@ -1,0 +1,99 @@
+-- Page 10h, there and back, and its refusals exactly. Assumes nothing.
+use mathlib.Core.Path.{_≡_, refl, sym, ap, _∙_}
+use mathlib.Core.Bool.{Bool, true, false, not, _&&_, _||_}
+use mathlib.Core.List.{List, [], _∷_, _++_}
+use Prim.Native.Nat.{ℕ, _+_, _/_, _%_, _^_, _<_}
+use native.Mathlib.Omega.{arith}
+use lib.Dec.{eqb}
+use lib.ListN.{length, getD, take, drop, replicate, length-set}
+use lib.Seq.{take-at}
+use borrow.Author.Tests.{ltb-true, eq-eqb, ne-eqb, eqb-true}
+use Rattle.bits.specs.Pick.{pick}
+use Rattle.bits.specs.Bit.{bitIn}
+use Rattle.bits.specs.First.{firstOf, FirstExactly}
+use Rattle.bits.proofs.Picks.{by-test}
+use Rattle.bits.proofs.Firsts as firsts
+use Rattle.frames.specs.Piece.{taskOf, registerBytes, below, taskFits}
+use Rattle.frames.specs.Write.{Emitted}
+use Rattle.frames.specs.declared.shapes.Task.{Task}
+use Rattle.frames.specs.declared.writing.Written.{Written}
+use Rattle.frames.proofs.ReadLaws.{and-left, and-right}
+use Rattle.frames.proofs.WriteLaws.{wrote-all}
+use Rattle.frames.proofs.RoundTrip.{task-all}
+use Rattle.pages.specs.Sum.{sum256, sumByte, sealed}
+use Rattle.pages.specs.Page10.{firstByte, page10, fits10, tagIn, fields10, ladder10, readLog, logNumber}
+use Rattle.pages.specs.declared.page10.ErrorLog.{ErrorLog}
+use Rattle.pages.specs.declared.page10.Page10.{Page10}
+use Rattle.pages.specs.declared.page10.Page10.the-variants.{Fields, Refused}
+use Rattle.pages.proofs.Bytes11.{sum-sealed}
+
+-- ---- byte 0
+
+nq-back : (b : Bool) (t : ℕ) → bitIn 32 (firstByte b t) 7 ≡ b
+nq-back true t = eq-eqb ((128 + t % 32) / 2 ^ 7 % 2) 1 (omega arith)
+nq-back false t = ne-eqb ((0 + t % 32) / 2 ^ 7 % 2) 1 (λ e. omega arith)
+
+tag-back : (b : Bool) (t : ℕ) → t < 32 → not b || eqb t 0 ≡ true → tagIn (firstByte b t) b ≡ t
+unfolding pick
+tag-back true t h e = sym (eqb-true t 0 e)
+tag-back false t h e = omega arith
+
+same-log : {n n′ : Bool} {t t′ s s′ e e′ : ℕ} {k k′ : Task} → n ≡ n′ → t ≡ t′ → s ≡ s′ → e ≡ e′ → k ≡ k′
+    → _≡_ {A = ErrorLog} (record { nq = n; tag = t; status = s; error = e; task = k }) (record { nq = n′; tag = t′; status = s′; error = e′; task = k′ })
+same-log p q r s t = cc
+
+module _ (f : ErrorLog) where
+  length-10 : length (page10 f) ≡ 512
+  unfolding page10 sealed registerBytes
+  length-10 = simp length-set
+
+  -- all bytes of page 10h sum to 0
+  pub sums-to-zero : sum256 (page10 f) ≡ 0
+  unfolding page10 registerBytes
+  sums-to-zero = sum-sealed _ refl refl
+
+  module _ (h : fits10 f ≡ true) where
+    task-ok : taskFits (f .task) ≡ true
+    unfolding fits10
+    task-ok =
+        and-right (below 8 (f .status) && below 8 (f .error)) (taskFits (f .task))
+        (and-left (below 8 (f .status) && below 8 (f .error) && taskFits (f .task)) (below 5 (f .tag))
+        (and-left (below 8 (f .status) && below 8 (f .error) && taskFits (f .task) && below 5 (f .tag)) (not (f .nq) || eqb (f .tag) 0) h))
+
+    tag-ok : f .tag < 32
+    unfolding fits10
+    tag-ok =
+        ltb-true (f .tag) 32
+        (and-right (below 8 (f .status) && below 8 (f .error) && taskFits (f .task)) (below 5 (f .tag))
+        (and-left (below 8 (f .status) && below 8 (f .error) && taskFits (f .task) && below 5 (f .tag)) (not (f .nq) || eqb (f .tag) 0) h))
+
+    nq-ok : not (f .nq) || eqb (f .tag) 0 ≡ true
+    unfolding fits10
+    nq-ok = and-right (below 8 (f .status) && below 8 (f .error) && taskFits (f .task) && below 5 (f .tag)) (not (f .nq) || eqb (f .tag) 0) h
+
+    fields-back : fields10 (page10 f) ≡ f
+    unfolding page10 sealed registerBytes
+    fields-back =
+        same-log (nq-back (f .nq) (f .tag)) (ap (tagIn (firstByte (f .nq) (f .tag))) (nq-back (f .nq) (f .tag)) ∙ tag-back (f .nq) (f .tag) tag-ok nq-ok) refl refl
+        (task-all (firstByte (f .nq) (f .tag)) 0 (f .status) (f .error) (f .task) 0 0 0 task-ok)
+
+    read-page : readLog (page10 f) ≡ Fields f
+    unfolding readLog firstOf pick
+    read-page = rw (eq-eqb (length (page10 f)) 512 length-10, eq-eqb (sum256 (page10 f)) 0 sums-to-zero) (ap Fields fields-back)
+
+-- reading the page that was written gives its fields back
+pub read-write : (f : ErrorLog) (d d′ : List ℕ) (r : Written) → Emitted (fits10 f) (page10 f) d r d′ → r .number ≡ 0 → readLog (take (r .len) d′) ≡ Fields f
+read-write f d d′ r w z =
+    let a = wrote-all (fits10 f) (page10 f) d r d′ w z in
+    rw (a .2, a .3, take-at (page10 f) (drop (length (page10 f)) d) (length (page10 f)) refl) (read-page f (a .0))
+
+-- ---- refusals 20 and 21
+
+number-first : (l : List ℕ) → logNumber (readLog l) ≡ firstOf (ladder10 l)
+unfolding readLog logNumber
+number-first l =
+    by-test (λ (r : Page10). logNumber r ≡ firstOf (ladder10 l)) (eqb (firstOf (ladder10 l)) 0) (Fields (fields10 l)) (Refused (firstOf (ladder10 l)))
+    (λ t. sym (eqb-true (firstOf (ladder10 l)) 0 t)) (λ _. refl)
+
+pub first-exactly : (l : List ℕ) → FirstExactly (ladder10 l) (logNumber (readLog l))
+first-exactly l = rw (number-first l) (firsts.first-exactly (ladder10 l) tt)
