@@ -1,11 +1,10 @@
 // One case, taken apart by its op.
-ghost use mathlib.Core.Path.{_≡_};
-ghost use lib.ListN.{length};
-use crate::printing::number;
 use crate::printing::next;
+use crate::printing::number;
 use crate::printing::word;
 use crate::reads;
 use crate::writes;
+use crate::writes::filled;
 use pages::Place;
 
 fn two(s: &[u8], at: usize) -> u16 {
@@ -17,7 +16,7 @@ fn read_case(op: u8, fill: u8, n: usize, asked: u16, body: &[u8]) {
     if n > 8300 {
         return;
     }
-    let mut input = [fill; 8300];
+    let mut input = filled(fill);
     bits::lay(&mut input, body);
     let s = &input[..n];
     match op {
@@ -32,7 +31,8 @@ fn write_case(op: u8, kind: u8, n: usize, m: usize, first: u8, body: &[u8]) {
     if n > 8300 {
         return;
     }
-    let mut room = [0xEEu8; 8300];
+    // every byte is EEh, so that a byte that a writer changed shows
+    let mut room = filled(0xEE);
     let buf = &mut room[..n];
     match op {
         0x57 => writes::say_frame(buf, kind, body, m, first),
@@ -49,8 +49,8 @@ fn say_row(asked: u16) {
 }
 
 fn say_queued(body: &[u8]) {
-    number(frames::tag_of(two(body, 2)) as u64);
-    next(frames::sectors_of(bits::byte_at(body, 0, 0), bits::byte_at(body, 1, 0)) as u64);
+    number(wire::tag_of(two(body, 2)) as u64);
+    next(wire::sectors_of(bits::byte_at(body, 0, 0), bits::byte_at(body, 1, 0)) as u64);
 }
 
 pub fn answer(case: &[u8]) {

@@ -26,7 +26,7 @@ pub fn next_flag(b: bool) {
 }
 
 fn digit(n: u8) -> u8 {
-    let x = n & 15;
+    let x = n % 16;
     if x < 10 { x + 48 } else { x + 87 }
 }
 

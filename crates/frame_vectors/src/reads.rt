@@ -7,10 +7,10 @@ use frames::DmaSetup;
 use frames::Frame;
 use frames::HostReg;
 use frames::PioSetup;
-use frames::Task;
 use pages::Counter;
 use pages::ErrorLog;
 use pages::Page10;
+use wire::Task;
 
 fn say_task(t: Task) {
     next(t.lba);
@@ -111,6 +111,15 @@ pub fn say_counter(s: &[u8], asked: u16) {
     }
 }
 
+fn say_piece(first: bool, kind: u8, n: usize) {
+    if !first {
+        word(b" ");
+    }
+    number(kind as u64);
+    word(b":");
+    number(n as u64);
+}
+
 // The pieces of s, each as its kind and its length.
 pub fn say_cut(s: &[u8]) {
     if s.len() == 0 {
@@ -119,19 +128,14 @@ pub fn say_cut(s: &[u8]) {
     }
     let mut at: usize = 0;
     while at < s.len() {
-        let n = frames::cut(&s[at..]);
+        let n = wire::cut(&s[at..]);
         if n == 0 {
             return;
         }
         if n > s.len() - at {
             return;
         }
-        if at > 0 {
-            word(b" ");
-        }
-        number(s[at] as u64);
-        word(b":");
-        number(n as u64);
+        say_piece(at == 0, s[at], n);
         at += n;
     }
 }

@@ -1,5 +1,6 @@
 // The writing ops: a frame of a kind, page 10h, page 11h, each into a buffer of EEh bytes.
-ghost use Prim.Native.Nat.{_≤_};
+ghost use mathlib.Core.Path.{_≡_};
+ghost use Prim.Native.Nat.{_≤_, _<_};
 ghost use lib.ListN.{length};
 use crate::printing::hex;
 use crate::printing::next;
@@ -9,16 +10,29 @@ use frames::DmaSetup;
 use frames::HostReg;
 use frames::PioSetup;
 use frames::SetBits;
-use frames::Task;
-use frames::Written;
 use pages::ErrorLog;
+use wire::Task;
+use wire::Written;
+
+// Room for the longest input and for the longest frame.
+pub fn filled(b: u8) -> [u8; 8300]
+    ensures { λ r. ⌜ 8300 ≡ length r ⌝ }
+{
+    [b; 8300]
+}
+
+fn wide(b: u8) -> u32
+    ensures { λ r. ⌜ r < 256 ⌝ }
+{
+    b as u32
+}
 
 // A digest of all bytes of the buffer.
 fn digest(s: &[u8]) -> u32 {
     let mut d: u32 = 0;
     let mut i: usize = 0;
     while i < s.len() {
-        d = (d * 31 + s[i] as u32 + 1) % 65521;
+        d = (d * 31 + wide(s[i]) + 1) % 65521;
         i += 1;
     }
     d
@@ -129,12 +143,12 @@ fn write_pio(buf: &mut [u8], s: &[u8]) -> Written {
 
 // A payload of n bytes that count up from first.
 fn write_data(buf: &mut [u8], n: usize, first: u8) -> Written {
-    let mut payload = [0u8; 8300];
+    let mut payload = filled(0);
     let mut i: usize = 0;
-    let mut b = first as u32;
+    let mut b = wide(first);
     while i < 8300 {
-        payload[i] = (b & 0xff) as u8;
-        b = (b & 0xff) + 1;
+        payload[i] = (b % 256) as u8;
+        b = b % 256 + 1;
         i += 1;
     }
     if n > 8300 {

@@ -1,4 +1,4 @@
--- Refusals 24, 25 and 26: each exactly when its clause holds and none before it; and a refused write keeps everything. Assumes nothing.
+-- Refusal 24, exactly when its clause holds. Assumes nothing.
 use mathlib.Core.Path.{_≡_, refl, sym, ap, _∙_}
 use mathlib.Core.Bool.{Bool, true, false, not, _&&_}
 use mathlib.Core.List.{List, [], _∷_}
@@ -9,15 +9,13 @@ use lib.ListN.{length, getD}
 use borrow.Author.Tests.{eqb-true, ne-eqb}
 use Rattle.bits.specs.Pick.{pick}
 use Rattle.bits.specs.First.{Rung, firstOf, FirstExactly}
-use Rattle.bits.proofs.Picks.{by-test, pick-yes, pick-no}
+use Rattle.bits.proofs.Picks.{by-test, pick-yes, pick-no, and-right}
 use Rattle.bits.proofs.Firsts.{first-exactly as of-a-list}
-use Rattle.frames.specs.Size.{fixedSize, payloadSize, readable}
+use Rattle.wire.specs.Size.{fixedSize, payloadSize, readable}
 use Rattle.frames.specs.Read.{byKind, readFrame, ladder24, frameNumber}
-use Rattle.frames.specs.Write.{Sent, encode, fits, ladderWrite, writeNumber, Emitted, Wrote}
-use Rattle.frames.proofs.ReadLaws.{and-right, readable-4}
+use Rattle.wire.proofs.SizeLaws.{readable-4}
 use Rattle.frames.specs.declared.shapes.Frame.{Frame}
 use Rattle.frames.specs.declared.shapes.Frame.the-variants.{Refused}
-use Rattle.frames.specs.declared.writing.Written.{Written}
 
 -- a kind that is none of the eight has no length that would do
 not-readable : (k n : ℕ) → fixedSize k ≡ 0 → eqb k 0x46 ≡ false → readable k n ≡ true → ⊥
@@ -56,17 +54,5 @@ number-24 l =
     (λ r. sym (pick-yes (not (readable (getD l 0 0) (length l))) 24 0 (ap not r)))
 
 -- 24, exactly when the kind is unknown or the length wrong
-pub first-exactly-read : (l : List ℕ) → FirstExactly (ladder24 l) (frameNumber (readFrame l))
-first-exactly-read l = rw (number-24 l) (of-a-list (ladder24 l) tt)
-
--- 25 and 26, of every writer
-pub first-exactly-write : (fit : Bool) (s d : List ℕ) (r : Written) (d′ : List ℕ) → Emitted fit s d r d′ → FirstExactly (ladderWrite fit (length s) (length d)) (r .number)
-unfolding writeNumber
-first-exactly-write fit s d r d′ w = rw (w .number) (of-a-list (ladderWrite fit (length s) (length d)) tt)
-
--- a refused write changes no byte and writes no length
-pub refused-keeps : (fit : Bool) (s d : List ℕ) (r : Written) (d′ : List ℕ) → Emitted fit s d r d′ → (r .number ≡ 0 → ⊥) → (d′ ≡ d) × (r .len ≡ 0)
-unfolding pick
-refused-keeps fit s d r d′ w n =
-    let e = ne-eqb (writeNumber fit (length s) (length d)) 0 (λ z. n (w .number ∙ z)) in
-    (w .bytes ∙ rw e, w .len ∙ rw e)
+pub first-exactly : (l : List ℕ) → FirstExactly (ladder24 l) (frameNumber (readFrame l))
+first-exactly l = rw (number-24 l) (of-a-list (ladder24 l) tt)

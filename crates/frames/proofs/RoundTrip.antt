@@ -15,14 +15,16 @@ use Rattle.bits.specs.Bit.{bitIn}
 use Rattle.bits.specs.Little.{leAt, leBytes, bytesFrom}
 use Rattle.bits.proofs.Tables.{below-all}
 use Rattle.bits.proofs.Littles.{le-leBytes, le-bytesFrom}
-use Rattle.frames.specs.Piece.{flagsOf, halvesOf, lbaOf, taskOf, registerBytes, below, taskFits}
-use Rattle.frames.specs.Size.{fixedSize, payloadSize, readable}
+use Rattle.wire.specs.Piece.{flagsOf, halvesOf, lbaOf, taskOf, registerBytes, below, taskFits}
+use Rattle.wire.specs.Size.{fixedSize, payloadSize, readable}
 use Rattle.frames.specs.Read.{hostOf, byKind, readFrame}
 use Rattle.frames.specs.Write.{Sent, host, device, setBits, setup, activate, payload, bist, pio, bitsBytes, setupBytes, encode, fits, Wrote}
 use Rattle.frames.specs.Trip.{seen}
-use Rattle.frames.proofs.ReadLaws.{and-left, and-right, read-by}
-use Rattle.frames.proofs.WriteLaws.{wrote-all, length-payload}
-use Rattle.frames.specs.declared.shapes.Task.{Task}
+use Rattle.bits.proofs.Picks.{and-left, and-right}
+use Rattle.frames.proofs.ReadLaws.{read-by}
+use Rattle.frames.proofs.WriteLaws.{length-payload}
+use Rattle.wire.proofs.EmitLaws.{wrote-all}
+use Rattle.wire.specs.declared.pieces.Task.{Task}
 use Rattle.frames.specs.declared.shapes.HostReg.{HostReg}
 use Rattle.frames.specs.declared.shapes.DevReg.{DevReg}
 use Rattle.frames.specs.declared.shapes.SetBits.{SetBits}
@@ -30,7 +32,7 @@ use Rattle.frames.specs.declared.shapes.DmaSetup.{DmaSetup}
 use Rattle.frames.specs.declared.shapes.PioSetup.{PioSetup}
 use Rattle.frames.specs.declared.shapes.Frame.{Frame}
 use Rattle.frames.specs.declared.shapes.Frame.the-variants.{Host, Device, Bits, Setup, Data, Pio}
-use Rattle.frames.specs.declared.writing.Written.{Written}
+use Rattle.wire.specs.declared.emitting.Written.{Written}
 
 -- ---- byte 1
 

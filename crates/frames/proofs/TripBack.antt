@@ -16,16 +16,16 @@ use Rattle.bits.specs.Little.{leAt, leBytes, bytesFrom, byteOf, Bytes}
 use Rattle.bits.proofs.Picks.{by-test}
 use Rattle.bits.proofs.Tables.{below-all}
 use Rattle.bits.proofs.Littles.{le-lt, byte-le}
-use Rattle.frames.specs.Piece.{flagsOf, halvesOf, lbaOf, taskOf, registerBytes, below, taskFits}
-use Rattle.frames.specs.Size.{fixedSize, payloadSize, readable}
+use Rattle.wire.specs.Piece.{flagsOf, halvesOf, lbaOf, taskOf, registerBytes, below, taskFits}
+use Rattle.wire.specs.Size.{fixedSize, payloadSize, readable}
 use Rattle.frames.specs.Read.{flagAt, hostOf, deviceOf, bitsOf, setupOf, pioOf, byKind, readFrame, frameNumber}
 use Rattle.frames.specs.Write.{Sent, host, device, setBits, setup, activate, payload, bist, pio, bitsBytes, setupBytes, encode, fits, Wrote}
 use Rattle.frames.specs.Trip.{again, namedBits, maskedFrom, zeroed}
-use Rattle.frames.proofs.ReadLaws.{and-left, and-right}
-use Rattle.frames.proofs.WriteLaws.{wrote-room}
+use Rattle.bits.proofs.Picks.{and-left, and-right}
+use Rattle.wire.proofs.EmitLaws.{wrote-room}
 use Rattle.frames.proofs.RoundTrip.{written-front}
-use Rattle.frames.specs.declared.writing.Written.{Written}
-use Rattle.frames.specs.declared.shapes.Task.{Task}
+use Rattle.wire.specs.declared.emitting.Written.{Written}
+use Rattle.wire.specs.declared.pieces.Task.{Task}
 use Rattle.frames.specs.declared.shapes.Frame.{Frame}
 use Rattle.frames.specs.declared.shapes.Frame.the-variants.{Host, Device, Bits, Setup, Activate, Data, Bist, Pio, Refused}
 

@@ -1,6 +1,4 @@
-pub mod Piece
-pub mod Size
 pub mod Read
 pub mod Write
-pub mod Cut
+pub mod Neat
 pub mod Trip

@@ -8,8 +8,8 @@ use Rattle.bits.specs.Pick.{pick}
 use Rattle.bits.specs.Bit.{bitIn}
 use Rattle.bits.specs.First.{Rung}
 use Rattle.bits.specs.Little.{leAt}
-use Rattle.frames.specs.Piece.{halvesOf, taskOf}
-use Rattle.frames.specs.Size.{readable}
+use Rattle.wire.specs.Piece.{halvesOf, taskOf}
+use Rattle.wire.specs.Size.{readable}
 use Rattle.frames.specs.declared.shapes.HostReg.{HostReg}
 use Rattle.frames.specs.declared.shapes.DevReg.{DevReg}
 use Rattle.frames.specs.declared.shapes.SetBits.{SetBits}

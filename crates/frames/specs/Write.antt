@@ -10,14 +10,15 @@ use Rattle.bits.specs.Bit.{bitIn}
 use Rattle.bits.specs.First.{Rung, firstOf}
 use Rattle.bits.specs.Little.{leBytes}
 use Rattle.bits.specs.Laid.{laid}
-use Rattle.frames.specs.Piece.{flagsOf, halvesOf, registerBytes, below, taskFits}
-use Rattle.frames.specs.Size.{payloadSize}
+use Rattle.wire.specs.Piece.{flagsOf, halvesOf, registerBytes, below, taskFits}
+use Rattle.wire.specs.Size.{payloadSize}
+use Rattle.wire.specs.Emit.{Emitted}
 use Rattle.frames.specs.declared.shapes.HostReg.{HostReg}
 use Rattle.frames.specs.declared.shapes.DevReg.{DevReg}
 use Rattle.frames.specs.declared.shapes.SetBits.{SetBits}
 use Rattle.frames.specs.declared.shapes.DmaSetup.{DmaSetup}
 use Rattle.frames.specs.declared.shapes.PioSetup.{PioSetup}
-use Rattle.frames.specs.declared.writing.Written.{Written}
+use Rattle.wire.specs.declared.emitting.Written.{Written}
 
 -- a frame that can be sent: its values, and of a data frame its payload
 pub data Sent : Type 0 where
@@ -61,20 +62,6 @@ fits activate = true
 fits (payload p) = payloadSize (length p)
 fits bist = true
 fits (pio f) = below 8 (f .status) && below 8 (f .error) && below 8 (f .ending) && below 16 (f .bytes) && taskFits (f .task)
-
--- 25: a value too large for its bits (or what `fits` forbids besides); 26: buffer too short for n bytes
-abbrev pub ladderWrite : Bool → ℕ → ℕ → List Rung
-ladderWrite fit n room = record { number = 25; holds = not fit } ∷ record { number = 26; holds = ltb room n } ∷ []
-
--- the number that a writer of n bytes gives
-unfoldable pub writeNumber : Bool → ℕ → ℕ → ℕ
-writeNumber fit n room = firstOf (ladderWrite fit n room)
-
--- what a writer of the bytes s into the buffer d answers, and what d then holds: s in front and the rest as it was, or all as it was
-pub record Emitted (fit : Bool) (s d : List ℕ) (r : Written) (d′ : List ℕ) : Type 0 where
-  pub number : r .number ≡ writeNumber fit (length s) (length d)
-  pub len : r .len ≡ pick (eqb (writeNumber fit (length s) (length d)) 0) (length s) 0
-  pub bytes : d′ ≡ pick (eqb (writeNumber fit (length s) (length d)) 0) (laid s d) d
 
 -- the same of a frame
 abbrev pub Wrote : Sent → List ℕ → Written → List ℕ → Type 0

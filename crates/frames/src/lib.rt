@@ -1,15 +1,8 @@
-// The frames of Serial ATA: a reader and a writer for each kind, and the cut of several frames in one buffer.
-mod cutting;
-mod pieces;
+// The frames of Serial ATA: a reader and a writer for each kind.
 mod reading;
 mod shapes;
 mod writing;
 
-pub use cutting::cut;
-pub use pieces::register_bytes;
-pub use pieces::sectors_of;
-pub use pieces::tag_of;
-pub use pieces::task_of;
 pub use reading::read_frame;
 pub use shapes::DevReg;
 pub use shapes::DmaSetup;
@@ -17,10 +10,6 @@ pub use shapes::Frame;
 pub use shapes::HostReg;
 pub use shapes::PioSetup;
 pub use shapes::SetBits;
-pub use shapes::Task;
-pub use writing::Written;
-pub use writing::emit;
-pub use writing::task_fits;
 pub use writing::write_activate;
 pub use writing::write_bist;
 pub use writing::write_bits;

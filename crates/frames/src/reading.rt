@@ -1,54 +1,17 @@
 // The frame reader: an enum by value, or refusal 24.
 ghost use mathlib.Core.Path.{_≡_};
-ghost use lib.ListN.{length};
-ghost use Rattle.frames.specs.Size.{fixedSize, payloadSize, readable};
 ghost use Rattle.frames.specs.Read.{hostOf, deviceOf, bitsOf, setupOf, pioOf, readFrame};
-use crate::pieces::byte_of;
-use crate::pieces::flag;
-use crate::pieces::halves;
-use crate::pieces::task_of;
 use crate::shapes::DevReg;
 use crate::shapes::DmaSetup;
 use crate::shapes::Frame;
 use crate::shapes::HostReg;
 use crate::shapes::PioSetup;
 use crate::shapes::SetBits;
-
-// The length that a kind fixes; 0 for 46h and for an unknown kind.
-pub fn fixed_size(kind: u8) -> usize
-    ensures { λ r. ⌜ r ≡ fixedSize kind ⌝ }
-{
-    match kind {
-        0x27 => 20,
-        0x34 => 20,
-        0x5F => 20,
-        0xA1 => 8,
-        0x41 => 28,
-        0x39 => 4,
-        0x58 => 12,
-        _ => 0,
-    }
-}
-
-// A payload is 4 to 8,192 bytes in steps of 4.
-pub fn payload_size(n: usize) -> bool
-    ensures { λ r. ⌜ r ≡ payloadSize n ⌝ }
-{
-    (4 <= n) & (n <= 8192) & (n & 3 == 0)
-}
-
-// Whether a frame of this kind may have this length.
-fn is_readable(kind: u8, n: usize) -> bool
-    ensures { λ r. ⌜ r ≡ readable kind n ⌝ }
-{
-    if n < 4 {
-        return false;
-    }
-    if kind == 0x46 {
-        return payload_size(n - 4);
-    }
-    n == fixed_size(kind)
-}
+use wire::byte_of;
+use wire::flag;
+use wire::halves;
+use wire::is_readable;
+use wire::task_of;
 
 fn read_host(s: &[u8]) -> HostReg
     ensures { λ r. ⌜ r ≡ hostOf (now (s .entry)) ⌝ }

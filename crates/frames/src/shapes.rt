@@ -1,11 +1,5 @@
 // What the frames say: a struct for each kind that has named fields, and the reader's answer.
-
-// Bytes 4-10 and 12-13 of the frames that repeat a command: LBA 0-23 at 4-6, device at 7, LBA 24-47 at 8-10, count at 12-13.
-pub struct Task {
-    pub lba: u64,
-    pub device: u8,
-    pub count: u16,
-}
+use wire::Task;
 
 // 27h, host register.
 pub struct HostReg {

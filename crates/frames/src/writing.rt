@@ -1,50 +1,20 @@
 // The frame writers: the frame in front of the buffer, or 25, or 26, and then no byte is changed.
 ghost use mathlib.Core.Path.{_≡_};
-ghost use lib.ListN.{length};
-ghost use Rattle.frames.specs.Piece.{below, taskFits};
-ghost use Rattle.frames.specs.Write.{bitsBytes, setupBytes, fits, Emitted, Wrote};
+ghost use Rattle.frames.specs.Write.{bitsBytes, setupBytes, fits, Wrote};
 ghost use Rattle.frames.specs.Write.Sent.{host, device, setBits, setup, activate, payload, bist, pio};
-use crate::pieces::flag;
-use crate::pieces::flags;
-use crate::pieces::halves;
-use crate::pieces::register_bytes;
-use crate::reading::payload_size;
 use crate::shapes::DevReg;
 use crate::shapes::DmaSetup;
 use crate::shapes::HostReg;
 use crate::shapes::PioSetup;
 use crate::shapes::SetBits;
-use crate::shapes::Task;
-
-// What a writer answers: 0, 25 or 26, and the length written.
-pub struct Written {
-    pub number: u8,
-    pub len: usize,
-}
-
-// Writes s to the front of buf, if its values fit and buf has room.
-pub fn emit(buf: &mut [u8], fit: bool, s: &[u8]) -> Written
-    ensures { λ r. ⌜ Emitted fit (now (s .entry)) (now (buf .entry)) r (now (buf .exit)) ⌝ }
-{
-    if !fit {
-        return Written { number: 25, len: 0 };
-    }
-    if bits::lay(buf, s) {
-        Written {
-            number: 0,
-            len: s.len(),
-        }
-    } else {
-        Written { number: 26, len: 0 }
-    }
-}
-
-// Of the values that a frame repeats from a command only the LBA can be too large for its bits.
-pub fn task_fits(t: Task) -> bool
-    ensures { λ r. ⌜ r ≡ taskFits t ⌝ }
-{
-    t.lba >> 48 == 0
-}
+use wire::Written;
+use wire::emit;
+use wire::flag;
+use wire::flags;
+use wire::halves;
+use wire::payload_size;
+use wire::register_bytes;
+use wire::task_fits;
 
 fn host_fits(f: HostReg) -> bool
     ensures { λ r. ⌜ r ≡ fits (host f) ⌝ }

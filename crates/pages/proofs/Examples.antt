@@ -2,7 +2,7 @@
 use mathlib.Core.Path.{refl}
 use Rattle.bits.specs.Pick.{pick}
 use Rattle.bits.specs.First.{firstOf}
-use Rattle.frames.specs.Piece.{registerBytes}
+use Rattle.wire.specs.Piece.{registerBytes}
 use Rattle.frames.specs.Write.{bitsBytes, setupBytes, encode}
 use Rattle.pages.specs.Sum.{sumTo, sum256, sealed}
 use Rattle.pages.specs.Rows.{ids}

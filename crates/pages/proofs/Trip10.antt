@@ -13,12 +13,12 @@ use Rattle.bits.specs.Bit.{bitIn}
 use Rattle.bits.specs.First.{firstOf, FirstExactly}
 use Rattle.bits.proofs.Picks.{by-test}
 use Rattle.bits.proofs.Firsts as firsts
-use Rattle.frames.specs.Piece.{taskOf, registerBytes, below, taskFits}
-use Rattle.frames.specs.Write.{Emitted}
-use Rattle.frames.specs.declared.shapes.Task.{Task}
-use Rattle.frames.specs.declared.writing.Written.{Written}
-use Rattle.frames.proofs.ReadLaws.{and-left, and-right}
-use Rattle.frames.proofs.WriteLaws.{wrote-all}
+use Rattle.wire.specs.Piece.{taskOf, registerBytes, below, taskFits}
+use Rattle.wire.specs.Emit.{Emitted}
+use Rattle.wire.specs.declared.pieces.Task.{Task}
+use Rattle.wire.specs.declared.emitting.Written.{Written}
+use Rattle.bits.proofs.Picks.{and-left, and-right}
+use Rattle.wire.proofs.EmitLaws.{wrote-all}
 use Rattle.frames.proofs.RoundTrip.{task-all}
 use Rattle.pages.specs.Sum.{sum256, sumByte, sealed}
 use Rattle.pages.specs.Page10.{firstByte, page10, fits10, tagIn, fields10, ladder10, readLog, logNumber}

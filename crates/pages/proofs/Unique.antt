@@ -5,9 +5,9 @@ use mathlib.Core.List.{List}
 use Prim.Native.Nat.{ℕ}
 use denote.Ref.{RefT, now}
 use Rattle.bits.proofs.Unique.{same}
-use Rattle.frames.specs.Write.{Emitted}
-use Rattle.frames.specs.declared.writing.Written.{Written}
-use Rattle.frames.proofs.Unique.{unique-emit}
+use Rattle.wire.specs.Emit.{Emitted}
+use Rattle.wire.specs.declared.emitting.Written.{Written}
+use Rattle.wire.proofs.Unique.{unique-emit}
 use Rattle.pages.specs.Sum.{sum256}
 use Rattle.pages.specs.Rows.{idOf, rowOf, kept, keepsBoth}
 use Rattle.pages.specs.Step.{stepAt}

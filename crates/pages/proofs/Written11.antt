@@ -10,9 +10,9 @@ use lib.Seq.{take-at}
 use borrow.Author.Tests.{eqb-true, eqb-false}
 use Rattle.bits.specs.Pick.{pick}
 use Rattle.bits.proofs.Picks.{pick-yes, pick-no, tested}
-use Rattle.frames.specs.Write.{Emitted}
-use Rattle.frames.specs.declared.writing.Written.{Written}
-use Rattle.frames.proofs.WriteLaws.{wrote-all}
+use Rattle.wire.specs.Emit.{Emitted}
+use Rattle.wire.specs.declared.emitting.Written.{Written}
+use Rattle.wire.proofs.EmitLaws.{wrote-all}
 use Rattle.pages.specs.Rows.{idOf, kept, keepsBoth, rowOf}
 use Rattle.pages.specs.Sum.{sum256}
 use Rattle.pages.specs.Page11.{readCounter}

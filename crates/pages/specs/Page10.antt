@@ -7,7 +7,7 @@ use lib.Dec.{eqb}
 use Rattle.bits.specs.Pick.{pick}
 use Rattle.bits.specs.Bit.{bitIn, bitByte}
 use Rattle.bits.specs.First.{Rung, firstOf}
-use Rattle.frames.specs.Piece.{taskOf, registerBytes, below, taskFits}
+use Rattle.wire.specs.Piece.{taskOf, registerBytes, below, taskFits}
 use Rattle.pages.specs.Sum.{sum256, sealed}
 use Rattle.pages.specs.declared.page10.ErrorLog.{ErrorLog}
 use Rattle.pages.specs.declared.page10.Page10.{Page10}

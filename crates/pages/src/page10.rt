@@ -3,7 +3,7 @@ ghost use mathlib.Core.Path.{_≡_};
 ghost use Rattle.pages.specs.Page10.{firstByte, tagIn, fits10, page10, fields10, readLog};
 use crate::sums::byte_sum;
 use crate::sums::sum_byte;
-use frames::Task;
+use wire::Task;
 
 // The named fields of page 10h.
 pub struct ErrorLog {
@@ -32,7 +32,7 @@ pub fn log_fits(f: ErrorLog) -> bool
     ensures { λ r. ⌜ r ≡ fits10 f ⌝ }
 {
     let t = f.task;
-    frames::task_fits(t) & (f.tag >> 5 == 0) & (!f.nq | (f.tag == 0))
+    wire::task_fits(t) & (f.tag >> 5 == 0) & (!f.nq | (f.tag == 0))
 }
 
 // The page of a record. Private to the crate: a writer that refuses stands over it.
@@ -41,7 +41,7 @@ pub fn page10_bytes(f: ErrorLog) -> [u8; 512]
 {
     let t = f.task;
     let first = first_byte(f.nq, f.tag);
-    let head = frames::register_bytes(first, 0, f.status, f.error, t, 0, 0, 0);
+    let head = wire::register_bytes(first, 0, f.status, f.error, t, 0, 0, 0);
     let mut page = [0u8; 512];
     bits::lay(&mut page, &head);
     page[511] = sum_byte(&page);
@@ -65,7 +65,7 @@ fn read_fields(page: &[u8]) -> ErrorLog
         tag: tag_in(first, nq),
         status: bits::byte_at(page, 2, 0),
         error: bits::byte_at(page, 3, 0),
-        task: frames::task_of(page),
+        task: wire::task_of(page),
     }
 }
 

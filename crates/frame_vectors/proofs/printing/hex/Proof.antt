@@ -1,3 +1,10 @@
+use mathlib.Core.Path.{sym, refl, ap, _∙_}
+use Prim.Native.Nat.{_+_, _*_}
+use native.Mathlib.Omega.{arith}
+use lib.Seq.{length-take-le}
+use Prim.Native.Nat.{ℕ, _+_, _*_, _-_, _≤_, _<_}
+use lib.ListN.{length}
+use mathlib.Core.Path.{_≡_}
 use borrow.Author.Needs.{needs}
 use Rattle.frame_vectors.proofs.printing.hex.Statement.{statement}
 use Rattle.frame_vectors.proofs.printing.hex.Tie as tie
@@ -7,10 +14,10 @@ use Rattle.frame_vectors.proofs.printing.digit.Reads as digit-reads
 use Rattle.io.proofs.write_all.Reads as write-all-reads
 
 abbrev Inv-loop : tie.InvT-loop
-Inv-loop s text₀ i₀ text i = ?
+Inv-loop s text₀ i₀ text i = (i ≤ 32) × (65 ≡ length text)
 
 abbrev μ-loop : tie.MeasureT-loop
-μ-loop s text₀ i₀ text i = ?
+μ-loop s text₀ i₀ text i = 32 - i
 
 -- src/printing.rt:36:9
 returns : tie.Need-returns Inv-loop μ-loop
@@ -82,7 +89,7 @@ array-share-prefix-text c = search needs
 
 -- src/printing.rt:46:34
 slice-aggregate-write-all : tie.Need-slice-aggregate-write-all Inv-loop μ-loop
-slice-aggregate-write-all c = search needs
+slice-aggregate-write-all c = sym (length-take-le (1 + 2 * c .before .before .loop .i) (c .before .before .loop .text) (omega arith))
 
 -- src/printing.rt:46:5
 write-all-requires : tie.Need-write-all-requires Inv-loop μ-loop

@@ -5,14 +5,15 @@ use borrow.Author.Tests.{not-true, not-false, ne-eqb}
 use Rattle.bits.specs.Pick.{pick}
 use Rattle.frames.specs.Read.{byKind}
 use Rattle.frames.specs.declared.shapes.Frame.the-variants.{Host, Device, Bits, Setup, Activate, Data, Bist, Pio, Refused}
-use Rattle.frames.proofs.ReadLaws.{read-by, read-not, readable-4}
+use Rattle.frames.proofs.ReadLaws.{read-by, read-not}
+use Rattle.wire.proofs.SizeLaws.{readable-4}
 use borrow.Author.Needs.{needs}
 use Rattle.frames.proofs.reading.read_frame.Statement.{statement}
 use Rattle.frames.proofs.reading.read_frame.Tie as tie
 use Rattle.frames.proofs.reading.read_frame.Reads as reads
 use Rattle.frames.proofs.reading.read_frame.Lts as lts
-use Rattle.frames.proofs.pieces.byte_of.Reads as byte-of-reads
-use Rattle.frames.proofs.reading.is_readable.Reads as is-readable-reads
+use Rattle.wire.proofs.byte_of.Reads as byte-of-reads
+use Rattle.wire.proofs.is_readable.Reads as is-readable-reads
 use Rattle.frames.proofs.reading.read_bits.Reads as read-bits-reads
 use Rattle.frames.proofs.reading.read_device.Reads as read-device-reads
 use Rattle.frames.proofs.reading.read_host.Reads as read-host-reads

@@ -5,7 +5,7 @@ use Rattle.frames.proofs.writing.bits_fit.Statement.{statement}
 use Rattle.frames.proofs.writing.bits_fit.Tie as tie
 use Rattle.frames.proofs.writing.bits_fit.Reads as reads
 use Rattle.frames.proofs.writing.bits_fit.Lts as lts
-use Rattle.frames.proofs.pieces.flag.Reads as flag-reads
+use Rattle.wire.proofs.flag.Reads as flag-reads
 
 -- src/writing.rt:105:6
 flag-requires : tie.Need-flag-requires

@@ -5,7 +5,7 @@ use Rattle.frames.proofs.writing.setup_bytes.Tie as tie
 use Rattle.frames.proofs.writing.setup_bytes.Reads as reads
 use Rattle.frames.proofs.writing.setup_bytes.Lts as lts
 use Rattle.bits.proofs.byte.Reads as byte-reads
-use Rattle.frames.proofs.pieces.flags.Reads as flags-reads
+use Rattle.wire.proofs.flags.Reads as flags-reads
 
 -- src/writing.rt:118:15
 cast-tag : tie.Need-cast-tag

@@ -4,7 +4,7 @@ use Rattle.frames.proofs.writing.write_activate.Statement.{statement}
 use Rattle.frames.proofs.writing.write_activate.Tie as tie
 use Rattle.frames.proofs.writing.write_activate.Reads as reads
 use Rattle.frames.proofs.writing.write_activate.Lts as lts
-use Rattle.frames.proofs.writing.emit.Reads as emit-reads
+use Rattle.wire.proofs.emit.Reads as emit-reads
 
 -- src/writing.rt:164:21
 slice-aggregate-emit : tie.Need-slice-aggregate-emit

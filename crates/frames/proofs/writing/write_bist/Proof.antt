@@ -4,7 +4,7 @@ use Rattle.frames.proofs.writing.write_bist.Statement.{statement}
 use Rattle.frames.proofs.writing.write_bist.Tie as tie
 use Rattle.frames.proofs.writing.write_bist.Reads as reads
 use Rattle.frames.proofs.writing.write_bist.Lts as lts
-use Rattle.frames.proofs.writing.emit.Reads as emit-reads
+use Rattle.wire.proofs.emit.Reads as emit-reads
 
 -- src/writing.rt:171:21
 slice-aggregate-emit : tie.Need-slice-aggregate-emit

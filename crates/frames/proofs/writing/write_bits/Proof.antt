@@ -6,7 +6,7 @@ use Rattle.frames.proofs.writing.write_bits.Reads as reads
 use Rattle.frames.proofs.writing.write_bits.Lts as lts
 use Rattle.frames.proofs.writing.bits_bytes.Reads as bits-bytes-reads
 use Rattle.frames.proofs.writing.bits_fit.Reads as bits-fit-reads
-use Rattle.frames.proofs.writing.emit.Reads as emit-reads
+use Rattle.wire.proofs.emit.Reads as emit-reads
 
 -- src/writing.rt:111:13
 bits-bytes-requires : tie.Need-bits-bytes-requires

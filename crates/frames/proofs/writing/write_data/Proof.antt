@@ -8,14 +8,15 @@ use denote.Ref.{now}
 use lib.ListN.{length}
 use Rattle.bits.proofs.Fronts.{over-yes, laid-next}
 use Rattle.frames.specs.Write.{payload, fits, encode}
-use Rattle.frames.proofs.WriteLaws.{emitted-large, emitted-short, emitted-done, length-payload}
+use Rattle.frames.proofs.WriteLaws.{length-payload}
+use Rattle.wire.proofs.EmitLaws.{emitted-large, emitted-short, emitted-done}
 use borrow.Author.Needs.{needs}
 use Rattle.frames.proofs.writing.write_data.Statement.{statement}
 use Rattle.frames.proofs.writing.write_data.Tie as tie
 use Rattle.frames.proofs.writing.write_data.Reads as reads
 use Rattle.frames.proofs.writing.write_data.Lts as lts
 use Rattle.bits.proofs.lay.Reads as lay-reads
-use Rattle.frames.proofs.reading.payload_size.Reads as payload-size-reads
+use Rattle.wire.proofs.payload_size.Reads as payload-size-reads
 
 -- src/writing.rt:179:9
 payload-size-requires : tie.Need-payload-size-requires

@@ -4,10 +4,10 @@ use Rattle.frames.proofs.writing.write_device.Statement.{statement}
 use Rattle.frames.proofs.writing.write_device.Tie as tie
 use Rattle.frames.proofs.writing.write_device.Reads as reads
 use Rattle.frames.proofs.writing.write_device.Lts as lts
-use Rattle.frames.proofs.pieces.flags.Reads as flags-reads
-use Rattle.frames.proofs.pieces.register_bytes.Reads as register-bytes-reads
+use Rattle.wire.proofs.flags.Reads as flags-reads
+use Rattle.wire.proofs.register_bytes.Reads as register-bytes-reads
 use Rattle.frames.proofs.writing.device_fits.Reads as device-fits-reads
-use Rattle.frames.proofs.writing.emit.Reads as emit-reads
+use Rattle.wire.proofs.emit.Reads as emit-reads
 
 -- src/writing.rt:85:9
 flags-requires : tie.Need-flags-requires

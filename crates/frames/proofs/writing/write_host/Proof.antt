@@ -4,9 +4,9 @@ use Rattle.frames.proofs.writing.write_host.Statement.{statement}
 use Rattle.frames.proofs.writing.write_host.Tie as tie
 use Rattle.frames.proofs.writing.write_host.Reads as reads
 use Rattle.frames.proofs.writing.write_host.Lts as lts
-use Rattle.frames.proofs.pieces.flags.Reads as flags-reads
-use Rattle.frames.proofs.pieces.register_bytes.Reads as register-bytes-reads
-use Rattle.frames.proofs.writing.emit.Reads as emit-reads
+use Rattle.wire.proofs.flags.Reads as flags-reads
+use Rattle.wire.proofs.register_bytes.Reads as register-bytes-reads
+use Rattle.wire.proofs.emit.Reads as emit-reads
 use Rattle.frames.proofs.writing.host_fits.Reads as host-fits-reads
 
 -- src/writing.rt:60:9

@@ -4,9 +4,9 @@ use Rattle.frames.proofs.writing.write_pio.Statement.{statement}
 use Rattle.frames.proofs.writing.write_pio.Tie as tie
 use Rattle.frames.proofs.writing.write_pio.Reads as reads
 use Rattle.frames.proofs.writing.write_pio.Lts as lts
-use Rattle.frames.proofs.pieces.flags.Reads as flags-reads
-use Rattle.frames.proofs.pieces.register_bytes.Reads as register-bytes-reads
-use Rattle.frames.proofs.writing.emit.Reads as emit-reads
+use Rattle.wire.proofs.flags.Reads as flags-reads
+use Rattle.wire.proofs.register_bytes.Reads as register-bytes-reads
+use Rattle.wire.proofs.emit.Reads as emit-reads
 use Rattle.frames.proofs.writing.pio_fits.Reads as pio-fits-reads
 
 -- src/writing.rt:101:9

@@ -4,7 +4,7 @@ use Rattle.frames.proofs.writing.write_setup.Statement.{statement}
 use Rattle.frames.proofs.writing.write_setup.Tie as tie
 use Rattle.frames.proofs.writing.write_setup.Reads as reads
 use Rattle.frames.proofs.writing.write_setup.Lts as lts
-use Rattle.frames.proofs.writing.emit.Reads as emit-reads
+use Rattle.wire.proofs.emit.Reads as emit-reads
 use Rattle.frames.proofs.writing.setup_bytes.Reads as setup-bytes-reads
 use Rattle.frames.proofs.writing.setup_fits.Reads as setup-fits-reads
 

@@ -1,12 +1,12 @@
 use borrow.Author.Tests.{lt-ltb}
-use Rattle.frames.proofs.PieceLaws.{high-zero}
+use Rattle.wire.proofs.PieceLaws.{high-zero}
 use Rattle.pages.specs.Page10.{fits10}
 use borrow.Author.Needs.{needs}
 use Rattle.pages.proofs.page10.log_fits.Statement.{statement}
 use Rattle.pages.proofs.page10.log_fits.Tie as tie
 use Rattle.pages.proofs.page10.log_fits.Reads as reads
 use Rattle.pages.proofs.page10.log_fits.Lts as lts
-use Rattle.frames.proofs.task_fits.Reads as task-fits-reads
+use Rattle.wire.proofs.task_fits.Reads as task-fits-reads
 
 -- src/page10.rt:35:5
 task-fits-requires : tie.Need-task-fits-requires

@@ -5,7 +5,7 @@ use Rattle.pages.proofs.page10.read_fields.Reads as reads
 use Rattle.pages.proofs.page10.read_fields.Lts as lts
 use Rattle.bits.proofs.byte_at.Reads as byte-at-reads
 use Rattle.bits.proofs.bit.Reads as bit-reads
-use Rattle.frames.proofs.task_of.Reads as task-of-reads
+use Rattle.wire.proofs.task_of.Reads as task-of-reads
 use Rattle.pages.proofs.page10.tag_in.Reads as tag-in-reads
 
 -- src/page10.rt:61:9

@@ -1,0 +1,86 @@
+use borrow.Author.Needs.{needs}
+use Rattle.frame_vectors.proofs.answers.read_case.Statement.{statement}
+use Rattle.frame_vectors.proofs.answers.read_case.Tie as tie
+use Rattle.frame_vectors.proofs.answers.read_case.Reads as reads
+use Rattle.frame_vectors.proofs.answers.read_case.Lts as lts
+use Rattle.bits.proofs.lay.Reads as lay-reads
+use Rattle.frame_vectors.proofs.reads.say_counter.Reads as say-counter-reads
+use Rattle.frame_vectors.proofs.reads.say_cut.Reads as say-cut-reads
+use Rattle.frame_vectors.proofs.reads.say_frame.Reads as say-frame-reads
+use Rattle.frame_vectors.proofs.reads.say_log.Reads as say-log-reads
+use Rattle.frame_vectors.proofs.writes.filled.Reads as filled-reads
+
+-- src/answers.rt:17:9
+returns : tie.Need-returns
+returns c = search needs
+
+-- src/answers.rt:19:21
+filled-requires : tie.Need-filled-requires
+filled-requires c κs = search needs
+
+-- src/answers.rt:20:15
+slice-aggregate-lay : tie.Need-slice-aggregate-lay
+slice-aggregate-lay c = search needs
+
+-- src/answers.rt:20:5
+lay-requires : tie.Need-lay-requires
+lay-requires c κs = search needs
+
+-- src/answers.rt:21:13
+array-share-prefix-input : tie.Need-array-share-prefix-input
+array-share-prefix-input c = search needs
+
+-- src/answers.rt:21:9
+slice-aggregate-s : tie.Need-slice-aggregate-s
+slice-aggregate-s c = search needs
+
+-- src/answers.rt:23:17
+say-frame-requires : tie.Need-say-frame-requires
+say-frame-requires c κs = search needs
+
+-- src/answers.rt:24:17
+say-log-requires : tie.Need-say-log-requires
+say-log-requires c κs = search needs
+
+-- src/answers.rt:25:17
+say-counter-requires : tie.Need-say-counter-requires
+say-counter-requires c κs = search needs
+
+-- src/answers.rt:26:14
+say-cut-requires : tie.Need-say-cut-requires
+say-cut-requires c κs = search needs
+
+-- src/answers.rt:15:1
+returns-2 : tie.Need-returns-2
+returns-2 c = search needs
+
+-- src/answers.rt:15:1
+returns-3 : tie.Need-returns-3
+returns-3 c = search needs
+
+-- src/answers.rt:15:1
+returns-4 : tie.Need-returns-4
+returns-4 c = search needs
+
+-- src/answers.rt:15:1
+returns-5 : tie.Need-returns-5
+returns-5 c = search needs
+
+pub read-case-spec : {M : Type 1} → statement M
+read-case-spec =
+    tie.close
+    (tie.spec
+    returns
+    filled-requires
+    slice-aggregate-lay
+    lay-requires
+    array-share-prefix-input
+    slice-aggregate-s
+    say-frame-requires
+    say-log-requires
+    say-counter-requires
+    say-cut-requires
+    returns-2
+    returns-3
+    returns-4
+    returns-5)

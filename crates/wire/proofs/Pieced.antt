@@ -1,0 +1,63 @@
+-- The cut of several frames: nothing is lost, and every piece has a byte. Assumes nothing.
+use mathlib.Core.Path.{_≡_, refl, sym, ap, _∙_}
+use mathlib.Core.Bool.{true, false, _&&_}
+use mathlib.Core.List.{List, [], _∷_, _++_}
+use mathlib.Core.Logic.{⊎-elim}
+use Prim.Native.Nat.{ℕ, zero, suc, _≤_, _<_}
+use native.Mathlib.Omega.{arith}
+use lib.Dec.{eqb, leb}
+use lib.ListN.{length, getD, take, drop, length-drop, take-append-drop}
+use borrow.Author.Tests.{le-leb, leb-true, eqb-true, eqb-false, ne-eqb, eq-eqb}
+use Rattle.bits.specs.Pick.{pick}
+use Rattle.bits.proofs.Picks.{by-test, pick-yes, pick-no, tested, and-left, and-right}
+use Rattle.wire.specs.Size.{fixedSize}
+use Rattle.wire.specs.Cut.{pieceOf, cutTo, cut, joined}
+
+-- a piece of what is not empty has a byte, and is not longer than what is there
+pub piece-some : (l : List ℕ) → 0 < length l → (0 < pieceOf l) × (pieceOf l ≤ length l)
+unfolding pieceOf
+piece-some l h =
+    by-test (λ (n : ℕ). (0 < n) × (n ≤ length l)) (leb 1 (fixedSize (getD l 0 0)) && leb (fixedSize (getD l 0 0)) (length l)) (fixedSize (getD l 0 0)) (length l)
+    (λ t. (
+      leb-true 1 (fixedSize (getD l 0 0)) (and-left (leb 1 (fixedSize (getD l 0 0))) (leb (fixedSize (getD l 0 0)) (length l)) t),
+      leb-true (fixedSize (getD l 0 0)) (length l) (and-right (leb 1 (fixedSize (getD l 0 0))) (leb (fixedSize (getD l 0 0)) (length l)) t),
+    ))
+    (λ _. (h, omega arith))
+
+empty : (l : List ℕ) → length l ≡ 0 → l ≡ []
+empty [] e = refl
+empty (x ∷ l) e = absurd (omega arith)
+
+pub cut-none : (n : ℕ) (l : List ℕ) → length l ≡ 0 → cutTo n l ≡ []
+unfolding cutTo
+cut-none zero l e = refl
+cut-none (suc n) l e = pick-yes (eqb (length l) 0) [] (take (pieceOf l) l ∷ cutTo n (drop (pieceOf l) l)) (eq-eqb (length l) 0 e)
+
+pub cut-one : (n : ℕ) (l : List ℕ) → (length l ≡ 0 → ⊥) → cutTo (suc n) l ≡ take (pieceOf l) l ∷ cutTo n (drop (pieceOf l) l)
+unfolding cutTo
+cut-one n l e = pick-no (eqb (length l) 0) [] (take (pieceOf l) l ∷ cutTo n (drop (pieceOf l) l)) (ne-eqb (length l) 0 e)
+
+all-to : (n : ℕ) (l : List ℕ) → length l ≤ n → joined (cutTo n l) ≡ l
+unfolding cutTo joined
+all-to zero l h = sym (empty l (omega arith))
+all-to (suc n) l h =
+    ⊎-elim (λ (t : eqb (length l) 0 ≡ true). let e = eqb-true (length l) 0 t in ap joined (cut-none (suc n) l e) ∙ sym (empty l e))
+    (λ (f : eqb (length l) 0 ≡ false).
+    let e = eqb-false (length l) 0 f in
+    let p = piece-some l (omega arith) in
+    ap joined (cut-one n l e) ∙ ap (λ (x : List ℕ). take (pieceOf l) l ++ x) (all-to n (drop (pieceOf l) l) (omega (arith, length-drop (pieceOf l) l))) ∙ take-append-drop (pieceOf l) l)
+    (tested (eqb (length l) 0))
+
+-- the pieces one behind the other are what was cut: nothing is lost
+pub cut-all : (l : List ℕ) → joined (cut l) ≡ l
+unfolding cut
+cut-all l = all-to (length l) l (omega arith)
+
+-- a piece whose kind fixes its length, and one whose kind does not
+pub fixed : (k n : ℕ) (l : List ℕ) → getD l 0 0 ≡ k → fixedSize k ≡ n → 1 ≤ n → n ≤ length l → pieceOf l ≡ n
+unfolding pieceOf pick
+fixed k n l e f a b = rw (e, f, le-leb 1 n a, le-leb n (length l) b)
+
+pub unfixed : (k : ℕ) (l : List ℕ) → getD l 0 0 ≡ k → fixedSize k ≡ 0 → pieceOf l ≡ length l
+unfolding pieceOf pick
+unfixed k l e f = rw (e, f)

@@ -1,0 +1,22 @@
+use mathlib.Core.Path.{_∙_, ap}
+use Prim.Native.Nat.{ℕ}
+use native.Mathlib.Nat.{add-zero}
+use lib.ListN.{getD}
+use denote.Ref.{now}
+use borrow.Author.Needs.{needs}
+use Rattle.wire.proofs.pieces.byte_of.Statement.{statement}
+use Rattle.wire.proofs.pieces.byte_of.Tie as tie
+use Rattle.wire.proofs.pieces.byte_of.Reads as reads
+use Rattle.wire.proofs.pieces.byte_of.Lts as lts
+use Rattle.bits.proofs.byte_at.Reads as byte-at-reads
+
+-- src/pieces.rt:13:5
+byte-at-requires : tie.Need-byte-at-requires
+byte-at-requires c κs = search needs
+
+-- src/pieces.rt:10:1
+returns : tie.Need-returns
+returns c = c .byte-at .ensures ∙ ap (λ (k : ℕ). getD (now (c .before .before .args .s)) k 0) (add-zero (c .before .before .args .k))
+
+pub byte-of-spec : {M : Type 1} → statement M
+byte-of-spec = tie.close (tie.spec byte-at-requires returns)

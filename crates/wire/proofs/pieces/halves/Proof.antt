@@ -1,0 +1,20 @@
+use mathlib.Core.Path.{ap₂, _∙_}
+use Prim.Native.Nat.{ℕ, _+_, _*_, _/_, _%_}
+use native.Mathlib.Omega.{arith}
+use lib.Bits.{and-mask}
+use lib.Dec.{lit<}
+use Rattle.bits.proofs.Masks.{and-two}
+use borrow.Author.Needs.{needs}
+use Rattle.wire.proofs.pieces.halves.Statement.{statement}
+use Rattle.wire.proofs.pieces.halves.Tie as tie
+use Rattle.wire.proofs.pieces.halves.Reads as reads
+use Rattle.wire.proofs.pieces.halves.Lts as lts
+
+-- src/pieces.rt:31:1
+returns : tie.Need-returns
+returns c =
+    let b = c .args .b in
+    and-two b 4 7 7 (lit< tt) ∙ ap₂ (λ (x y : ℕ). x * 16 + y) (and-mask (b / 16) 3) (and-mask (b % 16) 3) ∙ omega arith
+
+pub halves-spec : {M : Type 1} → statement M
+halves-spec = tie.close (tie.spec returns)

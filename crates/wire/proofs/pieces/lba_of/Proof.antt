@@ -1,0 +1,28 @@
+use native.Mathlib.Omega.{arith}
+use lib.Dec.{lit≤}
+use Rattle.bits.proofs.Masks.{shl-or}
+use borrow.Author.Needs.{needs}
+use Rattle.wire.proofs.pieces.lba_of.Statement.{statement}
+use Rattle.wire.proofs.pieces.lba_of.Tie as tie
+use Rattle.wire.proofs.pieces.lba_of.Reads as reads
+use Rattle.wire.proofs.pieces.lba_of.Lts as lts
+use Rattle.bits.proofs.le.Reads as le-reads
+
+-- src/pieces.rt:40:6
+le-requires : tie.Need-le-requires
+le-requires c κs = search needs
+
+-- src/pieces.rt:40:33
+le-requires-2 : tie.Need-le-requires-2
+le-requires-2 c κs = search needs
+
+-- src/pieces.rt:37:1
+returns : tie.Need-returns
+returns c =
+    let hi = c .before .le .ensures in
+    let lo = c .le2 .ensures in
+    let e = shl-or 24 24 64 (lit≤ tt) (hi .bound) (lo .bound) in
+    record { value = cc (e, hi .value, lo .value); bound = omega (arith, e, hi .bound, lo .bound) }
+
+pub lba-of-spec : {M : Type 1} → statement M
+lba-of-spec = tie.close (tie.spec le-requires le-requires-2 returns)

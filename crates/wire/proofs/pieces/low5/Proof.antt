@@ -1,0 +1,18 @@
+use lib.Bits.{and-mask}
+use mir.Facts.{fits-mask}
+use borrow.Author.Needs.{needs}
+use Rattle.wire.proofs.pieces.low5.Statement.{statement}
+use Rattle.wire.proofs.pieces.low5.Tie as tie
+use Rattle.wire.proofs.pieces.low5.Reads as reads
+use Rattle.wire.proofs.pieces.low5.Lts as lts
+
+-- src/pieces.rt:57:5
+cast-result : tie.Need-cast-result
+cast-result c = fits-mask (c .args .x) 5 tt
+
+-- src/pieces.rt:54:1
+returns : tie.Need-returns
+returns c = and-mask (c .args .x) 5
+
+pub low5-spec : {M : Type 1} → statement M
+low5-spec = tie.close (tie.spec cast-result returns)

@@ -1,0 +1,16 @@
+use borrow.Author.Tests.{lt-ltb}
+use Rattle.wire.proofs.PieceLaws.{high-zero}
+use borrow.Author.Needs.{needs}
+use Rattle.wire.proofs.pieces.task_fits.Statement.{statement}
+use Rattle.wire.proofs.pieces.task_fits.Tie as tie
+use Rattle.wire.proofs.pieces.task_fits.Reads as reads
+use Rattle.wire.proofs.pieces.task_fits.Lts as lts
+
+-- src/writing.rt:43:1
+returns : tie.Need-returns
+returns c =
+    let t = c .before .args .t in
+    rw (lt-ltb (t .device) 256 (search needs), lt-ltb (t .count) 65536 (search needs)) (high-zero 48 (t .lba))
+
+pub task-fits-spec : {M : Type 1} → statement M
+task-fits-spec = tie.close (tie.spec returns)

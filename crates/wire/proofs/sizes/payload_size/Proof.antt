@@ -1,0 +1,14 @@
+use mathlib.Core.Path.{ap}
+use lib.Bits.{and-mask}
+use borrow.Author.Needs.{needs}
+use Rattle.wire.proofs.sizes.payload_size.Statement.{statement}
+use Rattle.wire.proofs.sizes.payload_size.Tie as tie
+use Rattle.wire.proofs.sizes.payload_size.Reads as reads
+use Rattle.wire.proofs.sizes.payload_size.Lts as lts
+
+-- src/reading.rt:34:1
+returns : tie.Need-returns
+returns c = rw (and-mask (c .args .n) 2)
+
+pub payload-size-spec : {M : Type 1} → statement M
+payload-size-spec = tie.close (tie.spec returns)

@@ -1,0 +1,4 @@
+pub mod Piece
+pub mod Size
+pub mod Emit
+pub mod Cut

@@ -1,0 +1,16 @@
+// Several frames one behind the other in a buffer.
+ghost use mathlib.Core.Path.{_≡_};
+ghost use Rattle.wire.specs.Cut.{pieceOf};
+use crate::pieces::byte_of;
+use crate::sizes::fixed_size;
+
+// The length of the first frame in s. The next one starts behind it, at `&s[n..]`.
+pub fn cut(s: &[u8]) -> usize
+    ensures { λ r. ⌜ r ≡ pieceOf (now (s .entry)) ⌝ }
+{
+    let size = fixed_size(byte_of(s, 0));
+    if (1 <= size) & (size <= s.len()) {
+        return size;
+    }
+    s.len()
+}
