@@ -1,6 +1,4 @@
 // Numbers, words and bytes on standard output.
-ghost use mathlib.Core.Path.{_≡_};
-ghost use lib.ListN.{length};
 use libc::STDOUT_FILENO;
 
 pub fn line() {
@@ -21,8 +19,14 @@ pub fn next(n: u64) {
     io::print_decimal(STDOUT_FILENO, n);
 }
 
-pub fn next_flag(b: bool) {
-    next(b as u64);
+// 0 for a taken reading, and the first n of its fields.
+pub fn fields(n: usize, v: [u64; 12]) {
+    number(0);
+    let mut i: usize = 0;
+    while i < 12 && i < n {
+        next(v[i]);
+        i += 1;
+    }
 }
 
 fn digit(n: u8) -> u8 {

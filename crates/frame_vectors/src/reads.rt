@@ -1,101 +1,142 @@
 // The reading ops: a frame, page 10h, page 11h, and the cut of several frames.
+use crate::printing::fields;
 use crate::printing::next;
-use crate::printing::next_flag;
 use crate::printing::number;
 use crate::printing::word;
+use frames::DevReg;
 use frames::DmaSetup;
 use frames::Frame;
 use frames::HostReg;
 use frames::PioSetup;
+use frames::SetBits;
 use pages::Counter;
 use pages::ErrorLog;
 use pages::Page10;
-use wire::Task;
 
-fn say_task(t: Task) {
-    next(t.lba);
-    next(t.device as u64);
-    next(t.count as u64);
-}
-
-fn say_host(f: HostReg) {
+// The kind and the fields of a frame, as numbers.
+fn host(f: HostReg) -> [u64; 12] {
     let t = f.task;
-    word(b"0 39");
-    next_flag(f.command_bit);
-    next(f.command as u64);
-    next(f.features as u64);
-    next(t.lba);
-    next(t.device as u64);
-    next(f.features_high as u64);
-    next(t.count as u64);
-    next(f.control as u64);
+    [
+        39,
+        f.command_bit as u64,
+        f.command as u64,
+        f.features as u64,
+        t.lba,
+        t.device as u64,
+        f.features_high as u64,
+        t.count as u64,
+        f.control as u64,
+        0,
+        0,
+        0,
+    ]
 }
 
-fn say_setup(f: DmaSetup) {
-    word(b"0 65");
-    next_flag(f.auto);
-    next_flag(f.interrupt);
-    next_flag(f.to_host);
-    next(f.tag as u64);
-    next(f.offset as u64);
-    next(f.count as u64);
-}
-
-fn say_pio(f: PioSetup) {
+fn device(f: DevReg) -> [u64; 12] {
     let t = f.task;
-    word(b"0 95");
-    next_flag(f.interrupt);
-    next_flag(f.to_host);
-    next(f.status as u64);
-    next(f.error as u64);
-    say_task(t);
-    next(f.ending as u64);
-    next(f.bytes as u64);
+    [
+        52,
+        f.interrupt as u64,
+        f.status as u64,
+        f.error as u64,
+        t.lba,
+        t.device as u64,
+        t.count as u64,
+        0,
+        0,
+        0,
+        0,
+        0,
+    ]
+}
+
+fn set_bits(f: SetBits) -> [u64; 12] {
+    [
+        161,
+        f.interrupt as u64,
+        f.status as u64,
+        f.error as u64,
+        f.active as u64,
+        0,
+        0,
+        0,
+        0,
+        0,
+        0,
+        0,
+    ]
+}
+
+fn setup(f: DmaSetup) -> [u64; 12] {
+    [
+        65,
+        f.auto as u64,
+        f.interrupt as u64,
+        f.to_host as u64,
+        f.tag as u64,
+        f.offset as u64,
+        f.count as u64,
+        0,
+        0,
+        0,
+        0,
+        0,
+    ]
+}
+
+fn pio(f: PioSetup) -> [u64; 12] {
+    let t = f.task;
+    [
+        95,
+        f.interrupt as u64,
+        f.to_host as u64,
+        f.status as u64,
+        f.error as u64,
+        t.lba,
+        t.device as u64,
+        t.count as u64,
+        f.ending as u64,
+        f.bytes as u64,
+        0,
+        0,
+    ]
 }
 
 pub fn say_frame(s: &[u8]) {
     match frames::read_frame(s) {
-        Frame::Host(f) => say_host(f),
-        Frame::Device(f) => {
-            let t = f.task;
-            word(b"0 52");
-            next_flag(f.interrupt);
-            next(f.status as u64);
-            next(f.error as u64);
-            say_task(t);
-        }
-        Frame::Bits(f) => {
-            word(b"0 161");
-            next_flag(f.interrupt);
-            next(f.status as u64);
-            next(f.error as u64);
-            next(f.active as u64);
-        }
-        Frame::Setup(f) => say_setup(f),
-        Frame::Activate => word(b"0 57"),
-        Frame::Data(n) => {
-            word(b"0 70");
-            next(n as u64);
-        }
-        Frame::Bist => word(b"0 88"),
-        Frame::Pio(f) => say_pio(f),
-        Frame::Refused => word(b"24"),
+        Frame::Host(f) => fields(9, host(f)),
+        Frame::Device(f) => fields(7, device(f)),
+        Frame::Bits(f) => fields(5, set_bits(f)),
+        Frame::Setup(f) => fields(7, setup(f)),
+        Frame::Activate => fields(1, [57, 0, 0, 0, 0, 0, 0, 0, 0, 0, 0, 0]),
+        Frame::Data(n) => fields(2, [70, n as u64, 0, 0, 0, 0, 0, 0, 0, 0, 0, 0]),
+        Frame::Bist => fields(1, [88, 0, 0, 0, 0, 0, 0, 0, 0, 0, 0, 0]),
+        Frame::Pio(f) => fields(10, pio(f)),
+        Frame::Refused => number(24),
     }
 }
 
-fn say_fields(f: ErrorLog) {
+fn log(f: ErrorLog) -> [u64; 12] {
     let t = f.task;
-    word(b"0");
-    next_flag(f.nq);
-    next(f.tag as u64);
-    next(f.status as u64);
-    next(f.error as u64);
-    say_task(t);
+    [
+        f.nq as u64,
+        f.tag as u64,
+        f.status as u64,
+        f.error as u64,
+        t.lba,
+        t.device as u64,
+        t.count as u64,
+        0,
+        0,
+        0,
+        0,
+        0,
+    ]
 }
 
 pub fn say_log(s: &[u8]) {
     match pages::read_log(s) {
-        Page10::Fields(f) => say_fields(f),
+        Page10::Fields(f) => fields(7, log(f)),
         Page10::Refused(n) => number(n as u64),
     }
 }

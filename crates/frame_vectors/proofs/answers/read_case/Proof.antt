@@ -1,3 +1,6 @@
+use mathlib.Core.Path.{_≡_, sym}
+use native.Mathlib.Omega.{arith}
+use lib.Seq.{length-take-le}
 use borrow.Author.Needs.{needs}
 use Rattle.frame_vectors.proofs.answers.read_case.Statement.{statement}
 use Rattle.frame_vectors.proofs.answers.read_case.Tie as tie
@@ -32,7 +35,7 @@ array-share-prefix-input c = search needs
 
 -- src/answers.rt:21:9
 slice-aggregate-s : tie.Need-slice-aggregate-s
-slice-aggregate-s c = search needs
+slice-aggregate-s c = sym (length-take-le (c .before .before .before .before .before .before .before .args .n) (c .before .before .lay .last .0) (omega arith))
 
 -- src/answers.rt:23:17
 say-frame-requires : tie.Need-say-frame-requires

@@ -1,3 +1,8 @@
+use Prim.Native.Nat.{ℕ, _-_, _≤_}
+use lib.ListN.{length}
+use mathlib.Core.Path.{_≡_, sym}
+use native.Mathlib.Omega.{arith}
+use lib.Seq.{length-take-le}
 use borrow.Author.Needs.{needs}
 use Rattle.frame_vectors.proofs.writes.write_data.Statement.{statement}
 use Rattle.frame_vectors.proofs.writes.write_data.Tie as tie
@@ -8,10 +13,10 @@ use Rattle.frame_vectors.proofs.writes.wide.Reads as wide-reads
 use Rattle.frames.proofs.write_data.Reads as write-data-reads
 
 abbrev Inv-loop : tie.InvT-loop
-Inv-loop buf n first payload₀ i₀ b₀ payload i b = ?
+Inv-loop buf n first payload₀ i₀ b₀ payload i b = (i ≤ 8300) × (b ≤ 256) × (8300 ≡ length payload)
 
 abbrev μ-loop : tie.MeasureT-loop
-μ-loop buf n first payload₀ i₀ b₀ payload i b = ?
+μ-loop buf n first payload₀ i₀ b₀ payload i b = 8300 - i
 
 -- src/writes.rt:146:23
 filled-requires : tie.Need-filled-requires Inv-loop μ-loop
@@ -59,7 +64,7 @@ array-share-prefix-payload c = search needs
 
 -- src/writes.rt:157:29
 slice-aggregate-write-data : tie.Need-slice-aggregate-write-data Inv-loop μ-loop
-slice-aggregate-write-data c = search needs
+slice-aggregate-write-data c = sym (length-take-le (c .before .before .before .before .before .before .before .before .args .n) (c .before .before .before .before .loop .payload) (omega arith))
 
 -- src/writes.rt:157:5
 write-data-requires : tie.Need-write-data-requires Inv-loop μ-loop

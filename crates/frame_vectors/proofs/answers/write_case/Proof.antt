@@ -1,0 +1,67 @@
+use mathlib.Core.Path.{sym}
+use native.Mathlib.Omega.{arith}
+use lib.Seq.{length-take-le}
+use borrow.Author.Needs.{needs}
+use Rattle.frame_vectors.proofs.answers.write_case.Statement.{statement}
+use Rattle.frame_vectors.proofs.answers.write_case.Tie as tie
+use Rattle.frame_vectors.proofs.answers.write_case.Reads as reads
+use Rattle.frame_vectors.proofs.answers.write_case.Lts as lts
+use Rattle.frame_vectors.proofs.writes.filled.Reads as filled-reads
+use Rattle.frame_vectors.proofs.writes.say_counters.Reads as say-counters-reads
+use Rattle.frame_vectors.proofs.writes.say_frame.Reads as say-frame-reads
+use Rattle.frame_vectors.proofs.writes.say_log.Reads as say-log-reads
+
+-- src/answers.rt:32:9
+returns : tie.Need-returns
+returns c = search needs
+
+-- src/answers.rt:35:20
+filled-requires : tie.Need-filled-requires
+filled-requires c κs = search needs
+
+-- src/answers.rt:36:15
+array-borrow-prefix-room : tie.Need-array-borrow-prefix-room
+array-borrow-prefix-room c = search needs
+
+-- src/answers.rt:36:9
+slice-aggregate-buf : tie.Need-slice-aggregate-buf
+slice-aggregate-buf c = sym (length-take-le (c .before .before .before .before .args .n) (c .before .filled .result) (omega arith))
+
+-- src/answers.rt:38:17
+say-frame-requires : tie.Need-say-frame-requires
+say-frame-requires c κs = search needs
+
+-- src/answers.rt:39:17
+say-log-requires : tie.Need-say-log-requires
+say-log-requires c κs = search needs
+
+-- src/answers.rt:40:14
+say-counters-requires : tie.Need-say-counters-requires
+say-counters-requires c κs = search needs
+
+-- src/answers.rt:30:1
+returns-2 : tie.Need-returns-2
+returns-2 c = search needs
+
+-- src/answers.rt:30:1
+returns-3 : tie.Need-returns-3
+returns-3 c = search needs
+
+-- src/answers.rt:30:1
+returns-4 : tie.Need-returns-4
+returns-4 c = search needs
+
+pub write-case-spec : {M : Type 1} → statement M
+write-case-spec =
+    tie.close
+    (tie.spec
+    returns
+    filled-requires
+    array-borrow-prefix-room
+    slice-aggregate-buf
+    say-frame-requires
+    say-log-requires
+    say-counters-requires
+    returns-2
+    returns-3
+    returns-4)
