@@ -1,24 +1,17 @@
 -- The law of refusals: what `firstOf` gives is given exactly when it should be. Assumes nothing.
-use mathlib.Core.Path.{_≡_, refl, sym, ap, _∙_}
+use mathlib.Core.Path.{_≡_, refl, sym}
 use mathlib.Core.Bool.{Bool, true, false, _&&_, not}
 use mathlib.Core.List.{List, [], _∷_}
 use Prim.Native.Nat.{ℕ, zero, suc, _<_, suc-le-suc}
 use native.Mathlib.Nat.{not-suc-le-zero, le-of-suc-le-suc, zero-lt-suc}
-use lib.Dec.{T, eqb, eqb→eq}
+use lib.Dec.{T, eqb}
 use lib.ListN.{length, getD}
 use borrow.Author.Tests.{eq-eqb}
 use native.Mathlib.Omega.{arith}
 use Rattle.bits.specs.Pick.{pick}
 use Rattle.bits.proofs.Picks.{by-test}
+use Rattle.bits.proofs.Tables.{both-left, both-right}
 use Rattle.bits.specs.First.{Rung, firstOf, noRung, Iff, NoneBefore, FirstExactly, fresh, apart}
-
-both-left : (a b : Bool) → T (a && b) → T a
-both-left true b t = tt
-both-left false b t = t
-
-both-right : (a b : Bool) → T (a && b) → T b
-both-right true b t = t
-both-right false b t = absurd t
 
 differ : (m n : ℕ) → T (not (eqb m n)) → m ≡ n → ⊥
 differ m n t e = rw (eq-eqb m n e) at t
@@ -65,16 +58,18 @@ module _ (n : ℕ) (rs : List Rung) where
   one-rung true z f i = record {
     each = taken-each f;
     none = (λ e. absurd (z e), λ p. absurd (true-false (p 0 (zero-lt-suc (length rs)))));
+    other = λ h. absurd (h 0 (zero-lt-suc (length rs)) refl);
   }
   one-rung false z f i = record {
     each = passed-each z f i;
     none = (λ e. one-more (length rs) (i .none .0 e), λ p. i .none .1 (λ j l. p (suc j) (suc-le-suc l)));
+    other = λ h. i .other (λ k l. h (suc k) (suc-le-suc l));
   }
 
 -- each number exactly when its test holds and none in front of it does; 0 exactly when none holds; no other number
 pub first-exactly : (rs : List Rung) → T (apart rs) → FirstExactly rs (firstOf rs)
 unfolding firstOf
-first-exactly [] t = record { each = λ k h. absurd (not-suc-le-zero h); none = (λ e j h. absurd (not-suc-le-zero h), λ p. refl) }
+first-exactly [] t = record { each = λ k h. absurd (not-suc-le-zero h); none = (λ e j h. absurd (not-suc-le-zero h), λ p. refl); other = λ h. refl }
 first-exactly (r ∷ rs) t =
     let own = both-left (not (eqb (r .number) 0)) (fresh (r .number) rs && apart rs) t in
     let rest = both-right (not (eqb (r .number) 0)) (fresh (r .number) rs && apart rs) t in

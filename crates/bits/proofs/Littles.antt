@@ -1,6 +1,6 @@
 -- Laws of little-endian numbers, over the width. Assumes nothing.
-use mathlib.Core.Path.{_≡_, refl, sym, ap, ap₂, _∙_, subst}
-use mathlib.Core.List.{List, [], _∷_, _++_}
+use mathlib.Core.Path.{_≡_, refl, sym, ap, _∙_}
+use mathlib.Core.List.{List, _∷_}
 use Prim.Native.Nat.{ℕ, zero, suc, _+_, _-_, _*_, _/_, _%_, _^_, _≤_, _<_}
 use native.Mathlib.Nat.{sub-self, sub-zero, add-zero, lt-of-lt-of-le, mod-one, div-one, div-eq-of-lt, mod-eq-of-lt, not-suc-le-zero, le-of-suc-le-suc}
 use native.Mathlib.Omega.{arith}
@@ -8,7 +8,7 @@ use lib.Arith.{digits-lt}
 use lib.Bits.{bitOr}
 use lib.Dec.{lit≤, lit<}
 use lib.Pow.{pow-add, pow-mono, pow-pos, shr-shr, mod-pow-add}
-use lib.ListN.{length, getD}
+use lib.ListN.{getD}
 use Rattle.bits.proofs.Masks.{shl-or}
 use Rattle.bits.specs.Little.{leAt, byteOf, bytesFrom, leBytes, Bytes}
 

@@ -1,14 +1,14 @@
 -- Laws of single bits and masks, over the width and the index. Bit `t` of `m` is `m / 2 ^ t % 2`. Assumes nothing.
-use mathlib.Core.Path.{_≡_, refl, sym, ap, ap₂, _∙_, subst}
-use mathlib.Core.Logic.{_⊎_, inl, inr, ⊎-elim, _≢_}
-use Prim.Native.Nat.{ℕ, zero, suc, _+_, _-_, _*_, _/_, _%_, _^_, _≤_, _<_, min, max, zero-le, suc-le-suc}
+use mathlib.Core.Path.{_≡_, refl, sym, ap, _∙_, subst}
+use mathlib.Core.Logic.{_⊎_, inl, inr, ⊎-elim}
+use Prim.Native.Nat.{ℕ, zero, suc, _+_, _-_, _*_, _/_, _%_, _^_, _≤_, _<_, min, max, suc-le-suc}
 use native.Mathlib.Nat.{zero-div, mod-lt, zero-lt-suc, mod-eq-of-lt, pow-suc, le-of-suc-le-suc, one-mul, div-self, div-eq-of-lt, mul-mod-left}
 use native.Mathlib.Numerals.{one-add}
 use native.Mathlib.Omega.{arith}
 use lib.Dec.{ltb}
 use borrow.Author.Tests.{ltb-true, ltb-false}
 use mathlib.Core.Bool.{Bool, true, false}
-use lib.Pow.{ones-sub-lt, pow-pos, pow-lt, pow-add, shr-shr, shl-shr, shl-exact, high, low, split, shr-lt, not-mod}
+use lib.Pow.{ones-sub-lt, pow-pos, pow-lt, pow-add, shr-shr, shl-shr, shl-exact, low, split}
 use lib.Bits.{bitAnd, bitOr, and-lt, and-block, and-shr, and-mod, or-shr, or-mod, or-shifted}
 
 -- ---- what `|` and `&` do to one bit

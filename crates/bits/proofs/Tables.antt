@@ -1,5 +1,5 @@
 -- Laws of tables: a mask's ones counted against a table, and a rule of every number below a bound. Assumes nothing.
-use mathlib.Core.Path.{_≡_, refl, sym, ap, ap₂, _∙_, subst}
+use mathlib.Core.Path.{_≡_, sym, ap, ap₂, _∙_, subst}
 use mathlib.Core.List.{List, [], _∷_}
 use mathlib.Core.Logic.{⊎-elim}
 use mathlib.Core.Bool.{Bool, true, false, _&&_}
@@ -33,16 +33,16 @@ abbrev pub allBelow : ℕ → (ℕ → Bool) → Bool
 allBelow zero p = true
 allBelow (suc n) p = p n && allBelow n p
 
-and-left : (a b : Bool) → T (a && b) → T a
-and-left true b t = tt
-and-left false b t = t
+pub both-left : (a b : Bool) → T (a && b) → T a
+both-left true b t = tt
+both-left false b t = t
 
-and-right : (a b : Bool) → T (a && b) → T b
-and-right true b t = t
-and-right false b t = absurd t
+pub both-right : (a b : Bool) → T (a && b) → T b
+both-right true b t = t
+both-right false b t = absurd t
 
 pub below-all : (n : ℕ) (p : ℕ → Bool) → T (allBelow n p) → (k : ℕ) → k < n → T (p k)
 below-all zero p t k h = absurd (not-suc-le-zero h)
 below-all (suc n) p t k h =
-    ⊎-elim (λ e. subst (λ (x : ℕ). T (p x)) (sym e) (and-left (p n) (allBelow n p) t))
-    (λ l. below-all n p (and-right (p n) (allBelow n p) t) k l) (eq-or-lt-of-le (le-of-suc-le-suc h))
+    ⊎-elim (λ e. subst (λ (x : ℕ). T (p x)) (sym e) (both-left (p n) (allBelow n p) t))
+    (λ l. below-all n p (both-right (p n) (allBelow n p) t) k l) (eq-or-lt-of-le (le-of-suc-le-suc h))

@@ -2,7 +2,6 @@
 use mathlib.Core.Path.{_≡_}
 use mathlib.Core.Bool.{Bool, true, false, _&&_, not}
 use mathlib.Core.List.{List, [], _∷_}
-use mathlib.Core.Logic.{_⊎_}
 use Prim.Native.Nat.{ℕ, _<_}
 use lib.Dec.{eqb}
 use lib.ListN.{length, getD}
@@ -34,6 +33,7 @@ NoneBefore rs k = (j : ℕ) → j < k → getD rs j noRung .holds ≡ false
 pub record FirstExactly (rs : List Rung) (given : ℕ) : Type 0 where
   pub each : (k : ℕ) → k < length rs → Iff (given ≡ getD rs k noRung .number) ((getD rs k noRung .holds ≡ true) × NoneBefore rs k)
   pub none : Iff (given ≡ 0) (NoneBefore rs (length rs))
+  pub other : ((k : ℕ) → k < length rs → given ≡ getD rs k noRung .number → ⊥) → given ≡ 0
 
 -- the number is none of the rungs'
 abbrev pub fresh : ℕ → List Rung → Bool

@@ -1,6 +1,6 @@
 // Numbers in bytes, the lowest byte first.
 ghost use mathlib.Core.Path.{_≡_};
-ghost use Prim.Native.Nat.{_+_, _%_, _≤_, _<_, min};
+ghost use Prim.Native.Nat.{_+_, _%_, _<_, min};
 ghost use lib.ListN.{getD};
 ghost use Rattle.bits.specs.Little.{byteOf, Number};
 

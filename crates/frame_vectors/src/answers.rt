@@ -14,6 +14,7 @@ fn two(s: &[u8], at: usize) -> u16 {
 // The input is n bytes long: the body's, and every further byte is the fill.
 fn read_case(op: u8, fill: u8, n: usize, asked: u16, body: &[u8]) {
     if n > 8300 {
+        word(b"too long");
         return;
     }
     let mut input = filled(fill);
@@ -29,6 +30,7 @@ fn read_case(op: u8, fill: u8, n: usize, asked: u16, body: &[u8]) {
 
 fn write_case(op: u8, kind: u8, n: usize, m: usize, first: u8, body: &[u8]) {
     if n > 8300 {
+        word(b"too long");
         return;
     }
     // every byte is EEh, so that a byte that a writer changed shows

@@ -11,7 +11,12 @@ use libc::STDIN_FILENO;
 fn run_case() -> bool {
     let mut case = [0u8; 544];
     let n = io::read_full(STDIN_FILENO, &mut case);
+    if n == 0 {
+        return false;
+    }
     if n < 544 {
+        printing::word(b"cut short");
+        printing::line();
         return false;
     }
     answers::answer(&case);

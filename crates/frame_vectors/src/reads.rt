@@ -169,7 +169,7 @@ pub fn say_cut(s: &[u8]) {
     }
     let mut at: usize = 0;
     while at < s.len() {
-        let n = wire::cut(&s[at..]);
+        let n = wire::cut_first(&s[at..]);
         if n == 0 {
             return;
         }

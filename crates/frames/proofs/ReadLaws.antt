@@ -1,17 +1,12 @@
 -- Laws of the frame reader. Assumes nothing.
-use mathlib.Core.Path.{_≡_, refl, sym, ap, _∙_}
-use mathlib.Core.Bool.{Bool, true, false, _&&_}
-use mathlib.Core.List.{List, [], _∷_}
-use Prim.Native.Nat.{ℕ, _-_, _≤_}
-use native.Mathlib.Omega.{arith}
+use mathlib.Core.Path.{_≡_}
+use mathlib.Core.Bool.{true, false}
+use mathlib.Core.List.{List}
+use Prim.Native.Nat.{ℕ, _-_}
 use lib.ListN.{length, getD}
-use lib.Dec.{leb, eqb}
-use borrow.Author.Tests.{leb-true}
-use Rattle.bits.specs.Pick.{pick}
 use Rattle.bits.proofs.Picks.{pick-yes, pick-no}
-use Rattle.wire.specs.Size.{fixedSize, payloadSize, readable}
+use Rattle.wire.specs.Size.{readable}
 use Rattle.frames.specs.Read.{byKind, readFrame}
-use Rattle.frames.specs.declared.shapes.Frame.{Frame}
 use Rattle.frames.specs.declared.shapes.Frame.the-variants.{Refused}
 
 -- where its kind allows the length, the frame goes by its kind

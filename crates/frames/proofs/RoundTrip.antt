@@ -1,42 +1,38 @@
 -- What a writer wrote, the reader reads again. Assumes nothing.
-use mathlib.Core.Path.{_≡_, refl, sym, ap, ap₂, _∙_}
+use mathlib.Core.Path.{_≡_, refl, sym, ap, _∙_}
 use mathlib.Core.Bool.{Bool, true, false, not, _&&_, _||_}
-use mathlib.Core.List.{List, [], _∷_, _++_}
-use Prim.Native.Nat.{ℕ, _+_, _-_, _*_, _/_, _%_, _^_, _≤_, _<_}
-use native.Mathlib.Nat.{div-one}
+use mathlib.Core.List.{List}
+use Prim.Native.Nat.{ℕ, _+_, _-_, _<_}
 use native.Mathlib.Omega.{arith}
-use lib.Pow.{recompose}
-use lib.Dec.{T, eqb, ltb, leb, eqb→eq}
-use lib.ListN.{length, getD, take, drop}
+use lib.Dec.{eqb, eqb→eq}
+use lib.ListN.{length, take, drop}
 use lib.Seq.{take-at}
-use borrow.Author.Tests.{ltb-true, leb-true, le-leb}
 use Rattle.bits.specs.Pick.{pick}
 use Rattle.bits.specs.Bit.{bitIn}
-use Rattle.bits.specs.Little.{leAt, leBytes, bytesFrom}
 use Rattle.bits.proofs.Tables.{below-all}
-use Rattle.bits.proofs.Littles.{le-leBytes, le-bytesFrom}
-use Rattle.wire.specs.Piece.{flagsOf, halvesOf, lbaOf, taskOf, registerBytes, below, taskFits}
+use Rattle.bits.proofs.Littles.{le-leBytes}
+use Rattle.wire.specs.Piece.{flagsOf, halvesOf, registerBytes, below, taskFits}
 use Rattle.wire.specs.Size.{fixedSize, payloadSize, readable}
-use Rattle.frames.specs.Read.{hostOf, byKind, readFrame}
+use Rattle.frames.specs.Read.{byKind, readFrame}
 use Rattle.frames.specs.Write.{Sent, host, device, setBits, setup, activate, payload, bist, pio, bitsBytes, setupBytes, encode, fits, Wrote}
 use Rattle.frames.specs.Trip.{seen}
 use Rattle.bits.proofs.Picks.{and-left, and-right}
 use Rattle.frames.proofs.ReadLaws.{read-by}
 use Rattle.frames.proofs.WriteLaws.{length-payload}
 use Rattle.wire.proofs.EmitLaws.{wrote-all}
+use Rattle.wire.proofs.TaskLaws.{small, task-all}
 use Rattle.wire.specs.declared.pieces.Task.{Task}
 use Rattle.frames.specs.declared.shapes.HostReg.{HostReg}
 use Rattle.frames.specs.declared.shapes.DevReg.{DevReg}
 use Rattle.frames.specs.declared.shapes.SetBits.{SetBits}
 use Rattle.frames.specs.declared.shapes.DmaSetup.{DmaSetup}
 use Rattle.frames.specs.declared.shapes.PioSetup.{PioSetup}
-use Rattle.frames.specs.declared.shapes.Frame.{Frame}
 use Rattle.frames.specs.declared.shapes.Frame.the-variants.{Host, Device, Bits, Setup, Data, Pio}
 use Rattle.wire.specs.declared.emitting.Written.{Written}
 
 -- ---- byte 1
 
-flag-7 : (a b c : Bool) → bitIn 32 (flagsOf a b c) 7 ≡ a
+flag-7 : (a b c : Bool) → bitIn 8 (flagsOf a b c) 7 ≡ a
 flag-7 true true true = refl
 flag-7 true true false = refl
 flag-7 true false true = refl
@@ -46,7 +42,7 @@ flag-7 false true false = refl
 flag-7 false false true = refl
 flag-7 false false false = refl
 
-flag-6 : (a b c : Bool) → bitIn 32 (flagsOf a b c) 6 ≡ b
+flag-6 : (a b c : Bool) → bitIn 8 (flagsOf a b c) 6 ≡ b
 flag-6 true true true = refl
 flag-6 true true false = refl
 flag-6 true false true = refl
@@ -56,7 +52,7 @@ flag-6 false true false = refl
 flag-6 false false true = refl
 flag-6 false false false = refl
 
-flag-5 : (a b c : Bool) → bitIn 32 (flagsOf a b c) 5 ≡ c
+flag-5 : (a b c : Bool) → bitIn 8 (flagsOf a b c) 5 ≡ c
 flag-5 true true true = refl
 flag-5 true true false = refl
 flag-5 true false true = refl
@@ -66,40 +62,19 @@ flag-5 false true false = refl
 flag-5 false false true = refl
 flag-5 false false false = refl
 
--- ---- numbers
-
-small : (k x : ℕ) → below k x ≡ true → x < 2 ^ k
-small k x e = ltb-true x (2 ^ k) e
-
--- 48 bits in two runs of three bytes
-lba-all : {x : ℕ} → x < 2 ^ 48 → leAt (bytesFrom 3 3 x) 0 3 * 2 ^ 24 + leAt (bytesFrom 0 3 x) 0 3 ≡ x
-lba-all {x} h =
-    ap₂ (λ (a b : ℕ). a * 2 ^ 24 + b) (le-bytesFrom 3 3 x) (le-bytesFrom 0 3 x ∙ ap (λ (y : ℕ). y % 2 ^ 24) (div-one x))
-    ∙ recompose 24 24 h
-
 -- status bits 7 and 3 are not set: the halves are all of it
 halvesTest : ℕ → Bool
-halvesTest s = (bitIn 32 s 7 || bitIn 32 s 3) || eqb (halvesOf (halvesOf s)) s
+halvesTest s = (bitIn 8 s 7 || bitIn 8 s 3) || eqb (halvesOf (halvesOf s)) s
 
-halves-all : (s : ℕ) → s < 256 → not (bitIn 32 s 7) ≡ true → not (bitIn 32 s 3) ≡ true → halvesOf (halvesOf s) ≡ s
+halves-all : (s : ℕ) → s < 256 → not (bitIn 8 s 7) ≡ true → not (bitIn 8 s 3) ≡ true → halvesOf (halvesOf s) ≡ s
 unfolding halvesTest
-halves-all s h p q = eqb→eq (halvesOf (halvesOf s)) s (rw (off (bitIn 32 s 7) p, off (bitIn 32 s 3) q) at (below-all 256 halvesTest tt s h))
+halves-all s h p q = eqb→eq (halvesOf (halvesOf s)) s (rw (off (bitIn 8 s 7) p, off (bitIn 8 s 3) q) at (below-all 256 halvesTest tt s h))
   where
     off : (b : Bool) → not b ≡ true → b ≡ false
     off true e = sym e
     off false e = refl
 
 -- ---- records of equal fields
-
-same-task : {l l′ d d′ n n′ : ℕ} → l ≡ l′ → d ≡ d′ → n ≡ n′ → _≡_ {A = Task} (record { lba = l; device = d; count = n }) (record { lba = l′; device = d′; count = n′ })
-same-task p q r = cc
-
--- the command's bytes come back out of 27h, 34h and 5Fh
-pub task-all : (k g s d : ℕ) (t : Task) (e f n : ℕ) → taskFits t ≡ true → taskOf (registerBytes k g s d t e f n) ≡ t
-unfolding registerBytes
-task-all k g s d t e f n h =
-    same-task (lba-all (small 48 (t .lba) (and-right (below 8 (t .device) && below 16 (t .count)) (below 48 (t .lba)) h))) refl
-    (le-leBytes 2 (small 16 (t .count) (and-right (below 8 (t .device)) (below 16 (t .count)) (and-left (below 8 (t .device) && below 16 (t .count)) (below 48 (t .lba)) h))))
 
 same-host : {c c′ : Bool} {a a′ b b′ h h′ k k′ : ℕ} {t t′ : Task} → c ≡ c′ → a ≡ a′ → b ≡ b′ → t ≡ t′ → h ≡ h′ → k ≡ k′
     → _≡_ {A = HostReg} (record { «command_bit» = c; command = a; features = b; task = t; «features_high» = h; control = k })
@@ -126,23 +101,19 @@ same-pio p q r s t u v = cc
 
 -- ---- each kind
 
--- the last of a chain of tests, and the one before
-last-of : (a b : Bool) → a && b ≡ true → b ≡ true
-last-of a b e = and-right a b e
-
 read-host : (f : HostReg) → fits (host f) ≡ true → readFrame (encode (host f)) ≡ Host f
 unfolding readFrame byKind readable fixedSize pick encode fits registerBytes
 read-host f h =
     ap Host (same-host (flag-7 (f .«command_bit») false false) refl refl
     (task-all 0x27 (flagsOf (f .«command_bit») false false) (f .command) (f .features) (f .task) (f .«features_high») (f .control) 0
-    (last-of (below 8 (f .command) && below 8 (f .features) && below 8 (f .«features_high») && below 8 (f .control)) (taskFits (f .task)) h)) refl refl)
+    (and-right (below 8 (f .command) && below 8 (f .features) && below 8 (f .«features_high») && below 8 (f .control)) (taskFits (f .task)) h)) refl refl)
 
 read-device : (f : DevReg) → fits (device f) ≡ true → readFrame (encode (device f)) ≡ Device f
 unfolding readFrame byKind readable fixedSize pick encode fits registerBytes
 read-device f h =
     ap Device (same-device (flag-6 false (f .interrupt) false)
     (task-all 0x34 (flagsOf false (f .interrupt) false) (f .status) (f .error) (f .task) 0 0 0
-    (last-of (below 8 (f .status) && below 8 (f .error)) (taskFits (f .task)) h)) refl refl)
+    (and-right (below 8 (f .status) && below 8 (f .error)) (taskFits (f .task)) h)) refl refl)
 
 read-pio : (f : PioSetup) → fits (pio f) ≡ true → readFrame (encode (pio f)) ≡ Pio f
 unfolding readFrame byKind readable fixedSize pick encode fits registerBytes
@@ -150,21 +121,21 @@ read-pio f h =
     let front = below 8 (f .status) && below 8 (f .error) && below 8 (f .ending) in
     ap Pio (same-pio (flag-6 false (f .interrupt) (f .«to_host»)) (flag-5 false (f .interrupt) (f .«to_host»))
     (task-all 0x5F (flagsOf false (f .interrupt) (f .«to_host»)) (f .status) (f .error) (f .task) 0 (f .ending) (f .bytes)
-    (last-of (front && below 16 (f .bytes)) (taskFits (f .task)) h)) refl refl refl
-    (le-leBytes 2 (small 16 (f .bytes) (last-of front (below 16 (f .bytes)) (and-left (front && below 16 (f .bytes)) (taskFits (f .task)) h)))))
+    (and-right (front && below 16 (f .bytes)) (taskFits (f .task)) h)) refl refl refl
+    (le-leBytes 2 (small 16 (f .bytes) (and-right front (below 16 (f .bytes)) (and-left (front && below 16 (f .bytes)) (taskFits (f .task)) h)))))
 
 read-bits : (f : SetBits) → fits (setBits f) ≡ true → readFrame (encode (setBits f)) ≡ Bits f
 unfolding readFrame byKind readable fixedSize pick encode fits bitsBytes
 read-bits f h =
-    let n7 = not (bitIn 32 (f .status) 7) in
-    let n3 = not (bitIn 32 (f .status) 3) in
+    let n7 = not (bitIn 8 (f .status) 7) in
+    let n3 = not (bitIn 8 (f .status) 3) in
     let two = below 8 (f .status) && below 8 (f .error) in
     let upTo7 : ((two && below 32 (f .active)) && n7) ≡ true = and-left ((two && below 32 (f .active)) && n7) n3 h in
     let three : (two && below 32 (f .active)) ≡ true = and-left (two && below 32 (f .active)) n7 upTo7 in
     ap Bits (same-bits (flag-6 false (f .interrupt) false)
     (halves-all (f .status) (small 8 (f .status) (and-left (below 8 (f .status)) (below 8 (f .error)) (and-left two (below 32 (f .active)) three)))
-    (last-of (two && below 32 (f .active)) n7 upTo7) (last-of ((two && below 32 (f .active)) && n7) n3 h)) refl
-    (le-leBytes 4 (small 32 (f .active) (last-of two (below 32 (f .active)) three))))
+    (and-right (two && below 32 (f .active)) n7 upTo7) (and-right ((two && below 32 (f .active)) && n7) n3 h)) refl
+    (le-leBytes 4 (small 32 (f .active) (and-right two (below 32 (f .active)) three))))
 
 read-setup : (f : DmaSetup) → fits (setup f) ≡ true → readFrame (encode (setup f)) ≡ Setup f
 unfolding readFrame byKind readable fixedSize pick encode fits setupBytes
@@ -180,7 +151,7 @@ readable-payload : (n m : ℕ) → n ≡ 4 + m → payloadSize m ≡ true → re
 unfolding readable pick
 readable-payload n m e h =
     let k : n - 4 ≡ m = omega arith in
-    rw (le-leb 4 n (omega arith), k) h
+    rw k h
 
 read-payload : (p : List ℕ) → fits (payload p) ≡ true → readFrame (encode (payload p)) ≡ Data (length p)
 unfolding byKind pick encode fits

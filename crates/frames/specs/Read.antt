@@ -1,15 +1,18 @@
 -- The frames as they are read: unnamed bits and bytes are dropped. Assumes nothing.
 use mathlib.Core.Bool.{Bool, not}
-use mathlib.Core.List.{List, [], _∷_}
+use mathlib.Core.Path.{_≡_}
+use mathlib.Core.List.{List, [], _∷_, _++_}
 use Prim.Native.Nat.{ℕ, _-_}
 use lib.ListN.{length, getD}
 use lib.Dec.{eqb}
 use Rattle.bits.specs.Pick.{pick}
 use Rattle.bits.specs.Bit.{bitIn}
-use Rattle.bits.specs.First.{Rung}
+use Rattle.bits.specs.First.{Rung, firstOf}
+use Rattle.bits.specs.Told.{Told, bitNumber}
 use Rattle.bits.specs.Little.{leAt}
 use Rattle.wire.specs.Piece.{halvesOf, taskOf}
 use Rattle.wire.specs.Size.{readable}
+use Rattle.wire.specs.declared.pieces.Task.{Task}
 use Rattle.frames.specs.declared.shapes.HostReg.{HostReg}
 use Rattle.frames.specs.declared.shapes.DevReg.{DevReg}
 use Rattle.frames.specs.declared.shapes.SetBits.{SetBits}
@@ -20,7 +23,7 @@ use Rattle.frames.specs.declared.shapes.Frame.the-variants.{Host, Device
 
 -- bit k of byte 1
 abbrev pub flagAt : List ℕ → ℕ → Bool
-flagAt l k = bitIn 32 (getD l 1 0) k
+flagAt l k = bitIn 8 (getD l 1 0) k
 
 -- 27h: byte 1 bit 7 command (C); 2 command, 3 features, 11 features high, 15 control
 abbrev pub hostOf : List ℕ → HostReg
@@ -84,14 +87,23 @@ ladder24 l = record { number = 24; holds = not (readable (getD l 0 0) (length l)
 unfoldable pub readFrame : List ℕ → Frame
 readFrame l = pick (readable (getD l 0 0) (length l)) (byKind (getD l 0 0) l) Refused
 
--- the number that 01 gives to each answer of the reader: 24 for a refusal
-unfoldable pub frameNumber : Frame → ℕ
-frameNumber (Host f) = 0
-frameNumber (Device f) = 0
-frameNumber (Bits f) = 0
-frameNumber (Setup f) = 0
-frameNumber Activate = 0
-frameNumber (Data n) = 0
-frameNumber Bist = 0
-frameNumber (Pio f) = 0
-frameNumber Refused = 24
+-- the values of a command's bytes
+abbrev pub taskValues : Task → List ℕ
+taskValues t = t .lba ∷ t .device ∷ t .count ∷ []
+
+-- what each answer of the reader tells: its kind and its named fields in the order of the rules, or 24
+unfoldable pub toldFrame : Frame → Told
+toldFrame (Host f) = record { number = 0; values = 0x27 ∷ bitNumber (f .«command_bit») ∷ f .command ∷ f .features ∷ taskValues (f .task) ++ f .«features_high» ∷ f .control ∷ [] }
+toldFrame (Device f) = record { number = 0; values = 0x34 ∷ bitNumber (f .interrupt) ∷ f .status ∷ f .error ∷ taskValues (f .task) }
+toldFrame (Bits f) = record { number = 0; values = 0xA1 ∷ bitNumber (f .interrupt) ∷ f .status ∷ f .error ∷ f .active ∷ [] }
+toldFrame (Setup f) = record { number = 0; values = 0x41 ∷ bitNumber (f .auto) ∷ bitNumber (f .interrupt) ∷ bitNumber (f .«to_host») ∷ f .tag ∷ f .offset ∷ f .count ∷ [] }
+toldFrame Activate = record { number = 0; values = 0x39 ∷ [] }
+toldFrame (Data n) = record { number = 0; values = 0x46 ∷ n ∷ [] }
+toldFrame Bist = record { number = 0; values = 0x58 ∷ [] }
+toldFrame (Pio f) = record { number = 0; values = 0x5F ∷ bitNumber (f .interrupt) ∷ bitNumber (f .«to_host») ∷ f .status ∷ f .error ∷ taskValues (f .task) ++ f .ending ∷ f .bytes ∷ [] }
+toldFrame Refused = record { number = 24; values = [] }
+
+-- what the reader promises: the frame that the bytes are, and the refusal exactly by its list
+pub record FrameRead (l : List ℕ) (r : Frame) : Type 0 where
+  pub answer : r ≡ readFrame l
+  pub refusal : toldFrame r .number ≡ firstOf (ladder24 l)

@@ -1,4 +1,5 @@
 -- There and back: what the reader sees of a frame that was sent, and the frame that is sent again of one that was read. Assumes nothing.
+use mathlib.Core.Bool.{_||_}
 use mathlib.Core.List.{List, [], _∷_}
 use Prim.Native.Nat.{ℕ, suc}
 use lib.Bits.{bitAnd}
@@ -41,7 +42,7 @@ namedBits k =
     (pick (eqb k 0x41) (0xFF ∷ 0xE0 ∷ 0 ∷ 0 ∷ 0xFF ∷ 0xFF ∷ 0xFF ∷ 0xFF ∷ 0 ∷ 0 ∷ 0 ∷ 0 ∷ 0 ∷ 0 ∷ 0 ∷ 0 ∷ 0xFF ∷ 0xFF ∷ 0xFF ∷ 0xFF ∷ 0xFF ∷ 0xFF ∷ 0xFF ∷ 0xFF ∷ 0 ∷ 0 ∷ 0 ∷ 0 ∷ [])
     (pick (eqb k 0x58) (0xFF ∷ 0 ∷ 0 ∷ 0 ∷ 0 ∷ 0 ∷ 0 ∷ 0 ∷ 0 ∷ 0 ∷ 0 ∷ 0 ∷ [])
     (pick (eqb k 0x5F) (0xFF ∷ 0x60 ∷ 0xFF ∷ 0xFF ∷ 0xFF ∷ 0xFF ∷ 0xFF ∷ 0xFF ∷ 0xFF ∷ 0xFF ∷ 0xFF ∷ 0 ∷ 0xFF ∷ 0xFF ∷ 0 ∷ 0xFF ∷ 0xFF ∷ 0xFF ∷ 0 ∷ 0 ∷ [])
-    (0xFF ∷ 0 ∷ 0 ∷ 0 ∷ []))))))
+    (pick (eqb k 0x39 || eqb k 0x46) (0xFF ∷ 0 ∷ 0 ∷ 0 ∷ []) []))))))
 
 -- of the bytes of l from place i on, the bits that the masks keep; behind the last mask all, as in a payload
 abbrev pub maskedFrom : ℕ → List ℕ → List ℕ → List ℕ

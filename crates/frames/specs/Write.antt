@@ -1,15 +1,10 @@
 -- The frames as they are written: unnamed bits and bytes are 0. Assumes nothing.
-use mathlib.Core.Path.{_≡_}
 use mathlib.Core.Bool.{Bool, true, false, not, _&&_}
 use mathlib.Core.List.{List, [], _∷_, _++_}
 use Prim.Native.Nat.{ℕ}
 use lib.ListN.{length}
-use lib.Dec.{eqb, ltb}
-use Rattle.bits.specs.Pick.{pick}
 use Rattle.bits.specs.Bit.{bitIn}
-use Rattle.bits.specs.First.{Rung, firstOf}
 use Rattle.bits.specs.Little.{leBytes}
-use Rattle.bits.specs.Laid.{laid}
 use Rattle.wire.specs.Piece.{flagsOf, halvesOf, registerBytes, below, taskFits}
 use Rattle.wire.specs.Size.{payloadSize}
 use Rattle.wire.specs.Emit.{Emitted}
@@ -56,13 +51,13 @@ encode (pio f) = registerBytes 0x5F (flagsOf false (f .interrupt) (f .«to_host�
 unfoldable pub fits : Sent → Bool
 fits (host f) = below 8 (f .command) && below 8 (f .features) && below 8 (f .«features_high») && below 8 (f .control) && taskFits (f .task)
 fits (device f) = below 8 (f .status) && below 8 (f .error) && taskFits (f .task)
-fits (setBits f) = below 8 (f .status) && below 8 (f .error) && below 32 (f .active) && not (bitIn 32 (f .status) 7) && not (bitIn 32 (f .status) 3)
+fits (setBits f) = below 8 (f .status) && below 8 (f .error) && below 32 (f .active) && not (bitIn 8 (f .status) 7) && not (bitIn 8 (f .status) 3)
 fits (setup f) = below 32 (f .tag) && below 32 (f .offset) && below 32 (f .count)
 fits activate = true
 fits (payload p) = payloadSize (length p)
 fits bist = true
 fits (pio f) = below 8 (f .status) && below 8 (f .error) && below 8 (f .ending) && below 16 (f .bytes) && taskFits (f .task)
 
--- the same of a frame
+-- what a writer promises of its frame
 abbrev pub Wrote : Sent → List ℕ → Written → List ℕ → Type 0
 Wrote f d r d′ = Emitted (fits f) (encode f) d r d′

@@ -1,6 +1,6 @@
 // The frame reader: an enum by value, or refusal 24.
 ghost use mathlib.Core.Path.{_≡_};
-ghost use Rattle.frames.specs.Read.{hostOf, deviceOf, bitsOf, setupOf, pioOf, readFrame};
+ghost use Rattle.frames.specs.Read.{hostOf, deviceOf, bitsOf, setupOf, pioOf, FrameRead};
 use crate::shapes::DevReg;
 use crate::shapes::DmaSetup;
 use crate::shapes::Frame;
@@ -77,7 +77,7 @@ fn read_pio(s: &[u8]) -> PioSetup
 
 // The frame that the bytes are, or refusal 24: kind unknown or length wrong.
 pub fn read_frame(s: &[u8]) -> Frame
-    ensures { λ r. ⌜ r ≡ readFrame (now (s .entry)) ⌝ }
+    ensures { λ r. ⌜ FrameRead (now (s .entry)) r ⌝ }
 {
     let n = s.len();
     let kind = byte_of(s, 0);

@@ -1,5 +1,5 @@
--- A value is read as it was written, at each of the four widths: one law over the width. Assumes nothing.
-use mathlib.Core.Path.{_≡_, refl, ap, sym, _∙_}
+-- A number is read as it was written: one law over the width. Assumes nothing.
+use mathlib.Core.Path.{_≡_, refl, _∙_}
 use mathlib.Core.List.{List}
 use Prim.Native.Nat.{ℕ, zero, suc, _+_, _*_, _^_, _<_}
 use native.Mathlib.Omega.{arith}
@@ -26,8 +26,3 @@ le-same (suc n) l m a b e =
 pub le-stands : (n v : ℕ) → v < 2 ^ (8 * n) → (page : List ℕ) (at : ℕ) → ((j : ℕ) → j < n → getD page (at + j) 0 ≡ getD (leBytes n v) j 0) → leAt page at n ≡ v
 le-stands n v h page at e =
     le-same n page (leBytes n v) at 0 (λ j k. let z : 0 + j ≡ j = omega arith in rw z (e j k)) ∙ le-leBytes n h
-
--- a value of width w has 2 * w bytes
-pub value-by-width : (w v : ℕ) → w < 5 → v < 2 ^ (8 * (2 * w)) → (page : List ℕ) (at : ℕ)
-    → ((j : ℕ) → j < 2 * w → getD page (at + j) 0 ≡ getD (leBytes (2 * w) v) j 0) → leAt page at (2 * w) ≡ v
-value-by-width w v k h page at e = le-stands (2 * w) v h page at e

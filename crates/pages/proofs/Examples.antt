@@ -8,10 +8,10 @@ use Rattle.pages.specs.Sum.{sumTo, sum256, sealed}
 use Rattle.pages.specs.Rows.{ids}
 use Rattle.pages.specs.Entries.{idAt, entriesFrom, entries, someOf, howMany}
 use Rattle.pages.specs.Page10.{page10}
-use Rattle.pages.specs.Page11.{damaged, valueIn, readCounter}
+use Rattle.pages.specs.Page11.{damaged, valueIn, readCounter, toldCounter}
 use Rattle.pages.specs.Made11.{rowBytes, rowsTo, openTo, page11}
 use Rattle.pages.specs.Example.{Hold, examples as all}
 
 pub examples : Hold all
-unfolding Hold all pick firstOf registerBytes bitsBytes setupBytes encode sumTo sum256 sealed ids idAt entriesFrom entries someOf howMany page10 damaged valueIn readCounter rowBytes rowsTo openTo page11
+unfolding Hold all pick firstOf registerBytes bitsBytes setupBytes encode sumTo sum256 sealed ids idAt entriesFrom entries someOf howMany page10 damaged valueIn readCounter toldCounter rowBytes rowsTo openTo page11
 examples = (refl, (refl, (refl, (refl, (refl, (refl, (refl, (refl, (refl, (refl, tt))))))))))

@@ -1,12 +1,12 @@
 -- Laws of page 10h. Assumes nothing.
-use mathlib.Core.Path.{_≡_, refl, sym, ap, _∙_}
+use mathlib.Core.Path.{_≡_, _∙_}
 use mathlib.Core.Bool.{Bool, true, false}
-use mathlib.Core.List.{List, [], _∷_, _++_}
+use mathlib.Core.List.{List, _++_}
 use Prim.Native.Nat.{ℕ, _+_, _*_, _%_, _≤_}
 use native.Mathlib.Omega.{arith}
 use lib.Bits.{bitAnd, bitOr, and-mask, or-shifted}
 use lib.Dec.{lit≤}
-use lib.ListN.{length, set, drop, replicate}
+use lib.ListN.{length, set, replicate}
 use mir.Val.{boolByte}
 use Rattle.bits.specs.Laid.{over}
 use Rattle.bits.proofs.Fronts.{over-yes}

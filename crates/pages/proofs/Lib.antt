@@ -3,11 +3,13 @@ pub mod Rest
 pub mod Walking
 pub mod Exactly11
 pub mod ByWidth
+pub mod Values
 pub mod Filling
 pub mod Bytes11
 pub mod Trip11
 pub mod Straddle
 pub mod Laws10
+pub mod Exactly10
 pub mod Trip10
 pub mod Written11
 pub mod Unique

@@ -1,15 +1,14 @@
 -- Places are even, so that no identifier straddles 508: of refusal 22's second clause only values' ends are left. Assumes nothing.
-use mathlib.Core.Path.{_≡_, refl, ap, ap₂, sym, _∙_}
+use mathlib.Core.Path.{_≡_, refl, ap₂}
 use mathlib.Core.Bool.{Bool, true, false, _||_}
 use mathlib.Core.Logic.{⊎-elim}
-use mathlib.Core.List.{List, [], _∷_}
-use Prim.Native.Nat.{ℕ, zero, suc, _+_, _*_, _%_, _<_, _≤_}
+use mathlib.Core.List.{List, []}
+use Prim.Native.Nat.{ℕ, zero, suc, _+_, _%_, _<_}
 use native.Mathlib.Omega.{arith}
 use lib.Dec.{ltb, leb, eqb}
 use borrow.Author.Tests.{leb-false, le-ltb}
-use Rattle.bits.specs.Pick.{pick}
 use Rattle.bits.proofs.Picks.{by-test, tested}
-use Rattle.pages.specs.Entries.{Entry, entryAt, idAt, endOf, widthOf, wrongWidth, pastEnd, entriesFrom, entries, someOf}
+use Rattle.pages.specs.Entries.{Entry, entryAt, idAt, endOf, wrongWidth, pastEnd, entriesFrom, entries, someOf}
 use Rattle.pages.proofs.Walking.{ends, entries-end, entries-some, or-left}
 
 -- an identifier that does not end within 508 bytes

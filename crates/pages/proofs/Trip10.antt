@@ -1,35 +1,33 @@
 -- Page 10h, there and back, and its refusals exactly. Assumes nothing.
 use mathlib.Core.Path.{_≡_, refl, sym, ap, _∙_}
 use mathlib.Core.Bool.{Bool, true, false, not, _&&_, _||_}
-use mathlib.Core.List.{List, [], _∷_, _++_}
+use mathlib.Core.List.{List}
 use Prim.Native.Nat.{ℕ, _+_, _/_, _%_, _^_, _<_}
 use native.Mathlib.Omega.{arith}
 use lib.Dec.{eqb}
-use lib.ListN.{length, getD, take, drop, replicate, length-set}
+use lib.ListN.{length, take, drop, length-set}
 use lib.Seq.{take-at}
 use borrow.Author.Tests.{ltb-true, eq-eqb, ne-eqb, eqb-true}
 use Rattle.bits.specs.Pick.{pick}
 use Rattle.bits.specs.Bit.{bitIn}
-use Rattle.bits.specs.First.{firstOf, FirstExactly}
-use Rattle.bits.proofs.Picks.{by-test}
+use Rattle.bits.specs.First.{firstOf}
 use Rattle.bits.proofs.Firsts as firsts
-use Rattle.wire.specs.Piece.{taskOf, registerBytes, below, taskFits}
+use Rattle.wire.specs.Piece.{registerBytes, below, taskFits}
 use Rattle.wire.specs.Emit.{Emitted}
 use Rattle.wire.specs.declared.pieces.Task.{Task}
 use Rattle.wire.specs.declared.emitting.Written.{Written}
 use Rattle.bits.proofs.Picks.{and-left, and-right}
 use Rattle.wire.proofs.EmitLaws.{wrote-all}
-use Rattle.frames.proofs.RoundTrip.{task-all}
-use Rattle.pages.specs.Sum.{sum256, sumByte, sealed}
-use Rattle.pages.specs.Page10.{firstByte, page10, fits10, tagIn, fields10, ladder10, readLog, logNumber}
+use Rattle.wire.proofs.TaskLaws.{task-all}
+use Rattle.pages.specs.Sum.{sum256, sealed}
+use Rattle.pages.specs.Page10.{firstByte, page10, fits10, tagIn, fields10, readLog}
 use Rattle.pages.specs.declared.page10.ErrorLog.{ErrorLog}
-use Rattle.pages.specs.declared.page10.Page10.{Page10}
-use Rattle.pages.specs.declared.page10.Page10.the-variants.{Fields, Refused}
+use Rattle.pages.specs.declared.page10.Page10.the-variants.{Fields}
 use Rattle.pages.proofs.Bytes11.{sum-sealed}
 
 -- ---- byte 0
 
-nq-back : (b : Bool) (t : ℕ) → bitIn 32 (firstByte b t) 7 ≡ b
+nq-back : (b : Bool) (t : ℕ) → bitIn 8 (firstByte b t) 7 ≡ b
 nq-back true t = eq-eqb ((128 + t % 32) / 2 ^ 7 % 2) 1 (omega arith)
 nq-back false t = ne-eqb ((0 + t % 32) / 2 ^ 7 % 2) 1 (λ e. omega arith)
 
@@ -86,14 +84,3 @@ pub read-write : (f : ErrorLog) (d d′ : List ℕ) (r : Written) → Emitted (f
 read-write f d d′ r w z =
     let a = wrote-all (fits10 f) (page10 f) d r d′ w z in
     rw (a .2, a .3, take-at (page10 f) (drop (length (page10 f)) d) (length (page10 f)) refl) (read-page f (a .0))
-
--- ---- refusals 20 and 21
-
-number-first : (l : List ℕ) → logNumber (readLog l) ≡ firstOf (ladder10 l)
-unfolding readLog logNumber
-number-first l =
-    by-test (λ (r : Page10). logNumber r ≡ firstOf (ladder10 l)) (eqb (firstOf (ladder10 l)) 0) (Fields (fields10 l)) (Refused (firstOf (ladder10 l)))
-    (λ t. sym (eqb-true (firstOf (ladder10 l)) 0 t)) (λ _. refl)
-
-pub first-exactly : (l : List ℕ) → FirstExactly (ladder10 l) (logNumber (readLog l))
-first-exactly l = rw (number-first l) (firsts.first-exactly (ladder10 l) tt)

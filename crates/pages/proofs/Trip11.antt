@@ -1,30 +1,27 @@
 -- The round trip of page 11h: of every number 1 to 4095, a kept row's value is read, and any other number is absent. Assumes nothing.
 use mathlib.Core.Path.{_≡_, refl, ap, sym, _∙_}
-use mathlib.Core.Bool.{Bool, true, false, not, _&&_, _||_}
+use mathlib.Core.Bool.{Bool, true, false, _&&_}
 use mathlib.Core.Logic.{⊎-elim}
 use mathlib.Core.List.{List}
-use Prim.Native.Nat.{ℕ, zero, suc, _+_, _*_, _-_, _/_, _%_, _^_, _<_, _≤_}
+use Prim.Native.Nat.{ℕ, zero, suc, _+_, _-_, _/_, _%_, _^_, _<_, _≤_}
 use native.Mathlib.Omega.{arith}
 use borrow.Author.Tests.{eq-eqb, ne-eqb, lt-leb, le-ltb, eqb-true, eqb-false}
-use lib.Dec.{eqb, leb}
+use lib.Dec.{eqb}
 use lib.ListN.{getD}
 use Rattle.bits.specs.Pick.{pick}
-use Rattle.bits.specs.Little.{leAt}
 use Rattle.bits.proofs.Picks.{pick-yes, pick-no, tested}
 use Rattle.pages.specs.Rows.{idOf, kept, rowOf}
-use Rattle.pages.specs.Entries.{entryOf, entryAt, idAt, widthOf, numberOf, vendorOf, bytesIn, asked}
+use Rattle.pages.specs.Entries.{entryOf, entryAt, widthOf, numberOf, vendorOf}
 use Rattle.pages.specs.Page11.{readCounter}
-use Rattle.pages.specs.Step.{faulty, stepAt, hit, onStep, turnOf}
+use Rattle.pages.specs.Step.{faulty, stepAt, onStep, turnOf}
 use Rattle.pages.specs.Made11.{rowsTo, page11}
 use Rattle.pages.specs.declared.rows.Place.{Place}
 use Rattle.pages.specs.declared.rows.Place.the-variants as place
-use Rattle.pages.specs.declared.walk.Step.{Step}
-use Rattle.pages.specs.declared.walk.Step.the-variants.{Row, End, Fault}
+use Rattle.pages.specs.declared.walk.Step.the-variants.{Row, End}
 use Rattle.pages.specs.declared.page11.Counter.{Counter}
-use Rattle.pages.specs.declared.page11.Counter.the-variants.{Value, Absent, Refused}
-use Rattle.pages.specs.declared.page11.Turn.{Turn}
-use Rattle.pages.specs.declared.page11.Turn.the-variants.{Done, Next}
-use Rattle.pages.proofs.RowLaws.{id-small, id-positive, id-other, row-found, row-only, row-missing}
+use Rattle.pages.specs.declared.page11.Counter.the-variants.{Value, Absent}
+use Rattle.pages.specs.declared.page11.Turn.the-variants.{Next}
+use Rattle.pages.proofs.RowLaws.{id-small, id-positive, id-other, row-only, row-missing}
 use Rattle.pages.proofs.Walking.{ends, step-end, step-row, fromHere, walk-next, walk-done, reads-walk}
 use Rattle.pages.proofs.Filling.{length-kept, length-skip, rows-short}
 use Rattle.pages.proofs.Bytes11.{L, page-length, page-sum, page-id, page-value, page-end}

@@ -12,8 +12,8 @@ use Rattle.pages.specs.Sum.{sum256}
 use Rattle.pages.specs.Rows.{idOf, rowOf, kept, keepsBoth}
 use Rattle.pages.specs.Step.{stepAt}
 use Rattle.pages.specs.Made11.{page11}
-use Rattle.pages.specs.Page10.{page10, fits10, readLog}
-use Rattle.pages.specs.Page11.{readCounter}
+use Rattle.pages.specs.Page10.{page10, fits10, LogRead}
+use Rattle.pages.specs.Page11.{CounterRead}
 use Rattle.pages.specs.declared.rows.Place.{Place}
 use Rattle.pages.specs.declared.walk.Step.{Step}
 use Rattle.pages.specs.declared.walk.Walk.{Walk}
@@ -26,8 +26,8 @@ same-walk p q = cc
 
 pub unique : ((f : ErrorLog) (d : List ℕ) (r r′ : Written) (b b′ : List ℕ) → Emitted (fits10 f) (page10 f) d r b → Emitted (fits10 f) (page10 f) d r′ b′ → (r ≡ r′) × (b ≡ b′))
     × ((mask : ℕ) (values d : List ℕ) (r r′ : Written) (b b′ : List ℕ) → Emitted (keepsBoth mask) (page11 mask values) d r b → Emitted (keepsBoth mask) (page11 mask values) d r′ b′ → (r ≡ r′) × (b ≡ b′))
-    × ((s : List ℕ) (r r′ : Page10) → r ≡ readLog s → r′ ≡ readLog s → r ≡ r′)
-    × ((s : List ℕ) (n : ℕ) (r r′ : Counter) → r ≡ readCounter s n → r′ ≡ readCounter s n → r ≡ r′)
+    × ((s : List ℕ) (r r′ : Page10) → LogRead s r → LogRead s r′ → r ≡ r′)
+    × ((s : List ℕ) (n : ℕ) (r r′ : Counter) → CounterRead s n r → CounterRead s n r′ → r ≡ r′)
     × ((n : ℕ) (r r′ : Place) → r ≡ rowOf n → r′ ≡ rowOf n → r ≡ r′)
     × ((row : ℕ) (r r′ : ℕ) → r ≡ idOf row → r′ ≡ idOf row → r ≡ r′)
     × ((mask row : ℕ) (r r′ : Bool) → r ≡ kept mask row → r′ ≡ kept mask row → r ≡ r′)
@@ -38,8 +38,8 @@ pub unique : ((f : ErrorLog) (d : List ℕ) (r r′ : Written) (b b′ : List �
 unique = (
   λ f d r r′ b b′ p q. unique-emit (fits10 f) (page10 f) d r r′ b b′ p q,
   λ mask values d r r′ b b′ p q. unique-emit (keepsBoth mask) (page11 mask values) d r r′ b b′ p q,
-  λ s r r′ p q. same p q,
-  λ s n r r′ p q. same p q,
+  λ s r r′ p q. same (p .answer) (q .answer),
+  λ s n r r′ p q. same (p .answer) (q .answer),
   λ n r r′ p q. same p q,
   λ row r r′ p q. same p q,
   λ mask row r r′ p q. same p q,

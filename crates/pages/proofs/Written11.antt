@@ -1,14 +1,13 @@
 -- Page 11h as a writer wrote it, read for any number: the value of a kept row, and else absent. Assumes nothing.
 use mathlib.Core.Path.{_≡_, refl, sym, ap, _∙_}
-use mathlib.Core.Bool.{Bool, true, false}
-use mathlib.Core.List.{List, [], _∷_}
+use mathlib.Core.Bool.{true, false}
+use mathlib.Core.List.{List}
 use mathlib.Core.Logic.{⊎-elim}
 use Prim.Native.Nat.{ℕ, _^_, _<_}
 use lib.Dec.{eqb}
 use lib.ListN.{length, getD, take, drop}
 use lib.Seq.{take-at}
 use borrow.Author.Tests.{eqb-true, eqb-false}
-use Rattle.bits.specs.Pick.{pick}
 use Rattle.bits.proofs.Picks.{pick-yes, pick-no, tested}
 use Rattle.wire.specs.Emit.{Emitted}
 use Rattle.wire.specs.declared.emitting.Written.{Written}
@@ -20,7 +19,6 @@ use Rattle.pages.specs.Made11.{page11, shownFor, onRow}
 use Rattle.pages.proofs.RowLaws.{row-only, row-missing, id-other}
 use Rattle.pages.proofs.Bytes11.{page-sum}
 use Rattle.pages.proofs.Trip11.{kept-reads, unkept-absent}
-use Rattle.pages.specs.declared.page11.Counter.{Counter}
 use Rattle.pages.specs.declared.page11.Counter.the-variants.{Value, Absent}
 use Rattle.pages.specs.declared.rows.Place.{Place}
 use Rattle.pages.specs.declared.rows.Place.the-variants.{Row, Nowhere}

@@ -1,6 +1,6 @@
 -- The entries of page 11h. Assumes nothing.
 use Prim.Native.Nat.{ℕ, zero, suc, _+_, _*_, _/_, _%_}
-use mathlib.Core.Bool.{Bool, true, false, not, _&&_, _||_}
+use mathlib.Core.Bool.{Bool, false, not, _&&_, _||_}
 use mathlib.Core.List.{List, [], _∷_}
 use lib.Dec.{ltb, leb, eqb}
 use Rattle.bits.specs.Pick.{pick}
@@ -30,7 +30,7 @@ abbrev pub numberOf : ℕ → ℕ
 numberOf id = id % 4096
 
 abbrev pub vendorOf : ℕ → Bool
-vendorOf id = bitIn 32 id 15
+vendorOf id = bitIn 16 id 15
 
 -- widths of 1 to 4 mean 2, 4, 6, 8 value bytes
 abbrev pub bytesIn : ℕ → ℕ
@@ -48,7 +48,7 @@ wrongWidth e = ltb (widthOf (e .id)) 1 || ltb 4 (widthOf (e .id))
 abbrev pub pastEnd : Entry → Bool
 pastEnd e = ltb 508 (endOf e)
 
--- 22, third clause, of one entry: not a vendor's, and its low 12 bits are 0
+-- 22, third clause, of one entry: not a vendor's, and its low 12 bits are 0 (0000h ends the walk, and is no entry)
 abbrev pub nameless : Entry → Bool
 nameless e = not (vendorOf (e .id)) && eqb (numberOf (e .id)) 0
 
@@ -59,12 +59,16 @@ asked number id = not (vendorOf id) && eqb (numberOf id) number
 abbrev pub asks : ℕ → Entry → Bool
 asks number e = asked number (e .id)
 
+-- the walk ends at 508 or at identifier 0000h
+abbrev pub endsAt : List ℕ → ℕ → Bool
+endsAt page at = leb 508 at || eqb (idAt page at) 0
+
 -- the entries from a place on: they end at identifier 0000h or at 508, and with one behind which no next place is known.
 -- Each is at least 4 bytes long, so that a fuel of 508 is never used up (`entries-fuel`)
 unfoldable pub entriesFrom : List ℕ → ℕ → ℕ → List Entry
 entriesFrom page zero at = []
 entriesFrom page (suc fuel) at =
-    pick (leb 508 at || eqb (idAt page at) 0) []
+    pick (endsAt page at) []
     (entryAt page at ∷ pick (wrongWidth (entryAt page at) || pastEnd (entryAt page at)) [] (entriesFrom page fuel (endOf (entryAt page at))))
 
 -- the walk starts at 4

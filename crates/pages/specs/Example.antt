@@ -1,17 +1,15 @@
 -- The proved examples that frames and pages can state: P1 to P7. Assumes nothing.
 use mathlib.Core.Path.{_≡_}
 use mathlib.Core.Bool.{Bool, true, false}
-use mathlib.Core.List.{List, [], _∷_, _++_}
+use mathlib.Core.List.{List, [], _∷_}
 use Prim.Native.Nat.{ℕ}
 use lib.ListN.{getD, take, drop}
 use Rattle.frames.specs.Write.{setBits, setup, encode}
-use Rattle.frames.specs.declared.shapes.SetBits.{SetBits}
 use Rattle.pages.specs.Page10.{page10}
-use Rattle.pages.specs.Page11.{readCounter}
+use Rattle.pages.specs.Page11.{readCounter, toldCounter}
 use Rattle.pages.specs.Made11.{page11}
 use Rattle.pages.specs.declared.page10.ErrorLog.{ErrorLog}
 use Rattle.pages.specs.declared.page11.Counter.{Counter}
-use Rattle.pages.specs.declared.page11.Counter.the-variants.{Value, Absent, Refused}
 
 -- one example: its number in 01, what the definitions give, and what 01 says
 pub record Example : Type 0 where
@@ -25,14 +23,12 @@ Hold [] = Unit
 Hold (e ∷ es) = (e .given ≡ e .wanted) × Hold es
 
 -- the last byte of a page, which is its sum byte
-abbrev pub sumOf : List ℕ → List ℕ
-sumOf page = drop 511 page
+abbrev pub lastByte : List ℕ → List ℕ
+lastByte page = drop 511 page
 
--- an answer in numbers: a value as 1 and the value, absent as 0, a refusal as 2 and its number
+-- an answer as its number and its values: absent has none
 abbrev pub said : Counter → List ℕ
-said (Value v) = 1 ∷ v ∷ []
-said Absent = 0 ∷ []
-said (Refused n) = 2 ∷ n ∷ []
+said r = toldCounter r .number ∷ toldCounter r .values
 
 -- the record of P1: blank, whose byte 0 is 80h
 abbrev pub blank : ErrorLog
@@ -57,13 +53,13 @@ twoRows = page11 0x0201 (0 ∷ 0 ∷ 0 ∷ 0 ∷ 0 ∷ 0 ∷ 0 ∷ 0 ∷ 0 ∷ 3
 -- P1 to P7, in one list
 unfoldable pub examples : List Example
 examples =
-    record { number = 1; given = sumOf (page10 blank); wanted = 0x80 ∷ [] }
-    ∷ record { number = 2; given = sumOf (page10 mediaError); wanted = 0xAE ∷ [] }
+    record { number = 1; given = lastByte (page10 blank); wanted = 0x80 ∷ [] }
+    ∷ record { number = 2; given = lastByte (page10 mediaError); wanted = 0xAE ∷ [] }
     ∷ record { number = 3; given = bitsFrame true 0x40 0 0x21; wanted = 0xA1 ∷ 0x40 ∷ 0x40 ∷ 0x00 ∷ 0x21 ∷ 0x00 ∷ 0x00 ∷ 0x00 ∷ [] }
     ∷ record { number = 4; given = bitsFrame false 0x40 0 0xFFFF_FFFF; wanted = 0xA1 ∷ 0x00 ∷ 0x40 ∷ 0x00 ∷ 0xFF ∷ 0xFF ∷ 0xFF ∷ 0xFF ∷ [] }
     ∷ record { number = 5; given = bitsFrame true 0x41 0x40 0; wanted = 0xA1 ∷ 0x40 ∷ 0x41 ∷ 0x40 ∷ 0x00 ∷ 0x00 ∷ 0x00 ∷ 0x00 ∷ [] }
     ∷ record { number = 6; given = getD readSetup 1 0 ∷ take 4 (drop 20 readSetup); wanted = 0x20 ∷ 0x00 ∷ 0x10 ∷ 0x00 ∷ 0x00 ∷ [] }
-    ∷ record { number = 7; given = sumOf twoRows; wanted = 0xB2 ∷ [] }
-    ∷ record { number = 7; given = said (readCounter twoRows 0x001); wanted = said (Value 0) }
-    ∷ record { number = 7; given = said (readCounter twoRows 0x00A); wanted = said (Value 3) }
-    ∷ record { number = 7; given = said (readCounter twoRows 0x002); wanted = said Absent } ∷ []
+    ∷ record { number = 7; given = lastByte twoRows; wanted = 0xB2 ∷ [] }
+    ∷ record { number = 7; given = said (readCounter twoRows 0x001); wanted = 0 ∷ 0 ∷ [] }
+    ∷ record { number = 7; given = said (readCounter twoRows 0x00A); wanted = 0 ∷ 3 ∷ [] }
+    ∷ record { number = 7; given = said (readCounter twoRows 0x002); wanted = 0 ∷ [] } ∷ []

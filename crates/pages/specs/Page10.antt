@@ -1,4 +1,5 @@
 -- Log page 10h as it is made and as it is read. Assumes nothing.
+use mathlib.Core.Path.{_≡_}
 use Prim.Native.Nat.{ℕ, _+_, _%_}
 use mathlib.Core.Bool.{Bool, not, _&&_, _||_}
 use mathlib.Core.List.{List, [], _∷_, _++_}
@@ -7,6 +8,7 @@ use lib.Dec.{eqb}
 use Rattle.bits.specs.Pick.{pick}
 use Rattle.bits.specs.Bit.{bitIn, bitByte}
 use Rattle.bits.specs.First.{Rung, firstOf}
+use Rattle.bits.specs.Told.{Told, bitNumber}
 use Rattle.wire.specs.Piece.{taskOf, registerBytes, below, taskFits}
 use Rattle.pages.specs.Sum.{sum256, sealed}
 use Rattle.pages.specs.declared.page10.ErrorLog.{ErrorLog}
@@ -32,8 +34,8 @@ tagIn first nq = pick nq 0 (first % 32)
 -- each named field as it stands
 abbrev pub fields10 : List ℕ → ErrorLog
 fields10 l = record {
-  nq = bitIn 32 (getD l 0 0) 7;
-  tag = tagIn (getD l 0 0) (bitIn 32 (getD l 0 0) 7);
+  nq = bitIn 8 (getD l 0 0) 7;
+  tag = tagIn (getD l 0 0) (bitIn 8 (getD l 0 0) 7);
   status = getD l 2 0;
   error = getD l 3 0;
   task = taskOf l;
@@ -47,7 +49,12 @@ ladder10 l = record { number = 20; holds = not (eqb (length l) 512) } ∷ record
 unfoldable pub readLog : List ℕ → Page10
 readLog l = pick (eqb (firstOf (ladder10 l)) 0) (Fields (fields10 l)) (Refused (firstOf (ladder10 l)))
 
--- the number that 01 gives to each answer
-unfoldable pub logNumber : Page10 → ℕ
-logNumber (Fields f) = 0
-logNumber (Refused n) = n
+-- what each answer tells: NQ, tag, status, error and the command's bytes, or the refusal's number
+unfoldable pub toldLog : Page10 → Told
+toldLog (Fields f) = record { number = 0; values = bitNumber (f .nq) ∷ f .tag ∷ f .status ∷ f .error ∷ f .task .lba ∷ f .task .device ∷ f .task .count ∷ [] }
+toldLog (Refused n) = record { number = n; values = [] }
+
+-- what the reader promises: the fields or the refusal, and the refusal exactly by its list
+pub record LogRead (l : List ℕ) (r : Page10) : Type 0 where
+  pub answer : r ≡ readLog l
+  pub refusal : toldLog r .number ≡ firstOf (ladder10 l)

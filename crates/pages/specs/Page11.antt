@@ -1,11 +1,13 @@
 -- Log page 11h as it is read: a counter's value, or absent, or a refusal. Assumes nothing.
+use mathlib.Core.Path.{_≡_}
 use Prim.Native.Nat.{ℕ, _+_}
-use mathlib.Core.Bool.{Bool, not, _&&_, _||_}
+use mathlib.Core.Bool.{Bool, not, _||_}
 use mathlib.Core.List.{List, [], _∷_}
 use lib.ListN.{length}
 use lib.Dec.{ltb, leb, eqb}
 use Rattle.bits.specs.Pick.{pick}
 use Rattle.bits.specs.First.{Rung, firstOf}
+use Rattle.bits.specs.Told.{Told}
 use Rattle.bits.specs.Little.{leAt}
 use Rattle.pages.specs.Sum.{sum256}
 use Rattle.pages.specs.Entries.{Entry, bytesIn, wrongWidth, pastEnd, nameless, asks, entries, someOf, howMany}
@@ -33,8 +35,13 @@ ladder11 page number =
 unfoldable pub readCounter : List ℕ → ℕ → Counter
 readCounter page number = pick (eqb (firstOf (ladder11 page number)) 0) (valueIn page number (entries page)) (Refused (firstOf (ladder11 page number)))
 
--- the number that 01 gives to each answer: 0 for a value and for absent, else the refusal's
-unfoldable pub counterNumber : Counter → ℕ
-counterNumber (Value v) = 0
-counterNumber Absent = 0
-counterNumber (Refused n) = n
+-- what each answer tells: a value; absent, which tells no value at all; or the refusal's number
+unfoldable pub toldCounter : Counter → Told
+toldCounter (Value v) = record { number = 0; values = v ∷ [] }
+toldCounter Absent = record { number = 0; values = [] }
+toldCounter (Refused n) = record { number = n; values = [] }
+
+-- what the reader promises: value, absent or the refusal, and the refusal exactly by its list
+pub record CounterRead (page : List ℕ) (number : ℕ) (r : Counter) : Type 0 where
+  pub answer : r ≡ readCounter page number
+  pub refusal : toldCounter r .number ≡ firstOf (ladder11 page number)

@@ -6,6 +6,7 @@ use lib.ListN.{getD}
 use lib.Dec.{eqb}
 use Rattle.bits.specs.Pick.{pick}
 use Rattle.bits.specs.Bit.{bitIn}
+use Rattle.bits.specs.Told.{Told}
 use Rattle.pages.specs.declared.rows.Place.{Place}
 use Rattle.pages.specs.declared.rows.Place.the-variants.{Row, Nowhere}
 
@@ -19,7 +20,7 @@ idOf row = getD ids row 0
 
 -- a 16-bit mask says which rows are kept
 abbrev pub kept : ℕ → ℕ → Bool
-kept mask row = bitIn 32 mask row
+kept mask row = bitIn 16 mask row
 
 -- rows 0 (001h) and 9 (00Ah) always are
 abbrev pub keepsBoth : ℕ → Bool
@@ -29,6 +30,11 @@ keepsBoth mask = kept mask 0 && kept mask 9
 unfoldable pub rowFrom : ℕ → List ℕ → ℕ → Place
 rowFrom row [] number = Nowhere
 rowFrom row (id ∷ more) number = pick (eqb id number) (Row row) (rowFrom (suc row) more number)
+
+-- what each place tells: its row, or none
+unfoldable pub toldPlace : Place → Told
+toldPlace (Row k) = record { number = 0; values = k ∷ [] }
+toldPlace Nowhere = record { number = 0; values = [] }
 
 -- the row of an identifier
 unfoldable pub rowOf : ℕ → Place

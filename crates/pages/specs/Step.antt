@@ -1,11 +1,10 @@
--- One step of the walk over page 11h, and one turn of the reader. Assumes nothing.
-use Prim.Native.Nat.{ℕ, _+_, _*_}
-use mathlib.Core.Bool.{Bool, true, false, _||_}
+-- One step of the walk over page 11h, and one turn of the reader: how the code goes about it, and no part of what the page means. Assumes nothing.
+use Prim.Native.Nat.{ℕ, _+_}
+use mathlib.Core.Bool.{Bool, _||_}
 use mathlib.Core.List.{List}
-use lib.Dec.{ltb, leb, eqb}
 use Rattle.bits.specs.Pick.{pick}
 use Rattle.bits.specs.Little.{leAt}
-use Rattle.pages.specs.Entries.{Entry, entryAt, idAt, bytesIn, wrongWidth, pastEnd, nameless, asked}
+use Rattle.pages.specs.Entries.{Entry, entryAt, idAt, endsAt, bytesIn, wrongWidth, pastEnd, nameless, asked}
 use Rattle.pages.specs.declared.walk.Step.{Step}
 use Rattle.pages.specs.declared.walk.Step.the-variants.{Row, End, Fault}
 use Rattle.pages.specs.declared.page11.Counter.{Counter}
@@ -20,7 +19,7 @@ faulty e = (wrongWidth e || pastEnd e) || nameless e
 -- what stands at a place: the end at 508 or at 0000h, a fault, or a row with its identifier, the place of its value and the value's length
 unfoldable pub stepAt : List ℕ → ℕ → Step
 stepAt page at =
-    pick (leb 508 at || eqb (idAt page at) 0) End
+    pick (endsAt page at) End
     (pick (faulty (entryAt page at)) Fault (Row (idAt page at) (at + 2) (bytesIn (idAt page at))))
 
 -- a row of the asked number, with what is found so far: its value, or the fault that it stands there twice

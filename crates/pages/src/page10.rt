@@ -1,6 +1,6 @@
 // Log page 10h: the error record, made by value and read.
 ghost use mathlib.Core.Path.{_≡_};
-ghost use Rattle.pages.specs.Page10.{firstByte, tagIn, fits10, page10, fields10, readLog};
+ghost use Rattle.pages.specs.Page10.{firstByte, tagIn, fits10, page10, fields10, LogRead};
 use crate::sums::byte_sum;
 use crate::sums::sum_byte;
 use wire::Task;
@@ -58,20 +58,20 @@ fn tag_in(first: u8, nq: bool) -> u8
 fn read_fields(page: &[u8]) -> ErrorLog
     ensures { λ r. ⌜ r ≡ fields10 (now (page .entry)) ⌝ }
 {
-    let first = bits::byte_at(page, 0, 0);
-    let nq = bits::bit(first as u32, 7);
+    let first = wire::byte_of(page, 0);
+    let nq = wire::flag(first, 7);
     ErrorLog {
         nq,
         tag: tag_in(first, nq),
-        status: bits::byte_at(page, 2, 0),
-        error: bits::byte_at(page, 3, 0),
+        status: wire::byte_of(page, 2),
+        error: wire::byte_of(page, 3),
         task: wire::task_of(page),
     }
 }
 
 // Page 10h is read.
 pub fn read_log(page: &[u8]) -> Page10
-    ensures { λ r. ⌜ r ≡ readLog (now (page .entry)) ⌝ }
+    ensures { λ r. ⌜ LogRead (now (page .entry)) r ⌝ }
 {
     if page.len() != 512 {
         return Page10::Refused(20);

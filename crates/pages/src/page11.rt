@@ -2,7 +2,7 @@
 ghost use mathlib.Core.Path.{_≡_};
 ghost use Rattle.bits.specs.Pick.{pick};
 ghost use Rattle.pages.specs.Entries.{asked, entries};
-ghost use Rattle.pages.specs.Page11.{damaged, valueIn, readCounter};
+ghost use Rattle.pages.specs.Page11.{damaged, valueIn, CounterRead};
 ghost use Rattle.pages.specs.Step.{turnOf};
 use crate::sums::byte_sum;
 use crate::walk::Step;
@@ -85,7 +85,7 @@ fn walk_page(page: &[u8], number: u16) -> Counter
 
 // Page 11h is read for a number.
 pub fn read_counter(page: &[u8], number: u16) -> Counter
-    ensures { λ r. ⌜ r ≡ readCounter (now (page .entry)) number ⌝ }
+    ensures { λ r. ⌜ CounterRead (now (page .entry)) number r ⌝ }
 {
     if page.len() != 512 {
         return Counter::Refused(20);

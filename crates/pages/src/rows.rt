@@ -52,11 +52,11 @@ pub fn row_of(number: u16) -> Place
     Place::Nowhere
 }
 
-// Whether the mask keeps a row. A row that is no bit of a mask is not kept.
+// Whether the mask keeps a row. From 16 on there is none.
 pub fn is_kept(mask: u16, row: usize) -> bool
     ensures { λ r. ⌜ r ≡ kept mask row ⌝ }
 {
-    if 32 <= row {
+    if 16 <= row {
         return false;
     }
     bits::bit(mask as u32, row as u32)

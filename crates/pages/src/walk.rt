@@ -1,4 +1,4 @@
-// The walk over the entries of page 11h.
+// The walk over the entries of page 11h. It is the crate's own: only a page that has passed 20, 23 and 21 is walked.
 // Places are even: the walk starts at 4, an identifier takes 2 bytes and a value 2, 4, 6 or 8. So an identifier never
 // straddles 508 (`no-straddle`), and it is enough to test where each value ends.
 ghost use mathlib.Core.Path.{_≡_};

@@ -1,17 +1,15 @@
 -- Laws of every writer. Assumes nothing.
-use mathlib.Core.Path.{_≡_, refl, sym, ap, _∙_}
+use mathlib.Core.Path.{_≡_, refl, sym, _∙_}
 use mathlib.Core.Bool.{Bool, true, false}
-use mathlib.Core.List.{List, [], _∷_}
+use mathlib.Core.List.{List}
 use mathlib.Core.Logic.{⊎-elim}
-use Prim.Native.Nat.{ℕ, _+_, _≤_, _<_}
+use Prim.Native.Nat.{ℕ, _≤_, _<_}
 use native.Mathlib.Omega.{arith}
 use lib.ListN.{length}
-use lib.Dec.{ltb}
 use borrow.Author.Tests.{lt-ltb, le-ltb}
 use Rattle.bits.specs.Pick.{pick}
 use Rattle.bits.specs.First.{firstOf}
-use Rattle.bits.specs.Laid.{laid, over}
-use Rattle.bits.proofs.Fronts.{over-no, over-yes}
+use Rattle.bits.specs.Laid.{laid}
 use Rattle.bits.proofs.Masks.{lt-or-le}
 use Rattle.wire.specs.Emit.{writeNumber, Emitted}
 use Rattle.wire.specs.declared.emitting.Written.{Written}

@@ -1,5 +1,5 @@
 -- Laws of the pieces that frames share. Assumes nothing.
-use mathlib.Core.Path.{_≡_, refl, sym, ap, _∙_}
+use mathlib.Core.Path.{_≡_, refl, sym, _∙_}
 use mathlib.Core.Bool.{Bool, true, false}
 use mathlib.Core.Logic.{⊎-elim}
 use Prim.Native.Nat.{ℕ, _*_, _/_, _%_, _^_, _≤_, _<_}
@@ -10,7 +10,6 @@ use lib.Dec.{eqb, ltb}
 use lib.Pow.{pow-pos}
 use mir.Val.{boolByte}
 use borrow.Author.Tests.{eq-eqb, ne-eqb, lt-ltb, le-ltb}
-use Rattle.bits.specs.Bit.{bitByte}
 use Rattle.bits.proofs.Masks.{lt-or-le}
 use Rattle.wire.specs.Piece.{flagsOf}
 

@@ -3,7 +3,7 @@ use mathlib.Core.Path.{_≡_, refl, sym, ap, _∙_}
 use mathlib.Core.Bool.{true, false, _&&_}
 use mathlib.Core.List.{List, [], _∷_, _++_}
 use mathlib.Core.Logic.{⊎-elim}
-use Prim.Native.Nat.{ℕ, zero, suc, _≤_, _<_}
+use Prim.Native.Nat.{ℕ, zero, suc, _-_, _≤_, _<_}
 use native.Mathlib.Omega.{arith}
 use lib.Dec.{eqb, leb}
 use lib.ListN.{length, getD, take, drop, length-drop, take-append-drop}
@@ -61,3 +61,39 @@ fixed k n l e f a b = rw (e, f, le-leb 1 n a, le-leb n (length l) b)
 pub unfixed : (k : ℕ) (l : List ℕ) → getD l 0 0 ≡ k → fixedSize k ≡ 0 → pieceOf l ≡ length l
 unfolding pieceOf pick
 unfixed k l e f = rw (e, f)
+
+-- what the code finds
+pub piece-taken : (l : List ℕ) (n : ℕ) → n ≡ fixedSize (getD l 0 0) → leb 1 n && leb n (length l) ≡ true → n ≡ pieceOf l
+unfolding pieceOf
+piece-taken l n e t = e ∙ sym (pick-yes (leb 1 (fixedSize (getD l 0 0)) && leb (fixedSize (getD l 0 0)) (length l)) (fixedSize (getD l 0 0)) (length l) (rw (← e) t))
+
+pub piece-left : (l : List ℕ) (n : ℕ) → n ≡ fixedSize (getD l 0 0) → leb 1 n && leb n (length l) ≡ false → length l ≡ pieceOf l
+unfolding pieceOf
+piece-left l n e t = sym (pick-no (leb 1 (fixedSize (getD l 0 0)) && leb (fixedSize (getD l 0 0)) (length l)) (fixedSize (getD l 0 0)) (length l) (rw (← e) t))
+
+-- any two numbers of turns that are enough give the same pieces
+cut-enough : (m n : ℕ) (l : List ℕ) → length l ≤ m → length l ≤ n → cutTo m l ≡ cutTo n l
+cut-enough zero n l h k =
+    let e : length l ≡ 0 = omega arith in
+    cut-none zero l e ∙ sym (cut-none n l e)
+cut-enough (suc m) zero l h k =
+    let e : length l ≡ 0 = omega arith in
+    cut-none (suc m) l e ∙ sym (cut-none zero l e)
+cut-enough (suc m) (suc n) l h k =
+    ⊎-elim (λ (t : eqb (length l) 0 ≡ true). let e = eqb-true (length l) 0 t in cut-none (suc m) l e ∙ sym (cut-none (suc n) l e))
+    (λ (f : eqb (length l) 0 ≡ false).
+    let e = eqb-false (length l) 0 f in
+    let p = piece-some l (omega arith) in
+    let d = length-drop (pieceOf l) l in
+    cut-one m l e ∙ ap (λ (x : List (List ℕ)). take (pieceOf l) l ∷ x) (cut-enough m n (drop (pieceOf l) l) (omega arith) (omega arith)) ∙ sym (cut-one n l e))
+    (tested (eqb (length l) 0))
+
+-- the first piece, and the pieces of what is behind it
+pub cut-next : (l : List ℕ) → (length l ≡ 0 → ⊥) → cut l ≡ take (pieceOf l) l ∷ cut (drop (pieceOf l) l)
+unfolding cut
+cut-next l e =
+    let p = piece-some l (omega arith) in
+    let d = length-drop (pieceOf l) l in
+    let n : length l ≡ suc (length l - 1) = omega arith in
+    ap (λ (k : ℕ). cutTo k l) n ∙ cut-one (length l - 1) l e
+    ∙ ap (λ (x : List (List ℕ)). take (pieceOf l) l ∷ x) (cut-enough (length l - 1) (length (drop (pieceOf l) l)) (drop (pieceOf l) l) (omega arith) (omega arith))

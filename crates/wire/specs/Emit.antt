@@ -10,7 +10,7 @@ use Rattle.bits.specs.First.{Rung, firstOf}
 use Rattle.bits.specs.Laid.{laid}
 use Rattle.wire.specs.declared.emitting.Written.{Written}
 
--- 25: a value too large for its bits (or what `fits` forbids besides); 26: buffer too short for n bytes
+-- 25: the values do not fit their places; 26: buffer too short for n bytes
 abbrev pub ladderWrite : Bool → ℕ → ℕ → List Rung
 ladderWrite fit n room = record { number = 25; holds = not fit } ∷ record { number = 26; holds = ltb room n } ∷ []
 

@@ -6,7 +6,7 @@ use Prim.Native.Nat.{ℕ, _+_, _*_, _/_, _%_, _^_, _<_}
 use lib.ListN.{getD}
 use lib.Dec.{eqb, ltb}
 use Rattle.bits.specs.Pick.{pick}
-use Rattle.bits.specs.Bit.{bitByte}
+use Rattle.bits.specs.Bit.{bitIn, bitByte}
 use Rattle.bits.specs.Little.{leAt, leBytes, bytesFrom}
 use Rattle.wire.specs.declared.pieces.Task.{Task}
 
@@ -25,6 +25,10 @@ lbaOf l = leAt l 8 3 * 2 ^ 24 + leAt l 4 3
 -- 4-10 and 12-13: LBA, device, count
 abbrev pub taskOf : List ℕ → Task
 taskOf l = record { lba = lbaOf l; device = getD l 7 0; count = leAt l 12 2 }
+
+-- 27h: 15 control (bit 2 SRST)
+abbrev pub srstOf : ℕ → Bool
+srstOf control = bitIn 8 control 2
 
 -- bits 7:3 of byte 12 hold the tag
 abbrev pub tagOf : ℕ → ℕ

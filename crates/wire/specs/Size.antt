@@ -19,6 +19,10 @@ fixedSize k =
 abbrev pub payloadSize : ℕ → Bool
 payloadSize n = leb 4 n && leb n 8192 && eqb (n % 4) 0
 
--- a frame of kind k may be n bytes long: 46h 8 to 8,196 in steps of 4, which is a payload behind 4 bytes, and else the kind's own length
+-- a kind that fixes a length
+abbrev pub fixes : ℕ → Bool
+fixes k = leb 1 (fixedSize k)
+
+-- a frame of kind k may be n bytes long: 46h 8 to 8,196 in steps of 4, which is a payload behind 4 bytes; any other kind is known, and has its own length
 unfoldable pub readable : ℕ → ℕ → Bool
-readable k n = leb 4 n && pick (eqb k 0x46) (payloadSize (n - 4)) (eqb n (fixedSize k))
+readable k n = pick (eqb k 0x46) (payloadSize (n - 4)) (fixes k && eqb n (fixedSize k))

@@ -4,8 +4,8 @@ ghost use Rattle.wire.specs.Cut.{pieceOf};
 use crate::pieces::byte_of;
 use crate::sizes::fixed_size;
 
-// The length of the first frame in s. The next one starts behind it, at `&s[n..]`.
-pub fn cut(s: &[u8]) -> usize
+// The length of the first frame in s. The next one starts behind it, at `&s[n..]` (`cut-next`).
+pub fn cut_first(s: &[u8]) -> usize
     ensures { λ r. ⌜ r ≡ pieceOf (now (s .entry)) ⌝ }
 {
     let size = fixed_size(byte_of(s, 0));

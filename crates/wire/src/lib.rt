@@ -4,7 +4,7 @@ mod emitting;
 mod pieces;
 mod sizes;
 
-pub use cutting::cut;
+pub use cutting::cut_first;
 pub use emitting::Written;
 pub use emitting::emit;
 pub use pieces::Task;
@@ -14,6 +14,7 @@ pub use pieces::flags;
 pub use pieces::halves;
 pub use pieces::register_bytes;
 pub use pieces::sectors_of;
+pub use pieces::srst;
 pub use pieces::tag_of;
 pub use pieces::task_fits;
 pub use pieces::task_of;

@@ -3,7 +3,7 @@ ghost use mathlib.Core.Path.{_≡_};
 ghost use Prim.Native.Nat.{_%_};
 ghost use lib.ListN.{getD};
 ghost use Rattle.bits.specs.Bit.{bitIn};
-ghost use Rattle.wire.specs.Piece.{flagsOf, halvesOf, Lba, taskOf, tagOf, sectorsOf, registerBytes, taskFits};
+ghost use Rattle.wire.specs.Piece.{flagsOf, halvesOf, Lba, taskOf, srstOf, tagOf, sectorsOf, registerBytes, taskFits};
 
 // Bytes 4-10 and 12-13 of the frames that repeat a command: LBA 0-23 at 4-6, device at 7, LBA 24-47 at 8-10, count at 12-13.
 pub struct Task {
@@ -12,18 +12,28 @@ pub struct Task {
     pub count: u16,
 }
 
-// Byte k of a frame.
+// Byte k of a frame; past the end, 0.
 pub fn byte_of(s: &[u8], k: usize) -> u8
     ensures { λ r. ⌜ r ≡ getD (now (s .entry)) k 0 ⌝ }
 {
     bits::byte_at(s, k, 0)
 }
 
-// Bit k of a byte.
+// Bit k of a byte; from 8 on there is none, and it is off.
 pub fn flag(b: u8, k: u32) -> bool
-    ensures { λ r. ⌜ r ≡ bitIn 32 b k ⌝ }
+    ensures { λ r. ⌜ r ≡ bitIn 8 b k ⌝ }
 {
-    bits::bit(b as u32, k)
+    if 8 <= k {
+        return false;
+    }
+    (b >> k) & 1 == 1
+}
+
+// Bit 2 of the control byte is SRST.
+pub fn srst(control: u8) -> bool
+    ensures { λ r. ⌜ r ≡ srstOf control ⌝ }
+{
+    flag(control, 2)
 }
 
 // Byte 1: bits 7, 6 and 5.
@@ -46,7 +56,7 @@ fn lba_of(s: &[u8]) -> u64
     (bits::le(s, 8, 3) << 24) | bits::le(s, 4, 3)
 }
 
-// Bytes 4-10 and 12-13.
+// Bytes 4-10 and 12-13; past the end stand zeros, so that who asks has seen to the length.
 pub fn task_of(s: &[u8]) -> Task
     ensures { λ r. ⌜ r ≡ taskOf (now (s .entry)) ⌝ }
 {
@@ -78,7 +88,8 @@ pub fn sectors_of(features: u8, high: u8) -> u32
     if n == 0 { 65536 } else { n }
 }
 
-// The layout that 27h, 34h and 5Fh share.
+// The layout that 27h, 34h and 5Fh share. It refuses nothing: of an LBA the 48 bits that have a place are laid, and the writers
+// above, which ask `task_fits`, turn a larger one down.
 pub fn register_bytes(
     kind: u8,
     flags: u8,

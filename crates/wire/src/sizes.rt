@@ -1,5 +1,6 @@
 // Kinds and their lengths.
 ghost use mathlib.Core.Path.{_≡_};
+ghost use Prim.Native.Nat.{_-_};
 ghost use Rattle.wire.specs.Size.{fixedSize, payloadSize, readable};
 
 // The length that a kind fixes; 0 for 46h and for an unknown kind.
@@ -25,15 +26,20 @@ pub fn payload_size(n: usize) -> bool
     (4 <= n) & (n <= 8192) & (n & 3 == 0)
 }
 
+// What is left of n behind the four bytes of a data frame's head.
+fn behind_head(n: usize) -> usize
+    ensures { λ r. ⌜ r ≡ n - 4 ⌝ }
+{
+    if n < 4 { 0 } else { n - 4 }
+}
+
 // Whether a frame of this kind may have this length.
 pub fn is_readable(kind: u8, n: usize) -> bool
     ensures { λ r. ⌜ r ≡ readable kind n ⌝ }
 {
-    if n < 4 {
-        return false;
-    }
     if kind == 0x46 {
-        return payload_size(n - 4);
+        return payload_size(behind_head(n));
     }
-    n == fixed_size(kind)
+    let size = fixed_size(kind);
+    (1 <= size) & (n == size)
 }

@@ -1,6 +1,5 @@
 use lib.Bits.{and-mask}
 use mir.Facts.{fits-mask}
-use borrow.Author.Needs.{needs}
 use Rattle.bits.proofs.little.low8.Statement.{statement}
 use Rattle.bits.proofs.little.low8.Tie as tie
 use Rattle.bits.proofs.little.low8.Reads as reads

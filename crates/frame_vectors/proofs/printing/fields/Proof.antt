@@ -1,4 +1,4 @@
-use Prim.Native.Nat.{ℕ, _-_, _≤_}
+use Prim.Native.Nat.{_-_, _≤_}
 use borrow.Author.Needs.{needs}
 use Rattle.frame_vectors.proofs.printing.fields.Statement.{statement}
 use Rattle.frame_vectors.proofs.printing.fields.Tie as tie

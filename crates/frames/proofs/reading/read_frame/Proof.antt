@@ -1,12 +1,13 @@
-use mathlib.Core.Path.{_≡_, refl, sym, ap, _∙_}
+use mathlib.Core.Path.{sym, ap, _∙_}
 use denote.Ref.{now}
 use native.Mathlib.Omega.{arith}
 use borrow.Author.Tests.{not-true, not-false, ne-eqb}
 use Rattle.bits.specs.Pick.{pick}
 use Rattle.frames.specs.Read.{byKind}
-use Rattle.frames.specs.declared.shapes.Frame.the-variants.{Host, Device, Bits, Setup, Activate, Data, Bist, Pio, Refused}
+use Rattle.frames.specs.declared.shapes.Frame.the-variants.{Host, Device, Bits, Setup, Pio}
 use Rattle.frames.proofs.ReadLaws.{read-by, read-not}
-use Rattle.wire.proofs.SizeLaws.{readable-4}
+use Rattle.wire.proofs.SizeLaws.{data-4}
+use Rattle.frames.proofs.Exactly.{read-told}
 use borrow.Author.Needs.{needs}
 use Rattle.frames.proofs.reading.read_frame.Statement.{statement}
 use Rattle.frames.proofs.reading.read_frame.Tie as tie
@@ -30,7 +31,7 @@ is-readable-requires c κs = search needs
 
 -- src/reading.rt:122:9
 returns : tie.Need-returns
-returns c = sym (read-not (now (c .before .before .before .before .args .s)) (c .before .before .byte-of .result) (c .before .before .byte-of .ensures) (sym (c .before .is-readable .ensures) ∙ not-true _ (c .if1 .taken)))
+returns c = read-told _ _ (sym (read-not (now (c .before .before .before .before .args .s)) (c .before .before .byte-of .result) (c .before .before .byte-of .ensures) (sym (c .before .is-readable .ensures) ∙ not-true _ (c .if1 .taken))))
 
 -- src/reading.rt:125:29
 read-host-requires : tie.Need-read-host-requires
@@ -54,54 +55,56 @@ read-pio-requires c κs = search needs
 
 -- src/reading.rt:132:29
 sub-t12 : tie.Need-sub-t12
-sub-t12 c = omega (arith, readable-4 _ _ (sym (c .before .before .is-readable .ensures) ∙ not-false _ (c .before .if1 .left)))
+sub-t12 c =
+    let e = sym (c .before .before .is-readable .ensures) ∙ not-false _ (c .before .if1 .left) in
+    omega (arith, data-4 _ (rw (c .match .keys8) at e))
 
 -- src/reading.rt:116:1
 returns-2 : tie.Need-returns-2
 unfolding byKind pick
-returns-2 c = rw (read-by (now (c .before .before .before .before .before .before .args .s)) (c .before .before .before .before .byte-of .result) (c .before .before .before .before .byte-of .ensures) (sym (c .before .before .before .is-readable .ensures) ∙ not-false _ (c .before .before .if1 .left)), c .before .match .keys1) (ap Host (c .read-host .ensures))
+returns-2 c = read-told _ _ (rw (read-by (now (c .before .before .before .before .before .before .args .s)) (c .before .before .before .before .byte-of .result) (c .before .before .before .before .byte-of .ensures) (sym (c .before .before .before .is-readable .ensures) ∙ not-false _ (c .before .before .if1 .left)), c .before .match .keys1) (ap Host (c .read-host .ensures)))
 
 -- src/reading.rt:116:1
 returns-3 : tie.Need-returns-3
 unfolding byKind pick
-returns-3 c = rw (read-by (now (c .before .before .before .before .before .before .args .s)) (c .before .before .before .before .byte-of .result) (c .before .before .before .before .byte-of .ensures) (sym (c .before .before .before .is-readable .ensures) ∙ not-false _ (c .before .before .if1 .left)), c .before .match .keys2) (ap Device (c .read-device .ensures))
+returns-3 c = read-told _ _ (rw (read-by (now (c .before .before .before .before .before .before .args .s)) (c .before .before .before .before .byte-of .result) (c .before .before .before .before .byte-of .ensures) (sym (c .before .before .before .is-readable .ensures) ∙ not-false _ (c .before .before .if1 .left)), c .before .match .keys2) (ap Device (c .read-device .ensures)))
 
 -- src/reading.rt:116:1
 returns-4 : tie.Need-returns-4
 unfolding byKind pick
-returns-4 c = rw (read-by (now (c .before .before .before .before .before .before .args .s)) (c .before .before .before .before .byte-of .result) (c .before .before .before .before .byte-of .ensures) (sym (c .before .before .before .is-readable .ensures) ∙ not-false _ (c .before .before .if1 .left)), c .before .match .keys3) (ap Bits (c .read-bits .ensures))
+returns-4 c = read-told _ _ (rw (read-by (now (c .before .before .before .before .before .before .args .s)) (c .before .before .before .before .byte-of .result) (c .before .before .before .before .byte-of .ensures) (sym (c .before .before .before .is-readable .ensures) ∙ not-false _ (c .before .before .if1 .left)), c .before .match .keys3) (ap Bits (c .read-bits .ensures)))
 
 -- src/reading.rt:116:1
 returns-5 : tie.Need-returns-5
 unfolding byKind pick
-returns-5 c = rw (read-by (now (c .before .before .before .before .before .before .args .s)) (c .before .before .before .before .byte-of .result) (c .before .before .before .before .byte-of .ensures) (sym (c .before .before .before .is-readable .ensures) ∙ not-false _ (c .before .before .if1 .left)), c .before .match .keys4) (ap Setup (c .read-setup .ensures))
+returns-5 c = read-told _ _ (rw (read-by (now (c .before .before .before .before .before .before .args .s)) (c .before .before .before .before .byte-of .result) (c .before .before .before .before .byte-of .ensures) (sym (c .before .before .before .is-readable .ensures) ∙ not-false _ (c .before .before .if1 .left)), c .before .match .keys4) (ap Setup (c .read-setup .ensures)))
 
 -- src/reading.rt:116:1
 returns-6 : tie.Need-returns-6
 unfolding byKind pick
-returns-6 c = rw (read-by (now (c .before .before .before .before .before .args .s)) (c .before .before .before .byte-of .result) (c .before .before .before .byte-of .ensures) (sym (c .before .before .is-readable .ensures) ∙ not-false _ (c .before .if1 .left)), c .match .keys5)
+returns-6 c = read-told _ _ (rw (read-by (now (c .before .before .before .before .before .args .s)) (c .before .before .before .byte-of .result) (c .before .before .before .byte-of .ensures) (sym (c .before .before .is-readable .ensures) ∙ not-false _ (c .before .if1 .left)), c .match .keys5))
 
 -- src/reading.rt:116:1
 returns-7 : tie.Need-returns-7
 unfolding byKind pick
-returns-7 c = rw (read-by (now (c .before .before .before .before .before .args .s)) (c .before .before .before .byte-of .result) (c .before .before .before .byte-of .ensures) (sym (c .before .before .is-readable .ensures) ∙ not-false _ (c .before .if1 .left)), c .match .keys6)
+returns-7 c = read-told _ _ (rw (read-by (now (c .before .before .before .before .before .args .s)) (c .before .before .before .byte-of .result) (c .before .before .before .byte-of .ensures) (sym (c .before .before .is-readable .ensures) ∙ not-false _ (c .before .if1 .left)), c .match .keys6))
 
 -- src/reading.rt:116:1
 returns-8 : tie.Need-returns-8
 unfolding byKind pick
-returns-8 c = rw (read-by (now (c .before .before .before .before .before .before .args .s)) (c .before .before .before .before .byte-of .result) (c .before .before .before .before .byte-of .ensures) (sym (c .before .before .before .is-readable .ensures) ∙ not-false _ (c .before .before .if1 .left)), c .before .match .keys7) (ap Pio (c .read-pio .ensures))
+returns-8 c = read-told _ _ (rw (read-by (now (c .before .before .before .before .before .before .args .s)) (c .before .before .before .before .byte-of .result) (c .before .before .before .before .byte-of .ensures) (sym (c .before .before .before .is-readable .ensures) ∙ not-false _ (c .before .before .if1 .left)), c .before .match .keys7) (ap Pio (c .read-pio .ensures)))
 
 -- src/reading.rt:116:1
 returns-9 : tie.Need-returns-9
 unfolding byKind pick
-returns-9 c = rw (read-by (now (c .before .before .before .before .before .args .s)) (c .before .before .before .byte-of .result) (c .before .before .before .byte-of .ensures) (sym (c .before .before .is-readable .ensures) ∙ not-false _ (c .before .if1 .left)), c .match .keys8)
+returns-9 c = read-told _ _ (rw (read-by (now (c .before .before .before .before .before .args .s)) (c .before .before .before .byte-of .result) (c .before .before .before .byte-of .ensures) (sym (c .before .before .is-readable .ensures) ∙ not-false _ (c .before .if1 .left)), c .match .keys8))
 
 -- src/reading.rt:116:1
 returns-10 : tie.Need-returns-10
 unfolding byKind pick
 returns-10 c =
     let r = c .match .rest in
-    rw (read-by (now (c .before .before .before .before .before .args .s)) (c .before .before .before .byte-of .result) (c .before .before .before .byte-of .ensures) (sym (c .before .before .is-readable .ensures) ∙ not-false _ (c .before .if1 .left)), ne-eqb _ 0x27 (r .0 .0 .0 .0 .0 .0 .0 .1), ne-eqb _ 0x34 (r .0 .0 .0 .0 .0 .0 .1), ne-eqb _ 0xA1 (r .0 .0 .0 .0 .0 .1), ne-eqb _ 0x41 (r .0 .0 .0 .0 .1), ne-eqb _ 0x39 (r .0 .0 .0 .1), ne-eqb _ 0x58 (r .0 .0 .1), ne-eqb _ 0x5F (r .0 .1), ne-eqb _ 0x46 (r .1))
+    read-told _ _ (rw (read-by (now (c .before .before .before .before .before .args .s)) (c .before .before .before .byte-of .result) (c .before .before .before .byte-of .ensures) (sym (c .before .before .is-readable .ensures) ∙ not-false _ (c .before .if1 .left)), ne-eqb _ 0x27 (r .0 .0 .0 .0 .0 .0 .0 .1), ne-eqb _ 0x34 (r .0 .0 .0 .0 .0 .0 .1), ne-eqb _ 0xA1 (r .0 .0 .0 .0 .0 .1), ne-eqb _ 0x41 (r .0 .0 .0 .0 .1), ne-eqb _ 0x39 (r .0 .0 .0 .1), ne-eqb _ 0x58 (r .0 .0 .1), ne-eqb _ 0x5F (r .0 .1), ne-eqb _ 0x46 (r .1)))
 
 pub read-frame-spec : {M : Type 1} → statement M
 read-frame-spec =

@@ -1,6 +1,6 @@
 use Prim.Native.Nat.{_+_, _-_}
 use borrow.Rule.Slice.PartMut.{midOf}
-use mathlib.Core.Path.{_≡_, refl, sym, ap, _∙_}
+use mathlib.Core.Path.{_≡_, refl, sym, _∙_}
 use mathlib.Core.List.{[], _∷_}
 use native.Mathlib.Omega.{arith}
 use borrow.Author.Tests.{not-true, not-false}

@@ -1,5 +1,5 @@
 use Rattle.pages.proofs.RowLaws.{id-small}
-use mathlib.Core.Path.{_≡_, refl, sym, ap, _∙_}
+use mathlib.Core.Path.{refl, sym, ap, _∙_}
 use mathlib.Core.Logic.{⊎-elim}
 use Prim.Native.Nat.{ℕ, _-_, _<_}
 use lib.ListN.{getD}

@@ -1,6 +1,5 @@
 use lib.Bits.{and-mask}
 use Rattle.bits.specs.Pick.{pick}
-use borrow.Author.Needs.{needs}
 use Rattle.pages.proofs.page10.tag_in.Statement.{statement}
 use Rattle.pages.proofs.page10.tag_in.Tie as tie
 use Rattle.pages.proofs.page10.tag_in.Reads as reads

@@ -1,4 +1,4 @@
-use mathlib.Core.Path.{_≡_, _∙_, sym}
+use mathlib.Core.Path.{_∙_, sym}
 use borrow.Author.Needs.{needs}
 use Rattle.pages.proofs.page11.is_asked.Statement.{statement}
 use Rattle.pages.proofs.page11.is_asked.Tie as tie

@@ -1,7 +1,8 @@
+use Rattle.pages.proofs.Exactly11.{counter-told}
 use denote.Ref.{now}
 use Rattle.pages.specs.Entries.{entries}
 use Rattle.pages.specs.Page11.{damaged, valueIn}
-use mathlib.Core.Path.{_≡_, refl, _∙_, sym, ap}
+use mathlib.Core.Path.{_∙_}
 use borrow.Author.Tests.{eq-eqb, ne-eqb, lt-ltb, le-ltb}
 use Rattle.bits.specs.Pick.{pick}
 use Rattle.bits.specs.First.{firstOf}
@@ -18,17 +19,17 @@ use Rattle.pages.proofs.sums.byte_sum.Reads as byte-sum-reads
 -- src/page11.rt:91:9
 returns : tie.Need-returns
 unfolding readCounter firstOf pick
-returns c = simp (ne-eqb _ 512 (c .if1 .taken))
+returns c = counter-told _ _ _ (simp (ne-eqb _ 512 (c .if1 .taken)))
 
 -- src/page11.rt:94:9
 returns-2 : tie.Need-returns-2
 unfolding readCounter firstOf pick
-returns-2 c = simp (eq-eqb _ 512 (c .before .if1 .left), lt-ltb _ 1 (c .if2 .taken))
+returns-2 c = counter-told _ _ _ (simp (eq-eqb _ 512 (c .before .if1 .left), lt-ltb _ 1 (c .if2 .taken)))
 
 -- src/page11.rt:97:9
 returns-3 : tie.Need-returns-3
 unfolding readCounter firstOf pick
-returns-3 c = simp (eq-eqb _ 512 (c .before .before .if1 .left), le-ltb _ 1 (c .before .if2 .left), lt-ltb 4095 _ (c .if3 .taken))
+returns-3 c = counter-told _ _ _ (simp (eq-eqb _ 512 (c .before .before .if1 .left), le-ltb _ 1 (c .before .if2 .left), lt-ltb 4095 _ (c .if3 .taken)))
 
 -- src/page11.rt:99:8
 byte-sum-requires : tie.Need-byte-sum-requires
@@ -38,8 +39,9 @@ byte-sum-requires c κs = search needs
 returns-4 : tie.Need-returns-4
 unfolding readCounter firstOf pick
 returns-4 c =
-    rw (← c .before .byte-sum .ensures)
-    (simp (eq-eqb _ 512 (c .before .before .before .before .if1 .left), le-ltb _ 1 (c .before .before .before .if2 .left), le-ltb 4095 _ (c .before .before .if3 .left), ne-eqb _ 0 (c .if4 .taken)))
+    counter-told _ _ _
+    (rw (← c .before .byte-sum .ensures)
+    (simp (eq-eqb _ 512 (c .before .before .before .before .if1 .left), le-ltb _ 1 (c .before .before .before .if2 .left), le-ltb 4095 _ (c .before .before .if3 .left), ne-eqb _ 0 (c .if4 .taken))))
 
 -- src/page11.rt:102:5
 walk-page-requires : tie.Need-walk-page-requires
@@ -51,9 +53,10 @@ unfolding readCounter firstOf pick
 returns-5 c =
     let page = now (c .before .before .before .before .before .before .before .args .page) in
     let number = c .before .before .before .before .before .before .before .args .number in
-    rw (← c .before .before .byte-sum .ensures)
+    counter-told _ _ _
+    (rw (← c .before .before .byte-sum .ensures)
     (simp (eq-eqb _ 512 (c .before .before .before .before .before .if1 .left), le-ltb _ 1 (c .before .before .before .before .if2 .left), le-ltb 4095 _ (c .before .before .before .if3 .left), eq-eqb _ 0 (c .before .if4 .left))
-    (c .walk-page .ensures ∙ last-rung (damaged number (entries page)) (valueIn page number (entries page))))
+    (c .walk-page .ensures ∙ last-rung (damaged number (entries page)) (valueIn page number (entries page)))))
 
 pub read-counter-spec : {M : Type 1} → statement M
 read-counter-spec =

@@ -1,10 +1,10 @@
-use mathlib.Core.Path.{_≡_, refl, _∙_, sym}
-use Prim.Native.Nat.{_+_, _-_, _<_, _≤_}
+use mathlib.Core.Path.{_≡_, _∙_, sym}
+use Prim.Native.Nat.{_-_}
 use native.Mathlib.Omega.{arith}
 use Rattle.bits.specs.Pick.{pick}
 use Rattle.pages.specs.Entries.{entries}
 use Rattle.pages.specs.Page11.{damaged, valueIn}
-use Rattle.pages.specs.declared.page11.Counter.the-variants.{Absent, Refused}
+use Rattle.pages.specs.declared.page11.Counter.the-variants.{Refused}
 use Rattle.pages.proofs.Walking.{fromHere, walk-starts, walk-end, walk-done, walk-next, next-forward}
 use borrow.Author.Needs.{needs}
 use Rattle.pages.proofs.page11.walk_page.Statement.{statement}

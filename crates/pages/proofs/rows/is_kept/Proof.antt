@@ -1,4 +1,5 @@
-use borrow.Author.Tests.{le-ltb}
+use borrow.Author.Tests.{le-ltb, lt-ltb}
+use native.Mathlib.Omega.{arith}
 use borrow.Author.Needs.{needs}
 use Rattle.pages.proofs.rows.is_kept.Statement.{statement}
 use Rattle.pages.proofs.rows.is_kept.Tie as tie
@@ -8,7 +9,7 @@ use Rattle.bits.proofs.bit.Reads as bit-reads
 
 -- src/rows.rt:45:9
 returns : tie.Need-returns
-returns c = rw (le-ltb (c .before .args .row) 32 (c .if1 .taken))
+returns c = rw (le-ltb (c .before .args .row) 16 (c .if1 .taken))
 
 -- src/rows.rt:47:28
 cast-bit : tie.Need-cast-bit
@@ -20,7 +21,9 @@ bit-requires c κs = search needs
 
 -- src/rows.rt:41:1
 returns-2 : tie.Need-returns-2
-returns-2 c = search needs
+returns-2 c =
+    let k = c .before .before .args .row in
+    rw (lt-ltb k 16 (c .before .if1 .left)) (rw (lt-ltb k 32 (omega arith)) at (c .bit .ensures))
 
 pub is-kept-spec : {M : Type 1} → statement M
 is-kept-spec = tie.close (tie.spec returns cast-bit bit-requires returns-2)

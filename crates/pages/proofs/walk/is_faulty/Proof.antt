@@ -1,5 +1,5 @@
-use mathlib.Core.Path.{_≡_, _∙_, sym}
-use borrow.Author.Tests.{eq-eqb, ne-eqb, lt-ltb, le-ltb}
+use mathlib.Core.Path.{_∙_, sym}
+use borrow.Author.Tests.{lt-ltb, le-ltb}
 use borrow.Author.Needs.{needs}
 use Rattle.pages.proofs.walk.is_faulty.Statement.{statement}
 use Rattle.pages.proofs.walk.is_faulty.Tie as tie

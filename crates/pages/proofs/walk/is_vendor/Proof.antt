@@ -2,7 +2,6 @@ use lib.Bits.{and-mask}
 use lib.Dec.{eqb}
 use mathlib.Core.Path.{ap}
 use Prim.Native.Nat.{ℕ, _/_}
-use borrow.Author.Needs.{needs}
 use Rattle.pages.proofs.walk.is_vendor.Statement.{statement}
 use Rattle.pages.proofs.walk.is_vendor.Tie as tie
 use Rattle.pages.proofs.walk.is_vendor.Reads as reads

@@ -1,5 +1,4 @@
 use lib.Bits.{and-mask}
-use borrow.Author.Needs.{needs}
 use Rattle.pages.proofs.walk.number_of.Statement.{statement}
 use Rattle.pages.proofs.walk.number_of.Tie as tie
 use Rattle.pages.proofs.walk.number_of.Reads as reads

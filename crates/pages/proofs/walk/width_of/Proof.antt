@@ -1,6 +1,5 @@
 use lib.Bits.{and-mask}
 use Prim.Native.Nat.{_/_}
-use borrow.Author.Needs.{needs}
 use Rattle.pages.proofs.walk.width_of.Statement.{statement}
 use Rattle.pages.proofs.walk.width_of.Tie as tie
 use Rattle.pages.proofs.walk.width_of.Reads as reads

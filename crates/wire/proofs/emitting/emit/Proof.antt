@@ -1,4 +1,4 @@
-use mathlib.Core.Path.{_≡_, refl, sym, ap, _∙_}
+use mathlib.Core.Path.{refl, sym, _∙_}
 use borrow.Author.Tests.{not-true, not-false, leb-true, leb-false}
 use denote.Ref.{now}
 use Rattle.bits.proofs.Fronts.{over-no, over-yes}

@@ -4,7 +4,6 @@ use native.Mathlib.Omega.{arith}
 use lib.Bits.{and-mask}
 use lib.Dec.{lit<}
 use Rattle.bits.proofs.Masks.{and-two}
-use borrow.Author.Needs.{needs}
 use Rattle.wire.proofs.pieces.halves.Statement.{statement}
 use Rattle.wire.proofs.pieces.halves.Tie as tie
 use Rattle.wire.proofs.pieces.halves.Reads as reads

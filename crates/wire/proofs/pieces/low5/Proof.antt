@@ -1,6 +1,5 @@
 use lib.Bits.{and-mask}
 use mir.Facts.{fits-mask}
-use borrow.Author.Needs.{needs}
 use Rattle.wire.proofs.pieces.low5.Statement.{statement}
 use Rattle.wire.proofs.pieces.low5.Tie as tie
 use Rattle.wire.proofs.pieces.low5.Reads as reads

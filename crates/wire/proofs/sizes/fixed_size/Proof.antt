@@ -1,7 +1,6 @@
 use borrow.Author.Tests.{ne-eqb}
 use Rattle.bits.specs.Pick.{pick}
 use Rattle.wire.specs.Size.{fixedSize}
-use borrow.Author.Needs.{needs}
 use Rattle.wire.proofs.sizes.fixed_size.Statement.{statement}
 use Rattle.wire.proofs.sizes.fixed_size.Tie as tie
 use Rattle.wire.proofs.sizes.fixed_size.Reads as reads

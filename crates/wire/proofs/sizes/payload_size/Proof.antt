@@ -1,6 +1,4 @@
-use mathlib.Core.Path.{ap}
 use lib.Bits.{and-mask}
-use borrow.Author.Needs.{needs}
 use Rattle.wire.proofs.sizes.payload_size.Statement.{statement}
 use Rattle.wire.proofs.sizes.payload_size.Tie as tie
 use Rattle.wire.proofs.sizes.payload_size.Reads as reads

@@ -1,0 +1,30 @@
+use mathlib.Core.Path.{_∙_, ap}
+use denote.Ref.{now}
+use Rattle.wire.specs.Size.{fixedSize}
+use Rattle.wire.proofs.Pieced.{piece-taken, piece-left}
+use borrow.Author.Needs.{needs}
+use Rattle.wire.proofs.cutting.cut_first.Statement.{statement}
+use Rattle.wire.proofs.cutting.cut_first.Tie as tie
+use Rattle.wire.proofs.cutting.cut_first.Reads as reads
+use Rattle.wire.proofs.cutting.cut_first.Lts as lts
+use Rattle.wire.proofs.pieces.byte_of.Reads as byte-of-reads
+use Rattle.wire.proofs.sizes.fixed_size.Reads as fixed-size-reads
+
+-- src/cutting.rt:11:27
+byte-of-requires : tie.Need-byte-of-requires
+byte-of-requires c κs = search needs
+
+-- src/cutting.rt:11:9
+fixed-size-requires : tie.Need-fixed-size-requires
+fixed-size-requires c κs = search needs
+
+-- src/cutting.rt:13:9
+returns : tie.Need-returns
+returns c = piece-taken (now (c .before .before .before .before .args .s)) (c .before .fixed-size .result) (c .before .fixed-size .ensures ∙ ap fixedSize (c .before .before .byte-of .ensures)) (c .if1 .taken)
+
+-- src/cutting.rt:8:1
+returns-2 : tie.Need-returns-2
+returns-2 c = piece-left (now (c .before .before .before .before .args .s)) (c .before .fixed-size .result) (c .before .fixed-size .ensures ∙ ap fixedSize (c .before .before .byte-of .ensures)) (c .if1 .left)
+
+pub cut-first-spec : {M : Type 1} → statement M
+cut-first-spec = tie.close (tie.spec byte-of-requires fixed-size-requires returns returns-2)
