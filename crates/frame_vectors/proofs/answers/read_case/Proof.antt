@@ -1,4 +1,4 @@
-use mathlib.Core.Path.{sym}
+use mathlib.Core.Path.{sym, refl}
 use native.Mathlib.Omega.{arith}
 use lib.Seq.{length-take-le}
 use borrow.Author.Needs.{needs}
@@ -7,49 +7,58 @@ use Rattle.frame_vectors.proofs.answers.read_case.Tie as tie
 use Rattle.frame_vectors.proofs.answers.read_case.Reads as reads
 use Rattle.frame_vectors.proofs.answers.read_case.Lts as lts
 use Rattle.bits.proofs.lay.Reads as lay-reads
+use Rattle.frame_vectors.proofs.printing.word.Reads as word-reads
 use Rattle.frame_vectors.proofs.reads.say_counter.Reads as say-counter-reads
 use Rattle.frame_vectors.proofs.reads.say_cut.Reads as say-cut-reads
 use Rattle.frame_vectors.proofs.reads.say_frame.Reads as say-frame-reads
 use Rattle.frame_vectors.proofs.reads.say_log.Reads as say-log-reads
 use Rattle.frame_vectors.proofs.writes.filled.Reads as filled-reads
 
+-- src/answers.rt:17:14
+slice-aggregate-word : tie.Need-slice-aggregate-word
+slice-aggregate-word c = refl
+
 -- src/answers.rt:17:9
+word-requires : tie.Need-word-requires
+word-requires c κs = search needs
+
+-- src/answers.rt:18:9
 returns : tie.Need-returns
 returns c = search needs
 
--- src/answers.rt:19:21
+-- src/answers.rt:20:21
 filled-requires : tie.Need-filled-requires
 filled-requires c κs = search needs
 
--- src/answers.rt:20:15
+-- src/answers.rt:21:15
 slice-aggregate-lay : tie.Need-slice-aggregate-lay
 slice-aggregate-lay c = search needs
 
--- src/answers.rt:20:5
+-- src/answers.rt:21:5
 lay-requires : tie.Need-lay-requires
 lay-requires c κs = search needs
 
--- src/answers.rt:21:13
+-- src/answers.rt:22:13
 array-share-prefix-input : tie.Need-array-share-prefix-input
 array-share-prefix-input c = search needs
 
--- src/answers.rt:21:9
+-- src/answers.rt:22:9
 slice-aggregate-s : tie.Need-slice-aggregate-s
 slice-aggregate-s c = sym (length-take-le (c .before .before .before .before .before .before .before .args .n) (c .before .before .lay .last .0) (omega arith))
 
--- src/answers.rt:23:17
+-- src/answers.rt:24:17
 say-frame-requires : tie.Need-say-frame-requires
 say-frame-requires c κs = search needs
 
--- src/answers.rt:24:17
+-- src/answers.rt:25:17
 say-log-requires : tie.Need-say-log-requires
 say-log-requires c κs = search needs
 
--- src/answers.rt:25:17
+-- src/answers.rt:26:17
 say-counter-requires : tie.Need-say-counter-requires
 say-counter-requires c κs = search needs
 
--- src/answers.rt:26:14
+-- src/answers.rt:27:14
 say-cut-requires : tie.Need-say-cut-requires
 say-cut-requires c κs = search needs
 
@@ -73,6 +82,8 @@ pub read-case-spec : {M : Type 1} → statement M
 read-case-spec =
     tie.close
     (tie.spec
+    slice-aggregate-word
+    word-requires
     returns
     filled-requires
     slice-aggregate-lay
