@@ -1,0 +1,214 @@
+// What a host frame makes the device do: the first rule that holds.
+ghost use mathlib.Core.Path.{_≡_};
+ghost use Prim.Native.Nat.{_+_};
+ghost use lib.Dec.{ltb};
+ghost use Rattle.rules.specs.Decide.{queuedAct, logPage, otherAct, controlAct, registerAct, dataAct, bistAct, notHost, notData, decideOf};
+use crate::acts::Act;
+use crate::acts::Bad;
+use crate::acts::Fault;
+use crate::acts::Log;
+use crate::acts::Queued;
+use crate::acts::Store;
+use crate::facts::Facts;
+use crate::facts::advanced;
+use crate::facts::due_of;
+use crate::shapes::Echo;
+use crate::shapes::Entry;
+use crate::shapes::echo_of;
+use frames::Frame;
+use frames::HostReg;
+
+// First sector + count above capacity, compared without wrap.
+fn too_far(capacity: u32, first: u64, count: u32) -> bool
+    ensures { λ r. ⌜ r ≡ ltb capacity (first + count) ⌝ }
+{
+    let most = capacity as u64;
+    if most < first {
+        return true;
+    }
+    most - first < count as u64
+}
+
+// Rules 1 to 4 of a queued command.
+fn queued_act(v: Facts, h: HostReg) -> Act
+    ensures { λ r. ⌜ r ≡ queuedAct v h ⌝ }
+{
+    let task = h.task;
+    let flow = v.flow;
+    let settings = v.settings;
+    let echo = echo_of(task);
+    let tag = wire::tag_of(task.count);
+    let count = wire::sectors_of(h.features, h.features_high);
+    let busy = bits::bit(flow.outstanding, tag as u32);
+    if flow.halted {
+        return Act::Answer(Bad { error: 0x04, task });
+    }
+    if (settings.depth <= tag as u32) | busy {
+        return Act::Halt(Fault {
+            nq: false,
+            tag,
+            error: 0x04,
+            echo,
+        });
+    }
+    let first = task.lba;
+    if too_far(settings.capacity, first, count) {
+        return Act::Halt(Fault {
+            nq: false,
+            tag,
+            error: 0x10,
+            echo,
+        });
+    }
+    let entry = Entry {
+        write: h.command == 0x61,
+        first: first as u32,
+        count,
+        moved: 0,
+        features: h.features,
+        features_high: h.features_high,
+        echo,
+    };
+    Act::Accept(Queued {
+        tag: tag as u32,
+        entry,
+    })
+}
+
+// 10h or 11h for a well-formed READ LOG EXT, otherwise 0.
+fn log_page(command: u8, e: Echo) -> u8
+    ensures { λ r. ⌜ r ≡ logPage command e ⌝ }
+{
+    let page = (e.b4 == 0x10) | (e.b4 == 0x11);
+    if (command == 0x2F) & page & ((e.b5 == 0) & (e.b9 == 0)) & ((e.b12 == 1) & (e.b13 == 0)) {
+        return e.b4;
+    }
+    0
+}
+
+// Any other command.
+fn other_act(v: Facts, h: HostReg) -> Act
+    ensures { λ r. ⌜ r ≡ otherAct v h ⌝ }
+{
+    let task = h.task;
+    let flow = v.flow;
+    let echo = echo_of(task);
+    let page = log_page(h.command, echo);
+    let zero = wire::flag(h.features, 0);
+    if flow.halted & !(page == 0x10) {
+        return Act::Answer(Bad { error: 0x04, task });
+    }
+    if !(flow.outstanding == 0) {
+        return Act::Halt(Fault {
+            nq: true,
+            tag: 0,
+            error: 0x04,
+            echo,
+        });
+    }
+    if page == 0x10 {
+        return Act::Log10(Log {
+            also: flow.halted,
+            task,
+        });
+    }
+    if page == 0x11 {
+        return Act::Log11(Log { also: zero, task });
+    }
+    Act::Answer(Bad { error: 0x04, task })
+}
+
+// A control frame.
+fn control_act(v: Facts, h: HostReg) -> Act
+    ensures { λ r. ⌜ r ≡ controlAct v h ⌝ }
+{
+    let flow = v.flow;
+    if wire::srst(h.control) {
+        return Act::Reset;
+    }
+    if flow.held {
+        return Act::Release;
+    }
+    Act::Nothing
+}
+
+// 27h.
+fn register_act(v: Facts, h: HostReg) -> Act
+    ensures { λ r. ⌜ r ≡ registerAct v h ⌝ }
+{
+    let flow = v.flow;
+    if !h.command_bit {
+        return control_act(v, h);
+    }
+    if flow.held | !(flow.phase == 0) {
+        return Act::Refuse(5);
+    }
+    if (h.command == 0x60) | (h.command == 0x61) {
+        return queued_act(v, h);
+    }
+    other_act(v, h)
+}
+
+// 46h: host data in a write phase.
+fn data_act(v: Facts, n: usize) -> Act
+    ensures { λ r. ⌜ r ≡ dataAct v n ⌝ }
+{
+    let flow = v.flow;
+    let e = v.entry;
+    let due = due_of(e.count, e.moved);
+    let entry = advanced(e);
+    if (flow.phase == 0) | !e.write {
+        return Act::Refuse(5);
+    }
+    if !(n == 512 * (due as usize)) {
+        return Act::Refuse(6);
+    }
+    Act::Keep(Store {
+        tag: flow.phase - 1,
+        at: 512 * ((e.first as usize) + (e.moved as usize)),
+        entry,
+        last: e.count <= entry.moved,
+    })
+}
+
+// 58h.
+fn bist_act(v: Facts) -> Act
+    ensures { λ r. ⌜ r ≡ bistAct v ⌝ }
+{
+    let flow = v.flow;
+    if !(flow.phase == 0) {
+        return Act::Refuse(5);
+    }
+    Act::Zero
+}
+
+fn not_data(v: Facts, f: Frame) -> Act
+    ensures { λ r. ⌜ r ≡ notData v f ⌝ }
+{
+    let Frame::Bist = f else {
+        return Act::Refuse(4);
+    };
+    bist_act(v)
+}
+
+fn not_host(v: Facts, f: Frame) -> Act
+    ensures { λ r. ⌜ r ≡ notHost v f ⌝ }
+{
+    let Frame::Data(n) = f else {
+        return not_data(v, f);
+    };
+    data_act(v, n)
+}
+
+pub fn decide_frame(v: Facts, f: Frame) -> Act
+    ensures { λ r. ⌜ r ≡ decideOf v f ⌝ }
+{
+    let lent = v.lent;
+    if !(lent == 0) {
+        return Act::Refuse(lent);
+    }
+    let Frame::Host(h) = f else {
+        return not_host(v, f);
+    };
+    register_act(v, h)
+}

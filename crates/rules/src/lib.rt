@@ -1,0 +1,38 @@
+// The rules of the device over plain values: what the state holds, when it contradicts itself, and which number a call is refused with.
+mod acts;
+mod clauses;
+mod counts;
+mod decide;
+mod facts;
+mod ladders;
+mod shapes;
+
+pub use acts::Act;
+pub use acts::Bad;
+pub use acts::Fault;
+pub use acts::Log;
+pub use acts::Queued;
+pub use acts::Store;
+pub use clauses::contradicts;
+pub use clauses::settings_out;
+pub use counts::bump;
+pub use decide::decide_frame;
+pub use facts::Facts;
+pub use facts::advanced;
+pub use facts::due_of;
+pub use ladders::comreset_number;
+pub use ladders::finish_number;
+pub use ladders::link_number;
+pub use ladders::media_number;
+pub use ladders::open_number;
+pub use ladders::power_number;
+pub use ladders::send_number;
+pub use shapes::Echo;
+pub use shapes::Entry;
+pub use shapes::ErrorRecord;
+pub use shapes::Flow;
+pub use shapes::Settings;
+pub use shapes::echo_of;
+pub use shapes::idle_entry;
+pub use shapes::no_record;
+pub use shapes::task_in;
