@@ -41,7 +41,7 @@ same-log : {n n′ : Bool} {t t′ s s′ e e′ : ℕ} {k k′ : Task} → n �
 same-log p q r s t = cc
 
 module _ (f : ErrorLog) where
-  length-10 : length (page10 f) ≡ 512
+  pub length-10 : length (page10 f) ≡ 512
   unfolding page10 sealed registerBytes
   length-10 = simp length-set
 

@@ -1,3 +1,4 @@
 pub mod TableLaws
 pub mod Elses
 pub mod DecideLaws
+pub mod Unique

@@ -1,0 +1,43 @@
+-- A state that power-on makes never contradicts itself. Assumes nothing.
+use mathlib.Core.Path.{_≡_, refl, ap, _∙_}
+use mathlib.Core.Bool.{Bool, true, false, not, _&&_}
+use mathlib.Core.List.{List}
+use Prim.Native.Nat.{ℕ, _+_, _/_, _%_, _^_, _<_}
+use native.Mathlib.Nat.{zero-div}
+use lib.Dec.{eqb, ltb}
+use lib.ListN.{getD, replicate, getD-replicate}
+use Rattle.bits.specs.Pick.{pick}
+use Rattle.bits.specs.Bit.{bitIn}
+use Rattle.pages.specs.Rows.{kept}
+use Rattle.rules.specs.State.{zeroEntry, blankRecord}
+use Rattle.rules.specs.Clauses.{settingsOut, entryBad, idleBad, tagBad, tableBad, flowBad, recordBad, rowBadAt, rowsBad, contradictory}
+use Rattle.rules.specs.declared.shapes.Settings.{Settings}
+use Rattle.rules.specs.declared.shapes.Entry.{Entry}
+use Rattle.rules.proofs.TableLaws.{some-never}
+use Rattle.device.specs.Device.{freshDevice, contradictoryDevice}
+
+and-never : (b : Bool) → b && false ≡ false
+and-never true = refl
+and-never false = refl
+
+no-bit : (t : ℕ) → bitIn 32 0 t ≡ false
+no-bit t = rw (zero-div (2 ^ t)) (and-never (ltb t 32))
+
+idle-tag : (s : Settings) (t : ℕ) (b : Bool) → entryBad s zeroEntry t false b ≡ false
+unfolding entryBad idleBad pick
+idle-tag s t b = refl
+
+fresh-table : (s : Settings) → tableBad s (replicate 32 zeroEntry) 0 0 ≡ false
+unfolding tableBad
+fresh-table s =
+    some-never (tagBad s (replicate 32 zeroEntry) 0 0) 32
+    (λ t h. rw (getD-replicate 32 t zeroEntry zeroEntry h, no-bit t) (idle-tag s t (eqb 0 (t + 1))))
+
+fresh-rows : (mask : ℕ) → rowsBad mask (replicate 16 0) ≡ false
+unfolding rowsBad
+fresh-rows mask = some-never (rowBadAt mask (replicate 16 0)) 16 (λ row h. rw (getD-replicate {A = ℕ} 16 row 0 0 h) (and-never (not (kept mask row))))
+
+-- with settings within bounds
+pub never-contradicts : (s : Settings) → settingsOut s ≡ false → contradictoryDevice (freshDevice s) ≡ false
+unfolding contradictoryDevice freshDevice contradictory flowBad recordBad
+never-contradicts s h = rw (h, fresh-table s, fresh-rows (s .mask))

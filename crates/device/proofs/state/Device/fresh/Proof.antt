@@ -1,0 +1,24 @@
+use Rattle.device.specs.Device.{freshDevice}
+use borrow.Author.Needs.{needs}
+use Rattle.device.proofs.state.Device.fresh.Statement.{statement}
+use Rattle.device.proofs.state.Device.fresh.Tie as tie
+use Rattle.device.proofs.state.Device.fresh.Reads as reads
+use Rattle.device.proofs.state.Device.fresh.Lts as lts
+use Rattle.rules.proofs.idle_entry.Reads as idle-entry-reads
+use Rattle.rules.proofs.no_record.Reads as no-record-reads
+
+-- src/state.rt:47:13
+idle-entry-requires : tie.Need-idle-entry-requires
+idle-entry-requires c κs = search needs
+
+-- src/state.rt:49:13
+no-record-requires : tie.Need-no-record-requires
+no-record-requires c κs = search needs
+
+-- src/state.rt:38:5
+returns : tie.Need-returns
+unfolding freshDevice
+returns c = rw (c .before .idle-entry .ensures, c .no-record .ensures)
+
+pub fresh-spec : {M : Type 1} → statement M
+fresh-spec = tie.close (tie.spec idle-entry-requires no-record-requires returns)

@@ -1,0 +1,39 @@
+-- The device's state, and power-on. Assumes nothing.
+use mathlib.Core.Bool.{Bool, false}
+use Prim.Native.Nat.{ℕ}
+use lib.Dec.{eqb}
+use lib.ListN.{replicate}
+use Rattle.bits.specs.Pick.{pick}
+use Rattle.bits.specs.First.{firstOf}
+use Rattle.rules.specs.State.{zeroEntry, blankRecord}
+use Rattle.rules.specs.Clauses.{settingsOut, contradictory}
+use Rattle.rules.specs.Ladders.{powerLadder}
+use Rattle.rules.specs.declared.shapes.Settings.{Settings}
+use Rattle.device.specs.declared.state.Device.{Device}
+use Rattle.device.specs.declared.state.Outcome.{Outcome}
+
+-- the state handed in contradicts itself
+unfoldable pub contradictoryDevice : Device → Bool
+contradictoryDevice d = contradictory (d .settings) (d .flow) (d .entries) (d .errors) (d .values)
+
+-- power-on: idle, record blank, counters 0
+unfoldable pub freshDevice : Settings → Device
+freshDevice s = record {
+  settings = s;
+  flow = record { outstanding = 0; phase = 0; halted = false; held = false };
+  entries = replicate 32 zeroEntry;
+  errors = blankRecord;
+  values = replicate 16 0;
+}
+
+-- all zeros
+abbrev pub zeroDevice : Device
+zeroDevice = freshDevice (record { depth = 0; capacity = 0; mask = 0 })
+
+-- the number that power-on gives
+abbrev pub powerNumber : Settings → ℕ
+powerNumber s = firstOf (powerLadder (settingsOut s))
+
+-- no reply; refused, it hands back all zeros
+unfoldable pub powerOn : Settings → Outcome
+powerOn s = record { state = pick (eqb (powerNumber s) 0) (freshDevice s) zeroDevice; refusal = powerNumber s; len = 0 }

@@ -1,0 +1,6 @@
+// The device: a state that goes in by value and is handed back by each call.
+mod events;
+mod state;
+
+pub use state::Device;
+pub use state::Outcome;

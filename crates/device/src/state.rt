@@ -1,0 +1,92 @@
+// What the device is, its limits, and how it begins.
+ghost use mathlib.Core.Path.{_≡_};
+ghost use Rattle.device.specs.Device.{contradictoryDevice, zeroDevice, freshDevice, powerOn};
+use rules::Entry;
+use rules::ErrorRecord;
+use rules::Flow;
+use rules::Settings;
+
+// Settings, what is under way, the entry of each tag, the error record, and the counters by row.
+pub struct Device {
+    pub settings: Settings,
+    pub flow: Flow,
+    pub entries: [Entry; 32],
+    pub errors: ErrorRecord,
+    pub values: [u32; 16],
+}
+
+// What every call answers: the state to be handed in next, the refusal or 0, and the length of the replies.
+pub struct Outcome {
+    pub state: Device,
+    pub refusal: u8,
+    pub len: usize,
+}
+
+impl Device {
+    // Nothing at all: idle, blank, and with settings that every call refuses.
+    fn zeros() -> Device
+        ensures { λ r. ⌜ r ≡ zeroDevice ⌝ }
+    {
+        Device::fresh(Settings {
+            depth: 0,
+            capacity: 0,
+            mask: 0,
+        })
+    }
+
+    // Idle, record blank, counters 0.
+    fn fresh(settings: Settings) -> Device
+        ensures { λ r. ⌜ r ≡ freshDevice settings ⌝ }
+    {
+        let flow = Flow {
+            outstanding: 0,
+            phase: 0,
+            halted: false,
+            held: false,
+        };
+        let e = rules::idle_entry();
+        let entries = [e; 32];
+        let errors = rules::no_record();
+        let values = [0u32; 16];
+        Device {
+            settings,
+            flow,
+            entries,
+            errors,
+            values,
+        }
+    }
+
+    // Power-on: refused, it hands back all zeros.
+    pub fn power_on(settings: Settings) -> Outcome
+        ensures { λ r. ⌜ r ≡ powerOn settings ⌝ }
+    {
+        let refusal = rules::power_number(rules::settings_out(settings));
+        if !(refusal == 0) {
+            let state = Device::zeros();
+            return Outcome {
+                state,
+                refusal,
+                len: 0,
+            };
+        }
+        let state = Device::fresh(settings);
+        Outcome {
+            state,
+            refusal,
+            len: 0,
+        }
+    }
+
+    // Refusal 1.
+    pub fn contradicts(self) -> bool
+        ensures { λ r. ⌜ r ≡ contradictoryDevice self ⌝ }
+    {
+        let settings = self.settings;
+        let flow = self.flow;
+        let entries = self.entries;
+        let errors = self.errors;
+        let values = self.values;
+        rules::contradicts(settings, flow, entries, errors, values)
+    }
+}

@@ -1,0 +1,2 @@
+pub mod Sending
+pub mod Unique

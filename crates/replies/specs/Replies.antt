@@ -1,0 +1,92 @@
+-- Replies as frame values, and their bytes. Assumes nothing.
+use mathlib.Core.Path.{_≡_}
+use mathlib.Core.Bool.{Bool, true, false, not}
+use mathlib.Core.List.{List, [], _∷_, _++_, map}
+use Prim.Native.Nat.{ℕ}
+use lib.ListN.{length}
+use Rattle.bits.specs.Pick.{pick}
+use Rattle.bits.specs.Laid.{laid}
+use Rattle.wire.specs.Cut.{joined}
+use Rattle.wire.specs.declared.pieces.Task.{Task}
+use Rattle.frames.specs.Write.{Sent, device, setBits, activate, payload, pio, encode, fits}
+use Rattle.pages.specs.Page10.{page10, fits10}
+use Rattle.pages.specs.Rows.{keepsBoth}
+use Rattle.pages.specs.Made11.{page11}
+use Rattle.pages.specs.declared.page10.ErrorLog.{ErrorLog}
+use Rattle.rules.specs.State.{taskIn}
+use Rattle.rules.specs.declared.shapes.ErrorRecord.{ErrorRecord}
+use Rattle.rules.specs.declared.acts.Act.{Act}
+use Rattle.rules.specs.declared.acts.Act.the-variants.{Refuse, Nothing, Answer, Halt, Accept, Log10, Log11, Reset, Release, Zero, Keep}
+
+-- a device register reply
+abbrev pub register : Bool → ℕ → ℕ → Task → Sent
+register i status error task = device (record { interrupt = i; status = status; error = error; task = task })
+
+-- good: status 40h, error 0, I 0
+abbrev pub good : Task → Sent
+good task = register false 0x40 0 task
+
+-- bad: status 41h, I 1, error as named
+abbrev pub badReply : ℕ → Task → Sent
+badReply error task = register true 0x41 error task
+
+-- signature: 34h, I 0, status 40h, error 01h, bytes 4 and 12 01h, rest 0
+abbrev pub signature : Sent
+signature = register false 0x40 0x01 (record { lba = 1; device = 0; count = 1 })
+
+-- the sweep: A1h, I 0, status 40h, error 0, SActive FFFFFFFFh
+abbrev pub sweep : Sent
+sweep = setBits (record { interrupt = false; status = 0x40; error = 0; active = 0xFFFF_FFFF })
+
+-- PIO Setup: I 1, D 1, status 48h, error 0, ending status 40h, 512 bytes, the command's bytes
+abbrev pub pioReply : Task → Sent
+pioReply task = pio (record { interrupt = true; «to_host» = true; status = 0x48; error = 0; task = task; ending = 0x40; bytes = 512 })
+
+abbrev pub sweepIf : Bool → List Sent
+sweepIf on = pick on (sweep ∷ []) []
+
+abbrev pub activateIf : Bool → List Sent
+activateIf on = pick on (activate ∷ []) []
+
+-- the record as page 10h shows it: status 41h; a blank one is 80h and zeros
+abbrev pub logOf : ErrorRecord → ErrorLog
+logOf r =
+    pick (r .set) (record { nq = r .nq; tag = r .tag; status = 0x41; error = r .error; task = taskIn (r .echo) })
+    (record { nq = true; tag = 0; status = 0; error = 0; task = record { lba = 0; device = 0; count = 0 } })
+
+-- the bytes of a page, none where it cannot be written
+abbrev pub page10Of : ErrorRecord → List ℕ
+page10Of r = pick (fits10 (logOf r)) (page10 (logOf r)) []
+
+abbrev pub page11Of : ℕ → List ℕ → List ℕ
+page11Of mask values = pick (keepsBoth mask) (page11 mask values) []
+
+-- if halted, first the sweep; then PIO Setup; then the page as a data frame
+abbrev pub logReplies : Bool → Task → List ℕ → List Sent
+logReplies on task page = sweepIf on ++ pioReply task ∷ payload page ∷ []
+
+-- the replies of an act
+unfoldable pub repliesOf : ErrorRecord → ℕ → List ℕ → Act → List Sent
+repliesOf r mask values (Refuse n) = []
+repliesOf r mask values Nothing = []
+repliesOf r mask values (Answer b) = badReply (b .error) (b .task) ∷ []
+repliesOf r mask values (Halt f) = badReply (f .error) (taskIn (f .echo)) ∷ []
+repliesOf r mask values (Accept q) = good (taskIn (q .entry .echo)) ∷ []
+repliesOf r mask values (Log10 l) = logReplies (l .also) (l .task) (page10Of r)
+repliesOf r mask values (Log11 l) = logReplies false (l .task) (page11Of mask values)
+repliesOf r mask values Reset = []
+repliesOf r mask values Release = signature ∷ []
+repliesOf r mask values Zero = []
+repliesOf r mask values (Keep s) = activateIf (not (s .last))
+
+-- what cannot be written is not sent
+unfoldable pub sentBytes : Sent → List ℕ
+sentBytes f = pick (fits f) (encode f) []
+
+unfoldable pub sentAll : List Sent → List ℕ
+sentAll fs = joined (map sentBytes fs)
+
+-- what the code that sends frames answers, and what the buffer then holds: the frames in front, and the rest as it was
+pub record Sends (fs : List Sent) (d : List ℕ) (r : ℕ) (d′ : List ℕ) : Type 0 where
+  pub len : r ≡ length (sentAll fs)
+  pub bytes : d′ ≡ laid (sentAll fs) d

@@ -1,0 +1,219 @@
+// The replies of an act, one behind the other, each in the room that the last one left.
+ghost use mathlib.Core.Path.{_≡_};
+ghost use mathlib.Core.Bool.{false};
+ghost use mathlib.Core.List.{[], _∷_};
+ghost use Prim.Native.Nat.{_+_, _≤_};
+ghost use lib.Dec.{leb};
+ghost use lib.ListN.{length};
+ghost use Rattle.bits.specs.Pick.{pick};
+ghost use Rattle.frames.specs.Write.{payload};
+ghost use Rattle.replies.specs.Replies.{register, signature, sweepIf, activateIf, pioReply, logOf, logReplies, page10Of, page11Of, repliesOf, Sends};
+use frames::DevReg;
+use frames::PioSetup;
+use frames::SetBits;
+use pages::ErrorLog;
+use rules::Act;
+use rules::ErrorRecord;
+use wire::Task;
+
+fn put_register(reply: &mut [u8], interrupt: bool, status: u8, error: u8, task: Task) -> usize
+    requires { ⌜ 20 ≤ length (now reply) ⌝ }
+    ensures { λ r. ⌜ Sends (register interrupt status error task ∷ []) (now (reply .entry)) r (now (reply .exit)) ⌝ }
+{
+    let w = frames::write_device(
+        reply,
+        DevReg {
+            interrupt,
+            status,
+            error,
+            task,
+        },
+    );
+    w.len
+}
+
+fn put_signature(reply: &mut [u8]) -> usize
+    requires { ⌜ 20 ≤ length (now reply) ⌝ }
+    ensures { λ r. ⌜ Sends (signature ∷ []) (now (reply .entry)) r (now (reply .exit)) ⌝ }
+{
+    let task = Task {
+        lba: 1,
+        device: 0,
+        count: 1,
+    };
+    put_register(reply, false, 0x40, 0x01, task)
+}
+
+fn put_sweep_if(reply: &mut [u8], on: bool) -> usize
+    requires { ⌜ 8 ≤ length (now reply) ⌝ }
+    ensures bytes { λ r. ⌜ Sends (sweepIf on) (now (reply .entry)) r (now (reply .exit)) ⌝ }
+    ensures most { λ r. ⌜ r ≤ 8 ⌝ }
+{
+    if !on {
+        return 0;
+    }
+    let w = frames::write_bits(
+        reply,
+        SetBits {
+            interrupt: false,
+            status: 0x40,
+            error: 0,
+            active: 0xFFFF_FFFF,
+        },
+    );
+    w.len
+}
+
+fn put_activate_if(reply: &mut [u8], on: bool) -> usize
+    requires { ⌜ 4 ≤ length (now reply) ⌝ }
+    ensures { λ r. ⌜ Sends (activateIf on) (now (reply .entry)) r (now (reply .exit)) ⌝ }
+{
+    if !on {
+        return 0;
+    }
+    let w = frames::write_activate(reply);
+    w.len
+}
+
+fn put_pio(reply: &mut [u8], task: Task) -> usize
+    requires { ⌜ 20 ≤ length (now reply) ⌝ }
+    ensures bytes { λ r. ⌜ Sends (pioReply task ∷ []) (now (reply .entry)) r (now (reply .exit)) ⌝ }
+    ensures most { λ r. ⌜ r ≤ 20 ⌝ }
+{
+    let w = frames::write_pio(
+        reply,
+        PioSetup {
+            interrupt: true,
+            to_host: true,
+            status: 0x48,
+            error: 0,
+            task,
+            ending: 0x40,
+            bytes: 512,
+        },
+    );
+    w.len
+}
+
+fn put_data(reply: &mut [u8], p: &[u8]) -> usize
+    requires { ⌜ 4 + length (now p) ≤ length (now reply) ⌝ }
+    ensures bytes { λ r. ⌜ Sends (payload (now (p .entry)) ∷ []) (now (reply .entry)) r (now (reply .exit)) ⌝ }
+    ensures most { λ r. ⌜ r ≤ 4 + length (now (p .entry)) ⌝ }
+{
+    let w = frames::write_data(reply, p);
+    w.len
+}
+
+// Sweep, PIO Setup and page.
+fn put_log(reply: &mut [u8], sweep: bool, task: Task, page: &[u8]) -> usize
+    requires { ⌜ 32 + length (now page) ≤ length (now reply) ⌝ }
+    ensures { λ r. ⌜ Sends (logReplies sweep task (now (page .entry))) (now (reply .entry)) r (now (reply .exit)) ⌝ }
+{
+    let first = put_sweep_if(reply, sweep);
+    let second = put_pio(&mut reply[first..], task);
+    let both = first + second;
+    let third = put_data(&mut reply[both..], page);
+    both + third
+}
+
+// The record as page 10h shows it.
+fn log_of(r: ErrorRecord) -> ErrorLog
+    ensures { λ f. ⌜ f ≡ logOf r ⌝ }
+{
+    if r.set {
+        let echo = r.echo;
+        let task = rules::task_in(echo);
+        return ErrorLog {
+            nq: r.nq,
+            tag: r.tag,
+            status: 0x41,
+            error: r.error,
+            task,
+        };
+    }
+    let task = Task {
+        lba: 0,
+        device: 0,
+        count: 0,
+    };
+    ErrorLog {
+        nq: true,
+        tag: 0,
+        status: 0,
+        error: 0,
+        task,
+    }
+}
+
+// Room for a page.
+fn page_room() -> [u8; 512]
+    ensures { λ r. ⌜ 512 ≡ length r ⌝ }
+{
+    [0u8; 512]
+}
+
+fn put_log10(reply: &mut [u8], sweep: bool, task: Task, r: ErrorRecord) -> usize
+    requires { ⌜ 8196 ≤ length (now reply) ⌝ }
+    ensures { λ n. ⌜ Sends (logReplies sweep task (page10Of r)) (now (reply .entry)) n (now (reply .exit)) ⌝ }
+{
+    let mut page = page_room();
+    let f = log_of(r);
+    let w = pages::write_log(&mut page, f);
+    let n = w.len;
+    put_log(reply, sweep, task, &page[..n])
+}
+
+fn put_log11(reply: &mut [u8], task: Task, mask: u16, values: [u32; 16]) -> usize
+    requires { ⌜ 8196 ≤ length (now reply) ⌝ }
+    ensures { λ n. ⌜ Sends (logReplies false task (page11Of mask values)) (now (reply .entry)) n (now (reply .exit)) ⌝ }
+{
+    let mut page = page_room();
+    let w = pages::write_counters(&mut page, mask, values);
+    let n = w.len;
+    put_log(reply, false, task, &page[..n])
+}
+
+fn send(reply: &mut [u8], act: Act, r: ErrorRecord, mask: u16, values: [u32; 16]) -> usize
+    requires { ⌜ 8196 ≤ length (now reply) ⌝ }
+    ensures { λ n. ⌜ Sends (repliesOf r mask values act) (now (reply .entry)) n (now (reply .exit)) ⌝ }
+{
+    match act {
+        Act::Refuse(_) => 0,
+        Act::Nothing => 0,
+        Act::Answer(b) => {
+            let task = b.task;
+            put_register(reply, true, 0x41, b.error, task)
+        }
+        Act::Halt(f) => {
+            let echo = f.echo;
+            put_register(reply, true, 0x41, f.error, rules::task_in(echo))
+        }
+        Act::Accept(q) => {
+            let entry = q.entry;
+            let echo = entry.echo;
+            put_register(reply, false, 0x40, 0, rules::task_in(echo))
+        }
+        Act::Log10(l) => {
+            let task = l.task;
+            put_log10(reply, l.also, task, r)
+        }
+        Act::Log11(l) => {
+            let task = l.task;
+            put_log11(reply, task, mask, values)
+        }
+        Act::Reset => 0,
+        Act::Release => put_signature(reply),
+        Act::Zero => 0,
+        Act::Keep(s) => put_activate_if(reply, !s.last),
+    }
+}
+
+// The replies of an act; none where the buffer has not the room that every call asks for.
+pub fn emit(reply: &mut [u8], act: Act, r: ErrorRecord, mask: u16, values: [u32; 16]) -> usize
+    ensures { λ n. ⌜ Sends (pick (leb 8196 (length (now (reply .entry)))) (repliesOf r mask values act) []) (now (reply .entry)) n (now (reply .exit)) ⌝ }
+{
+    if reply.len() < 8196 {
+        return 0;
+    }
+    send(reply, act, r, mask, values)
+}
