@@ -1,7 +1,7 @@
 -- Power-on and link event: refusals exactly, what a refusal hands back, and no freedom left. Assumes nothing.
-use mathlib.Core.Path.{_≡_, refl, ap, _∙_}
+use mathlib.Core.Path.{_≡_}
+use mathlib.Core.List.{List}
 use Prim.Native.Nat.{ℕ}
-use lib.Dec.{eqb}
 use borrow.Author.Tests.{ne-eqb}
 use Rattle.bits.specs.Pick.{pick}
 use Rattle.bits.specs.First.{FirstExactly}
@@ -12,6 +12,7 @@ use Rattle.rules.specs.Ladders.{powerLadder, linkLadder}
 use Rattle.rules.specs.declared.shapes.Settings.{Settings}
 use Rattle.device.specs.Device.{contradictoryDevice, zeroDevice, powerNumber, powerOn}
 use Rattle.device.specs.Events.{rowRefused, linkNumber, linkStep}
+use Rattle.device.specs.Step.{Step, Answered}
 use Rattle.device.specs.declared.state.Device.{Device}
 use Rattle.device.specs.declared.state.Outcome.{Outcome}
 
@@ -35,6 +36,15 @@ pub refused-keeps-link : (d : Device) (row : ℕ) → (linkStep d row .refusal �
 unfolding linkStep pick
 refused-keeps-link d row n = rw (ne-eqb (linkNumber d row) 0 n)
 
+same-outcome : {d d′ : Device} {n n′ l l′ : ℕ} → d ≡ d′ → n ≡ n′ → l ≡ l′ → _≡_ {A = Outcome} (record { state = d; refusal = n; len = l }) (record { state = d′; refusal = n′; len = l′ })
+same-outcome p q r = cc
+
+-- of every call that replies: whatever its step
 pub unique : ((s : Settings) (r r′ : Outcome) → r ≡ powerOn s → r′ ≡ powerOn s → r ≡ r′)
     × ((d : Device) (row : ℕ) (r r′ : Outcome) → r ≡ linkStep d row → r′ ≡ linkStep d row → r ≡ r′)
-unique = (λ s r r′ p q. same p q, λ d row r r′ p q. same p q)
+    × ((s : Step) (b : List ℕ) (r r′ : Outcome) (x x′ : List ℕ) → Answered s b r x → Answered s b r′ x′ → (r ≡ r′) × (x ≡ x′))
+unique = (
+  λ s r r′ p q. same p q,
+  λ d row r r′ p q. same p q,
+  λ s b r r′ x x′ p q. (same-outcome (same (p .state) (q .state)) (same (p .refusal) (q .refusal)) (same (p .len) (q .len)), same (p .reply) (q .reply)),
+)

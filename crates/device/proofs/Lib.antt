@@ -1,3 +1,4 @@
 pub mod Outcomes
 pub mod Calls
 pub mod Never
+pub mod Renewing

@@ -1,18 +1,16 @@
 -- A state that power-on makes never contradicts itself. Assumes nothing.
-use mathlib.Core.Path.{_≡_, refl, ap, _∙_}
+use mathlib.Core.Path.{_≡_, refl}
 use mathlib.Core.Bool.{Bool, true, false, not, _&&_}
-use mathlib.Core.List.{List}
-use Prim.Native.Nat.{ℕ, _+_, _/_, _%_, _^_, _<_}
+use Prim.Native.Nat.{ℕ, _+_, _^_}
 use native.Mathlib.Nat.{zero-div}
 use lib.Dec.{eqb, ltb}
-use lib.ListN.{getD, replicate, getD-replicate}
+use lib.ListN.{replicate, getD-replicate}
 use Rattle.bits.specs.Pick.{pick}
 use Rattle.bits.specs.Bit.{bitIn}
 use Rattle.pages.specs.Rows.{kept}
-use Rattle.rules.specs.State.{zeroEntry, blankRecord}
+use Rattle.rules.specs.State.{zeroEntry}
 use Rattle.rules.specs.Clauses.{settingsOut, entryBad, idleBad, tagBad, tableBad, flowBad, recordBad, rowBadAt, rowsBad, contradictory}
 use Rattle.rules.specs.declared.shapes.Settings.{Settings}
-use Rattle.rules.specs.declared.shapes.Entry.{Entry}
 use Rattle.rules.proofs.TableLaws.{some-never}
 use Rattle.device.specs.Device.{freshDevice, contradictoryDevice}
 

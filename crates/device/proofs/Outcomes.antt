@@ -7,11 +7,11 @@ use Rattle.bits.specs.Pick.{pick}
 use Rattle.device.specs.declared.state.Device.{Device}
 use Rattle.device.specs.declared.state.Outcome.{Outcome}
 
-off : (b : Bool) → not b ≡ true → b ≡ false
+pub off : (b : Bool) → not b ≡ true → b ≡ false
 off true e = ap not e
 off false e = refl
 
-on : (b : Bool) → not b ≡ false → b ≡ true
+pub on : (b : Bool) → not b ≡ false → b ≡ true
 on true e = refl
 on false e = ap not e
 

@@ -1,2 +1,4 @@
 pub mod Device
 pub mod Events
+pub mod Step
+pub mod Reset

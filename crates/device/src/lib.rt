@@ -1,5 +1,6 @@
 // The device: a state that goes in by value and is handed back by each call.
 mod events;
+mod resets;
 mod state;
 
 pub use state::Device;

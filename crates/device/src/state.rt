@@ -22,55 +22,55 @@ pub struct Outcome {
     pub len: usize,
 }
 
+// Idle, record blank, counters 0.
+pub fn fresh(settings: Settings) -> Device
+    ensures { λ r. ⌜ r ≡ freshDevice settings ⌝ }
+{
+    let flow = Flow {
+        outstanding: 0,
+        phase: 0,
+        halted: false,
+        held: false,
+    };
+    let e = rules::idle_entry();
+    let entries = [e; 32];
+    let errors = rules::no_record();
+    let values = [0u32; 16];
+    Device {
+        settings,
+        flow,
+        entries,
+        errors,
+        values,
+    }
+}
+
+// Nothing at all: idle, blank, and with settings that every call refuses.
+fn zeros() -> Device
+    ensures { λ r. ⌜ r ≡ zeroDevice ⌝ }
+{
+    fresh(Settings {
+        depth: 0,
+        capacity: 0,
+        mask: 0,
+    })
+}
+
 impl Device {
-    // Nothing at all: idle, blank, and with settings that every call refuses.
-    fn zeros() -> Device
-        ensures { λ r. ⌜ r ≡ zeroDevice ⌝ }
-    {
-        Device::fresh(Settings {
-            depth: 0,
-            capacity: 0,
-            mask: 0,
-        })
-    }
-
-    // Idle, record blank, counters 0.
-    fn fresh(settings: Settings) -> Device
-        ensures { λ r. ⌜ r ≡ freshDevice settings ⌝ }
-    {
-        let flow = Flow {
-            outstanding: 0,
-            phase: 0,
-            halted: false,
-            held: false,
-        };
-        let e = rules::idle_entry();
-        let entries = [e; 32];
-        let errors = rules::no_record();
-        let values = [0u32; 16];
-        Device {
-            settings,
-            flow,
-            entries,
-            errors,
-            values,
-        }
-    }
-
     // Power-on: refused, it hands back all zeros.
     pub fn power_on(settings: Settings) -> Outcome
         ensures { λ r. ⌜ r ≡ powerOn settings ⌝ }
     {
         let refusal = rules::power_number(rules::settings_out(settings));
         if !(refusal == 0) {
-            let state = Device::zeros();
+            let state = zeros();
             return Outcome {
                 state,
                 refusal,
                 len: 0,
             };
         }
-        let state = Device::fresh(settings);
+        let state = fresh(settings);
         Outcome {
             state,
             refusal,

@@ -5,8 +5,8 @@ use Rattle.device.proofs.state.Device.power_on.Statement.{statement}
 use Rattle.device.proofs.state.Device.power_on.Tie as tie
 use Rattle.device.proofs.state.Device.power_on.Reads as reads
 use Rattle.device.proofs.state.Device.power_on.Lts as lts
-use Rattle.device.proofs.state.Device.fresh.Reads as fresh-reads
-use Rattle.device.proofs.state.Device.zeros.Reads as zeros-reads
+use Rattle.device.proofs.state.fresh.Reads as fresh-reads
+use Rattle.device.proofs.state.zeros.Reads as zeros-reads
 use Rattle.rules.proofs.settings_out.Reads as settings-out-reads
 use Rattle.rules.proofs.power_number.Reads as power-number-reads
 

@@ -1,9 +1,9 @@
 use Rattle.device.specs.Device.{freshDevice}
 use borrow.Author.Needs.{needs}
-use Rattle.device.proofs.state.Device.fresh.Statement.{statement}
-use Rattle.device.proofs.state.Device.fresh.Tie as tie
-use Rattle.device.proofs.state.Device.fresh.Reads as reads
-use Rattle.device.proofs.state.Device.fresh.Lts as lts
+use Rattle.device.proofs.state.fresh.Statement.{statement}
+use Rattle.device.proofs.state.fresh.Tie as tie
+use Rattle.device.proofs.state.fresh.Reads as reads
+use Rattle.device.proofs.state.fresh.Lts as lts
 use Rattle.rules.proofs.idle_entry.Reads as idle-entry-reads
 use Rattle.rules.proofs.no_record.Reads as no-record-reads
 

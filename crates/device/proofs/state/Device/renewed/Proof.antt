@@ -1,0 +1,34 @@
+use Rattle.device.specs.Device.{freshDevice}
+use Rattle.device.specs.Reset.{renewed}
+use borrow.Author.Needs.{needs}
+use Rattle.device.proofs.state.Device.renewed.Statement.{statement}
+use Rattle.device.proofs.state.Device.renewed.Tie as tie
+use Rattle.device.proofs.state.Device.renewed.Reads as reads
+use Rattle.device.proofs.state.Device.renewed.Lts as lts
+use Rattle.device.proofs.state.fresh.Reads as fresh-reads
+use Rattle.rules.proofs.bump.Reads as bump-reads
+
+-- src/resets.rt:15:17
+element-copy-out-v : tie.Need-element-copy-out-v
+element-copy-out-v c = search needs
+
+-- src/resets.rt:16:13
+bump-requires : tie.Need-bump-requires
+bump-requires c κs = search needs
+
+-- src/resets.rt:18:9
+array-write-values : tie.Need-array-write-values
+array-write-values c = search needs
+
+-- src/resets.rt:19:13
+fresh-requires : tie.Need-fresh-requires
+fresh-requires c κs = search needs
+
+-- src/resets.rt:11:5
+returns : tie.Need-returns
+unfolding renewed freshDevice
+returns c = rw (c .fresh .ensures, c .before .before .bump .ensures)
+
+pub renewed-spec : {M : Type 1} → statement M
+renewed-spec =
+    tie.close (tie.spec element-copy-out-v bump-requires array-write-values fresh-requires returns)
