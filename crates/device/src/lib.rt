@@ -1,4 +1,5 @@
 // The device: a state that goes in by value and is handed back by each call.
+mod after;
 mod events;
 mod resets;
 mod state;

@@ -1,10 +1,21 @@
 -- Laws of tests over a table. Assumes nothing.
-use mathlib.Core.Path.{_≡_, refl, ap, _∙_}
-use mathlib.Core.Bool.{Bool, false, _||_}
+use mathlib.Core.Path.{_≡_, refl, sym, ap, _∙_}
+use mathlib.Core.Bool.{Bool, true, false, _||_}
 use Prim.Native.Nat.{ℕ, zero, suc, _+_, _≤_, _<_}
 use native.Mathlib.Numerals.{add-one}
 use native.Mathlib.Omega.{arith}
-use Rattle.rules.specs.Table.{someBelow}
+use mathlib.Core.List.{List, [], _∷_}
+use mathlib.Core.Logic.{⊎-elim}
+use native.Mathlib.Nat.{eq-or-lt-of-le}
+use lib.Dec.{eqb}
+use lib.ListN.{length, getD, set, length-append, length-set, List·getD-append}
+use lib.Seq.{getD-at, ext-getD, getD-set-same, getD-set-other}
+use borrow.Author.Tests.{eqb-true, eqb-false, ne-eqb}
+use Rattle.bits.specs.Pick.{pick}
+use Rattle.bits.proofs.Picks.{tested}
+use Rattle.rules.specs.State.{zeroEntry}
+use Rattle.rules.specs.Table.{someBelow, tab, entryOf, placed}
+use Rattle.rules.specs.declared.shapes.Entry.{Entry}
 
 pub some-none : (p : ℕ → Bool) → false ≡ someBelow 0 p
 unfolding someBelow
@@ -29,3 +40,48 @@ some-never p (suc n) h =
     let r = some-never p n (λ i l. h i (omega arith)) in
     let e = h n (omega arith) in
     rw (r, e)
+
+-- ---- tables by their elements
+
+module _ {A : Type 0} where
+  pub length-tab : (n : ℕ) (f : ℕ → A) → length (tab n f) ≡ n
+  unfolding tab
+  length-tab zero f = refl
+  length-tab (suc n) f = length-append (tab n f) (f n ∷ []) ∙ ap (λ (k : ℕ). k + 1) (length-tab n f) ∙ add-one n
+
+  pub getD-tab : (n : ℕ) (f : ℕ → A) (i : ℕ) (d : A) → i < n → getD (tab n f) i d ≡ f i
+  unfolding tab
+  getD-tab zero f i d h = absurd (omega arith)
+  getD-tab (suc n) f i d h =
+      ⊎-elim
+      (λ e. rw e (getD-at (tab n f) (f n) [] d n (length-tab n f)))
+      (λ k. let l = length-tab n f in List·getD-append (tab n f) (f n ∷ []) d i (omega arith) ∙ getD-tab n f i d k)
+      (eq-or-lt-of-le {n = i} {m = n} (omega arith))
+
+-- the table's element at i, anew or as it was
+abbrev pub fresher : List Entry → ℕ → Entry → ℕ → Entry
+fresher es t e i = pick (eqb i t) e (entryOf es i)
+
+pub getD-placed : (es : List Entry) (t : ℕ) (e : Entry) (i : ℕ) → i < 32 → entryOf (placed es t e) i ≡ fresher es t e i
+unfolding placed
+getD-placed es t e i h = getD-tab 32 (fresher es t e) i zeroEntry h
+
+-- a store, and a place where nothing is stored
+pub set-placed : (es : List Entry) (t : ℕ) (e : Entry) → length es ≡ 32 → set es t e ≡ placed es t e
+unfolding placed pick
+set-placed es t e h =
+    ext-getD zeroEntry (set es t e) (tab 32 (fresher es t e)) (simp length-set (h ∙ sym (length-tab 32 (fresher es t e))))
+    (λ i k.
+    let j : i < 32 = rw h at (simp length-set at k) in
+    ⊎-elim
+    (λ (x : eqb i t ≡ true). rw (getD-tab 32 (fresher es t e) i zeroEntry j, x, ← eqb-true i t x) (getD-set-same es i e zeroEntry (rw h j)))
+    (λ (x : eqb i t ≡ false). rw (getD-tab 32 (fresher es t e) i zeroEntry j, x) (getD-set-other es t i e zeroEntry (eqb-false i t x)))
+    (tested (eqb i t)))
+
+pub none-placed : (es : List Entry) (t : ℕ) (e : Entry) → length es ≡ 32 → 32 ≤ t → es ≡ placed es t e
+unfolding placed pick
+none-placed es t e h l =
+    ext-getD zeroEntry es (tab 32 (fresher es t e)) (h ∙ sym (length-tab 32 (fresher es t e)))
+    (λ i k.
+    let j : i < 32 = rw h at k in
+    rw (getD-tab 32 (fresher es t e) i zeroEntry j, ne-eqb i t (λ q. omega arith)))

@@ -9,6 +9,7 @@ use Rattle.wire.specs.declared.pieces.Task.{Task}
 use Rattle.frames.specs.declared.shapes.Frame.{Frame}
 use Rattle.rules.specs.State.{taskIn, echoOf, zeroEntry, blankRecord}
 use Rattle.rules.specs.Clauses.{settingsOut, contradictory}
+use Rattle.rules.specs.Table.{entryOf, placed}
 use Rattle.rules.specs.Counts.{bumped}
 use Rattle.rules.specs.Facts.{Due, advancedOf}
 use Rattle.rules.specs.Decide.{decideOf}
@@ -20,7 +21,7 @@ use Rattle.rules.specs.declared.shapes.ErrorRecord.{ErrorRecord}
 use Rattle.rules.specs.declared.facts.Facts.{Facts}
 use Rattle.rules.specs.declared.acts.Act.{Act}
 
--- of the ladders, whatever their tests: one line for all seven
+-- of the ladders, whatever their tests: one line for all eight
 pub unique : ((rs : List Rung) (r r′ : ℕ) → r ≡ firstOf rs → r′ ≡ firstOf rs → r ≡ r′)
     × ((s : Settings) (r r′ : Bool) → r ≡ settingsOut s → r′ ≡ settingsOut s → r ≡ r′)
     × ((s : Settings) (f : Flow) (es : List Entry) (e : ErrorRecord) (vs : List ℕ) (r r′ : Bool) → r ≡ contradictory s f es e vs → r′ ≡ contradictory s f es e vs → r ≡ r′)
@@ -30,6 +31,8 @@ pub unique : ((rs : List Rung) (r r′ : ℕ) → r ≡ firstOf rs → r′ ≡ 
     × ((e : Entry) (r r′ : Entry) → r ≡ advancedOf e → r′ ≡ advancedOf e → r ≡ r′)
     × ((t : Task) (r r′ : Echo) → r ≡ echoOf t → r′ ≡ echoOf t → r ≡ r′)
     × ((e : Echo) (r r′ : Task) → r ≡ taskIn e → r′ ≡ taskIn e → r ≡ r′)
+    × ((es : List Entry) (t : ℕ) (r r′ : Entry) → r ≡ entryOf es t → r′ ≡ entryOf es t → r ≡ r′)
+    × ((es : List Entry) (t : ℕ) (e : Entry) (r r′ : List Entry) → r ≡ placed es t e → r′ ≡ placed es t e → r ≡ r′)
     × ((r r′ : Entry) → r ≡ zeroEntry → r′ ≡ zeroEntry → r ≡ r′)
     × ((r r′ : ErrorRecord) → r ≡ blankRecord → r′ ≡ blankRecord → r ≡ r′)
 unique = (
@@ -42,6 +45,8 @@ unique = (
   λ e r r′ p q. same p q,
   λ t r r′ p q. same p q,
   λ e r r′ p q. same p q,
+  λ es t r r′ p q. same p q,
+  λ es t e r r′ p q. same p q,
   λ r r′ p q. same p q,
   λ r r′ p q. same p q,
 )

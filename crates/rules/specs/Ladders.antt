@@ -35,3 +35,7 @@ linkLadder contradicts row = rung 1 contradicts ∷ rung 13 row ∷ []
 -- COMRESET: 1; 3
 abbrev pub comresetLadder : Bool → Bool → List Rung
 comresetLadder contradicts short = rung 1 contradicts ∷ rung 3 short ∷ []
+
+-- host frame, before the frame is looked at: 1; 2 medium length wrong; 3 reply buffer short
+abbrev pub lentLadder : Bool → Bool → Bool → List Rung
+lentLadder contradicts medium short = rung 1 contradicts ∷ rung 2 medium ∷ rung 3 short ∷ []

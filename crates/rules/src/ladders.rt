@@ -2,7 +2,7 @@
 ghost use mathlib.Core.Path.{_≡_};
 ghost use Rattle.bits.specs.First.{firstOf};
 ghost use Rattle.bits.specs.Pick.{pick};
-ghost use Rattle.rules.specs.Ladders.{powerLadder, openLadder, sendLadder, finishLadder, mediaLadder, linkLadder, comresetLadder};
+ghost use Rattle.rules.specs.Ladders.{powerLadder, openLadder, sendLadder, finishLadder, mediaLadder, linkLadder, comresetLadder, lentLadder};
 
 // A number under its test, else the number of the tests behind it.
 fn or_else(test: bool, number: u8, rest: u8) -> u8
@@ -71,4 +71,11 @@ pub fn comreset_number(contradicts: bool, short: bool) -> u8
     ensures { λ r. ⌜ r ≡ firstOf (comresetLadder contradicts short) ⌝ }
 {
     or_else(contradicts, 1, or_else(short, 3, 0))
+}
+
+// The part of a host frame's refusals that comes before the frame.
+pub fn lent_number(contradicts: bool, medium: bool, short: bool) -> u8
+    ensures { λ r. ⌜ r ≡ firstOf (lentLadder contradicts medium short) ⌝ }
+{
+    or_else(contradicts, 1, or_else(medium, 2, or_else(short, 3, 0)))
 }

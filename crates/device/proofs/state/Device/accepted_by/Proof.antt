@@ -1,0 +1,24 @@
+use Rattle.device.specs.After.{acceptedBy}
+use borrow.Author.Needs.{needs}
+use Rattle.device.proofs.state.Device.accepted_by.Statement.{statement}
+use Rattle.device.proofs.state.Device.accepted_by.Tie as tie
+use Rattle.device.proofs.state.Device.accepted_by.Reads as reads
+use Rattle.device.proofs.state.Device.accepted_by.Lts as lts
+use Rattle.bits.proofs.with_bit.Reads as with-bit-reads
+use Rattle.rules.proofs.with_entry.Reads as with-entry-reads
+
+-- src/after.rt:40:13
+with-entry-requires : tie.Need-with-entry-requires
+with-entry-requires c κs = search needs
+
+-- src/after.rt:41:13
+with-bit-requires : tie.Need-with-bit-requires
+with-bit-requires c κs = search needs
+
+-- src/after.rt:35:5
+returns : tie.Need-returns
+unfolding acceptedBy
+returns c = rw (c .before .before .with-entry .ensures, c .before .with-bit .ensures)
+
+pub accepted-by-spec : {M : Type 1} → statement M
+accepted-by-spec = tie.close (tie.spec with-entry-requires with-bit-requires returns)

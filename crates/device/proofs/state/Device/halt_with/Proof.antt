@@ -1,0 +1,20 @@
+use Rattle.device.specs.After.{haltWith}
+use Rattle.device.specs.Device.{freshDevice}
+use borrow.Author.Needs.{needs}
+use Rattle.device.proofs.state.Device.halt_with.Statement.{statement}
+use Rattle.device.proofs.state.Device.halt_with.Tie as tie
+use Rattle.device.proofs.state.Device.halt_with.Reads as reads
+use Rattle.device.proofs.state.Device.halt_with.Lts as lts
+use Rattle.device.proofs.state.fresh.Reads as fresh-reads
+
+-- src/after.rt:27:13
+fresh-requires : tie.Need-fresh-requires
+fresh-requires c κs = search needs
+
+-- src/after.rt:13:5
+returns : tie.Need-returns
+unfolding haltWith freshDevice
+returns c = rw (c .before .before .fresh .ensures)
+
+pub halt-with-spec : {M : Type 1} → statement M
+halt-with-spec = tie.close (tie.spec fresh-requires returns)

@@ -1,0 +1,20 @@
+use Rattle.device.specs.Device.{freshDevice}
+use Rattle.device.specs.After.{resetHeld}
+use borrow.Author.Needs.{needs}
+use Rattle.device.proofs.state.Device.reset_held.Statement.{statement}
+use Rattle.device.proofs.state.Device.reset_held.Tie as tie
+use Rattle.device.proofs.state.Device.reset_held.Reads as reads
+use Rattle.device.proofs.state.Device.reset_held.Lts as lts
+use Rattle.device.proofs.state.fresh.Reads as fresh-reads
+
+-- src/after.rt:70:13
+fresh-requires : tie.Need-fresh-requires
+fresh-requires c κs = search needs
+
+-- src/after.rt:65:5
+returns : tie.Need-returns
+unfolding resetHeld freshDevice
+returns c = rw (c .before .fresh .ensures)
+
+pub reset-held-spec : {M : Type 1} → statement M
+reset-held-spec = tie.close (tie.spec fresh-requires returns)
