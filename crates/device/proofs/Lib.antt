@@ -2,3 +2,5 @@ pub mod Outcomes
 pub mod Calls
 pub mod Never
 pub mod Renewing
+pub mod Keeping
+pub mod Acts

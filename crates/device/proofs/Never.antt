@@ -25,13 +25,13 @@ idle-tag : (s : Settings) (t : ℕ) (b : Bool) → entryBad s zeroEntry t false 
 unfolding entryBad idleBad pick
 idle-tag s t b = refl
 
-fresh-table : (s : Settings) → tableBad s (replicate 32 zeroEntry) 0 0 ≡ false
+pub fresh-table : (s : Settings) → tableBad s (replicate 32 zeroEntry) 0 0 ≡ false
 unfolding tableBad
 fresh-table s =
     some-never (tagBad s (replicate 32 zeroEntry) 0 0) 32
     (λ t h. rw (getD-replicate 32 t zeroEntry zeroEntry h, no-bit t) (idle-tag s t (eqb 0 (t + 1))))
 
-fresh-rows : (mask : ℕ) → rowsBad mask (replicate 16 0) ≡ false
+pub fresh-rows : (mask : ℕ) → rowsBad mask (replicate 16 0) ≡ false
 unfolding rowsBad
 fresh-rows mask = some-never (rowBadAt mask (replicate 16 0)) 16 (λ row h. rw (getD-replicate {A = ℕ} 16 row 0 0 h) (and-never (not (kept mask row))))
 

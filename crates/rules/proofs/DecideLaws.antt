@@ -26,6 +26,11 @@ pub first-false : (a b : Bool) → a || b ≡ false → a ≡ false
 first-false true b e = e
 first-false false b e = refl
 
+pub second-false : (a b : Bool) → a || b ≡ false → b ≡ false
+second-false true true e = e
+second-false true false e = refl
+second-false false b e = e
+
 -- a sum compared without wrap
 pub far-test : (most first count : ℕ) → first ≤ most → ltb (most - first) count ≡ ltb most (first + count)
 far-test most first count h =

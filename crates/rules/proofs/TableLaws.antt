@@ -13,6 +13,7 @@ use lib.Seq.{getD-at, ext-getD, getD-set-same, getD-set-other}
 use borrow.Author.Tests.{eqb-true, eqb-false, ne-eqb}
 use Rattle.bits.specs.Pick.{pick}
 use Rattle.bits.proofs.Picks.{tested}
+use Rattle.rules.proofs.DecideLaws.{first-false, second-false}
 use Rattle.rules.specs.State.{zeroEntry}
 use Rattle.rules.specs.Table.{someBelow, tab, entryOf, placed}
 use Rattle.rules.specs.declared.shapes.Entry.{Entry}
@@ -40,6 +41,16 @@ some-never p (suc n) h =
     let r = some-never p n (λ i l. h i (omega arith)) in
     let e = h n (omega arith) in
     rw (r, e)
+
+-- and then none is
+pub some-absent : (p : ℕ → Bool) (n i : ℕ) → someBelow n p ≡ false → i < n → p i ≡ false
+unfolding someBelow
+some-absent p zero i e h = absurd (omega arith)
+some-absent p (suc n) i e h =
+    ⊎-elim
+    (λ q. rw q (second-false (someBelow n p) (p n) e))
+    (λ k. some-absent p n i (first-false (someBelow n p) (p n) e) k)
+    (eq-or-lt-of-le {n = i} {m = n} (omega arith))
 
 -- ---- tables by their elements
 
