@@ -25,7 +25,7 @@ pub struct Case {
 
 /// All cases in the order of their numbers.
 pub fn all() -> Vec<Case> {
-    let parts = vec![
+    together(vec![
         read::all(),
         damaged::all(),
         write::all(),
@@ -36,8 +36,17 @@ pub fn all() -> Vec<Case> {
         page11_bad::all(),
         page11_write::all(),
         small::all(),
-    ];
-    parts.into_iter().flatten().collect()
+    ])
+}
+
+/// Groups of cases, one group behind the other.
+fn together(groups: Vec<Vec<Case>>) -> Vec<Case> {
+    groups.into_iter().flatten().collect()
+}
+
+/// A case for each kind and length of the table.
+fn each_length(table: &[(u8, usize)], case: impl Fn(u8, usize) -> Case) -> Vec<Case> {
+    table.iter().map(|&(kind, length)| case(kind, length)).collect()
 }
 
 impl Case {
@@ -128,6 +137,11 @@ fn hex(text: &str) -> Vec<u8> {
 /// `start`, filled up with one byte to `length`.
 fn filled(start: &[u8], length: usize, fill: u8) -> Vec<u8> {
     start.iter().copied().chain(std::iter::repeat(fill)).take(length).collect()
+}
+
+/// A frame of this kind and length, zeros behind the kind.
+fn bare(kind: u8, length: usize) -> Vec<u8> {
+    filled(&[kind], length, 0)
 }
 
 /// A page with these bytes at these places, all else 0, and a sum byte that

@@ -1,5 +1,8 @@
-//! The examples P1 to P7, over the model.
+//! The examples P1 to P11, over the model.
 
+use crate::device::command::Command;
+use crate::device::events;
+use crate::device::host::{self, Verdict, OUT_OF_RANGE};
 use crate::frames::{self, Frame};
 use crate::pages;
 
@@ -13,13 +16,16 @@ pub fn all() -> Vec<(&'static str, bool)> {
         ("P5 that error: A1 40 41 40 00 00 00 00", p5()),
         ("P6 read setup, tag 5, 8 sectors", p6()),
         ("P7 mask 0201h, values 0 and 3: sum byte B2h, 0, 3, absent", p7()),
+        ("P8 capacity 65,536, sector 0, count field 0: good", p8()),
+        ("P9 capacity 65,536, sector 1, count field 0: 10h", p9()),
+        ("P10 capacity 64, sector 63, count 1: good", p10()),
+        ("P11 capacity 64, sector 64, count 1: 10h", p11()),
     ]
 }
 
 /// A frame with the fields named, the others 0, written into an exact buffer.
 fn frame(kind: u8, fields: &[(&str, u64)]) -> Vec<u8> {
-    let value_of = |name: &str| fields.iter().find(|f| f.0 == name).map_or(0, |f| f.1);
-    let frame = Frame::new(kind, &[], value_of);
+    let frame = Frame::with(kind, &[], fields);
     let mut bytes = vec![0; frames::layout(kind).map_or(0, |l| l.length)];
     assert_eq!(frames::write(&frame, &mut bytes), Ok(bytes.len()));
     assert_eq!(frames::read(&bytes), Ok(frame));
@@ -73,4 +79,29 @@ fn p7() -> bool {
     written == Ok(pages::PAGE)
         && page[511] == 0xB2
         && (read(0x001), read(0x00A), read(0x002)) == (Ok(Some(0)), Ok(Some(3)), Ok(None))
+}
+
+/// What an idle device of this capacity answers to a queued read of tag 0.
+/// The decision needs no medium.
+fn judged(capacity: u32, sector: u64, count_field: u8) -> Verdict {
+    let state = events::power_on(32, capacity, 0x0201).state;
+    let fields = [("C", 1), ("command", 0x60), ("lba", sector), ("features", count_field.into())];
+    let command = Command::of(&Frame::with(0x27, &[], &fields));
+    host::judge_queued(&state, &command)
+}
+
+fn p8() -> bool {
+    judged(65_536, 0, 0) == Verdict::Good
+}
+
+fn p9() -> bool {
+    judged(65_536, 1, 0) == Verdict::Halting(OUT_OF_RANGE)
+}
+
+fn p10() -> bool {
+    judged(64, 63, 1) == Verdict::Good
+}
+
+fn p11() -> bool {
+    judged(64, 64, 1) == Verdict::Halting(OUT_OF_RANGE)
 }

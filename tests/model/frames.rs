@@ -179,6 +179,14 @@ impl Frame {
         }
     }
 
+    /// A frame of a known kind with the fields named, the others 0.
+    pub fn with(kind: u8, payload: &[u8], fields: &[(&str, u64)]) -> Frame {
+        let known = layout(kind).map_or(&[][..], |l| l.fields);
+        assert!(fields.iter().all(|f| known.iter().any(|k| k.name == f.0)));
+        let value_of = |name: &str| fields.iter().find(|f| f.0 == name).map_or(0, |f| f.1);
+        Frame::new(kind, payload, value_of)
+    }
+
     /// The value of a field that this kind has.
     pub fn get(&self, name: &str) -> u64 {
         let fields = layout(self.kind).expect("a known kind").fields;

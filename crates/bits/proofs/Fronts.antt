@@ -33,17 +33,22 @@ over-yes s d h = pick-yes (leb (length s) (length d)) (laid s d) d (le-leb (leng
 pub front-all : (i : ℕ) (s d t : List ℕ) → i ≡ length s → length s ≤ length d → t ≡ take i s ++ drop i d → t ≡ over s d
 front-all i s d t e h q = q ∙ rw (e, take-length, over-yes s d h)
 
+-- the part from n on, and another list in its place
+pub rest-part : (n : ℕ) (l : List ℕ) → midOf n (length l - n) l ≡ drop n l
+rest-part n l = take-all (length l - n) (drop n l) (le-of-eq (length-drop n l))
+
+pub rest-put : (n : ℕ) (l ys : List ℕ) → putMid n (length l - n) l ys ≡ take n l ++ ys
+rest-put n l ys = ap (λ (z : List ℕ). take n l ++ (ys ++ z)) (drop-of-length-le (drop n l) (le-of-eq (length-drop n l))) ∙ ap (λ (z : List ℕ). take n l ++ z) (append-nil ys)
+
 -- one behind the other: p stands in the first n places of xs, and q is laid over the part that p left
 pub laid-next : (n : ℕ) (p q l xs ys : List ℕ) → length p ≡ n → xs ≡ laid p l → ys ≡ laid q (midOf n (length xs - n) xs)
     → putMid n (length xs - n) xs ys ≡ laid (p ++ q) l
 laid-next n p q l xs ys e x y =
     let x′ : xs ≡ p ++ drop n l = x ∙ rw e in
     let d : drop n xs ≡ drop n l = ap (drop n) x′ ∙ drop-at p (drop n l) n e in
-    let k : length (drop n xs) ≡ length xs - n = length-drop n xs in
     let t : take n xs ≡ p = ap (take n) x′ ∙ take-at p (drop n l) n e in
-    let mid : midOf n (length xs - n) xs ≡ drop n l = take-all (length xs - n) (drop n xs) (le-of-eq k) ∙ d in
-    let post : drop (length xs - n) (drop n xs) ≡ [] = drop-of-length-le (drop n xs) (le-of-eq k) in
+    let mid : midOf n (length xs - n) xs ≡ drop n l = rest-part n xs ∙ d in
     let y′ : ys ≡ q ++ drop (n + length q) l = y ∙ ap (λ (z : List ℕ). q ++ z) (ap (drop (length q)) mid ∙ drop-drop (length q) n l) in
     let w : length (p ++ q) ≡ n + length q = length-append p q ∙ ap (λ (m : ℕ). m + length q) e in
-    ap₂ (λ (a b : List ℕ). a ++ b) t (ap (λ (z : List ℕ). ys ++ z) post ∙ append-nil ys ∙ y′)
+    rest-put n xs ys ∙ ap₂ (λ (a b : List ℕ). a ++ b) t y′
     ∙ sym (append-assoc p q (drop (n + length q) l)) ∙ sym (ap (λ (m : ℕ). (p ++ q) ++ drop m l) w)

@@ -5,7 +5,7 @@ use mathlib.Core.List.{List}
 use Prim.Native.Nat.{ℕ, _+_, min}
 use lib.Dec.{leb}
 use lib.ListN.{length, getD}
-use Rattle.bits.specs.Bit.{bitIn, withBitIn, withoutBitIn}
+use Rattle.bits.specs.Bit.{bitIn, withBitIn, withoutBitIn, clearIn}
 use Rattle.bits.specs.Little.{byteOf, Number}
 use Rattle.bits.specs.Laid.{over}
 
@@ -20,6 +20,7 @@ Lays s d r d′ = (r ≡ leb (length s) (length d)) × (d′ ≡ over s d)
 pub unique : ((m t : ℕ) (r r′ : Bool) → r ≡ bitIn 32 m t → r′ ≡ bitIn 32 m t → r ≡ r′)
     × ((m t : ℕ) (r r′ : ℕ) → r ≡ withBitIn 32 m t → r′ ≡ withBitIn 32 m t → r ≡ r′)
     × ((m t : ℕ) (r r′ : ℕ) → r ≡ withoutBitIn 32 m t → r′ ≡ withoutBitIn 32 m t → r ≡ r′)
+    × ((m s : ℕ) (r r′ : ℕ) → r ≡ clearIn 32 m s → r′ ≡ clearIn 32 m s → r ≡ r′)
     × ((s : List ℕ) (at i : ℕ) (r r′ : ℕ) → r ≡ getD s (at + i) 0 → r′ ≡ getD s (at + i) 0 → r ≡ r′)
     × ((s : List ℕ) (at n : ℕ) (r r′ : ℕ) → Number s at (min n 8) r → Number s at (min n 8) r′ → r ≡ r′)
     × ((x k : ℕ) (r r′ : ℕ) → r ≡ byteOf x k → r′ ≡ byteOf x k → r ≡ r′)
@@ -28,6 +29,7 @@ unique = (
   λ m t r r′ p q. same p q,
   λ m t r r′ p q. same p q,
   λ m t r r′ p q. same p q,
+  λ m s r r′ p q. same p q,
   λ s at i r r′ p q. same p q,
   λ s at n r r′ p q. same (p .value) (q .value),
   λ x k r r′ p q. same p q,

@@ -17,6 +17,10 @@ withBitIn w m t = pick (ltb t w) (bitOr m (2 ^ t)) m
 abbrev pub withoutBitIn : ℕ → ℕ → ℕ → ℕ
 withoutBitIn w m t = pick (ltb t w) (bitAnd m ((2 ^ w - 1) - 2 ^ t)) m
 
+-- m with all bits of s off
+abbrev pub clearIn : ℕ → ℕ → ℕ → ℕ
+clearIn w m s = bitAnd m ((2 ^ w - 1) - s)
+
 -- 2 ^ k where the flag is on, else 0
 abbrev pub bitByte : Bool → ℕ → ℕ
 bitByte true k = 2 ^ k

@@ -9,4 +9,5 @@ pub use little::byte_at;
 pub use little::le;
 pub use mask::bit;
 pub use mask::with_bit;
+pub use mask::without;
 pub use mask::without_bit;

@@ -1,6 +1,6 @@
 // Single bits of a mask. An index of 32 or more names no bit.
 ghost use mathlib.Core.Path.{_≡_};
-ghost use Rattle.bits.specs.Bit.{bitIn, withBitIn, withoutBitIn};
+ghost use Rattle.bits.specs.Bit.{bitIn, withBitIn, withoutBitIn, clearIn};
 
 // Bit t of m.
 pub fn bit(m: u32, t: u32) -> bool
@@ -30,4 +30,11 @@ pub fn without_bit(m: u32, t: u32) -> u32
         return m;
     }
     m & !(1 << t)
+}
+
+// m with all bits of s off.
+pub fn without(m: u32, s: u32) -> u32
+    ensures { λ r. ⌜ r ≡ clearIn 32 m s ⌝ }
+{
+    m & !s
 }

@@ -1,28 +1,24 @@
--- A taken link event or COMRESET never makes a state that contradicts itself. Assumes nothing.
+-- A taken link event never makes a state that contradicts itself. Assumes nothing.
 use mathlib.Core.Path.{_≡_}
 use mathlib.Core.Bool.{true, false, not, _||_}
 use mathlib.Core.List.{List}
 use mathlib.Core.Logic.{⊎-elim}
-use Prim.Native.Nat.{ℕ, _<_}
+use Prim.Native.Nat.{ℕ}
 use lib.Dec.{eqb, ltb, leb, lit<}
 use lib.ListN.{getD, set}
 use lib.Seq.{getD-set-other}
-use borrow.Author.Tests.{eqb-true, eqb-false}
+use borrow.Author.Tests.{not-false, eqb-true, eqb-false}
 use Rattle.bits.specs.Pick.{pick}
 use Rattle.bits.proofs.Firsts as firsts
-use Rattle.bits.proofs.Picks.{tested, and-right}
+use Rattle.bits.proofs.Picks.{tested, and-left, and-right, or-left, or-right}
 use Rattle.pages.specs.Rows.{kept, keepsBoth}
-use Rattle.rules.specs.Counts.{bumped}
-use Rattle.rules.specs.Ladders.{linkLadder, comresetLadder}
-use Rattle.rules.specs.Clauses.{settingsOut, tableBad, flowBad, recordBad, rowBadAt, rowsBad, contradictory}
-use Rattle.rules.proofs.TableLaws.{some-never, some-absent}
-use Rattle.rules.proofs.DecideLaws.{first-false, second-false}
+use Rattle.ladders.specs.Counts.{bumped}
+use Rattle.ladders.specs.Ladders.{linkLadder}
+use Rattle.states.specs.Clauses.{settingsOut, tableBad, flowBad, recordBad, rowBadAt, rowsBad, contradictory, rowRefused}
+use Rattle.states.proofs.TableLaws.{some-never, some-absent}
 use Rattle.device.specs.Device.{contradictoryDevice}
-use Rattle.device.specs.Events.{rowRefused, withValue, linkStep}
-use Rattle.device.specs.Reset.{renewed, comresetStep}
+use Rattle.device.specs.Events.{withValue, linkStep}
 use Rattle.device.specs.declared.state.Device.{Device}
-use Rattle.device.proofs.Outcomes.{on}
-use Rattle.device.proofs.Never.{fresh-table}
 
 -- another value at a row that is kept
 kept-rows : (mask : ℕ) (values : List ℕ) (row v : ℕ) → kept mask row ≡ true → rowsBad mask values ≡ false → rowsBad mask (set values row v) ≡ false
@@ -39,7 +35,7 @@ kept-rows mask values row v k h =
 pub rows-good : (d : Device) → contradictoryDevice d ≡ false → rowsBad (d .settings .mask) (d .values) ≡ false
 unfolding contradictoryDevice contradictory
 rows-good d h =
-    second-false
+    or-right
     ((settingsOut (d .settings) || tableBad (d .settings) (d .entries) (d .flow .outstanding) (d .flow .phase)) || (flowBad (d .flow) (d .errors .set) || recordBad (d .errors)))
     (rowsBad (d .settings .mask) (d .values))
     h
@@ -48,7 +44,7 @@ pub rest-good : (d : Device) → contradictoryDevice d ≡ false
     → (settingsOut (d .settings) || tableBad (d .settings) (d .entries) (d .flow .outstanding) (d .flow .phase)) || (flowBad (d .flow) (d .errors .set) || recordBad (d .errors)) ≡ false
 unfolding contradictoryDevice contradictory
 rest-good d h =
-    first-false
+    or-left
     ((settingsOut (d .settings) || tableBad (d .settings) (d .entries) (d .flow .outstanding) (d .flow .phase)) || (flowBad (d .flow) (d .errors .set) || recordBad (d .errors)))
     (rowsBad (d .settings .mask) (d .values))
     h
@@ -57,18 +53,26 @@ pub settings-good : (d : Device) → contradictoryDevice d ≡ false → setting
 settings-good d h =
     let r = rest-good d h in
     let bad = settingsOut (d .settings) || tableBad (d .settings) (d .entries) (d .flow .outstanding) (d .flow .phase) in
-    first-false (settingsOut (d .settings)) (tableBad (d .settings) (d .entries) (d .flow .outstanding) (d .flow .phase))
-    (first-false bad (flowBad (d .flow) (d .errors .set) || recordBad (d .errors)) r)
+    or-left (settingsOut (d .settings)) (tableBad (d .settings) (d .entries) (d .flow .outstanding) (d .flow .phase))
+    (or-left bad (flowBad (d .flow) (d .errors .set) || recordBad (d .errors)) r)
 
-resets-kept : (d : Device) → contradictoryDevice d ≡ false → kept (d .settings .mask) 9 ≡ true
+-- the mask keeps what it must
+pub both-kept : (d : Device) → contradictoryDevice d ≡ false → keepsBoth (d .settings .mask) ≡ true
 unfolding settingsOut
-resets-kept d h =
-    and-right (kept (d .settings .mask) 0) (kept (d .settings .mask) 9)
-    (on (keepsBoth (d .settings .mask))
-    (second-false ((ltb (d .settings .depth) 1 || ltb 32 (d .settings .depth)) || (ltb (d .settings .capacity) 1 || ltb 65536 (d .settings .capacity)))
-    (not (keepsBoth (d .settings .mask))) (settings-good d h)))
+both-kept d h =
+    not-false (keepsBoth (d .settings .mask))
+    (or-right ((ltb (d .settings .depth) 1 || ltb 32 (d .settings .depth)) || (ltb (d .settings .capacity) 1 || ltb 65536 (d .settings .capacity)))
+    (not (keepsBoth (d .settings .mask))) (settings-good d h))
 
-counted-good : (d : Device) (row : ℕ) → contradictoryDevice d ≡ false → kept (d .settings .mask) row ≡ true → contradictoryDevice (withValue d row) ≡ false
+-- rows 0 and 9 are kept
+pub first-kept : (d : Device) → contradictoryDevice d ≡ false → kept (d .settings .mask) 0 ≡ true
+first-kept d h = and-left (kept (d .settings .mask) 0) (kept (d .settings .mask) 9) (both-kept d h)
+
+pub resets-kept : (d : Device) → contradictoryDevice d ≡ false → kept (d .settings .mask) 9 ≡ true
+resets-kept d h = and-right (kept (d .settings .mask) 0) (kept (d .settings .mask) 9) (both-kept d h)
+
+-- one more at a row that is kept
+pub counted-good : (d : Device) (row : ℕ) → contradictoryDevice d ≡ false → kept (d .settings .mask) row ≡ true → contradictoryDevice (withValue d row) ≡ false
 unfolding contradictoryDevice contradictory withValue pick
 counted-good d row h k =
     ⊎-elim
@@ -84,18 +88,6 @@ never-contradicts-link d row z =
     let refused = none 1 (lit< tt) in
     rw z
     (counted-good d row (none 0 (lit< tt))
-    (on (kept (d .settings .mask) row)
-    (second-false (ltb 15 row) (not (kept (d .settings .mask) row))
-    (second-false (eqb row 0 || eqb row 9) (ltb 15 row || not (kept (d .settings .mask) row)) refused))))
-
-renewed-good : (d : Device) → contradictoryDevice d ≡ false → contradictoryDevice (renewed d) ≡ false
-unfolding contradictoryDevice contradictory renewed flowBad recordBad
-renewed-good d h =
-    rw (settings-good d h, fresh-table (d .settings))
-    (kept-rows (d .settings .mask) (d .values) 9 (bumped (getD (d .values) 9 0) 1) (resets-kept d h) (rows-good d h))
-
--- COMRESET
-pub never-contradicts-comreset : (d : Device) (room : ℕ) → comresetStep d room .refusal ≡ 0 → contradictoryDevice (comresetStep d room .state) ≡ false
-unfolding comresetStep pick
-never-contradicts-comreset d room z =
-    rw z (renewed-good d (firsts.first-exactly (comresetLadder (contradictoryDevice d) (ltb room 8196)) tt .none .0 z 0 (lit< tt)))
+    (not-false (kept (d .settings .mask) row)
+    (or-right (ltb 15 row) (not (kept (d .settings .mask) row))
+    (or-right (eqb row 0 || eqb row 9) (ltb 15 row || not (kept (d .settings .mask) row)) refused))))

@@ -3,25 +3,29 @@ use mathlib.Core.Path.{_≡_, refl}
 use mathlib.Core.Bool.{Bool, true, false, not, _&&_}
 use Prim.Native.Nat.{ℕ, _+_, _^_}
 use native.Mathlib.Nat.{zero-div}
-use lib.Dec.{eqb, ltb}
+use lib.Dec.{eqb, ltb, lit<}
 use lib.ListN.{replicate, getD-replicate}
 use Rattle.bits.specs.Pick.{pick}
 use Rattle.bits.specs.Bit.{bitIn}
 use Rattle.pages.specs.Rows.{kept}
-use Rattle.rules.specs.State.{zeroEntry}
-use Rattle.rules.specs.Clauses.{settingsOut, entryBad, idleBad, tagBad, tableBad, flowBad, recordBad, rowBadAt, rowsBad, contradictory}
-use Rattle.rules.specs.declared.shapes.Settings.{Settings}
-use Rattle.rules.proofs.TableLaws.{some-never}
-use Rattle.device.specs.Device.{freshDevice, contradictoryDevice}
+use Rattle.states.specs.State.{zeroEntry}
+use Rattle.states.specs.Clauses.{settingsOut, entryBad, idleBad, tagBad, tableBad, flowBad, recordBad, rowBadAt, rowsBad, contradictory}
+use Rattle.states.specs.declared.shapes.Settings.{Settings}
+use Rattle.states.proofs.TableLaws.{some-never}
+use Rattle.device.specs.Device.{freshDevice, zeroDevice, contradictoryDevice, powerOn}
+use Rattle.bits.proofs.Firsts as firsts
+use Rattle.ladders.specs.Ladders.{powerLadder}
 
-and-never : (b : Bool) → b && false ≡ false
+-- a test that nothing can hold beside
+pub and-never : (b : Bool) → b && false ≡ false
 and-never true = refl
 and-never false = refl
 
 no-bit : (t : ℕ) → bitIn 32 0 t ≡ false
 no-bit t = rw (zero-div (2 ^ t)) (and-never (ltb t 32))
 
-idle-tag : (s : Settings) (t : ℕ) (b : Bool) → entryBad s zeroEntry t false b ≡ false
+-- an idle tag with a zero entry
+pub idle-tag : (s : Settings) (t : ℕ) (b : Bool) → entryBad s zeroEntry t false b ≡ false
 unfolding entryBad idleBad pick
 idle-tag s t b = refl
 
@@ -39,3 +43,13 @@ fresh-rows mask = some-never (rowBadAt mask (replicate 16 0)) 16 (λ row h. rw (
 pub never-contradicts : (s : Settings) → settingsOut s ≡ false → contradictoryDevice (freshDevice s) ≡ false
 unfolding contradictoryDevice freshDevice contradictory flowBad recordBad
 never-contradicts s h = rw (h, fresh-table s, fresh-rows (s .mask))
+
+-- what a refused power-on hands back: every later call on it is refused with 1
+pub zeros-contradict : contradictoryDevice zeroDevice ≡ true
+unfolding contradictoryDevice freshDevice contradictory settingsOut
+zeros-contradict = refl
+
+-- power-on, taken
+pub never-contradicts-power : (s : Settings) → powerOn s .refusal ≡ 0 → contradictoryDevice (powerOn s .state) ≡ false
+unfolding powerOn pick
+never-contradicts-power s z = rw z (never-contradicts s (firsts.first-exactly (powerLadder (settingsOut s)) tt .none .0 z 0 (lit< tt)))

@@ -1,20 +1,21 @@
--- The state after a host frame's act. Assumes nothing.
+-- The state after an act. Assumes nothing.
 use mathlib.Core.Bool.{Bool, true, false}
 use mathlib.Core.List.{List}
+use Prim.Native.Nat.{ℕ, _+_}
 use lib.ListN.{replicate}
 use Rattle.bits.specs.Pick.{pick}
-use Rattle.bits.specs.Bit.{withBitIn}
-use Rattle.rules.specs.State.{zeroEntry, blankRecord}
-use Rattle.rules.specs.Table.{placed}
-use Rattle.rules.specs.declared.shapes.Flow.{Flow}
-use Rattle.rules.specs.declared.shapes.Entry.{Entry}
-use Rattle.rules.specs.declared.shapes.ErrorRecord.{ErrorRecord}
+use Rattle.bits.specs.Bit.{bitIn, withBitIn, clearIn}
+use Rattle.states.specs.State.{zeroEntry, blankRecord}
+use Rattle.states.specs.Table.{placed, cleared}
+use Rattle.states.specs.declared.shapes.Flow.{Flow}
+use Rattle.states.specs.declared.shapes.Entry.{Entry}
+use Rattle.states.specs.declared.shapes.ErrorRecord.{ErrorRecord}
 use Rattle.rules.specs.declared.acts.Fault.{Fault}
 use Rattle.rules.specs.declared.acts.Queued.{Queued}
-use Rattle.rules.specs.declared.acts.Store.{Store}
+use Rattle.rules.specs.declared.acts.Move.{Move}
 use Rattle.rules.specs.declared.acts.Act.{Act}
-use Rattle.rules.specs.declared.acts.Act.the-variants.{Refuse, Nothing, Answer, Halt, Accept, Log10, Log11, Reset, Release, Zero, Keep}
-use Rattle.device.specs.Events.{withValues}
+use Rattle.rules.specs.declared.acts.Act.the-variants.{Refuse, Nothing, Answer, Halt, Accept, Log10, Log11, Reset, Release, Zero, Keep, Open, Send, Finish, Media}
+use Rattle.device.specs.Events.{withValues, withValue}
 use Rattle.device.specs.declared.state.Device.{Device}
 
 -- the same settings and counters, nothing outstanding, no phase open
@@ -29,7 +30,7 @@ emptied d halted held record′ = record {
 
 -- halt: every outstanding command is given up, an open phase closes, the error record is set
 unfoldable pub haltWith : Device → Fault → Device
-haltWith d f = emptied d true (d .flow .held) (record { set = true; nq = f .nq; tag = f .tag; error = f .error; echo = f .echo })
+haltWith d f = emptied d true false (record { set = true; nq = f .nq; tag = f .tag; error = f .error; echo = f .echo })
 
 -- another flow and table
 abbrev pub withFlow : Device → Flow → List Entry → Device
@@ -57,11 +58,25 @@ resetHeld d = emptied d false true blankRecord
 unfoldable pub released : Device → Device
 released d = withFlow d (record { outstanding = d .flow .outstanding; phase = d .flow .phase; halted = d .flow .halted; held = false }) (d .entries)
 
--- host data: what has moved; at nothing left the phase closes
-unfoldable pub storedBy : Device → Store → Device
-storedBy d s =
-    withFlow d (record { outstanding = d .flow .outstanding; phase = pick (s .last) 0 (d .flow .phase); halted = d .flow .halted; held = d .flow .held })
-    (placed (d .entries) (s .tag) (s .entry))
+-- what has moved; at nothing left the phase closes
+unfoldable pub movedBy : Device → Move → Device
+movedBy d m =
+    withFlow d (record { outstanding = d .flow .outstanding; phase = pick (m .last) 0 (d .flow .phase); halted = d .flow .halted; held = d .flow .held })
+    (placed (d .entries) (m .tag) (m .entry))
+
+-- the phase of a tag is open
+unfoldable pub openedFor : Device → ℕ → Device
+openedFor d tag = withFlow d (record { outstanding = d .flow .outstanding; phase = tag + 1; halted = d .flow .halted; held = d .flow .held }) (d .entries)
+
+-- the commands of a set are finished
+unfoldable pub finishedBy : Device → ℕ → Device
+finishedBy d set =
+    withFlow d (record { outstanding = clearIn 32 (d .flow .outstanding) set; phase = d .flow .phase; halted = d .flow .halted; held = d .flow .held })
+    (cleared (d .entries) set)
+
+-- media error: halt; error bit 7 adds one to counter 001h
+unfoldable pub failedBy : Device → Fault → Device
+failedBy d f = haltWith (pick (bitIn 8 (f .error) 7) (withValue d 0) d) f
 
 -- by the act
 unfoldable pub afterOf : Device → Act → Device
@@ -75,4 +90,8 @@ afterOf d (Log11 l) = zeroedIf d (l .also)
 afterOf d Reset = resetHeld d
 afterOf d Release = released d
 afterOf d Zero = zeroedIf d true
-afterOf d (Keep s) = storedBy d s
+afterOf d (Keep m) = movedBy d m
+afterOf d (Open q) = openedFor d (q .tag)
+afterOf d (Send m) = movedBy d m
+afterOf d (Finish set) = finishedBy d set
+afterOf d (Media f) = failedBy d f

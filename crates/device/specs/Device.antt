@@ -5,10 +5,10 @@ use lib.Dec.{eqb}
 use lib.ListN.{replicate}
 use Rattle.bits.specs.Pick.{pick}
 use Rattle.bits.specs.First.{firstOf}
-use Rattle.rules.specs.State.{zeroEntry, blankRecord}
-use Rattle.rules.specs.Clauses.{settingsOut, contradictory}
-use Rattle.rules.specs.Ladders.{powerLadder}
-use Rattle.rules.specs.declared.shapes.Settings.{Settings}
+use Rattle.states.specs.State.{zeroEntry, blankRecord}
+use Rattle.states.specs.Clauses.{settingsOut, contradictory}
+use Rattle.ladders.specs.Ladders.{powerLadder}
+use Rattle.states.specs.declared.shapes.Settings.{Settings}
 use Rattle.device.specs.declared.state.Device.{Device}
 use Rattle.device.specs.declared.state.Outcome.{Outcome}
 

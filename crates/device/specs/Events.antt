@@ -1,21 +1,16 @@
 -- Device events. Assumes nothing.
-use mathlib.Core.Bool.{Bool, not, _||_}
 use mathlib.Core.List.{List}
 use Prim.Native.Nat.{ℕ}
-use lib.Dec.{eqb, ltb, leb}
+use lib.Dec.{eqb, leb}
 use lib.ListN.{getD, set}
 use Rattle.bits.specs.Pick.{pick}
 use Rattle.bits.specs.First.{firstOf}
-use Rattle.pages.specs.Rows.{kept}
-use Rattle.rules.specs.Counts.{bumped}
-use Rattle.rules.specs.Ladders.{linkLadder}
+use Rattle.states.specs.Clauses.{rowRefused}
+use Rattle.ladders.specs.Counts.{bumped}
+use Rattle.ladders.specs.Ladders.{linkLadder}
 use Rattle.device.specs.Device.{contradictoryDevice}
 use Rattle.device.specs.declared.state.Device.{Device}
 use Rattle.device.specs.declared.state.Outcome.{Outcome}
-
--- 13: row 0, row 9, above 15, or not kept
-abbrev pub rowRefused : ℕ → ℕ → Bool
-rowRefused mask row = (eqb row 0 || eqb row 9) || (ltb 15 row || not (kept mask row))
 
 -- the state with other counters
 abbrev pub withValues : Device → List ℕ → Device

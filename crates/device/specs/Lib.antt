@@ -1,5 +1,10 @@
 pub mod Device
 pub mod Events
 pub mod Step
-pub mod Reset
 pub mod After
+pub mod Reset
+pub mod Calls
+pub mod Counter
+pub mod Sized
+pub mod Ones
+pub mod Example

@@ -1,13 +1,14 @@
-// The state after a host frame's act.
+// The state after an act.
 ghost use mathlib.Core.Path.{_≡_};
-ghost use Rattle.device.specs.After.{haltWith, acceptedBy, unhalted, zeroedIf, resetHeld, released, storedBy, afterOf};
+ghost use Rattle.device.specs.After.{haltWith, acceptedBy, unhalted, zeroedIf, resetHeld, released, movedBy, openedFor, finishedBy, failedBy, afterOf};
+use crate::events::counted;
 use crate::state::Device;
 use crate::state::fresh;
 use rules::Act;
-use rules::ErrorRecord;
 use rules::Fault;
+use rules::Move;
 use rules::Queued;
-use rules::Store;
+use states::ErrorRecord;
 
 impl Device {
     fn halt_with(mut self, f: Fault) -> Device
@@ -15,7 +16,6 @@ impl Device {
     {
         let settings = self.settings;
         let values = self.values;
-        let held = self.flow.held;
         let echo = f.echo;
         let errors = ErrorRecord {
             set: true,
@@ -26,7 +26,6 @@ impl Device {
         };
         let mut state = fresh(settings);
         state.flow.halted = true;
-        state.flow.held = held;
         state.errors = errors;
         state.values = values;
         state
@@ -37,8 +36,9 @@ impl Device {
     {
         let old = self.entries;
         let e = q.entry;
-        let entries = rules::with_entry(old, q.tag, e);
-        let outstanding = bits::with_bit(self.flow.outstanding, q.tag);
+        let tag = q.tag as u32;
+        let entries = states::with_entry(old, tag, e);
+        let outstanding = bits::with_bit(self.flow.outstanding, tag);
         self.entries = entries;
         self.flow.outstanding = outstanding;
         self
@@ -80,36 +80,68 @@ impl Device {
         self
     }
 
-    fn stored_by(mut self, s: Store) -> Device
-        ensures { λ r. ⌜ r ≡ storedBy self s ⌝ }
+    fn moved_by(mut self, m: Move) -> Device
+        ensures { λ r. ⌜ r ≡ movedBy self m ⌝ }
     {
         let old = self.entries;
-        let e = s.entry;
-        let entries = rules::with_entry(old, s.tag, e);
+        let e = m.entry;
+        let entries = states::with_entry(old, m.tag, e);
         self.entries = entries;
-        if s.last {
+        if m.last {
             self.flow.phase = 0;
             return self;
         }
         self
     }
 
-    // By the act: one function for each thing that changes.
-    fn after(self, act: Act) -> Device
-        ensures { λ r. ⌜ r ≡ afterOf self act ⌝ }
+    fn opened_for(mut self, tag: u8) -> Device
+        ensures { λ r. ⌜ r ≡ openedFor self tag ⌝ }
     {
-        match act {
-            Act::Refuse(_) => self,
-            Act::Nothing => self,
-            Act::Answer(_) => self,
-            Act::Halt(f) => self.halt_with(f),
-            Act::Accept(q) => self.accepted_by(q),
-            Act::Log10(_) => self.unhalted(),
-            Act::Log11(l) => self.zeroed_if(l.also),
-            Act::Reset => self.reset_held(),
-            Act::Release => self.released(),
-            Act::Zero => self.zeroed_if(true),
-            Act::Keep(s) => self.stored_by(s),
+        let phase = (tag as u32) + 1;
+        self.flow.phase = phase;
+        self
+    }
+
+    fn finished_by(mut self, set: u32) -> Device
+        ensures { λ r. ⌜ r ≡ finishedBy self set ⌝ }
+    {
+        let old = self.entries;
+        let entries = states::cleared(old, set);
+        let outstanding = bits::without(self.flow.outstanding, set);
+        self.entries = entries;
+        self.flow.outstanding = outstanding;
+        self
+    }
+
+    fn failed_by(self, f: Fault) -> Device
+        ensures { λ r. ⌜ r ≡ failedBy self f ⌝ }
+    {
+        if wire::flag(f.error, 7) {
+            return counted(self, 0).halt_with(f);
         }
+        self.halt_with(f)
+    }
+}
+
+// By the act: one function for each thing that changes.
+pub fn after(d: Device, act: Act) -> Device
+    ensures { λ r. ⌜ r ≡ afterOf d act ⌝ }
+{
+    match act {
+        Act::Refuse(_) => d,
+        Act::Nothing => d,
+        Act::Answer(_) => d,
+        Act::Halt(f) => d.halt_with(f),
+        Act::Accept(q) => d.accepted_by(q),
+        Act::Log10(_) => d.unhalted(),
+        Act::Log11(l) => d.zeroed_if(l.also),
+        Act::Reset => d.reset_held(),
+        Act::Release => d.released(),
+        Act::Zero => d.zeroed_if(true),
+        Act::Keep(m) => d.moved_by(m),
+        Act::Open(q) => d.opened_for(q.tag),
+        Act::Send(m) => d.moved_by(m),
+        Act::Finish(set) => d.finished_by(set),
+        Act::Media(f) => d.failed_by(f),
     }
 }

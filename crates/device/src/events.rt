@@ -1,39 +1,31 @@
 // Device events.
 ghost use mathlib.Core.Path.{_≡_};
-ghost use Rattle.device.specs.Events.{rowRefused, linkStep, withValue};
+ghost use Rattle.device.specs.Events.{linkStep, withValue};
 use crate::state::Device;
 use crate::state::Outcome;
 
-// Row 0, row 9, above 15, or not kept.
-fn row_refused(mask: u16, row: u8) -> bool
-    ensures { λ r. ⌜ r ≡ rowRefused mask row ⌝ }
+// One row's counter has one event more.
+pub fn counted(mut d: Device, row: u8) -> Device
+    ensures { λ r. ⌜ r ≡ withValue d row ⌝ }
 {
-    let kept = pages::is_kept(mask, row as usize);
-    ((row == 0) | (row == 9)) | ((15 < row) | !kept)
+    if 16 <= row {
+        return d;
+    }
+    let i = row as usize;
+    let v = d.values[i];
+    let next = ladders::bump(v, 1);
+    d.values[i] = next;
+    d
 }
 
 impl Device {
-    // One row's counter has one event more.
-    fn counted(mut self, row: u8) -> Device
-        ensures { λ r. ⌜ r ≡ withValue self row ⌝ }
-    {
-        if 16 <= row {
-            return self;
-        }
-        let i = row as usize;
-        let v = self.values[i];
-        let next = rules::bump(v, 1);
-        self.values[i] = next;
-        self
-    }
-
     // Link event: adds one to that counter.
     pub fn link_event(mut self, row: u8) -> Outcome
         ensures { λ r. ⌜ r ≡ linkStep self row ⌝ }
     {
         let mask = self.settings.mask;
         let bad = self.contradicts();
-        let refusal = rules::link_number(bad, row_refused(mask, row));
+        let refusal = ladders::link_number(bad, states::row_refused(mask, row));
         if !(refusal == 0) {
             return Outcome {
                 state: self,
@@ -41,7 +33,7 @@ impl Device {
                 len: 0,
             };
         }
-        let state = self.counted(row);
+        let state = counted(self, row);
         Outcome {
             state,
             refusal,

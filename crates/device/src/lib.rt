@@ -1,5 +1,7 @@
 // The device: a state that goes in by value and is handed back by each call.
 mod after;
+mod calls;
+mod counter;
 mod events;
 mod resets;
 mod state;

@@ -14,7 +14,7 @@ impl Device {
     {
         let settings = self.settings;
         let v = self.values[9];
-        let next = rules::bump(v, 1);
+        let next = ladders::bump(v, 1);
         let mut values = self.values;
         values[9] = next;
         let mut state = fresh(settings);
@@ -27,7 +27,7 @@ impl Device {
         ensures { λ r. ⌜ Answered (comresetStep self (length (now (reply .entry)))) (now (reply .entry)) r (now (reply .exit)) ⌝ }
     {
         let bad = self.contradicts();
-        let refusal = rules::comreset_number(bad, reply.len() < 8196);
+        let refusal = ladders::comreset_number(bad, reply.len() < Device::REPLY_SIZE);
         if !(refusal == 0) {
             return Outcome {
                 state: self,
@@ -38,7 +38,7 @@ impl Device {
         let errors = self.errors;
         let mask = self.settings.mask;
         let values = self.values;
-        let len = replies::emit(reply, Act::Release, errors, mask, values);
+        let len = replies::emit(reply, Act::Release, errors, mask, values, b"");
         let state = self.renewed();
         Outcome {
             state,

@@ -1,16 +1,16 @@
 // What the device is, its limits, and how it begins.
 ghost use mathlib.Core.Path.{_≡_};
 ghost use Rattle.device.specs.Device.{contradictoryDevice, zeroDevice, freshDevice, powerOn};
-use rules::Entry;
-use rules::ErrorRecord;
-use rules::Flow;
-use rules::Settings;
+use states::Entry;
+use states::ErrorRecord;
+use states::Flow;
+use states::Settings;
 
-// Settings, what is under way, the entry of each tag, the error record, and the counters by row.
+// Settings, what is under way, the entry of each tag, the error record, and the counters by row: a row that is not kept holds 0 here, and is absent to `counter` and on page 11h.
 pub struct Device {
     pub settings: Settings,
     pub flow: Flow,
-    pub entries: [Entry; 32],
+    pub entries: [Entry; Settings::ENTRIES],
     pub errors: ErrorRecord,
     pub values: [u32; 16],
 }
@@ -32,9 +32,9 @@ pub fn fresh(settings: Settings) -> Device
         halted: false,
         held: false,
     };
-    let e = rules::idle_entry();
-    let entries = [e; 32];
-    let errors = rules::no_record();
+    let e = states::idle_entry();
+    let entries = [e; Settings::ENTRIES];
+    let errors = states::no_record();
     let values = [0u32; 16];
     Device {
         settings,
@@ -57,11 +57,19 @@ fn zeros() -> Device
 }
 
 impl Device {
+    pub const DEPTH_LIMIT: u32 = Settings::DEPTH_LIMIT;
+
+    pub const SECTOR_SIZE: usize = Settings::SECTOR_SIZE;
+
+    pub const FRAME_SIZE: usize = Settings::FRAME_SIZE;
+
+    pub const REPLY_SIZE: usize = Settings::REPLY_SIZE;
+
     // Power-on: refused, it hands back all zeros.
     pub fn power_on(settings: Settings) -> Outcome
         ensures { λ r. ⌜ r ≡ powerOn settings ⌝ }
     {
-        let refusal = rules::power_number(rules::settings_out(settings));
+        let refusal = ladders::power_number(states::settings_out(settings));
         if !(refusal == 0) {
             let state = zeros();
             return Outcome {
@@ -87,6 +95,6 @@ impl Device {
         let entries = self.entries;
         let errors = self.errors;
         let values = self.values;
-        rules::contradicts(settings, flow, entries, errors, values)
+        states::contradicts(settings, flow, entries, errors, values)
     }
 }

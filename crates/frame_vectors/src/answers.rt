@@ -1,15 +1,12 @@
 // One case, taken apart by its op.
-use crate::printing::next;
-use crate::printing::number;
-use crate::printing::word;
 use crate::reads;
 use crate::writes;
 use crate::writes::filled;
 use pages::Place;
-
-fn two(s: &[u8], at: usize) -> u16 {
-    bits::le(s, at, 2) as u16
-}
+use printing::next;
+use printing::number;
+use printing::two;
+use printing::word;
 
 // The input is n bytes long: the body's, and every further byte is the fill.
 fn read_case(op: u8, fill: u8, n: usize, asked: u16, body: &[u8]) {

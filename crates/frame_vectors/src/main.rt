@@ -1,22 +1,13 @@
 // Runs the vectors of frames and pages: cases of 544 bytes on standard input, one line for each.
 // A case is 16 bytes of head (op, a, n, m, f) and 528 of body; tests/model writes both files, and says what the ops are.
 mod answers;
-mod printing;
 mod reads;
 mod writes;
-
-use libc::STDIN_FILENO;
 
 // One case, and whether there may be more.
 fn run_case() -> bool {
     let mut case = [0u8; 544];
-    let n = io::read_full(STDIN_FILENO, &mut case);
-    if n == 0 {
-        return false;
-    }
-    if n < 544 {
-        printing::word(b"cut short");
-        printing::line();
+    if !printing::read_case(&mut case) {
         return false;
     }
     answers::answer(&case);

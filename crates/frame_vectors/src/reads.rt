@@ -1,17 +1,25 @@
 // The reading ops: a frame, page 10h, page 11h, and the cut of several frames.
-use crate::printing::fields;
-use crate::printing::next;
-use crate::printing::number;
-use crate::printing::word;
 use frames::DevReg;
 use frames::DmaSetup;
 use frames::Frame;
 use frames::HostReg;
 use frames::PioSetup;
 use frames::SetBits;
-use pages::Counter;
 use pages::ErrorLog;
 use pages::Page10;
+use printing::next;
+use printing::number;
+use printing::word;
+
+// 0 for a taken reading, and the first n of its fields.
+fn fields(n: usize, v: [u64; 12]) {
+    number(0);
+    let mut i: usize = 0;
+    while i < 12 && i < n {
+        next(v[i]);
+        i += 1;
+    }
+}
 
 // The kind and the fields of a frame, as numbers.
 fn host(f: HostReg) -> [u64; 12] {
@@ -142,14 +150,7 @@ pub fn say_log(s: &[u8]) {
 }
 
 pub fn say_counter(s: &[u8], asked: u16) {
-    match pages::read_counter(s, asked) {
-        Counter::Value(v) => {
-            word(b"0 value");
-            next(v);
-        }
-        Counter::Absent => word(b"0 absent"),
-        Counter::Refused(n) => number(n as u64),
-    }
+    printing::counter(pages::read_counter(s, asked));
 }
 
 fn say_piece(first: bool, kind: u8, n: usize) {

@@ -2,15 +2,17 @@
 ghost use mathlib.Core.Path.{_≡_};
 ghost use Prim.Native.Nat.{_≤_, _<_};
 ghost use lib.ListN.{length};
-use crate::printing::hex;
-use crate::printing::next;
-use crate::printing::number;
 use frames::DevReg;
 use frames::DmaSetup;
 use frames::HostReg;
 use frames::PioSetup;
 use frames::SetBits;
 use pages::ErrorLog;
+use printing::four;
+use printing::hex;
+use printing::next;
+use printing::number;
+use printing::two;
 use wire::Task;
 use wire::Written;
 
@@ -27,22 +29,11 @@ fn wide(b: u8) -> u32
     b as u32
 }
 
-// A digest of all bytes of the buffer.
-fn digest(s: &[u8]) -> u32 {
-    let mut d: u32 = 0;
-    let mut i: usize = 0;
-    while i < s.len() {
-        d = (d * 31 + wide(s[i]) + 1) % 65521;
-        i += 1;
-    }
-    d
-}
-
 fn say_written(w: Written, buf: &[u8]) {
     number(w.number as u64);
     next(w.len as u64);
-    next(digest(buf) as u64);
-    hex(buf);
+    next(printing::digest(0, buf, 31, 65521));
+    hex(buf, 32);
 }
 
 fn byte(s: &[u8], k: usize) -> u8 {
@@ -51,14 +42,6 @@ fn byte(s: &[u8], k: usize) -> u8 {
 
 fn flag(s: &[u8], k: u32) -> bool {
     bits::bit(byte(s, 0) as u32, k)
-}
-
-fn two(s: &[u8], at: usize) -> u16 {
-    bits::le(s, at, 2) as u16
-}
-
-fn four(s: &[u8], at: usize) -> u32 {
-    bits::le(s, at, 4) as u32
 }
 
 fn task(s: &[u8], at: usize) -> Task

@@ -16,7 +16,7 @@ use Rattle.bits.specs.Little.{leAt, byteOf, Bytes}
 use Rattle.bits.proofs.Picks.{by-test}
 use Rattle.bits.proofs.Tables.{below-all}
 use Rattle.bits.proofs.Littles.{le-lt, byte-le}
-use Rattle.wire.specs.Piece.{flagsOf, halvesOf, lbaOf, taskOf, registerBytes, taskFits}
+use Rattle.wire.specs.Piece.{flagsOf, halvesOf, lbaOf, taskOf, registerBytes}
 use Rattle.wire.specs.Size.{fixedSize, payloadSize, readable}
 use Rattle.frames.specs.Read.{flagAt, hostOf, deviceOf, bitsOf, setupOf, pioOf, byKind, readFrame, toldFrame}
 use Rattle.frames.specs.Write.{Sent, host, device, setBits, setup, activate, payload, bist, pio, bitsBytes, setupBytes, encode, fits, Wrote}
@@ -24,6 +24,7 @@ use Rattle.frames.specs.Trip.{again, namedBits, zeroed}
 use Rattle.bits.proofs.Picks.{and-right}
 use Rattle.wire.specs.Emit.{Emitted}
 use Rattle.wire.proofs.SizeLaws.{payload-4}
+use Rattle.wire.proofs.TaskLaws.{task-fits}
 use Rattle.frames.proofs.WriteLaws.{length-payload}
 use Rattle.wire.specs.declared.emitting.Written.{Written}
 use Rattle.frames.specs.declared.shapes.Frame.{Frame}
@@ -103,12 +104,6 @@ module _ (l : List ℕ) (bytes : Bytes l) where
   keep : (i : ℕ) → bitAnd (getD l i 0) 255 ≡ getD l i 0
   keep i = keeps (getD l i 0) (bytes i)
 
-  lba-lt : lbaOf l < 2 ^ 48
-  lba-lt = omega (arith, le-lt l bytes 8 3, le-lt l bytes 4 3)
-
-  task-fits : taskFits (taskOf l) ≡ true
-  task-fits = rw (lt-ltb (getD l 7 0) 256 (bytes 7), lt-ltb (leAt l 12 2) 65536 (le-lt l bytes 12 2), lt-ltb (lbaOf l) 281474976710656 lba-lt)
-
   -- the layout of 27h, 34h and 5Fh, over what was read
   register-again : (k g e f n : ℕ) → registerBytes k g (getD l 2 0) (getD l 3 0) (taskOf l) e f n
       ≡ k ∷ g ∷ getD l 2 0 ∷ getD l 3 0 ∷ getD l 4 0 ∷ getD l 5 0 ∷ getD l 6 0 ∷ getD l 7 0 ∷ getD l 8 0 ∷ getD l 9 0 ∷ getD l 10 0
@@ -137,7 +132,7 @@ module _ (l : List ℕ) (bytes : Bytes l) where
   unfolding encode fits namedBits pick registerBytes
   host-again e h =
       whole (host (hostOf l)) 20 refl h
-      (rw (lt-ltb (getD l 2 0) 256 (bytes 2), lt-ltb (getD l 3 0) 256 (bytes 3), lt-ltb (getD l 11 0) 256 (bytes 11), lt-ltb (getD l 15 0) 256 (bytes 15)) task-fits)
+      (rw (lt-ltb (getD l 2 0) 256 (bytes 2), lt-ltb (getD l 3 0) 256 (bytes 3), lt-ltb (getD l 11 0) 256 (bytes 11), lt-ltb (getD l 15 0) 256 (bytes 15)) (task-fits l bytes))
       (register-again 0x27 (flagsOf (flagAt l 7) false false) (getD l 11 0) (getD l 15 0) 0
       ∙ sym (rw e (simp (keep, drops, drop-of-length-le l (le-of-eq h), e, sym (masks-7 (getD l 1 0) (bytes 1))))))
 
@@ -145,7 +140,7 @@ module _ (l : List ℕ) (bytes : Bytes l) where
   unfolding encode fits namedBits pick registerBytes
   device-again e h =
       whole (device (deviceOf l)) 20 refl h
-      (rw (lt-ltb (getD l 2 0) 256 (bytes 2), lt-ltb (getD l 3 0) 256 (bytes 3)) task-fits)
+      (rw (lt-ltb (getD l 2 0) 256 (bytes 2), lt-ltb (getD l 3 0) 256 (bytes 3)) (task-fits l bytes))
       (register-again 0x34 (flagsOf false (flagAt l 6) false) 0 0 0
       ∙ sym (rw e (simp (keep, drops, drop-of-length-le l (le-of-eq h), e, sym (masks-6 (getD l 1 0) (bytes 1))))))
 
@@ -153,7 +148,7 @@ module _ (l : List ℕ) (bytes : Bytes l) where
   unfolding encode fits namedBits pick registerBytes
   pio-again e h =
       whole (pio (pioOf l)) 20 refl h
-      (rw (lt-ltb (getD l 2 0) 256 (bytes 2), lt-ltb (getD l 3 0) 256 (bytes 3), lt-ltb (getD l 15 0) 256 (bytes 15), lt-ltb (leAt l 16 2) 65536 (le-lt l bytes 16 2)) task-fits)
+      (rw (lt-ltb (getD l 2 0) 256 (bytes 2), lt-ltb (getD l 3 0) 256 (bytes 3), lt-ltb (getD l 15 0) 256 (bytes 15), lt-ltb (leAt l 16 2) 65536 (le-lt l bytes 16 2)) (task-fits l bytes))
       (register-again 0x5F (flagsOf false (flagAt l 6) (flagAt l 5)) 0 (getD l 15 0) (leAt l 16 2)
       ∙ rw (byte-le l bytes 16 2 0 (lit< tt), byte-le l bytes 16 2 1 (lit< tt))
       (sym (rw e (simp (keep, drops, drop-of-length-le l (le-of-eq h), e, sym (masks-65 (getD l 1 0) (bytes 1)))))))

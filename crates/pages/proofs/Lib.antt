@@ -13,4 +13,3 @@ pub mod Exactly10
 pub mod Trip10
 pub mod Written11
 pub mod Unique
-pub mod Examples

@@ -7,9 +7,9 @@ use Prim.Native.Nat.{ℕ, zero, suc, _+_, _%_, _<_}
 use native.Mathlib.Omega.{arith}
 use lib.Dec.{ltb, leb, eqb}
 use borrow.Author.Tests.{leb-false, le-ltb}
-use Rattle.bits.proofs.Picks.{by-test, tested}
+use Rattle.bits.proofs.Picks.{by-test, tested, or-left}
 use Rattle.pages.specs.Entries.{Entry, entryAt, idAt, endOf, wrongWidth, pastEnd, entriesFrom, entries, someOf}
-use Rattle.pages.proofs.Walking.{ends, entries-end, entries-some, or-left}
+use Rattle.pages.proofs.Walking.{ends, entries-end, entries-some}
 
 -- an identifier that does not end within 508 bytes
 abbrev pub straddles : Entry → Bool

@@ -1,6 +1,6 @@
 -- The value of an entry is read at each width: one law over the width, for every page. Assumes nothing.
 use mathlib.Core.Path.{_≡_, ap, _∙_}
-use mathlib.Core.Bool.{Bool, true, false, _||_}
+use mathlib.Core.Bool.{true, false, _||_}
 use mathlib.Core.List.{List, [], _∷_}
 use mathlib.Core.Logic.{⊎-elim}
 use Prim.Native.Nat.{ℕ, zero, suc, _+_, _*_, _^_, _≤_, _<_}
@@ -12,7 +12,7 @@ use borrow.Author.Tests.{leb-false, eq-eqb}
 use Rattle.bits.specs.Pick.{pick}
 use Rattle.bits.specs.First.{firstOf}
 use Rattle.bits.specs.Little.{leAt, leBytes}
-use Rattle.bits.proofs.Picks.{pick-yes, pick-no, tested}
+use Rattle.bits.proofs.Picks.{pick-yes, pick-no, tested, or-right}
 use Rattle.bits.proofs.Firsts as firsts
 use Rattle.pages.specs.Entries.{Entry, entryOf, widthOf, bytesIn, asks, entries, someOf, howMany, wrongWidth, pastEnd, nameless}
 use Rattle.pages.specs.Page11.{damaged, valueIn, ladder11, readCounter}
@@ -48,17 +48,13 @@ hit-reads page number (e ∷ es) (suc i) m h t =
     pick-no (asks number e) (Value (leAt page (e .place + 2) (bytesIn (e .id)))) (valueIn page number es) n ∙ hit-reads page number es i (omega arith) k t)
     (tested (asks number e))
 
-last-false : (a b : Bool) → a || b ≡ false → b ≡ false
-last-false true b e = absurd (let z : _≡_ {A = ℕ} 0 1 = cc in omega arith)
-last-false false b e = e
-
 -- a page that is not refused has the asked number at most once
 found-once : (page : List ℕ) (number : ℕ) → firstOf (ladder11 page number) ≡ 0 → howMany (asks number) (entries page) < 2
 unfolding damaged
 found-once page number z =
     let d = firsts.first-exactly (ladder11 page number) tt .none .0 z 3 (lit< tt) in
     let es = entries page in
-    leb-false 2 (howMany (asks number) es) (last-false ((someOf wrongWidth es || someOf pastEnd es) || someOf nameless es) (leb 2 (howMany (asks number) es)) d)
+    leb-false 2 (howMany (asks number) es) (or-right ((someOf wrongWidth es || someOf pastEnd es) || someOf nameless es) (leb 2 (howMany (asks number) es)) d)
 
 -- of a page that is not refused: an entry of the asked number whose width is w, and whose 2 * w value bytes are those of v, reads as v
 pub value-by-width : (page : List ℕ) (number i w v : ℕ) → firstOf (ladder11 page number) ≡ 0 → i < length (entries page)

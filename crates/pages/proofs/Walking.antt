@@ -1,6 +1,6 @@
 -- The reader's walk: a row lies within 508 bytes and leads on, and one turn of the reader is one entry of the page. Assumes nothing.
 use mathlib.Core.Path.{_≡_, refl, ap, sym, _∙_}
-use mathlib.Core.Bool.{Bool, true, false, not, _||_, true≢false}
+use mathlib.Core.Bool.{Bool, true, false, _||_}
 use mathlib.Core.Logic.{⊎-elim}
 use mathlib.Core.List.{List, [], _∷_}
 use Prim.Native.Nat.{ℕ, zero, suc, _+_, _-_, _<_, _≤_, min}
@@ -11,7 +11,7 @@ use borrow.Author.Tests.{ltb-false, le-leb, le-ltb, eq-eqb}
 use Rattle.bits.specs.Pick.{pick}
 use Rattle.bits.specs.First.{firstOf}
 use Rattle.bits.specs.Little.{leAt, Number}
-use Rattle.bits.proofs.Picks.{by-test, pick-yes, pick-no, tested}
+use Rattle.bits.proofs.Picks.{by-test, pick-yes, pick-no, tested, or-left, or-right}
 use Rattle.pages.specs.Entries.{Entry, entryAt, idAt, endOf, bytesIn, widthOf, wrongWidth, pastEnd, nameless, asked, asks, entriesFrom, entries}
 use Rattle.pages.specs.Page11.{damaged, valueIn, readCounter}
 use Rattle.pages.specs.Sum.{sum256}
@@ -41,14 +41,6 @@ pub record Lies (at start len : ℕ) : Type 0 where
   pub some : 2 ≤ len
   pub most : len ≤ 8
   pub within : start + len ≤ 508
-
-pub or-left : (a b : Bool) → (a || b) ≡ false → a ≡ false
-or-left true b e = e
-or-left false b e = refl
-
-or-right : (a b : Bool) → (a || b) ≡ false → b ≡ false
-or-right true b e = absurd (true≢false e)
-or-right false b e = e
 
 some-width : (w : ℕ) → (ltb w 1 || ltb 4 w) ≡ false → (1 ≤ w) × (w ≤ 4)
 some-width w h = (ltb-false w 1 (or-left (ltb w 1) (ltb 4 w) h), ltb-false 4 w (or-right (ltb w 1) (ltb 4 w) h))

@@ -5,4 +5,3 @@ pub mod Page11
 pub mod Step
 pub mod Made11
 pub mod Page10
-pub mod Example

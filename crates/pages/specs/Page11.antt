@@ -23,11 +23,15 @@ unfoldable pub valueIn : List ℕ → ℕ → List Entry → Counter
 valueIn page number [] = Absent
 valueIn page number (e ∷ es) = pick (asks number e) (Value (leAt page (e .place + 2) (bytesIn (e .id)))) (valueIn page number es)
 
+-- 23: number asked not 1 to FFFh
+abbrev pub noNumber : ℕ → Bool
+noNumber number = ltb number 1 || ltb 4095 number
+
 -- reader order: 20, 23, 21, 22
 abbrev pub ladder11 : List ℕ → ℕ → List Rung
 ladder11 page number =
     record { number = 20; holds = not (eqb (length page) 512) }
-    ∷ record { number = 23; holds = ltb number 1 || ltb 4095 number }
+    ∷ record { number = 23; holds = noNumber number }
     ∷ record { number = 21; holds = not (eqb (sum256 page) 0) }
     ∷ record { number = 22; holds = damaged number (entries page) } ∷ []
 

@@ -1,8 +1,10 @@
 -- Laws of frames sent one behind the other. Assumes nothing.
 use mathlib.Core.Path.{_≡_, refl, sym, ap, ap₂, _∙_}
-use mathlib.Core.Bool.{Bool, true, false}
+use mathlib.Core.Bool.{Bool, true, false, _&&_}
 use mathlib.Core.List.{List, [], _∷_, _++_, append-nil, append-assoc}
-use Prim.Native.Nat.{ℕ, _+_, _-_, _≤_}
+use Prim.Native.Nat.{ℕ, _+_, _-_, _%_, _≤_, _<_}
+use lib.Dec.{leb, eqb}
+use borrow.Author.Tests.{lt-leb}
 use native.Mathlib.Omega.{arith}
 use borrow.Rule.Slice.PartMut.{midOf, putMid}
 use lib.ListN.{length, take, drop, length-append}
@@ -16,8 +18,11 @@ use Rattle.wire.specs.Emit.{Emitted}
 use Rattle.wire.specs.declared.emitting.Written.{Written}
 use Rattle.wire.proofs.EmitLaws.{number-large, wrote-room}
 use Rattle.wire.specs.Piece.{registerBytes}
-use Rattle.frames.specs.Write.{Sent, activate, bitsBytes, encode, fits, Wrote}
+use Rattle.frames.specs.Write.{Sent, activate, setBits, setup, payload, bitsBytes, setupBytes, encode, fits, Wrote}
 use Rattle.wire.specs.declared.pieces.Task.{Task}
+use Rattle.wire.specs.Size.{payloadSize}
+use Rattle.frames.specs.declared.shapes.SetBits.{SetBits}
+use Rattle.frames.specs.declared.shapes.DmaSetup.{DmaSetup}
 use Rattle.replies.specs.Replies.{register, pioReply, sweep, sentBytes, sentAll, Sends}
 
 -- nothing sent
@@ -84,6 +89,23 @@ length-sweep = refl
 pub length-activate : length (encode activate) ≡ 4
 unfolding encode
 length-activate = refl
+
+pub length-setup : (f : DmaSetup) → length (encode (setup f)) ≡ 28
+unfolding encode setupBytes
+length-setup f = refl
+
+pub length-bits : (f : SetBits) → length (encode (setBits f)) ≡ 8
+unfolding encode bitsBytes
+length-bits f = refl
+
+and-never : (a b : Bool) → (a && false) && b ≡ false
+and-never true b = refl
+and-never false b = refl
+
+-- a payload that is too long is not sent
+pub sends-long : (p d : List ℕ) → 8192 < length p → Sends (payload p ∷ []) d 0 d
+unfolding sentAll sentBytes joined fits pick
+sends-long p d h = let z : payloadSize (length p) ≡ false = rw (lt-leb (length p) 8192 h) (and-never (leb 4 (length p)) (eqb (length p % 4) 0)) in record { len = rw z; bytes = rw z }
 
 -- three in a row
 pub sends-three : (a b c : List Sent) (d : List ℕ) (n : ℕ) (d′ : List ℕ) → Sends ((a ++ b) ++ c) d n d′ → Sends (a ++ (b ++ c)) d n d′

@@ -2,21 +2,23 @@
 use mathlib.Core.Path.{_≡_}
 use mathlib.Core.Bool.{Bool, true, false, not}
 use mathlib.Core.List.{List, [], _∷_, _++_, map}
-use Prim.Native.Nat.{ℕ}
+use Prim.Native.Nat.{ℕ, _*_}
+use lib.Dec.{leb}
 use lib.ListN.{length}
 use Rattle.bits.specs.Pick.{pick}
 use Rattle.bits.specs.Laid.{laid}
 use Rattle.wire.specs.Cut.{joined}
 use Rattle.wire.specs.declared.pieces.Task.{Task}
-use Rattle.frames.specs.Write.{Sent, device, setBits, activate, payload, pio, encode, fits}
+use Rattle.frames.specs.Write.{Sent, device, setBits, setup, activate, payload, pio, encode, fits}
 use Rattle.pages.specs.Page10.{page10, fits10}
 use Rattle.pages.specs.Rows.{keepsBoth}
 use Rattle.pages.specs.Made11.{page11}
 use Rattle.pages.specs.declared.page10.ErrorLog.{ErrorLog}
-use Rattle.rules.specs.State.{taskIn}
-use Rattle.rules.specs.declared.shapes.ErrorRecord.{ErrorRecord}
+use Rattle.states.specs.State.{taskIn}
+use Rattle.states.specs.declared.shapes.ErrorRecord.{ErrorRecord}
+use Rattle.rules.specs.declared.acts.Queued.{Queued}
 use Rattle.rules.specs.declared.acts.Act.{Act}
-use Rattle.rules.specs.declared.acts.Act.the-variants.{Refuse, Nothing, Answer, Halt, Accept, Log10, Log11, Reset, Release, Zero, Keep}
+use Rattle.rules.specs.declared.acts.Act.the-variants.{Refuse, Nothing, Answer, Halt, Accept, Log10, Log11, Reset, Release, Zero, Keep, Open, Send, Finish, Media}
 
 -- a device register reply
 abbrev pub register : Bool → ℕ → ℕ → Task → Sent
@@ -42,6 +44,19 @@ sweep = setBits (record { interrupt = false; status = 0x40; error = 0; active = 
 abbrev pub pioReply : Task → Sent
 pioReply task = pio (record { interrupt = true; «to_host» = true; status = 0x48; error = 0; task = task; ending = 0x40; bytes = 512 })
 
+-- DMA Setup: A 0, I 0, offset 0, whole byte count; D 1 to the host
+abbrev pub setupReply : Queued → Sent
+setupReply q =
+    setup (record { auto = false; interrupt = false; «to_host» = not (q .entry .write); tag = q .tag; offset = 0; count = 512 * q .entry .count })
+
+-- finish: A1h, I 1, status 40h, error 0, SActive the set
+abbrev pub finishReply : ℕ → Sent
+finishReply set = setBits (record { interrupt = true; status = 0x40; error = 0; active = set })
+
+-- media error: A1h, I 1, status 41h, that error, SActive 0
+abbrev pub mediaReply : ℕ → Sent
+mediaReply error = setBits (record { interrupt = true; status = 0x41; error = error; active = 0 })
+
 abbrev pub sweepIf : Bool → List Sent
 sweepIf on = pick on (sweep ∷ []) []
 
@@ -65,21 +80,47 @@ page11Of mask values = pick (keepsBoth mask) (page11 mask values) []
 abbrev pub logReplies : Bool → Task → List ℕ → List Sent
 logReplies on task page = sweepIf on ++ pioReply task ∷ payload page ∷ []
 
--- the replies of an act
-unfoldable pub repliesOf : ErrorRecord → ℕ → List ℕ → Act → List Sent
-repliesOf r mask values (Refuse n) = []
-repliesOf r mask values Nothing = []
-repliesOf r mask values (Answer b) = badReply (b .error) (b .task) ∷ []
-repliesOf r mask values (Halt f) = badReply (f .error) (taskIn (f .echo)) ∷ []
-repliesOf r mask values (Accept q) = good (taskIn (q .entry .echo)) ∷ []
-repliesOf r mask values (Log10 l) = logReplies (l .also) (l .task) (page10Of r)
-repliesOf r mask values (Log11 l) = logReplies false (l .task) (page11Of mask values)
-repliesOf r mask values Reset = []
-repliesOf r mask values Release = signature ∷ []
-repliesOf r mask values Zero = []
-repliesOf r mask values (Keep s) = activateIf (not (s .last))
+-- open: DMA Setup; for a write, an Activate follows
+abbrev pub openReplies : Queued → List Sent
+openReplies q = (setupReply q ∷ []) ++ activateIf (q .entry .write)
 
--- what cannot be written is not sent
+-- the replies of an act; `part` is what of the medium it sends
+unfoldable pub repliesOf : ErrorRecord → ℕ → List ℕ → List ℕ → Act → List Sent
+repliesOf r mask values part (Refuse n) = []
+repliesOf r mask values part Nothing = []
+repliesOf r mask values part (Answer b) = badReply (b .error) (b .task) ∷ []
+repliesOf r mask values part (Halt f) = badReply (f .error) (taskIn (f .echo)) ∷ []
+repliesOf r mask values part (Accept q) = good (taskIn (q .entry .echo)) ∷ []
+repliesOf r mask values part (Log10 l) = logReplies (l .also) (l .task) (page10Of r)
+repliesOf r mask values part (Log11 l) = logReplies false (l .task) (page11Of mask values)
+repliesOf r mask values part Reset = []
+repliesOf r mask values part Release = signature ∷ []
+repliesOf r mask values part Zero = []
+repliesOf r mask values part (Keep m) = activateIf (not (m .last))
+repliesOf r mask values part (Open q) = openReplies q
+repliesOf r mask values part (Send m) = payload part ∷ []
+repliesOf r mask values part (Finish set) = finishReply set ∷ []
+repliesOf r mask values part (Media f) = mediaReply (f .error) ∷ []
+
+-- a count that a command can have, so that its bytes can be counted; that a taken call's is one is `roomy-open`
+unfoldable pub sized : Act → Bool
+sized (Refuse n) = true
+sized Nothing = true
+sized (Answer b) = true
+sized (Halt f) = true
+sized (Accept q) = true
+sized (Log10 l) = true
+sized (Log11 l) = true
+sized Reset = true
+sized Release = true
+sized Zero = true
+sized (Keep m) = true
+sized (Open q) = leb (q .entry .count) 65536
+sized (Send m) = true
+sized (Finish set) = true
+sized (Media f) = true
+
+-- what cannot be written is not sent; that every reply of a taken call can be is `whole-host` and its like
 unfoldable pub sentBytes : Sent → List ℕ
 sentBytes f = pick (fits f) (encode f) []
 

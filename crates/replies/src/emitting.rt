@@ -1,19 +1,23 @@
 // The replies of an act, one behind the other, each in the room that the last one left.
 ghost use mathlib.Core.Path.{_≡_};
-ghost use mathlib.Core.Bool.{false};
+ghost use mathlib.Core.Bool.{true, false, _&&_};
 ghost use mathlib.Core.List.{[], _∷_};
 ghost use Prim.Native.Nat.{_+_, _≤_};
 ghost use lib.Dec.{leb};
 ghost use lib.ListN.{length};
 ghost use Rattle.bits.specs.Pick.{pick};
-ghost use Rattle.frames.specs.Write.{payload};
-ghost use Rattle.replies.specs.Replies.{register, signature, sweepIf, activateIf, pioReply, logOf, logReplies, page10Of, page11Of, repliesOf, Sends};
+ghost use Rattle.frames.specs.Write.{payload, setBits};
+ghost use Rattle.replies.specs.Replies.{register, signature, sweepIf, activateIf, pioReply, setupReply, openReplies, logReplies, page10Of, page11Of, repliesOf, sized, Sends};
+use crate::shown::is_sized;
+use crate::shown::log_of;
 use frames::DevReg;
+use frames::DmaSetup;
 use frames::PioSetup;
 use frames::SetBits;
-use pages::ErrorLog;
 use rules::Act;
-use rules::ErrorRecord;
+use rules::Queued;
+use states::ErrorRecord;
+use states::Settings;
 use wire::Task;
 
 fn put_register(reply: &mut [u8], interrupt: bool, status: u8, error: u8, task: Task) -> usize
@@ -66,12 +70,62 @@ fn put_sweep_if(reply: &mut [u8], on: bool) -> usize
 
 fn put_activate_if(reply: &mut [u8], on: bool) -> usize
     requires { ⌜ 4 ≤ length (now reply) ⌝ }
-    ensures { λ r. ⌜ Sends (activateIf on) (now (reply .entry)) r (now (reply .exit)) ⌝ }
+    ensures bytes { λ r. ⌜ Sends (activateIf on) (now (reply .entry)) r (now (reply .exit)) ⌝ }
+    ensures most { λ r. ⌜ r ≤ 4 ⌝ }
 {
     if !on {
         return 0;
     }
     let w = frames::write_activate(reply);
+    w.len
+}
+
+fn put_setup(reply: &mut [u8], q: Queued) -> usize
+    requires { ⌜ 28 ≤ length (now reply) ⌝ }
+    requires { ⌜ q .entry .count ≤ 65536 ⌝ }
+    ensures bytes { λ r. ⌜ Sends (setupReply q ∷ []) (now (reply .entry)) r (now (reply .exit)) ⌝ }
+    ensures most { λ r. ⌜ r ≤ 28 ⌝ }
+{
+    let entry = q.entry;
+    let w = frames::write_setup(
+        reply,
+        DmaSetup {
+            auto: false,
+            interrupt: false,
+            to_host: !entry.write,
+            tag: q.tag as u32,
+            offset: 0,
+            count: (Settings::SECTOR_SIZE as u32) * entry.count,
+        },
+    );
+    w.len
+}
+
+// DMA Setup, and for a write an Activate.
+fn put_open(reply: &mut [u8], q: Queued) -> usize
+    requires { ⌜ 8196 ≤ length (now reply) ⌝ }
+    requires { ⌜ q .entry .count ≤ 65536 ⌝ }
+    ensures { λ r. ⌜ Sends (openReplies q) (now (reply .entry)) r (now (reply .exit)) ⌝ }
+{
+    let first = put_setup(reply, q);
+    let entry = q.entry;
+    let second = put_activate_if(&mut reply[first..], entry.write);
+    first + second
+}
+
+fn put_bits(reply: &mut [u8], status: u8, error: u8, active: u32) -> usize
+    requires { ⌜ 8 ≤ length (now reply) ⌝ }
+    ensures { λ r. ⌜ Sends (setBits (record { interrupt = true; status = status; error = error; active = active }) ∷ []) (now (reply .entry)) r (now (reply .exit)) ⌝ }
+{
+    let w = frames::write_bits(
+        reply,
+        SetBits {
+            interrupt: true,
+            status,
+            error,
+            active,
+        },
+    );
     w.len
 }
 
@@ -89,7 +143,7 @@ fn put_pio(reply: &mut [u8], task: Task) -> usize
             error: 0,
             task,
             ending: 0x40,
-            bytes: 512,
+            bytes: Settings::SECTOR_SIZE as u16,
         },
     );
     w.len
@@ -104,6 +158,17 @@ fn put_data(reply: &mut [u8], p: &[u8]) -> usize
     w.len
 }
 
+// A data frame of a part of the medium; one that is too long is no data frame's.
+fn put_part(reply: &mut [u8], part: &[u8]) -> usize
+    requires { ⌜ 8196 ≤ length (now reply) ⌝ }
+    ensures { λ r. ⌜ Sends (payload (now (part .entry)) ∷ []) (now (reply .entry)) r (now (reply .exit)) ⌝ }
+{
+    if Settings::FRAME_SIZE < part.len() {
+        return 0;
+    }
+    put_data(reply, part)
+}
+
 // Sweep, PIO Setup and page.
 fn put_log(reply: &mut [u8], sweep: bool, task: Task, page: &[u8]) -> usize
     requires { ⌜ 32 + length (now page) ≤ length (now reply) ⌝ }
@@ -116,40 +181,11 @@ fn put_log(reply: &mut [u8], sweep: bool, task: Task, page: &[u8]) -> usize
     both + third
 }
 
-// The record as page 10h shows it.
-fn log_of(r: ErrorRecord) -> ErrorLog
-    ensures { λ f. ⌜ f ≡ logOf r ⌝ }
-{
-    if r.set {
-        let echo = r.echo;
-        let task = rules::task_in(echo);
-        return ErrorLog {
-            nq: r.nq,
-            tag: r.tag,
-            status: 0x41,
-            error: r.error,
-            task,
-        };
-    }
-    let task = Task {
-        lba: 0,
-        device: 0,
-        count: 0,
-    };
-    ErrorLog {
-        nq: true,
-        tag: 0,
-        status: 0,
-        error: 0,
-        task,
-    }
-}
-
 // Room for a page.
-fn page_room() -> [u8; 512]
+fn page_room() -> [u8; Settings::SECTOR_SIZE]
     ensures { λ r. ⌜ 512 ≡ length r ⌝ }
 {
-    [0u8; 512]
+    [0u8; Settings::SECTOR_SIZE]
 }
 
 fn put_log10(reply: &mut [u8], sweep: bool, task: Task, r: ErrorRecord) -> usize
@@ -173,9 +209,17 @@ fn put_log11(reply: &mut [u8], task: Task, mask: u16, values: [u32; 16]) -> usiz
     put_log(reply, false, task, &page[..n])
 }
 
-fn send(reply: &mut [u8], act: Act, r: ErrorRecord, mask: u16, values: [u32; 16]) -> usize
+fn send(
+    reply: &mut [u8],
+    act: Act,
+    r: ErrorRecord,
+    mask: u16,
+    values: [u32; 16],
+    part: &[u8],
+) -> usize
     requires { ⌜ 8196 ≤ length (now reply) ⌝ }
-    ensures { λ n. ⌜ Sends (repliesOf r mask values act) (now (reply .entry)) n (now (reply .exit)) ⌝ }
+    requires { ⌜ sized act ≡ true ⌝ }
+    ensures { λ n. ⌜ Sends (repliesOf r mask values (now (part .entry)) act) (now (reply .entry)) n (now (reply .exit)) ⌝ }
 {
     match act {
         Act::Refuse(_) => 0,
@@ -186,12 +230,12 @@ fn send(reply: &mut [u8], act: Act, r: ErrorRecord, mask: u16, values: [u32; 16]
         }
         Act::Halt(f) => {
             let echo = f.echo;
-            put_register(reply, true, 0x41, f.error, rules::task_in(echo))
+            put_register(reply, true, 0x41, f.error, states::task_in(echo))
         }
         Act::Accept(q) => {
             let entry = q.entry;
             let echo = entry.echo;
-            put_register(reply, false, 0x40, 0, rules::task_in(echo))
+            put_register(reply, false, 0x40, 0, states::task_in(echo))
         }
         Act::Log10(l) => {
             let task = l.task;
@@ -204,16 +248,30 @@ fn send(reply: &mut [u8], act: Act, r: ErrorRecord, mask: u16, values: [u32; 16]
         Act::Reset => 0,
         Act::Release => put_signature(reply),
         Act::Zero => 0,
-        Act::Keep(s) => put_activate_if(reply, !s.last),
+        Act::Keep(m) => put_activate_if(reply, !m.last),
+        Act::Open(q) => put_open(reply, q),
+        Act::Send(_) => put_part(reply, part),
+        Act::Finish(set) => put_bits(reply, 0x40, 0, set),
+        Act::Media(f) => put_bits(reply, 0x41, f.error, 0),
     }
 }
 
 // The replies of an act; none where the buffer has not the room that every call asks for.
-pub fn emit(reply: &mut [u8], act: Act, r: ErrorRecord, mask: u16, values: [u32; 16]) -> usize
-    ensures { λ n. ⌜ Sends (pick (leb 8196 (length (now (reply .entry)))) (repliesOf r mask values act) []) (now (reply .entry)) n (now (reply .exit)) ⌝ }
+pub fn emit(
+    reply: &mut [u8],
+    act: Act,
+    r: ErrorRecord,
+    mask: u16,
+    values: [u32; 16],
+    part: &[u8],
+) -> usize
+    ensures { λ n. ⌜ Sends (pick (leb 8196 (length (now (reply .entry))) && sized act) (repliesOf r mask values (now (part .entry)) act) []) (now (reply .entry)) n (now (reply .exit)) ⌝ }
 {
-    if reply.len() < 8196 {
+    if reply.len() < Settings::REPLY_SIZE {
         return 0;
     }
-    send(reply, act, r, mask, values)
+    if !is_sized(act) {
+        return 0;
+    }
+    send(reply, act, r, mask, values, part)
 }

@@ -1,4 +1,5 @@
 // What the device sends: the replies of an act as frame values, and their bytes.
 mod emitting;
+mod shown;
 
 pub use emitting::emit;

@@ -1,4 +1,7 @@
-pub mod TableLaws
 pub mod Elses
+pub mod ActElses
+pub mod StoreLaws
 pub mod DecideLaws
 pub mod Unique
+pub mod Leaves
+pub mod Numbers

@@ -1,17 +1,19 @@
 -- What a host frame makes the device do: the first rule that holds. Assumes nothing.
 use mathlib.Core.Bool.{Bool, true, false, not, _&&_, _||_}
-use Prim.Native.Nat.{ℕ, _+_, _-_, _*_}
+use Prim.Native.Nat.{ℕ, _+_}
 use lib.Dec.{ltb, leb, eqb}
 use Rattle.bits.specs.Pick.{pick}
+use Rattle.bits.specs.First.{firstOf}
 use Rattle.bits.specs.Bit.{bitIn}
 use Rattle.wire.specs.Piece.{tagOf, sectorsOf, srstOf}
 use Rattle.frames.specs.declared.shapes.HostReg.{HostReg}
 use Rattle.frames.specs.declared.shapes.Frame.{Frame}
 use Rattle.frames.specs.declared.shapes.Frame.the-variants.{Host, Device, Bits, Setup, Activate, Data, Bist, Pio, Refused}
-use Rattle.rules.specs.State.{echoOf}
-use Rattle.rules.specs.Facts.{dueOf, placeOf, advancedOf}
-use Rattle.rules.specs.declared.shapes.Echo.{Echo}
-use Rattle.rules.specs.declared.shapes.Entry.{Entry}
+use Rattle.states.specs.State.{echoOf}
+use Rattle.rules.specs.Facts.{moveOf}
+use Rattle.ladders.specs.Ladders.{lentLadder}
+use Rattle.states.specs.declared.shapes.Echo.{Echo}
+use Rattle.states.specs.declared.shapes.Entry.{Entry}
 use Rattle.rules.specs.declared.facts.Facts.{Facts}
 use Rattle.rules.specs.declared.acts.Act.{Act}
 use Rattle.rules.specs.declared.acts.Act.the-variants.{Refuse, Nothing, Answer, Halt, Accept, Log10, Log11, Reset, Release, Zero, Keep}
@@ -82,13 +84,7 @@ registerAct v h =
 unfoldable pub dataAct : Facts → ℕ → Act
 dataAct v n =
     pick (eqb (v .flow .phase) 0 || not (v .entry .write)) (Refuse 5)
-    (pick (not (eqb n (512 * dueOf (v .entry .count) (v .entry .moved)))) (Refuse 6)
-    (Keep (record {
-      tag = v .flow .phase - 1;
-      at = placeOf (v .entry);
-      entry = advancedOf (v .entry);
-      last = leb (v .entry .count) (advancedOf (v .entry) .moved);
-    })))
+    (pick (not (eqb n (moveOf (v .flow) (v .entry) .size))) (Refuse 6) (Keep (moveOf (v .flow) (v .entry))))
 
 -- BIST Activate zeroes the counters; 5 while a phase is open
 unfoldable pub bistAct : Facts → Act
@@ -130,5 +126,8 @@ notData v (Pio f) = Refuse 4
 notData v Refused = Refuse 4
 
 -- 1, 2 and 3 before all else
+abbrev pub lentOf : Facts → ℕ
+lentOf v = firstOf (lentLadder (v .contradicts) (v .medium) (v .short))
+
 unfoldable pub decideOf : Facts → Frame → Act
-decideOf v f = pick (not (eqb (v .lent) 0)) (Refuse (v .lent)) (kindAct v f)
+decideOf v f = pick (not (eqb (lentOf v) 0)) (Refuse (lentOf v)) (kindAct v f)

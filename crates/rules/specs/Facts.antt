@@ -1,7 +1,10 @@
--- Positions of a command: what is left, what is due, and where. Nothing else knows in which unit moved is kept. Assumes nothing.
+-- Positions of a command: what is due, and where. Moved and count are kept in sectors. Assumes nothing.
 use mathlib.Core.Path.{_≡_}
+use lib.Dec.{leb}
 use Prim.Native.Nat.{ℕ, _+_, _-_, _*_, _≤_, min}
-use Rattle.rules.specs.declared.shapes.Entry.{Entry}
+use Rattle.states.specs.declared.shapes.Entry.{Entry}
+use Rattle.states.specs.declared.shapes.Flow.{Flow}
+use Rattle.rules.specs.declared.acts.Move.{Move}
 
 -- min(16, what is left) sectors
 abbrev pub dueOf : ℕ → ℕ → ℕ
@@ -26,4 +29,14 @@ advancedOf e = record {
   features = e .features;
   «features_high» = e .«features_high»;
   echo = e .echo;
+}
+
+-- what moves next in the open phase: the sectors that are due; at nothing left it is the last
+unfoldable pub moveOf : Flow → Entry → Move
+moveOf f e = record {
+  tag = f .phase - 1;
+  at = placeOf e;
+  size = 512 * dueOf (e .count) (e .moved);
+  entry = advancedOf e;
+  last = leb (e .count) (advancedOf e .moved);
 }

@@ -1,7 +1,5 @@
-pub mod State
-pub mod Table
-pub mod Clauses
-pub mod Ladders
-pub mod Counts
 pub mod Facts
 pub mod Decide
+pub mod Events
+pub mod Taking
+pub mod HostTests

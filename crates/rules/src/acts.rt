@@ -1,6 +1,6 @@
-// What a call makes the device do. Each act says all that its replies, the medium and the new state are made from.
-use crate::shapes::Echo;
-use crate::shapes::Entry;
+// What a call makes the device do. Its replies, the medium and the new state are made from the act and the old state.
+use states::Echo;
+use states::Entry;
 use wire::Task;
 
 // A device register reply with ERR.
@@ -17,9 +17,9 @@ pub struct Fault {
     pub echo: Echo,
 }
 
-// A queued command that is accepted.
+// A queued command: accepted, or its phase to be opened.
 pub struct Queued {
-    pub tag: u32,
+    pub tag: u8,
     pub entry: Entry,
 }
 
@@ -29,10 +29,11 @@ pub struct Log {
     pub task: Task,
 }
 
-// Host data that goes to the medium from `at` on.
-pub struct Store {
+// Sectors that move: `size` bytes of the medium from `at` on, and the command's entry once they have moved. `last`: nothing is left then.
+pub struct Move {
     pub tag: u32,
     pub at: usize,
+    pub size: usize,
     pub entry: Entry,
     pub last: bool,
 }
@@ -49,5 +50,9 @@ pub enum Act {
     Reset,
     Release,
     Zero,
-    Keep(Store),
+    Keep(Move),
+    Open(Queued),
+    Send(Move),
+    Finish(u32),
+    Media(Fault),
 }

@@ -8,15 +8,13 @@ use crate::acts::Bad;
 use crate::acts::Fault;
 use crate::acts::Log;
 use crate::acts::Queued;
-use crate::acts::Store;
 use crate::facts::Facts;
-use crate::facts::advanced;
-use crate::facts::due_of;
-use crate::shapes::Echo;
-use crate::shapes::Entry;
-use crate::shapes::echo_of;
+use crate::facts::next_move;
 use frames::Frame;
 use frames::HostReg;
+use states::Echo;
+use states::Entry;
+use states::echo_of;
 
 // First sector + count above capacity, compared without wrap.
 fn too_far(capacity: u32, first: u64, count: u32) -> bool
@@ -69,10 +67,7 @@ fn queued_act(v: Facts, h: HostReg) -> Act
         features_high: h.features_high,
         echo,
     };
-    Act::Accept(Queued {
-        tag: tag as u32,
-        entry,
-    })
+    Act::Accept(Queued { tag, entry })
 }
 
 // 10h or 11h for a well-formed READ LOG EXT, otherwise 0.
@@ -155,20 +150,14 @@ fn data_act(v: Facts, n: usize) -> Act
 {
     let flow = v.flow;
     let e = v.entry;
-    let due = due_of(e.count, e.moved);
-    let entry = advanced(e);
+    let next = next_move(flow, e);
     if (flow.phase == 0) | !e.write {
         return Act::Refuse(5);
     }
-    if !(n == 512 * (due as usize)) {
+    if !(n == next.size) {
         return Act::Refuse(6);
     }
-    Act::Keep(Store {
-        tag: flow.phase - 1,
-        at: 512 * ((e.first as usize) + (e.moved as usize)),
-        entry,
-        last: e.count <= entry.moved,
-    })
+    Act::Keep(next)
 }
 
 // 58h.
@@ -203,7 +192,7 @@ fn not_host(v: Facts, f: Frame) -> Act
 pub fn decide_frame(v: Facts, f: Frame) -> Act
     ensures { λ r. ⌜ r ≡ decideOf v f ⌝ }
 {
-    let lent = v.lent;
+    let lent = ladders::lent_number(v.contradicts, v.medium, v.short);
     if !(lent == 0) {
         return Act::Refuse(lent);
     }

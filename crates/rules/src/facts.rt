@@ -1,14 +1,17 @@
 // What a decision looks at: lengths and control values, never medium or payload bytes.
 ghost use mathlib.Core.Path.{_≡_};
 ghost use Prim.Native.Nat.{_-_};
-ghost use Rattle.rules.specs.Facts.{Due, advancedOf};
-use crate::shapes::Entry;
-use crate::shapes::Flow;
-use crate::shapes::Settings;
+ghost use Rattle.rules.specs.Facts.{Due, advancedOf, moveOf};
+use crate::acts::Move;
+use states::Entry;
+use states::Flow;
+use states::Settings;
 
-// `lent`: the first of the refusals 1, 2 and 3 that holds, or 0. `entry`: that of the open phase, an idle one if none is open.
+// `contradicts`, `medium` (its length is wrong), `short` (the reply buffer is): the tests of refusals 1, 2 and 3. `entry`: that of the tag asked for, or of the open phase; an idle one if there is none.
 pub struct Facts {
-    pub lent: u8,
+    pub contradicts: bool,
+    pub medium: bool,
+    pub short: bool,
     pub settings: Settings,
     pub flow: Flow,
     pub entry: Entry,
@@ -21,8 +24,8 @@ pub fn due_of(count: u32, moved: u32) -> u32
     if count <= moved {
         return 0;
     }
-    if 16 <= count - moved {
-        return 16;
+    if Settings::FRAME_SECTORS <= count - moved {
+        return Settings::FRAME_SECTORS;
     }
     count - moved
 }
@@ -41,5 +44,20 @@ pub fn advanced(e: Entry) -> Entry
         features: e.features,
         features_high: e.features_high,
         echo,
+    }
+}
+
+// What moves next in the open phase.
+pub fn next_move(flow: Flow, e: Entry) -> Move
+    ensures { λ r. ⌜ r ≡ moveOf flow e ⌝ }
+{
+    let due = due_of(e.count, e.moved);
+    let entry = advanced(e);
+    Move {
+        tag: states::below(flow.phase),
+        at: Settings::SECTOR_SIZE * ((e.first as usize) + (e.moved as usize)),
+        size: Settings::SECTOR_SIZE * (due as usize),
+        entry,
+        last: e.count <= entry.moved,
     }
 }

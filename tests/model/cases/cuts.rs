@@ -1,24 +1,15 @@
 //! Several frames in one buffer, cut apart.
 
-use super::{filled, reading, Case};
-
-/// A frame of this kind and length, zeros behind the kind.
-fn frame(kind: u8, length: usize) -> Vec<u8> {
-    filled(&[kind], length, 0)
-}
+use super::{bare, each_length, reading, together, Case};
 
 /// Frames behind one another.
 fn cut(comment: &str, pieces: &[(u8, usize)], wants: &str) -> Case {
-    let input: Vec<u8> = pieces.iter().flat_map(|&(kind, length)| frame(kind, length)).collect();
+    let input: Vec<u8> = pieces.iter().flat_map(|&(kind, length)| bare(kind, length)).collect();
     reading(b'C', &format!("cut: {}", comment), &input, wants)
 }
 
 pub fn all() -> Vec<Case> {
-    let mut cases = vec![cut("nothing", &[], "none")];
-    cases.extend(single());
-    cases.extend(several());
-    cases.extend(short());
-    cases
+    together(vec![vec![cut("nothing", &[], "none")], single(), several(), short()])
 }
 
 /// One frame of each kind, alone.
@@ -36,13 +27,10 @@ fn single() -> Vec<Case> {
         (0x58, 12),
         (0x5F, 20),
     ];
-    kinds
-        .iter()
-        .map(|&(kind, length)| {
-            let comment = format!("one {:02X}h of {} bytes", kind, length);
-            cut(&comment, &[(kind, length)], &format!("{}:{}", kind, length))
-        })
-        .collect()
+    each_length(&kinds, |kind, length| {
+        let comment = format!("one {:02X}h of {} bytes", kind, length);
+        cut(&comment, &[(kind, length)], &format!("{}:{}", kind, length))
+    })
 }
 
 fn several() -> Vec<Case> {

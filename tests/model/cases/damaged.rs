@@ -1,13 +1,14 @@
 //! Frames that the reader turns down: refusal 24, by kind and length alone.
 
-use super::{filled, reading, Case};
+use super::{bare, each_length, reading, together, Case};
 
 pub fn all() -> Vec<Case> {
-    let mut cases = vec![refusal("no bytes at all", &[])];
-    cases.extend(one_byte());
-    cases.extend(unknown_kinds());
-    cases.extend(lengths_of_other_kinds());
-    cases
+    together(vec![
+        vec![refusal("no bytes at all", &[])],
+        one_byte(),
+        unknown_kinds(),
+        lengths_of_other_kinds(),
+    ])
 }
 
 fn refusal(what: &str, bytes: &[u8]) -> Case {
@@ -40,13 +41,10 @@ fn unknown_kinds() -> Vec<Case> {
         (0x72, 20),
         (0xC6, 8),
     ];
-    kinds
-        .iter()
-        .map(|&(kind, length)| {
-            let what = format!("the unknown kind {:02X}h with {} bytes", kind, length);
-            refusal(&what, &filled(&[kind], length, 0))
-        })
-        .collect()
+    each_length(&kinds, |kind, length| {
+        let what = format!("the unknown kind {:02X}h with {} bytes", kind, length);
+        refusal(&what, &bare(kind, length))
+    })
 }
 
 /// Known kinds in the length of another kind.
@@ -67,11 +65,7 @@ fn lengths_of_other_kinds() -> Vec<Case> {
         (0x5F, 516),
         (0x27, 8196),
     ];
-    pairs
-        .iter()
-        .map(|&(kind, length)| {
-            let what = format!("{:02X}h of {} bytes", kind, length);
-            refusal(&what, &filled(&[kind], length, 0))
-        })
-        .collect()
+    each_length(&pairs, |kind, length| {
+        refusal(&format!("{:02X}h of {} bytes", kind, length), &bare(kind, length))
+    })
 }

@@ -1,15 +1,11 @@
 //! Page 10h, written and read.
 
-use super::{changed, done, hex, longer, page, reading, refused, Case};
+use super::{changed, done, hex, longer, page, reading, refused, together, Case};
 
 const TOP_LBA: u64 = (1 << 48) - 1;
 
 pub fn all() -> Vec<Case> {
-    let mut cases = good_reads();
-    cases.extend(bad_reads());
-    cases.extend(good_writes());
-    cases.extend(bad_writes());
-    cases
+    together(vec![good_reads(), bad_reads(), good_writes(), bad_writes()])
 }
 
 fn read(comment: &str, bytes: &[u8], wants: &str) -> Case {

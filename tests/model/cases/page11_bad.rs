@@ -2,17 +2,18 @@
 //! alone on a page whose sum is right.
 
 use super::page11_read::{counters, entry, p7, read, up_to_and};
-use super::{changed, longer, page, Case};
+use super::{changed, longer, page, together, Case};
 
 pub fn all() -> Vec<Case> {
-    let mut cases = lengths_and_sums();
-    cases.extend(numbers());
-    cases.extend(widths());
-    cases.extend(past_the_end());
-    cases.extend(number_zero());
-    cases.extend(found_twice());
-    cases.extend(order());
-    cases
+    together(vec![
+        lengths_and_sums(),
+        numbers(),
+        widths(),
+        past_the_end(),
+        number_zero(),
+        found_twice(),
+        order(),
+    ])
 }
 
 fn lengths_and_sums() -> Vec<Case> {

@@ -1,7 +1,7 @@
 //! Page 11h, read well: values of each width, absent numbers, and all that
 //! the reader steps over.
 
-use super::{page, reading, sealed, Case};
+use super::{page, reading, sealed, together, Case};
 
 /// Two bytes of identifier, then the value's bytes.
 pub fn entry(identifier: u16, value: &[u8]) -> Vec<u8> {
@@ -50,13 +50,7 @@ pub fn up_to_and(end: usize, last: Vec<u8>) -> Vec<Vec<u8>> {
 }
 
 pub fn all() -> Vec<Case> {
-    let mut cases = proved();
-    cases.extend(widths());
-    cases.extend(full_pages());
-    cases.extend(ends());
-    cases.extend(vendors());
-    cases.extend(stepped_over());
-    cases
+    together(vec![proved(), widths(), full_pages(), ends(), vendors(), stepped_over()])
 }
 
 fn proved() -> Vec<Case> {

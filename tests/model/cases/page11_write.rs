@@ -1,6 +1,6 @@
 //! Page 11h, written.
 
-use super::{done, refused, Case};
+use super::{done, refused, together, Case};
 
 /// A 'K' case with this mask and the values of the rows from row 0 on.
 fn write(comment: &str, mask: u16, values: &[u32; 16]) -> Case {
@@ -37,10 +37,7 @@ fn p7() -> [u32; 16] {
 }
 
 pub fn all() -> Vec<Case> {
-    let mut cases = good();
-    cases.extend(each_row());
-    cases.extend(bad());
-    cases
+    together(vec![good(), each_row(), bad()])
 }
 
 fn good() -> Vec<Case> {

@@ -1,6 +1,6 @@
 //! Frames that are read well.
 
-use super::{filled, hex, reading, Case};
+use super::{filled, hex, reading, together, Case};
 
 /// One kind: a frame with all-distinct field bytes and how it reads, the bits
 /// that are dropped, how a frame of FFh reads, how a frame of zeros reads.
@@ -93,10 +93,8 @@ fn samples() -> Vec<Sample> {
 }
 
 pub fn all() -> Vec<Case> {
-    let mut cases: Vec<Case> = samples().iter().flat_map(of_sample).collect();
-    cases.extend(single_bits());
-    cases.extend(data_lengths());
-    cases
+    let kinds = samples().iter().flat_map(of_sample).collect();
+    together(vec![kinds, single_bits(), data_lengths()])
 }
 
 fn of_sample(s: &Sample) -> Vec<Case> {

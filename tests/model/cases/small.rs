@@ -1,11 +1,9 @@
 //! The row of an identifier; tag and sector count of a queued command.
 
-use super::Case;
+use super::{together, Case};
 
 pub fn all() -> Vec<Case> {
-    let mut cases = rows();
-    cases.extend(queued());
-    cases
+    together(vec![rows(), queued()])
 }
 
 /// Figure 24 of document 001, row by row, and all that has no row.

@@ -1,6 +1,6 @@
 //! Frames that are written well.
 
-use super::{done, Case};
+use super::{done, together, Case};
 
 /// The fields of a 'W' case, and where its body keeps them.
 #[derive(Clone, Default)]
@@ -108,12 +108,8 @@ const IMAGES: [(u8, &str, &str); 7] = [
 ];
 
 pub fn all() -> Vec<Case> {
-    let mut cases: Vec<Case> = IMAGES.iter().flat_map(|i| of_kind(i.0, i.1, i.2)).collect();
-    cases.extend(flags_alone());
-    cases.extend(not_looked_at());
-    cases.extend(good_status());
-    cases.extend(payloads());
-    cases
+    let images = IMAGES.iter().flat_map(|i| of_kind(i.0, i.1, i.2)).collect();
+    together(vec![images, flags_alone(), not_looked_at(), good_status(), payloads()])
 }
 
 /// Whole-byte statuses go up to FFh, the one of A1h to 77h.

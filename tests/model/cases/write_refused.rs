@@ -2,19 +2,14 @@
 //! 25 before 26. The buffer stays as it was.
 
 use super::write::{data, frame, tops, Fields};
-use super::{done, refused, Case};
+use super::{done, refused, together, Case};
 
 /// Each fixed-length kind and its length.
 const LENGTHS: [(u8, usize); 7] =
     [(0x27, 20), (0x34, 20), (0xA1, 8), (0x41, 28), (0x39, 4), (0x58, 12), (0x5F, 20)];
 
 pub fn all() -> Vec<Case> {
-    let mut cases = addresses();
-    cases.extend(statuses());
-    cases.extend(payloads());
-    cases.extend(rooms());
-    cases.extend(value_before_room());
-    cases
+    together(vec![addresses(), statuses(), payloads(), rooms(), value_before_room()])
 }
 
 fn with_lba(lba: u64) -> Fields {

@@ -4,8 +4,8 @@ use Rattle.device.proofs.state.fresh.Statement.{statement}
 use Rattle.device.proofs.state.fresh.Tie as tie
 use Rattle.device.proofs.state.fresh.Reads as reads
 use Rattle.device.proofs.state.fresh.Lts as lts
-use Rattle.rules.proofs.idle_entry.Reads as idle-entry-reads
-use Rattle.rules.proofs.no_record.Reads as no-record-reads
+use Rattle.states.proofs.idle_entry.Reads as idle-entry-reads
+use Rattle.states.proofs.no_record.Reads as no-record-reads
 
 -- src/state.rt:47:13
 idle-entry-requires : tie.Need-idle-entry-requires

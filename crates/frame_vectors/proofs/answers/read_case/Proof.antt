@@ -7,7 +7,7 @@ use Rattle.frame_vectors.proofs.answers.read_case.Tie as tie
 use Rattle.frame_vectors.proofs.answers.read_case.Reads as reads
 use Rattle.frame_vectors.proofs.answers.read_case.Lts as lts
 use Rattle.bits.proofs.lay.Reads as lay-reads
-use Rattle.frame_vectors.proofs.printing.word.Reads as word-reads
+use Rattle.printing.proofs.word.Reads as word-reads
 use Rattle.frame_vectors.proofs.reads.say_counter.Reads as say-counter-reads
 use Rattle.frame_vectors.proofs.reads.say_cut.Reads as say-cut-reads
 use Rattle.frame_vectors.proofs.reads.say_frame.Reads as say-frame-reads

@@ -6,7 +6,7 @@ use Rattle.frame_vectors.proofs.answers.write_case.Statement.{statement
 use Rattle.frame_vectors.proofs.answers.write_case.Tie as tie
 use Rattle.frame_vectors.proofs.answers.write_case.Reads as reads
 use Rattle.frame_vectors.proofs.answers.write_case.Lts as lts
-use Rattle.frame_vectors.proofs.printing.word.Reads as word-reads
+use Rattle.printing.proofs.word.Reads as word-reads
 use Rattle.frame_vectors.proofs.writes.filled.Reads as filled-reads
 use Rattle.frame_vectors.proofs.writes.say_counters.Reads as say-counters-reads
 use Rattle.frame_vectors.proofs.writes.say_frame.Reads as say-frame-reads

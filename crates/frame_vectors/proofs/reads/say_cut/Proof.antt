@@ -5,7 +5,7 @@ use Rattle.frame_vectors.proofs.reads.say_cut.Statement.{statement}
 use Rattle.frame_vectors.proofs.reads.say_cut.Tie as tie
 use Rattle.frame_vectors.proofs.reads.say_cut.Reads as reads
 use Rattle.frame_vectors.proofs.reads.say_cut.Lts as lts
-use Rattle.frame_vectors.proofs.printing.word.Reads as word-reads
+use Rattle.printing.proofs.word.Reads as word-reads
 use Rattle.frame_vectors.proofs.reads.say_piece.Reads as say-piece-reads
 use Rattle.wire.proofs.cut_first.Reads as cut-first-reads
 

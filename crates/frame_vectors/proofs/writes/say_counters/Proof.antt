@@ -6,9 +6,9 @@ use Rattle.frame_vectors.proofs.writes.say_counters.Statement.{statemen
 use Rattle.frame_vectors.proofs.writes.say_counters.Tie as tie
 use Rattle.frame_vectors.proofs.writes.say_counters.Reads as reads
 use Rattle.frame_vectors.proofs.writes.say_counters.Lts as lts
-use Rattle.frame_vectors.proofs.writes.four.Reads as four-reads
+use Rattle.printing.proofs.four.Reads as four-reads
 use Rattle.frame_vectors.proofs.writes.say_written.Reads as say-written-reads
-use Rattle.frame_vectors.proofs.writes.two.Reads as two-reads
+use Rattle.printing.proofs.two.Reads as two-reads
 use Rattle.pages.proofs.write_counters.Reads as write-counters-reads
 
 abbrev Inv-loop : tie.InvT-loop

@@ -10,7 +10,7 @@ use Rattle.replies.proofs.emitting.put_log10.Tie as tie
 use Rattle.replies.proofs.emitting.put_log10.Reads as reads
 use Rattle.replies.proofs.emitting.put_log10.Lts as lts
 use Rattle.pages.proofs.write_log.Reads as write-log-reads
-use Rattle.replies.proofs.emitting.log_of.Reads as log-of-reads
+use Rattle.replies.proofs.shown.log_of.Reads as log-of-reads
 use Rattle.replies.proofs.emitting.page_room.Reads as page-room-reads
 use Rattle.replies.proofs.emitting.put_log.Reads as put-log-reads
 

@@ -9,15 +9,19 @@ use Rattle.replies.proofs.emitting.put_pio.Reads as reads
 use Rattle.replies.proofs.emitting.put_pio.Lts as lts
 use Rattle.frames.proofs.write_pio.Reads as write-pio-reads
 
--- src/emitting.rt:82:9
+-- src/emitting.rt:144:20
+cast-t6 : tie.Need-cast-t6
+cast-t6 c = search needs
+
+-- src/emitting.rt:135:9
 write-pio-requires : tie.Need-write-pio-requires
 write-pio-requires c κs = search needs
 
--- src/emitting.rt:77:1
+-- src/emitting.rt:130:1
 same-length : tie.Need-same-length
 same-length c = search needs
 
--- src/emitting.rt:77:1
+-- src/emitting.rt:130:1
 returns : tie.Need-returns
 returns c =
     let w = c .before .before .write-pio in
@@ -26,4 +30,4 @@ returns c =
     (sends-one (pioReply (a .task)) (now (a .reply)) (w .result) (w .last .0) (w .ensures) (omega arith), omega (arith, one-most (pioReply (a .task)) (now (a .reply)) (w .result) (w .last .0) (w .ensures) (omega arith)))
 
 pub put-pio-spec : {M : Type 1} → statement M
-put-pio-spec = tie.close (tie.spec write-pio-requires same-length returns)
+put-pio-spec = tie.close (tie.spec cast-t6 write-pio-requires same-length returns)

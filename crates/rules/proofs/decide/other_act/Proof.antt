@@ -7,7 +7,7 @@ use Rattle.rules.proofs.decide.other_act.Tie as tie
 use Rattle.rules.proofs.decide.other_act.Reads as reads
 use Rattle.rules.proofs.decide.other_act.Lts as lts
 use Rattle.rules.proofs.decide.log_page.Reads as log-page-reads
-use Rattle.rules.proofs.shapes.echo_of.Reads as echo-of-reads
+use Rattle.states.proofs.echo_of.Reads as echo-of-reads
 use Rattle.wire.proofs.flag.Reads as flag-reads
 
 -- src/decide.rt:95:9

@@ -5,7 +5,11 @@ use Rattle.device.proofs.state.Device.accepted_by.Tie as tie
 use Rattle.device.proofs.state.Device.accepted_by.Reads as reads
 use Rattle.device.proofs.state.Device.accepted_by.Lts as lts
 use Rattle.bits.proofs.with_bit.Reads as with-bit-reads
-use Rattle.rules.proofs.with_entry.Reads as with-entry-reads
+use Rattle.states.proofs.with_entry.Reads as with-entry-reads
+
+-- src/after.rt:39:19
+cast-tag : tie.Need-cast-tag
+cast-tag c = search needs
 
 -- src/after.rt:40:13
 with-entry-requires : tie.Need-with-entry-requires
@@ -15,10 +19,10 @@ with-entry-requires c κs = search needs
 with-bit-requires : tie.Need-with-bit-requires
 with-bit-requires c κs = search needs
 
--- src/after.rt:35:5
+-- src/after.rt:34:5
 returns : tie.Need-returns
 unfolding acceptedBy
 returns c = rw (c .before .before .with-entry .ensures, c .before .with-bit .ensures)
 
 pub accepted-by-spec : {M : Type 1} → statement M
-accepted-by-spec = tie.close (tie.spec with-entry-requires with-bit-requires returns)
+accepted-by-spec = tie.close (tie.spec cast-tag with-entry-requires with-bit-requires returns)

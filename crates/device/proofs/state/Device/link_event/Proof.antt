@@ -6,10 +6,10 @@ use Rattle.device.proofs.state.Device.link_event.Statement.{statement}
 use Rattle.device.proofs.state.Device.link_event.Tie as tie
 use Rattle.device.proofs.state.Device.link_event.Reads as reads
 use Rattle.device.proofs.state.Device.link_event.Lts as lts
-use Rattle.device.proofs.events.row_refused.Reads as row-refused-reads
+use Rattle.device.proofs.events.counted.Reads as counted-reads
+use Rattle.states.proofs.row_refused.Reads as row-refused-reads
 use Rattle.device.proofs.state.Device.contradicts.Reads as contradicts-reads
-use Rattle.device.proofs.state.Device.counted.Reads as counted-reads
-use Rattle.rules.proofs.link_number.Reads as link-number-reads
+use Rattle.ladders.proofs.link_number.Reads as link-number-reads
 
 -- src/events.rt:35:13
 contradicts-requires : tie.Need-contradicts-requires

@@ -7,8 +7,8 @@ use Rattle.device.proofs.state.Device.power_on.Reads as reads
 use Rattle.device.proofs.state.Device.power_on.Lts as lts
 use Rattle.device.proofs.state.fresh.Reads as fresh-reads
 use Rattle.device.proofs.state.zeros.Reads as zeros-reads
-use Rattle.rules.proofs.settings_out.Reads as settings-out-reads
-use Rattle.rules.proofs.power_number.Reads as power-number-reads
+use Rattle.states.proofs.settings_out.Reads as settings-out-reads
+use Rattle.ladders.proofs.power_number.Reads as power-number-reads
 
 -- src/state.rt:64:43
 settings-out-requires : tie.Need-settings-out-requires

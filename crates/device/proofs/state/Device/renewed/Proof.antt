@@ -1,3 +1,6 @@
+use Rattle.bits.specs.Pick.{pick}
+use Rattle.device.specs.Events.{withValue}
+use Rattle.device.specs.After.{released, resetHeld}
 use Rattle.device.specs.Device.{freshDevice}
 use Rattle.device.specs.Reset.{renewed}
 use borrow.Author.Needs.{needs}
@@ -6,7 +9,7 @@ use Rattle.device.proofs.state.Device.renewed.Tie as tie
 use Rattle.device.proofs.state.Device.renewed.Reads as reads
 use Rattle.device.proofs.state.Device.renewed.Lts as lts
 use Rattle.device.proofs.state.fresh.Reads as fresh-reads
-use Rattle.rules.proofs.bump.Reads as bump-reads
+use Rattle.ladders.proofs.bump.Reads as bump-reads
 
 -- src/resets.rt:15:17
 element-copy-out-v : tie.Need-element-copy-out-v
@@ -26,7 +29,7 @@ fresh-requires c κs = search needs
 
 -- src/resets.rt:11:5
 returns : tie.Need-returns
-unfolding renewed freshDevice
+unfolding renewed withValue released resetHeld pick freshDevice
 returns c = rw (c .fresh .ensures, c .before .before .bump .ensures)
 
 pub renewed-spec : {M : Type 1} → statement M

@@ -1,0 +1,77 @@
+-- What is known of an outstanding command in a state that does not contradict itself. Assumes nothing.
+use mathlib.Core.Path.{_≡_, _∙_, sym}
+use mathlib.Core.Bool.{Bool, true, false, _||_}
+use Prim.Native.Nat.{ℕ, _+_, _-_, _≤_, _<_}
+use lib.Dec.{eqb}
+use native.Mathlib.Omega.{arith}
+use borrow.Author.Tests.{ltb-false, eqb-false, eq-eqb}
+use Rattle.bits.specs.Bit.{bitIn}
+use Rattle.bits.proofs.Picks.{pick-yes, pick-no, or-left, or-right}
+use Rattle.states.specs.Table.{entryOf}
+use Rattle.states.specs.Clauses.{aboveDepth, pastCapacity, countZero, otherTag, otherRange, movedAbove, movedBetween, phaseDone, busyBad, idleBad, entryBad}
+use Rattle.states.specs.declared.shapes.Entry.{Entry}
+use Rattle.device.specs.Device.{contradictoryDevice}
+use Rattle.device.specs.Calls.{openTag}
+use Rattle.device.specs.declared.state.Device.{Device}
+use Rattle.device.proofs.Parts.{tag-good, flow-good}
+use Rattle.device.proofs.Flows.{phase-busy}
+use Rattle.device.proofs.Tags.{busy-below}
+
+-- the phase of a tag is open
+abbrev pub phaseOf : Device → ℕ → Bool
+phaseOf d t = eqb (d .flow .phase) (t + 1)
+
+-- its entry
+pub busy-good : (d : Device) (t : ℕ) → contradictoryDevice d ≡ false → bitIn 32 (d .flow .outstanding) t ≡ true
+    → busyBad (d .settings) (entryOf (d .entries) t) t (phaseOf d t) ≡ false
+unfolding entryBad
+busy-good d t h b =
+    let e = entryOf (d .entries) t in
+    let busy = busyBad (d .settings) e t (phaseOf d t) in
+    sym (pick-yes (bitIn 32 (d .flow .outstanding) t) busy (idleBad e) b) ∙ tag-good d h t (busy-below (d .flow .outstanding) t b)
+
+module _ (d : Device) (t : ℕ) (h : contradictoryDevice d ≡ false) (b : bitIn 32 (d .flow .outstanding) t ≡ true) where
+  abbrev e : Entry
+  e = entryOf (d .entries) t
+
+  abbrev low : Bool
+  low = (aboveDepth (d .settings) t || pastCapacity (d .settings) e) || (countZero e || (otherTag e t || otherRange e))
+
+  abbrev high : Bool
+  high = movedAbove e || (movedBetween e (phaseOf d t) || phaseDone e (phaseOf d t))
+
+  low-good : low ≡ false
+  unfolding busyBad
+  low-good = or-left low high (busy-good d t h b)
+
+  high-good : high ≡ false
+  unfolding busyBad
+  high-good = or-right low high (busy-good d t h b)
+
+  -- its range lies within the capacity
+  pub range-within : e .first + e .count ≤ d .settings .capacity
+  range-within =
+      ltb-false (d .settings .capacity) (e .first + e .count)
+      (or-right (aboveDepth (d .settings) t) (pastCapacity (d .settings) e)
+      (or-left (aboveDepth (d .settings) t || pastCapacity (d .settings) e) (countZero e || (otherTag e t || otherRange e)) low-good))
+
+  -- no more has moved than it has sectors
+  pub moved-within : e .moved ≤ e .count
+  moved-within = ltb-false (e .count) (e .moved) (or-left (movedAbove e) (movedBetween e (phaseOf d t) || phaseDone e (phaseOf d t)) high-good)
+
+  -- an open phase has more to move
+  pub phase-more : phaseOf d t ≡ true → e .moved < e .count
+  phase-more p =
+      let done = or-right (movedBetween e (phaseOf d t)) (phaseDone e (phaseOf d t)) (or-right (movedAbove e) (movedBetween e (phaseOf d t) || phaseDone e (phaseOf d t)) high-good) in
+      let apart = eqb-false (e .moved) (e .count) (rw p at done) in
+      let most = moved-within in
+      omega (arith, apart)
+
+-- of the open phase
+pub moves-on : (d : Device) → contradictoryDevice d ≡ false → eqb (d .flow .phase) 0 ≡ false
+    → entryOf (d .entries) (openTag (d .flow .phase)) .moved < entryOf (d .entries) (openTag (d .flow .phase)) .count
+unfolding openTag
+moves-on d h p =
+    let t = d .flow .phase - 1 in
+    let own : phaseOf d t ≡ true = let q = eqb-false (d .flow .phase) 0 p in eq-eqb (d .flow .phase) (t + 1) (omega (arith, q)) in
+    rw (pick-no (eqb (d .flow .phase) 0) 32 t p) (phase-more d t h (phase-busy (d .flow) (d .errors .set) (flow-good d h) p) own)

@@ -1,0 +1,52 @@
+-- A counter's number, by its list. Assumes nothing.
+use mathlib.Core.Path.{_≡_, refl, sym, ap, subst, _∙_}
+use mathlib.Core.List.{List}
+use Prim.Native.Nat.{ℕ}
+use lib.Dec.{eqb}
+use lib.ListN.{getD}
+use borrow.Author.Tests.{eqb-true}
+use Rattle.bits.specs.First.{FirstExactly, firstOf}
+use Rattle.bits.proofs.Firsts as firsts
+use Rattle.bits.proofs.Picks.{by-test, pick-yes, pick-no}
+use Rattle.pages.specs.Rows.{kept, rowOf}
+use Rattle.pages.specs.Page11.{toldCounter}
+use Rattle.pages.specs.Made11.{onRow, shownFor}
+use Rattle.pages.specs.declared.rows.Place.{Place}
+use Rattle.pages.specs.declared.rows.Place.the-variants.{Row, Nowhere}
+use Rattle.pages.specs.declared.page11.Counter.{Counter}
+use Rattle.pages.specs.declared.page11.Counter.the-variants.{Value, Absent, Refused}
+use Rattle.device.specs.Counter.{counterTests, counterOf, CounterGiven, countOf}
+use Rattle.device.specs.Device.{contradictoryDevice}
+use Rattle.ladders.specs.Ladders.{powerLadder}
+use lib.Count.{ones}
+use Rattle.bits.specs.Pick.{pick}
+use Rattle.device.specs.declared.state.Device.{Device}
+
+-- what is shown of a row is no refusal
+shown-told : (mask : ℕ) (values : List ℕ) (p : Place) → toldCounter (onRow mask values p) .number ≡ 0
+unfolding onRow toldCounter
+shown-told mask values (Row k) = by-test (λ (c : Counter). toldCounter c .number ≡ 0) (kept mask k) (Value (getD values k 0)) Absent (λ _. refl) (λ _. refl)
+shown-told mask values Nowhere = refl
+
+counter-told : (d : Device) (number : ℕ) → toldCounter (counterOf d number) .number ≡ firstOf (counterTests d number)
+unfolding counterOf toldCounter shownFor
+counter-told d number =
+    let n = firstOf (counterTests d number) in
+    by-test (λ (c : Counter). toldCounter c .number ≡ n) (eqb n 0) (shownFor (d .settings .mask) (d .values) number) (Refused n)
+    (λ t. shown-told (d .settings .mask) (d .values) (rowOf number) ∙ sym (eqb-true n 0 t)) (λ _. refl)
+
+pub counter-given : (d : Device) (number : ℕ) (r : Counter) → r ≡ counterOf d number → CounterGiven d number r
+counter-given d number r e = record { answer = e; refusal = ap (λ (c : Counter). toldCounter c .number) e ∙ counter-told d number }
+
+-- counter: 1, 23, each exactly then
+pub first-exactly-counter : (d : Device) (number : ℕ) (r : Counter) → CounterGiven d number r → FirstExactly (counterTests d number) (toldCounter r .number)
+first-exactly-counter d number r g = subst (FirstExactly (counterTests d number)) (sym (g .refusal)) (firsts.first-exactly (counterTests d number) tt)
+
+-- the count of outstanding commands: 1, exactly when the state contradicts itself
+pub first-exactly-count : (d : Device) (r : Counter) → r ≡ countOf d → FirstExactly (powerLadder (contradictoryDevice d)) (toldCounter r .number)
+unfolding countOf toldCounter firstOf
+first-exactly-count d r e =
+    let told : toldCounter r .number ≡ firstOf (powerLadder (contradictoryDevice d)) = ap (λ (c : Counter). toldCounter c .number) e
+    ∙ by-test (λ (c : Counter). toldCounter c .number ≡ pick (contradictoryDevice d) 1 0) (contradictoryDevice d) (Refused 1) (Value (ones (d .flow .outstanding)))
+    (λ y. sym (pick-yes (contradictoryDevice d) 1 0 y)) (λ n. sym (pick-no (contradictoryDevice d) 1 0 n)) in
+    subst (FirstExactly (powerLadder (contradictoryDevice d))) (sym told) (firsts.first-exactly (powerLadder (contradictoryDevice d)) tt)

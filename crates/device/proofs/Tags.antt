@@ -1,0 +1,76 @@
+-- Tests of single tags: bits of the set outstanding, and entries as they are accepted, move and are opened. Assumes nothing.
+use mathlib.Core.Path.{_≡_, refl}
+use mathlib.Core.Bool.{Bool, true, false, not, _&&_, _||_}
+use mathlib.Core.Logic.{⊎-elim}
+use Prim.Native.Nat.{ℕ, _+_, _-_, _/_, _%_, _^_, _<_, min}
+use native.Mathlib.Omega.{arith}
+use lib.Dec.{ltb, leb, eqb}
+use borrow.Author.Tests.{lt-ltb, le-ltb, eq-eqb, ne-eqb, eqb-true, eqb-false, ltb-true, ltb-false, leb-true, leb-false}
+use Rattle.bits.specs.Pick.{pick}
+use Rattle.bits.specs.Bit.{bitIn, withBitIn, clearIn}
+use Rattle.bits.proofs.Masks.{bit-lt, bit-set-same, bit-set-other, bit-clear}
+use Rattle.bits.proofs.Picks.{tested, and-left, or-left, or-right}
+
+-- ---- bits
+
+-- a tag more: its own bit is on, each other as it was
+pub bit-with : (m t k : ℕ) → t < 32 → k < 32 → bitIn 32 (withBitIn 32 m t) k ≡ (eqb k t || bitIn 32 m k)
+unfolding pick
+bit-with m t k ht hk =
+    rw (lt-ltb t 32 ht, lt-ltb k 32 hk)
+    (⊎-elim
+    (λ (x : eqb k t ≡ true). rw (x, eqb-true k t x, bit-set-same m t))
+    (λ (x : eqb k t ≡ false). rw (x, bit-set-other m t k (eqb-false k t x)))
+    (tested (eqb k t)))
+
+-- one digit of `m & !s`, as a test
+digit-clear : (a b : ℕ) → a < 2 → b < 2 → eqb (min a (1 - b)) 1 ≡ (not (eqb b 1) && eqb a 1)
+digit-clear a b ha hb =
+    ⊎-elim
+    (λ (x : eqb b 1 ≡ true). let y = eqb-true b 1 x in rw x (ne-eqb (min a (1 - b)) 1 (λ e. omega arith)))
+    (λ (x : eqb b 1 ≡ false). let y = eqb-false b 1 x in let z : min a (1 - b) ≡ a = omega arith in rw (x, z))
+    (tested (eqb b 1))
+
+-- a set of tags fewer: their bits are off, each other as it was
+pub bit-without : (m s k : ℕ) → s < 2 ^ 32 → k < 32 → bitIn 32 (clearIn 32 m s) k ≡ (not (bitIn 32 s k) && bitIn 32 m k)
+bit-without m s k hs hk =
+    rw (lt-ltb k 32 hk, bit-clear 32 m s k hs hk) (digit-clear (m / 2 ^ k % 2) (s / 2 ^ k % 2) (bit-lt m k) (bit-lt s k))
+
+-- a tag that is outstanding is below 32
+pub busy-below : (m t : ℕ) → bitIn 32 m t ≡ true → t < 32
+busy-below m t h = ltb-true t 32 (and-left (ltb t 32) (eqb (m / 2 ^ t % 2) 1) h)
+
+-- ---- what has moved of a command
+
+-- one of the three clauses of what has moved
+abbrev pub movedBad : ℕ → ℕ → Bool → Bool
+movedBad count moved phase =
+    ltb count moved || ((not phase && (not (eqb moved 0) && not (eqb moved count))) || (phase && eqb moved count))
+
+-- nothing has moved, and no phase is open
+pub moved-none : (count : ℕ) → movedBad count 0 false ≡ false
+moved-none count = rw (le-ltb count 0 (omega arith))
+
+-- a phase is opened while something is left
+pub moved-opened : (count moved : ℕ) → movedBad count moved false ≡ false → eqb moved count ≡ false → movedBad count moved true ≡ false
+moved-opened count moved h e = rw (e, or-left (ltb count moved) ((not (eqb moved 0) && not (eqb moved count)) || false) h)
+
+-- what is due has moved, and the phase stays open while something is left
+pub moved-on : (count moved : ℕ) → movedBad count moved true ≡ false
+    → movedBad count (moved + min 16 (count - moved)) (not (leb count (moved + min 16 (count - moved)))) ≡ false
+moved-on count moved h =
+    let l = ltb-false count moved (or-left (ltb count moved) (eqb moved count) h) in
+    let n = eqb-false moved count (or-right (ltb count moved) (eqb moved count) h) in
+    ⊎-elim
+    (λ (x : leb count (moved + min 16 (count - moved)) ≡ true).
+    let k = leb-true count (moved + min 16 (count - moved)) x in
+    let e : moved + min 16 (count - moved) ≡ count = omega arith in
+    rw (x, e, le-ltb count count (omega arith), eq-eqb count count refl) (whole (eqb count 0)))
+    (λ (x : leb count (moved + min 16 (count - moved)) ≡ false).
+    let k = leb-false count (moved + min 16 (count - moved)) x in
+    rw (x, le-ltb count (moved + min 16 (count - moved)) (omega arith), ne-eqb (moved + min 16 (count - moved)) count (λ e. omega arith)))
+    (tested (leb count (moved + min 16 (count - moved))))
+  where
+    whole : (p : Bool) → (not p && not true) || false ≡ false
+    whole true = refl
+    whole false = refl

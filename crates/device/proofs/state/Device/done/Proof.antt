@@ -1,0 +1,36 @@
+use denote.Ref.{now}
+use Rattle.device.proofs.Doing.{done-answered}
+use borrow.Author.Needs.{needs}
+use Rattle.device.proofs.state.Device.done.Statement.{statement}
+use Rattle.device.proofs.state.Device.done.Tie as tie
+use Rattle.device.proofs.state.Device.done.Reads as reads
+use Rattle.device.proofs.state.Device.done.Lts as lts
+use Rattle.device.proofs.after.after.Reads as after-reads
+use Rattle.replies.proofs.emit.Reads as emit-reads
+use Rattle.rules.proofs.number_of.Reads as number-of-reads
+
+-- src/calls.rt:58:13
+emit-requires : tie.Need-emit-requires
+emit-requires c κs = search needs
+
+-- src/calls.rt:59:13
+number-of-requires : tie.Need-number-of-requires
+number-of-requires c κs = search needs
+
+-- src/calls.rt:60:13
+after-requires : tie.Need-after-requires
+after-requires c κs = search needs
+
+-- src/calls.rt:51:5
+same-length : tie.Need-same-length
+same-length c = search needs
+
+-- src/calls.rt:51:5
+returns : tie.Need-returns
+returns c =
+    let a = c .before .before .before .before .before .before .before .before .before .before .args in
+    done-answered (a .self) (c .after .result) (now (a .part)) (a .act) (now (a .reply)) (c .before .before .before .before .emit .last .0) (c .before .number-of .result) (c .before .before .before .before .emit .result) (c .before .before .before .before .before .before .before .before .before .before .pre) (c .before .number-of .ensures) (c .after .ensures) (c .before .before .before .before .emit .ensures)
+
+pub done-spec : {M : Type 1} → statement M
+done-spec =
+    tie.close (tie.spec emit-requires number-of-requires after-requires same-length returns)

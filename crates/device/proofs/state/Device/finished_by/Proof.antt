@@ -1,0 +1,24 @@
+use Rattle.device.specs.After.{finishedBy}
+use borrow.Author.Needs.{needs}
+use Rattle.device.proofs.state.Device.finished_by.Statement.{statement}
+use Rattle.device.proofs.state.Device.finished_by.Tie as tie
+use Rattle.device.proofs.state.Device.finished_by.Reads as reads
+use Rattle.device.proofs.state.Device.finished_by.Lts as lts
+use Rattle.bits.proofs.without.Reads as without-reads
+use Rattle.states.proofs.cleared.Reads as cleared-reads
+
+-- src/after.rt:108:13
+cleared-requires : tie.Need-cleared-requires
+cleared-requires c κs = search needs
+
+-- src/after.rt:109:13
+without-requires : tie.Need-without-requires
+without-requires c κs = search needs
+
+-- src/after.rt:104:5
+returns : tie.Need-returns
+unfolding finishedBy
+returns c = rw (c .before .before .cleared .ensures, c .before .without .ensures)
+
+pub finished-by-spec : {M : Type 1} → statement M
+finished-by-spec = tie.close (tie.spec cleared-requires without-requires returns)

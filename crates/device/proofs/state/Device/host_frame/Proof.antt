@@ -1,0 +1,94 @@
+use denote.Ref.{now}
+use lib.ListN.{length}
+use mathlib.Core.Path.{_≡_, ap, _∙_}
+use mathlib.Core.List.{[]}
+use Rattle.rules.specs.Taking.{keptIn}
+use Rattle.rules.specs.declared.acts.Act.{Act}
+use Rattle.device.specs.Calls.{hostAct}
+use Rattle.device.proofs.Doing.{by-act, roomy-act, host-act}
+use Rattle.device.proofs.Rooms.{roomy-host}
+use borrow.Author.Needs.{needs}
+use Rattle.device.proofs.state.Device.host_frame.Statement.{statement}
+use Rattle.device.proofs.state.Device.host_frame.Tie as tie
+use Rattle.device.proofs.state.Device.host_frame.Reads as reads
+use Rattle.device.proofs.state.Device.host_frame.Lts as lts
+use Rattle.device.proofs.state.Device.done.Reads as done-reads
+use Rattle.device.proofs.state.Device.facts.Reads as facts-reads
+use Rattle.device.proofs.calls.medium_wrong.Reads as medium-wrong-reads
+use Rattle.device.proofs.calls.open_tag.Reads as open-tag-reads
+use Rattle.frames.proofs.read_frame.Reads as read-frame-reads
+use Rattle.rules.proofs.decide_frame.Reads as decide-frame-reads
+use Rattle.rules.proofs.keep.Reads as keep-reads
+
+-- src/calls.rt:72:13
+open-tag-requires : tie.Need-open-tag-requires
+open-tag-requires c κs = search needs
+
+-- src/calls.rt:73:13
+medium-wrong-requires : tie.Need-medium-wrong-requires
+medium-wrong-requires c κs = search needs
+
+-- src/calls.rt:74:13
+facts-requires : tie.Need-facts-requires
+facts-requires c κs = search needs
+
+-- src/calls.rt:75:13
+read-frame-requires : tie.Need-read-frame-requires
+read-frame-requires c κs = search needs
+
+-- src/calls.rt:76:13
+decide-frame-requires : tie.Need-decide-frame-requires
+decide-frame-requires c κs = search needs
+
+-- src/calls.rt:77:9
+keep-requires : tie.Need-keep-requires
+keep-requires c κs = search needs
+
+-- src/calls.rt:78:31
+slice-aggregate-done : tie.Need-slice-aggregate-done
+slice-aggregate-done c = search needs
+
+-- src/calls.rt:78:9
+done-requires : tie.Need-done-requires
+done-requires c κs =
+    let a = c .before .before .before .before .before .before .before .before .before .before .before .before .before .before .args in
+    let n = length (now (a .medium)) in
+    let room = length (now (a .reply)) in
+    let e = host-act (a .self) (now (a .frame)) n room (c .before .before .before .before .before .before .before .before .before .before .open-tag .result) (c .before .before .before .before .before .before .before .before .before .medium-wrong .result) (c .before .before .before .before .before .before .before .before .facts .result) (c .before .before .before .before .before .before .before .read-frame .result) (c .before .before .before .before .before .before .decide-frame .result) (c .before .before .before .before .before .before .before .before .before .before .open-tag .ensures) (c .before .before .before .before .before .before .before .before .before .medium-wrong .ensures) (c .before .before .before .before .before .before .before .before .facts .ensures) (c .before .before .before .before .before .before .before .read-frame .ensures .answer) (c .before .before .before .before .before .before .decide-frame .ensures) in
+    roomy-act (c .before .before .before .before .before .before .decide-frame .result) (hostAct (a .self) (now (a .frame)) n room) room e (roomy-host (a .self) (now (a .frame)) n room)
+
+-- src/calls.rt:69:5
+same-length : tie.Need-same-length
+same-length c = search needs
+
+-- src/calls.rt:69:5
+same-length-2 : tie.Need-same-length-2
+same-length-2 c = search needs
+
+-- src/calls.rt:69:5
+returns : tie.Need-returns
+returns c =
+    let a = c .before .before .before .before .before .before .before .before .before .before .before .before .before .before .before .before .before .args in
+    let n = length (now (a .medium)) in
+    let room = length (now (a .reply)) in
+    let e = host-act (a .self) (now (a .frame)) n room (c .before .before .before .before .before .before .before .before .before .before .before .before .before .open-tag .result) (c .before .before .before .before .before .before .before .before .before .before .before .before .medium-wrong .result) (c .before .before .before .before .before .before .before .before .before .before .before .facts .result) (c .before .before .before .before .before .before .before .before .before .before .read-frame .result) (c .before .before .before .before .before .before .before .before .before .decide-frame .result) (c .before .before .before .before .before .before .before .before .before .before .before .before .before .open-tag .ensures) (c .before .before .before .before .before .before .before .before .before .before .before .before .medium-wrong .ensures) (c .before .before .before .before .before .before .before .before .before .before .before .facts .ensures) (c .before .before .before .before .before .before .before .before .before .before .read-frame .ensures .answer) (c .before .before .before .before .before .before .before .before .before .decide-frame .ensures) in
+    record {
+      answered = by-act (a .self) [] (c .before .before .before .before .before .before .before .before .before .decide-frame .result) (hostAct (a .self) (now (a .frame)) n room) (now (a .reply)) (c .before .before .done .last .1 .0) (c .before .before .done .result) e (c .before .before .done .ensures);
+      medium = c .before .before .before .before .before .before .before .keep .ensures ∙ ap (λ (x : Act). keptIn x (now (a .frame)) (now (a .medium))) e;
+    }
+
+pub host-frame-spec : {M : Type 1} → statement M
+host-frame-spec =
+    tie.close
+    (tie.spec
+    open-tag-requires
+    medium-wrong-requires
+    facts-requires
+    read-frame-requires
+    decide-frame-requires
+    keep-requires
+    slice-aggregate-done
+    done-requires
+    same-length
+    same-length-2
+    returns)

@@ -1,0 +1,35 @@
+use Rattle.bits.specs.Pick.{pick}
+use Rattle.device.specs.Counter.{countOf}
+use borrow.Author.Needs.{needs}
+use Rattle.device.proofs.state.Device.outstanding_count.Statement.{statement}
+use Rattle.device.proofs.state.Device.outstanding_count.Tie as tie
+use Rattle.device.proofs.state.Device.outstanding_count.Reads as reads
+use Rattle.device.proofs.state.Device.outstanding_count.Lts as lts
+use Rattle.device.proofs.counter.ones_of.Reads as ones-of-reads
+use Rattle.device.proofs.state.Device.contradicts.Reads as contradicts-reads
+
+-- src/counter.rt:56:13
+contradicts-requires : tie.Need-contradicts-requires
+contradicts-requires c κs = search needs
+
+-- src/counter.rt:59:13
+returns : tie.Need-returns
+unfolding countOf pick
+returns c = rw (← c .before .contradicts .ensures, c .if1 .taken)
+
+-- src/counter.rt:61:13
+ones-of-requires : tie.Need-ones-of-requires
+ones-of-requires c κs = search needs
+
+-- src/counter.rt:62:24
+cast-t6 : tie.Need-cast-t6
+cast-t6 c = search needs
+
+-- src/counter.rt:53:5
+returns-2 : tie.Need-returns-2
+unfolding countOf pick
+returns-2 c = rw (← c .before .before .contradicts .ensures, c .before .if1 .left, c .ones-of .ensures)
+
+pub outstanding-count-spec : {M : Type 1} → statement M
+outstanding-count-spec =
+    tie.close (tie.spec contradicts-requires returns ones-of-requires cast-t6 returns-2)

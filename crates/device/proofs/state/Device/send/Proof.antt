@@ -1,0 +1,103 @@
+use denote.Ref.{now}
+use lib.ListN.{length}
+use Rattle.device.specs.Calls.{sendOf}
+use Rattle.device.proofs.Doing.{roomy-act, send-act, span-known, sent-part}
+use Rattle.device.proofs.Rooms.{roomy-send}
+use borrow.Author.Needs.{needs}
+use Rattle.device.proofs.state.Device.send.Statement.{statement}
+use Rattle.device.proofs.state.Device.send.Tie as tie
+use Rattle.device.proofs.state.Device.send.Reads as reads
+use Rattle.device.proofs.state.Device.send.Lts as lts
+use Rattle.device.proofs.state.Device.done.Reads as done-reads
+use Rattle.device.proofs.state.Device.facts.Reads as facts-reads
+use Rattle.device.proofs.calls.medium_wrong.Reads as medium-wrong-reads
+use Rattle.device.proofs.calls.open_tag.Reads as open-tag-reads
+use Rattle.rules.proofs.send_act.Reads as send-act-reads
+use Rattle.rules.proofs.span_of.Reads as span-of-reads
+
+-- src/calls.rt:94:13
+open-tag-requires : tie.Need-open-tag-requires
+open-tag-requires c κs = search needs
+
+-- src/calls.rt:95:13
+medium-wrong-requires : tie.Need-medium-wrong-requires
+medium-wrong-requires c κs = search needs
+
+-- src/calls.rt:96:13
+facts-requires : tie.Need-facts-requires
+facts-requires c κs = search needs
+
+-- src/calls.rt:97:13
+send-act-requires : tie.Need-send-act-requires
+send-act-requires c κs = search needs
+
+-- src/calls.rt:98:13
+span-of-requires : tie.Need-span-of-requires
+span-of-requires c κs = search needs
+
+-- src/calls.rt:100:19
+add-end : tie.Need-add-end
+add-end c =
+    let a = c .before .before .before .before .before .before .before .before .args in
+    let n = length (now (a .medium)) in
+    let room = length (now (a .reply)) in
+    let e = send-act (a .self) n room (c .before .before .before .before .before .open-tag .result) (c .before .before .before .before .medium-wrong .result) (c .before .before .before .facts .result) (c .before .before .send-act .result) (c .before .before .before .before .before .open-tag .ensures) (c .before .before .before .before .medium-wrong .ensures) (c .before .before .before .facts .ensures) (c .before .before .send-act .ensures) in
+    let h = span-known (a .self) n room (c .before .before .send-act .result) (c .before .span-of .result) e (c .before .span-of .ensures) in
+    search (needs, h)
+
+-- src/calls.rt:101:31
+sub-done : tie.Need-sub-done
+sub-done c = search needs
+
+-- src/calls.rt:101:31
+part-done-start : tie.Need-part-done-start
+part-done-start c = search needs
+
+-- src/calls.rt:101:31
+part-done-end : tie.Need-part-done-end
+part-done-end c =
+    let a = c .before .before .before .before .before .before .before .before .before .args in
+    let n = length (now (a .medium)) in
+    let room = length (now (a .reply)) in
+    let e = send-act (a .self) n room (c .before .before .before .before .before .before .open-tag .result) (c .before .before .before .before .before .medium-wrong .result) (c .before .before .before .before .facts .result) (c .before .before .before .send-act .result) (c .before .before .before .before .before .before .open-tag .ensures) (c .before .before .before .before .before .medium-wrong .ensures) (c .before .before .before .before .facts .ensures) (c .before .before .before .send-act .ensures) in
+    let h = span-known (a .self) n room (c .before .before .before .send-act .result) (c .before .before .span-of .result) e (c .before .before .span-of .ensures) in
+    search (needs, h)
+
+-- src/calls.rt:101:9
+done-requires : tie.Need-done-requires
+done-requires c κs =
+    let a = c .before .before .before .before .before .before .before .before .before .before .args in
+    let n = length (now (a .medium)) in
+    let room = length (now (a .reply)) in
+    let e = send-act (a .self) n room (c .before .before .before .before .before .before .before .open-tag .result) (c .before .before .before .before .before .before .medium-wrong .result) (c .before .before .before .before .before .facts .result) (c .before .before .before .before .send-act .result) (c .before .before .before .before .before .before .before .open-tag .ensures) (c .before .before .before .before .before .before .medium-wrong .ensures) (c .before .before .before .before .before .facts .ensures) (c .before .before .before .before .send-act .ensures) in
+    roomy-act (c .before .before .before .before .send-act .result) (sendOf (a .self) n room) room e (roomy-send (a .self) n room)
+
+-- src/calls.rt:91:5
+same-length : tie.Need-same-length
+same-length c = search needs
+
+-- src/calls.rt:91:5
+returns : tie.Need-returns
+returns c =
+    let a = c .before .before .before .before .before .before .before .before .before .before .before .before .before .args in
+    let n = length (now (a .medium)) in
+    let room = length (now (a .reply)) in
+    let e = send-act (a .self) n room (c .before .before .before .before .before .before .before .before .before .before .open-tag .result) (c .before .before .before .before .before .before .before .before .before .medium-wrong .result) (c .before .before .before .before .before .before .before .before .facts .result) (c .before .before .before .before .before .before .before .send-act .result) (c .before .before .before .before .before .before .before .before .before .before .open-tag .ensures) (c .before .before .before .before .before .before .before .before .before .medium-wrong .ensures) (c .before .before .before .before .before .before .before .before .facts .ensures) (c .before .before .before .before .before .before .before .send-act .ensures) in
+    sent-part (a .self) (now (a .medium)) (now (a .reply)) (c .before .before .done .last .1 .0) (c .before .before .before .before .before .before .before .send-act .result) (c .before .before .before .before .before .before .span-of .result) (c .before .before .done .result) e (c .before .before .before .before .before .before .span-of .ensures) (c .before .before .done .ensures)
+
+pub send-spec : {M : Type 1} → statement M
+send-spec =
+    tie.close
+    (tie.spec
+    open-tag-requires
+    medium-wrong-requires
+    facts-requires
+    send-act-requires
+    span-of-requires
+    add-end
+    sub-done
+    part-done-start
+    part-done-end
+    done-requires
+    same-length
+    returns)

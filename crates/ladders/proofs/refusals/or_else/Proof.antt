@@ -1,0 +1,18 @@
+use Rattle.bits.specs.Pick.{pick}
+use Rattle.ladders.proofs.refusals.or_else.Statement.{statement}
+use Rattle.ladders.proofs.refusals.or_else.Tie as tie
+use Rattle.ladders.proofs.refusals.or_else.Reads as reads
+use Rattle.ladders.proofs.refusals.or_else.Lts as lts
+
+-- src/refusals.rt:8:1
+returns : tie.Need-returns
+unfolding pick
+returns c = rw (c .if1 .taken)
+
+-- src/refusals.rt:8:1
+returns-2 : tie.Need-returns-2
+unfolding pick
+returns-2 c = rw (c .if1 .left)
+
+pub or-else-spec : {M : Type 1} → statement M
+or-else-spec = tie.close (tie.spec returns returns-2)

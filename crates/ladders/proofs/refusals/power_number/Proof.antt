@@ -1,0 +1,19 @@
+use Rattle.bits.specs.First.{firstOf}
+use borrow.Author.Needs.{needs}
+use Rattle.ladders.proofs.refusals.power_number.Statement.{statement}
+use Rattle.ladders.proofs.refusals.power_number.Tie as tie
+use Rattle.ladders.proofs.refusals.power_number.Reads as reads
+use Rattle.ladders.proofs.refusals.power_number.Lts as lts
+use Rattle.ladders.proofs.refusals.or_else.Reads as or-else-reads
+
+-- src/refusals.rt:17:5
+or-else-requires : tie.Need-or-else-requires
+or-else-requires c κs = search needs
+
+-- src/refusals.rt:14:1
+returns : tie.Need-returns
+unfolding firstOf
+returns c = rw (c .or-else .ensures)
+
+pub power-number-spec : {M : Type 1} → statement M
+power-number-spec = tie.close (tie.spec or-else-requires returns)

@@ -1,0 +1,2 @@
+pub mod Ladders
+pub mod Counts

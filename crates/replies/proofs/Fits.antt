@@ -1,0 +1,131 @@
+-- Every reply that fits is sent, whole and in its place: none is left out. Assumes nothing.
+use mathlib.Core.Path.{_≡_, refl, sym, ap, ap₂, _∙_}
+use mathlib.Core.Bool.{Bool, true, false, not, true≢false}
+use mathlib.Core.List.{List, [], _∷_, _++_, map}
+use Prim.Native.Nat.{ℕ, _*_, _^_, _<_}
+use native.Mathlib.Omega.{arith}
+use lib.ListN.{length, take, drop}
+use lib.Seq.{take-at}
+use borrow.Author.Tests.{lt-ltb}
+use Rattle.bits.specs.Pick.{pick}
+use Rattle.bits.specs.Little.{Bytes}
+use Rattle.bits.proofs.Picks.{pick-yes}
+use Rattle.wire.specs.Cut.{cut, joined}
+use Rattle.wire.specs.Piece.{taskFits}
+use Rattle.wire.specs.declared.pieces.Task.{Task}
+use Rattle.wire.proofs.TaskLaws.{task-fits}
+use Rattle.frames.specs.Write.{Sent, payload, encode, fits}
+use Rattle.frames.specs.Neat.{Neat}
+use Rattle.frames.proofs.Cuts.{cut-sent}
+use Rattle.pages.specs.Page10.{page10, fits10}
+use Rattle.pages.specs.Rows.{keepsBoth}
+use Rattle.pages.specs.Made11.{page11}
+use Rattle.pages.proofs.Trip10.{length-10}
+use Rattle.pages.proofs.Bytes11.{page-length}
+use Rattle.states.specs.State.{placedBytes, taskIn}
+use Rattle.states.specs.declared.shapes.Echo.{Echo}
+use Rattle.states.specs.declared.shapes.ErrorRecord.{ErrorRecord}
+use Rattle.rules.specs.declared.acts.Act.{Act}
+use Rattle.rules.specs.declared.acts.Act.the-variants.{Refuse, Nothing, Answer, Halt, Accept, Log10, Log11, Reset, Release, Zero, Keep, Open, Send, Finish, Media}
+use Rattle.replies.specs.Replies.{register, activateIf, pioReply, logOf, page10Of, page11Of, logReplies, repliesOf, sentBytes, sentAll, Sends}
+use Rattle.replies.specs.Fit.{Fitting, Fit}
+
+-- frames that fit are all sent
+pub all-sent : (fs : List Sent) → Fitting fs → sentAll fs ≡ joined (map encode fs)
+unfolding Fitting sentAll sentBytes joined
+all-sent [] h = refl
+all-sent (f ∷ fs) h = ap₂ (λ (a b : List ℕ). a ++ b) (pick-yes (fits f) (encode f) [] (h .0)) (all-sent fs (h .1))
+
+register-fits : (i : Bool) (status error : ℕ) (task : Task) → status < 256 → error < 256 → taskFits task ≡ true → fits (register i status error task) ≡ true
+unfolding fits
+register-fits i status error task s e t = rw (lt-ltb status 256 s, lt-ltb error 256 e) t
+
+pio-fits : (task : Task) → taskFits task ≡ true → fits (pioReply task) ≡ true
+unfolding fits
+pio-fits task t = t
+
+-- what stands in the bytes of a command
+echo-fits : (e : Echo) → Bytes (placedBytes e) → taskFits (taskIn e) ≡ true
+unfolding taskIn
+echo-fits e b = task-fits (placedBytes e) b
+
+page-fits : (page : List ℕ) → length page ≡ 512 → fits (payload page) ≡ true
+unfolding fits
+page-fits page e = rw e
+
+log-fits : (on : Bool) (task : Task) (page : List ℕ) → taskFits task ≡ true → length page ≡ 512 → Fitting (logReplies on task page)
+unfolding Fitting pick fits
+log-fits true task page t e = (refl, (pio-fits task t, (page-fits page e, tt)))
+log-fits false task page t e = (pio-fits task t, (page-fits page e, tt))
+
+page10-long : (r : ErrorRecord) → fits10 (logOf r) ≡ true → length (page10Of r) ≡ 512
+page10-long r h = ap length (pick-yes (fits10 (logOf r)) (page10 (logOf r)) [] h) ∙ length-10 (logOf r)
+
+page11-long : (mask : ℕ) (values : List ℕ) → keepsBoth mask ≡ true → length (page11Of mask values) ≡ 512
+page11-long mask values h = ap length (pick-yes (keepsBoth mask) (page11 mask values) [] h) ∙ page-length mask values
+
+activate-fits : (on : Bool) → Fitting (activateIf on)
+unfolding Fitting pick fits
+activate-fits true = (refl, tt)
+activate-fits false = tt
+
+-- a data frame comes last
+off : {A : Type 0} → false ≡ true → A
+off e = absurd (true≢false (sym e))
+
+log-neat : (on : Bool) (task : Task) (page : List ℕ) → Neat (logReplies on task page)
+unfolding Neat pick
+log-neat true task page = (off, (off, (λ _. refl, tt)))
+log-neat false task page = (off, (λ _. refl, tt))
+
+activate-neat : (on : Bool) → Neat (activateIf on)
+unfolding Neat pick
+activate-neat true = (off, tt)
+activate-neat false = tt
+
+module _ (r : ErrorRecord) (mask : ℕ) (values part : List ℕ) where
+  -- by the act
+  pub replies-fit : (a : Act) → Fit r mask part a → Fitting (repliesOf r mask values part a)
+  unfolding Fit Fitting repliesOf fits
+  replies-fit (Refuse n) h = tt
+  replies-fit Nothing h = tt
+  replies-fit (Answer b) h = (register-fits true 0x41 (b .error) (b .task) (omega arith) (h .0) (h .1), tt)
+  replies-fit (Halt f) h = (register-fits true 0x41 (f .error) (taskIn (f .echo)) (omega arith) (h .0) (echo-fits (f .echo) (h .1)), tt)
+  replies-fit (Accept q) h = (register-fits false 0x40 0 (taskIn (q .entry .echo)) (omega arith) (omega arith) (echo-fits (q .entry .echo) h), tt)
+  replies-fit (Log10 l) h = log-fits (l .also) (l .task) (page10Of r) (h .0) (page10-long r (h .1))
+  replies-fit (Log11 l) h = log-fits false (l .task) (page11Of mask values) (h .0) (page11-long mask values (h .1))
+  replies-fit Reset h = tt
+  replies-fit Release h = (refl, tt)
+  replies-fit Zero h = tt
+  replies-fit (Keep m) h = activate-fits (not (m .last))
+  replies-fit (Open q) h =
+      let most : 512 * q .entry .count < 2 ^ 32 = omega (arith, h .1) in
+      (rw (lt-ltb (q .tag) (2 ^ 32) (h .0), lt-ltb (512 * q .entry .count) (2 ^ 32) most), activate-fits (q .entry .write))
+  replies-fit (Send m) h = (h, tt)
+  replies-fit (Finish set) h = (rw (lt-ltb set (2 ^ 32) h), tt)
+  replies-fit (Media f) h = (rw (lt-ltb (f .error) 256 h), tt)
+
+  -- a data frame comes last
+  pub replies-neat : (a : Act) → Neat (repliesOf r mask values part a)
+  unfolding Neat repliesOf
+  replies-neat (Refuse n) = tt
+  replies-neat Nothing = tt
+  replies-neat (Answer x) = (off, tt)
+  replies-neat (Halt x) = (off, tt)
+  replies-neat (Accept x) = (off, tt)
+  replies-neat (Log10 l) = log-neat (l .also) (l .task) (page10Of r)
+  replies-neat (Log11 l) = log-neat false (l .task) (page11Of mask values)
+  replies-neat Reset = tt
+  replies-neat Release = (off, tt)
+  replies-neat Zero = tt
+  replies-neat (Keep m) = activate-neat (not (m .last))
+  replies-neat (Open q) = (off, activate-neat (q .entry .write))
+  replies-neat (Send m) = (λ _. refl, tt)
+  replies-neat (Finish x) = (off, tt)
+  replies-neat (Media x) = (off, tt)
+
+-- cut by kind and length, the replies in the buffer are the frames that were sent
+pub cut-replies : (fs : List Sent) (d : List ℕ) (n : ℕ) (d′ : List ℕ) → Fitting fs → Neat fs → Sends fs d n d′ → cut (take n d′) ≡ map encode fs
+cut-replies fs d n d′ h k s =
+    let e : take n d′ ≡ sentAll fs = ap₂ (λ (i : ℕ) (l : List ℕ). take i l) (s .len) (s .bytes) ∙ take-at (sentAll fs) (drop (length (sentAll fs)) d) (length (sentAll fs)) refl in
+    ap cut (e ∙ all-sent fs h) ∙ cut-sent fs k

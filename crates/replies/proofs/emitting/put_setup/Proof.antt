@@ -1,0 +1,45 @@
+use mathlib.Core.Path.{_≡_}
+use lib.ListN.{length}
+use Rattle.frames.specs.Write.{encode}
+use denote.Ref.{now}
+use native.Mathlib.Omega.{arith}
+use Rattle.replies.specs.Replies.{setupReply}
+use Rattle.replies.proofs.Sending.{sends-one, one-most, length-setup}
+use borrow.Author.Needs.{needs}
+use Rattle.replies.proofs.emitting.put_setup.Statement.{statement}
+use Rattle.replies.proofs.emitting.put_setup.Tie as tie
+use Rattle.replies.proofs.emitting.put_setup.Reads as reads
+use Rattle.replies.proofs.emitting.put_setup.Lts as lts
+use Rattle.frames.proofs.write_setup.Reads as write-setup-reads
+
+-- src/emitting.rt:95:18
+cast-t8 : tie.Need-cast-t8
+cast-t8 c = search needs
+
+-- src/emitting.rt:97:21
+cast-t9 : tie.Need-cast-t9
+cast-t9 c = search needs
+
+-- src/emitting.rt:97:20
+mul-t10 : tie.Need-mul-t10
+mul-t10 c = search needs
+
+-- src/emitting.rt:89:9
+write-setup-requires : tie.Need-write-setup-requires
+write-setup-requires c κs = search needs
+
+-- src/emitting.rt:82:1
+same-length : tie.Need-same-length
+same-length c = search needs
+
+-- src/emitting.rt:82:1
+returns : tie.Need-returns
+returns c =
+    let w = c .before .before .write-setup in
+    let a = c .before .before .before .before .before .before .before .before .before .args in
+    let l : length (encode (setupReply (a .q))) ≡ 28 = length-setup _ in
+    (sends-one (setupReply (a .q)) (now (a .reply)) (w .result) (w .last .0) (w .ensures) (omega arith), omega (arith, one-most (setupReply (a .q)) (now (a .reply)) (w .result) (w .last .0) (w .ensures) (omega arith)))
+
+pub put-setup-spec : {M : Type 1} → statement M
+put-setup-spec =
+    tie.close (tie.spec cast-t8 cast-t9 mul-t10 write-setup-requires same-length returns)

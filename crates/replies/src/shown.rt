@@ -1,0 +1,48 @@
+// What an act's replies show, over plain values.
+ghost use mathlib.Core.Path.{_≡_};
+ghost use Rattle.replies.specs.Replies.{sized, logOf};
+use pages::ErrorLog;
+use rules::Act;
+use states::ErrorRecord;
+use states::Settings;
+use wire::Task;
+
+// The record as page 10h shows it.
+pub fn log_of(r: ErrorRecord) -> ErrorLog
+    ensures { λ f. ⌜ f ≡ logOf r ⌝ }
+{
+    if r.set {
+        let echo = r.echo;
+        let task = states::task_in(echo);
+        return ErrorLog {
+            nq: r.nq,
+            tag: r.tag,
+            status: 0x41,
+            error: r.error,
+            task,
+        };
+    }
+    let task = Task {
+        lba: 0,
+        device: 0,
+        count: 0,
+    };
+    ErrorLog {
+        nq: true,
+        tag: 0,
+        status: 0,
+        error: 0,
+        task,
+    }
+}
+
+// Whether a phase is opened for no more sectors than a command can have.
+pub fn is_sized(act: Act) -> bool
+    ensures { λ r. ⌜ r ≡ sized act ⌝ }
+{
+    let Act::Open(q) = act else {
+        return true;
+    };
+    let entry = q.entry;
+    entry.count <= Settings::CAPACITY_LIMIT
+}

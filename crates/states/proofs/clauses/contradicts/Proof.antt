@@ -1,0 +1,47 @@
+use Rattle.states.specs.Clauses.{contradictory}
+use borrow.Author.Needs.{needs}
+use Rattle.states.proofs.clauses.contradicts.Statement.{statement}
+use Rattle.states.proofs.clauses.contradicts.Tie as tie
+use Rattle.states.proofs.clauses.contradicts.Reads as reads
+use Rattle.states.proofs.clauses.contradicts.Lts as lts
+use Rattle.states.proofs.clauses.flow_bad.Reads as flow-bad-reads
+use Rattle.states.proofs.clauses.record_bad.Reads as record-bad-reads
+use Rattle.states.proofs.clauses.rows_bad.Reads as rows-bad-reads
+use Rattle.states.proofs.clauses.settings_out.Reads as settings-out-reads
+use Rattle.states.proofs.clauses.table_bad.Reads as table-bad-reads
+
+-- src/clauses.rt:140:9
+settings-out-requires : tie.Need-settings-out-requires
+settings-out-requires c κs = search needs
+
+-- src/clauses.rt:141:9
+table-bad-requires : tie.Need-table-bad-requires
+table-bad-requires c κs = search needs
+
+-- src/clauses.rt:142:9
+flow-bad-requires : tie.Need-flow-bad-requires
+flow-bad-requires c κs = search needs
+
+-- src/clauses.rt:143:9
+record-bad-requires : tie.Need-record-bad-requires
+record-bad-requires c κs = search needs
+
+-- src/clauses.rt:144:9
+rows-bad-requires : tie.Need-rows-bad-requires
+rows-bad-requires c κs = search needs
+
+-- src/clauses.rt:131:1
+returns : tie.Need-returns
+unfolding contradictory
+returns c = rw (c .before .before .before .before .settings-out .ensures, c .before .before .before .table-bad .ensures, c .before .before .flow-bad .ensures, c .before .record-bad .ensures, c .rows-bad .ensures)
+
+pub contradicts-spec : {M : Type 1} → statement M
+contradicts-spec =
+    tie.close
+    (tie.spec
+    settings-out-requires
+    table-bad-requires
+    flow-bad-requires
+    record-bad-requires
+    rows-bad-requires
+    returns)

@@ -1,0 +1,23 @@
+use Rattle.states.specs.State.{taskIn}
+use borrow.Author.Needs.{needs}
+use Rattle.states.proofs.shapes.task_in.Statement.{statement}
+use Rattle.states.proofs.shapes.task_in.Tie as tie
+use Rattle.states.proofs.shapes.task_in.Reads as reads
+use Rattle.states.proofs.shapes.task_in.Lts as lts
+use Rattle.wire.proofs.task_of.Reads as task-of-reads
+
+-- src/shapes.rt:74:19
+slice-aggregate-task-of : tie.Need-slice-aggregate-task-of
+slice-aggregate-task-of c = search needs
+
+-- src/shapes.rt:74:5
+task-of-requires : tie.Need-task-of-requires
+task-of-requires c κs = search needs
+
+-- src/shapes.rt:55:1
+returns : tie.Need-returns
+unfolding taskIn
+returns c = c .task-of .ensures
+
+pub task-in-spec : {M : Type 1} → statement M
+task-in-spec = tie.close (tie.spec slice-aggregate-task-of task-of-requires returns)
