@@ -15,7 +15,7 @@ use Rattle.pages.specs.declared.rows.Place.{Place}
 use Rattle.pages.specs.declared.rows.Place.the-variants.{Row, Nowhere}
 use Rattle.pages.specs.declared.page11.Counter.{Counter}
 use Rattle.pages.specs.declared.page11.Counter.the-variants.{Value, Absent, Refused}
-use Rattle.device.specs.Counter.{counterTests, counterOf, CounterGiven, countOf}
+use Rattle.device.specs.Counter.{counterTests, counterOf, CounterGiven, countOf, CountGiven}
 use Rattle.device.specs.Device.{contradictoryDevice}
 use Rattle.ladders.specs.Ladders.{powerLadder}
 use lib.Count.{ones}
@@ -42,11 +42,18 @@ counter-given d number r e = record { answer = e; refusal = ap (λ (c : Counter)
 pub first-exactly-counter : (d : Device) (number : ℕ) (r : Counter) → CounterGiven d number r → FirstExactly (counterTests d number) (toldCounter r .number)
 first-exactly-counter d number r g = subst (FirstExactly (counterTests d number)) (sym (g .refusal)) (firsts.first-exactly (counterTests d number) tt)
 
--- the count of outstanding commands: 1, exactly when the state contradicts itself
-pub first-exactly-count : (d : Device) (r : Counter) → r ≡ countOf d → FirstExactly (powerLadder (contradictoryDevice d)) (toldCounter r .number)
+-- the count of outstanding commands
+pub count-given : (d : Device) (r : Counter) → r ≡ countOf d → CountGiven d r
 unfolding countOf toldCounter firstOf
-first-exactly-count d r e =
-    let told : toldCounter r .number ≡ firstOf (powerLadder (contradictoryDevice d)) = ap (λ (c : Counter). toldCounter c .number) e
-    ∙ by-test (λ (c : Counter). toldCounter c .number ≡ pick (contradictoryDevice d) 1 0) (contradictoryDevice d) (Refused 1) (Value (ones (d .flow .outstanding)))
-    (λ y. sym (pick-yes (contradictoryDevice d) 1 0 y)) (λ n. sym (pick-no (contradictoryDevice d) 1 0 n)) in
-    subst (FirstExactly (powerLadder (contradictoryDevice d))) (sym told) (firsts.first-exactly (powerLadder (contradictoryDevice d)) tt)
+count-given d r e =
+    let bad = contradictoryDevice d in
+    record {
+      answer = e;
+      refusal = ap (λ (c : Counter). toldCounter c .number) e
+          ∙ by-test (λ (c : Counter). toldCounter c .number ≡ pick bad 1 0) bad (Refused 1) (Value (ones (d .flow .outstanding)))
+          (λ y. sym (pick-yes bad 1 0 y)) (λ n. sym (pick-no bad 1 0 n));
+    }
+
+-- 1, exactly when the state contradicts itself
+pub first-exactly-count : (d : Device) (r : Counter) → CountGiven d r → FirstExactly (powerLadder (contradictoryDevice d)) (toldCounter r .number)
+first-exactly-count d r g = subst (FirstExactly (powerLadder (contradictoryDevice d))) (sym (g .refusal)) (firsts.first-exactly (powerLadder (contradictoryDevice d)) tt)

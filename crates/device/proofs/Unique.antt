@@ -8,7 +8,7 @@ use Rattle.pages.specs.declared.page11.Counter.{Counter}
 use Rattle.states.specs.declared.shapes.Settings.{Settings}
 use Rattle.device.specs.Device.{contradictoryDevice, powerOn}
 use Rattle.device.specs.Events.{linkStep}
-use Rattle.device.specs.Counter.{CounterGiven, countOf}
+use Rattle.device.specs.Counter.{CounterGiven, CountGiven}
 use Rattle.device.specs.Step.{Step, Answered}
 use Rattle.device.specs.Calls.{Hosted}
 use Rattle.device.specs.declared.state.Device.{Device}
@@ -26,7 +26,7 @@ pub unique : ((s : Settings) (r r′ : Outcome) → r ≡ powerOn s → r′ ≡
     × ((d : Device) (f m b : List ℕ) (r r′ : Outcome) (y y′ x x′ : List ℕ) → Hosted d f m b r y x → Hosted d f m b r′ y′ x′ → (r ≡ r′) × (y ≡ y′) × (x ≡ x′))
     × ((s : Step) (b : List ℕ) (r r′ : Outcome) (x x′ : List ℕ) → Answered s b r x → Answered s b r′ x′ → (r ≡ r′) × (x ≡ x′))
     × ((d : Device) (number : ℕ) (r r′ : Counter) → CounterGiven d number r → CounterGiven d number r′ → r ≡ r′)
-    × ((d : Device) (r r′ : Counter) → r ≡ countOf d → r′ ≡ countOf d → r ≡ r′)
+    × ((d : Device) (r r′ : Counter) → CountGiven d r → CountGiven d r′ → r ≡ r′)
     × ((d : Device) (r r′ : Bool) → r ≡ contradictoryDevice d → r′ ≡ contradictoryDevice d → r ≡ r′)
 unique = (
   λ s r r′ p q. same p q,
@@ -34,6 +34,6 @@ unique = (
   λ d f m b r r′ y y′ x x′ p q. let a = same-answer _ b r r′ x x′ (p .answered) (q .answered) in (a .0, same (p .medium) (q .medium), a .1),
   λ s b r r′ x x′ p q. same-answer s b r r′ x x′ p q,
   λ d number r r′ p q. same (p .answer) (q .answer),
-  λ d r r′ p q. same p q,
+  λ d r r′ p q. same (p .answer) (q .answer),
   λ d r r′ p q. same p q,
 )

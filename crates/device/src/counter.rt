@@ -2,7 +2,7 @@
 ghost use mathlib.Core.Path.{_≡_};
 ghost use lib.Count.{ones};
 ghost use Rattle.pages.specs.Made11.{onRow};
-ghost use Rattle.device.specs.Counter.{CounterGiven, countOf};
+ghost use Rattle.device.specs.Counter.{CounterGiven, CountGiven};
 use crate::state::Device;
 use pages::Counter;
 use pages::Place;
@@ -51,7 +51,7 @@ impl Device {
 
     // How many commands are outstanding; 1 for a state that contradicts itself, which is not read as idle.
     pub fn outstanding_count(self) -> Counter
-        ensures { λ r. ⌜ r ≡ countOf self ⌝ }
+        ensures { λ r. ⌜ CountGiven self r ⌝ }
     {
         let bad = self.contradicts();
         let outstanding = self.flow.outstanding;

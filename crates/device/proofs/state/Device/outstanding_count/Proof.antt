@@ -1,3 +1,4 @@
+use Rattle.device.proofs.Counting.{count-given}
 use Rattle.bits.specs.Pick.{pick}
 use Rattle.device.specs.Counter.{countOf}
 use borrow.Author.Needs.{needs}
@@ -15,7 +16,7 @@ contradicts-requires c κs = search needs
 -- src/counter.rt:59:13
 returns : tie.Need-returns
 unfolding countOf pick
-returns c = rw (← c .before .contradicts .ensures, c .if1 .taken)
+returns c = count-given _ _ (rw (← c .before .contradicts .ensures, c .if1 .taken))
 
 -- src/counter.rt:61:13
 ones-of-requires : tie.Need-ones-of-requires
@@ -28,7 +29,7 @@ cast-t6 c = search needs
 -- src/counter.rt:53:5
 returns-2 : tie.Need-returns-2
 unfolding countOf pick
-returns-2 c = rw (← c .before .before .contradicts .ensures, c .before .if1 .left, c .ones-of .ensures)
+returns-2 c = count-given _ _ (rw (← c .before .before .contradicts .ensures, c .before .if1 .left, c .ones-of .ensures))
 
 pub outstanding-count-spec : {M : Type 1} → statement M
 outstanding-count-spec =
