@@ -52,6 +52,7 @@ Roomy act room = numberOf act ≡ 0 → leb 8196 room && sized act ≡ true
 unfoldable pub hostAct : Device → List ℕ → ℕ → ℕ → Act
 hostAct d f n room = decideOf (factsOf d (openTag (d .flow .phase)) (mediumWrong (d .settings .capacity) n) room) (readFrame f)
 
+-- what a host frame leaves behind
 abbrev pub hostStep : Device → List ℕ → ℕ → ℕ → Step
 hostStep d f n room = stepBy d [] (hostAct d f n room)
 
@@ -64,6 +65,7 @@ pub record Hosted (d : Device) (f m b : List ℕ) (r : Outcome) (m′ b′ : Lis
 unfoldable pub openOf : Device → ℕ → ℕ → Act
 openOf d tag room = openAct (factsOf d tag false room) tag
 
+-- what open leaves behind
 abbrev pub openStep : Device → ℕ → ℕ → Step
 openStep d tag room = stepBy d [] (openOf d tag room)
 
@@ -71,9 +73,11 @@ openStep d tag room = stepBy d [] (openOf d tag room)
 unfoldable pub sendOf : Device → ℕ → ℕ → Act
 sendOf d n room = sendAct (factsOf d (openTag (d .flow .phase)) (mediumWrong (d .settings .capacity) n) room)
 
+-- the bytes of a part of the medium
 abbrev pub partOf : Span → List ℕ → List ℕ
 partOf s m = take (s .size) (drop (s .at) m)
 
+-- what send leaves behind
 abbrev pub sendStep : Device → List ℕ → ℕ → Step
 sendStep d m room = stepBy d (partOf (spanOf (sendOf d (length m) room)) m) (sendOf d (length m) room)
 
@@ -81,6 +85,7 @@ sendStep d m room = stepBy d (partOf (spanOf (sendOf d (length m) room)) m) (sen
 unfoldable pub finishOf : Device → ℕ → ℕ → Act
 finishOf d set room = finishAct (factsOf d 32 false room) (d .entries) set
 
+-- what finish leaves behind
 abbrev pub finishStep : Device → ℕ → ℕ → Step
 finishStep d set room = stepBy d [] (finishOf d set room)
 
@@ -88,5 +93,6 @@ finishStep d set room = stepBy d [] (finishOf d set room)
 unfoldable pub mediaOf : Device → ℕ → ℕ → ℕ → ℕ → Act
 mediaOf d tag error sector room = mediaAct (factsOf d tag false room) tag error sector
 
+-- what a media error leaves behind
 abbrev pub mediaStep : Device → ℕ → ℕ → ℕ → ℕ → Step
 mediaStep d tag error sector room = stepBy d [] (mediaOf d tag error sector room)

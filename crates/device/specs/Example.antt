@@ -60,6 +60,7 @@ readLog10 = 0x27 ∷ 0x80 ∷ 0x2F ∷ 0 ∷ 0x10 ∷ 0 ∷ 0 ∷ 0 ∷ 0 ∷ 0 
 abbrev pub reading : Device
 reading = asked (fresh 256) (queuedRead 8 0x60 5) .state
 
+-- its media error: tag 5, error 40h, sector 64h
 abbrev pub failed : Step
 failed = mediaStep reading 5 0x40 0x64 8196
 
@@ -67,6 +68,7 @@ failed = mediaStep reading 5 0x40 0x64 8196
 abbrev pub sentWith : Device → ℕ → Device
 sentWith d tag = sendStep (openStep d tag 8196 .state) (replicate 512 0) 8196 .state
 
+-- of a device of one sector
 abbrev pub bothSent : Device
 bothSent = sentWith (sentWith (asked (asked (fresh 1) (queuedRead 1 0 0) .state) (queuedRead 1 0 5) .state) 0) 5
 

@@ -20,6 +20,7 @@ renewed d = withValue (released (resetHeld d)) 9
 abbrev pub comresetNumber : Device → ℕ → ℕ
 comresetNumber d room = firstOf (comresetLadder (contradictoryDevice d) (ltb room 8196))
 
+-- what COMRESET leaves behind: the signature, and the state anew
 unfoldable pub comresetStep : Device → ℕ → Step
 comresetStep d room = record {
   state = pick (eqb (comresetNumber d room) 0) (renewed d) d;

@@ -57,9 +57,11 @@ finishReply set = setBits (record { interrupt = true; status = 0x40; error = 0; 
 abbrev pub mediaReply : ℕ → Sent
 mediaReply error = setBits (record { interrupt = true; status = 0x41; error = error; active = 0 })
 
+-- the sweep if halted
 abbrev pub sweepIf : Bool → List Sent
 sweepIf on = pick on (sweep ∷ []) []
 
+-- an Activate if more is left, or a write was opened
 abbrev pub activateIf : Bool → List Sent
 activateIf on = pick on (activate ∷ []) []
 
@@ -73,6 +75,7 @@ logOf r =
 abbrev pub page10Of : ErrorRecord → List ℕ
 page10Of r = pick (fits10 (logOf r)) (page10 (logOf r)) []
 
+-- page 11h of the kept rows
 abbrev pub page11Of : ℕ → List ℕ → List ℕ
 page11Of mask values = pick (keepsBoth mask) (page11 mask values) []
 
@@ -124,6 +127,7 @@ sized (Media f) = true
 unfoldable pub sentBytes : Sent → List ℕ
 sentBytes f = pick (fits f) (encode f) []
 
+-- the replies follow one another
 unfoldable pub sentAll : List Sent → List ℕ
 sentAll fs = joined (map sentBytes fs)
 

@@ -30,6 +30,7 @@ fault h nq t e = Halt (record { nq = nq; tag = t; error = e; echo = echoOf (h .t
 abbrev pub tagAsked : HostReg → ℕ
 tagAsked h = tagOf (h .task .count)
 
+-- the sector count that it names (0 = 65,536)
 abbrev pub countAsked : HostReg → ℕ
 countAsked h = sectorsOf (h .features) (h .«features_high»)
 
@@ -58,6 +59,7 @@ unfoldable pub logPage : ℕ → Echo → ℕ
 logPage command e =
     pick (eqb command 0x2F && (eqb (e .b4) 0x10 || eqb (e .b4) 0x11) && (eqb (e .b5) 0 && eqb (e .b9) 0) && (eqb (e .b12) 1 && eqb (e .b13) 0)) (e .b4) 0
 
+-- the page that a command asks for, or 0
 abbrev pub pageAsked : HostReg → ℕ
 pageAsked h = logPage (h .command) (echoOf (h .task))
 
@@ -114,6 +116,7 @@ notHost v Bist = bistAct v
 notHost v (Pio f) = Refuse 4
 notHost v Refused = Refuse 4
 
+-- and without data: BIST, or 4
 unfoldable pub notData : Facts → Frame → Act
 notData v (Host h) = Refuse 4
 notData v (Device f) = Refuse 4
@@ -129,5 +132,6 @@ notData v Refused = Refuse 4
 abbrev pub lentOf : Facts → ℕ
 lentOf v = firstOf (lentLadder (v .contradicts) (v .medium) (v .short))
 
+-- host frame: 1, 2, 3, and then what its kind says
 unfoldable pub decideOf : Facts → Frame → Act
 decideOf v f = pick (not (eqb (lentOf v) 0)) (Refuse (lentOf v)) (kindAct v f)

@@ -36,6 +36,7 @@ allMoved e = eqb (e .moved) (e .count)
 abbrev pub openTests : Facts → ℕ → List Rung
 openTests v tag = openLadder (v .contradicts) (v .short) (idleTag v tag) (inPhase v) (allMoved (v .entry))
 
+-- open a phase for a tag
 unfoldable pub openAct : Facts → ℕ → Act
 openAct v tag = decided (firstOf (openTests v tag)) (Open (record { tag = tag; entry = v .entry }))
 
@@ -43,6 +44,7 @@ openAct v tag = decided (firstOf (openTests v tag)) (Open (record { tag = tag; e
 abbrev pub sendTests : Facts → List Rung
 sendTests v = sendLadder (v .contradicts) (v .medium) (v .short) (eqb (v .flow .phase) 0 || v .entry .write)
 
+-- send what is due of the read phase
 unfoldable pub sendAct : Facts → Act
 sendAct v = decided (firstOf (sendTests v)) (Send (moveOf (v .flow) (v .entry)))
 
@@ -50,9 +52,11 @@ sendAct v = decided (firstOf (sendTests v)) (Send (moveOf (v .flow) (v .entry)))
 abbrev pub unready : Entry → Bool → Bool → Bool
 unready e asked busy = asked && (not busy || not (allMoved e))
 
+-- of tag t, in the table
 abbrev pub unreadyAt : List Entry → ℕ → ℕ → ℕ → Bool
 unreadyAt es outstanding set t = unready (entryOf es t) (bitIn 32 set t) (bitIn 32 outstanding t)
 
+-- of some tag: one refuses the whole set
 unfoldable pub someUnready : List Entry → ℕ → ℕ → Bool
 someUnready es outstanding set = someBelow 32 (unreadyAt es outstanding set)
 
@@ -60,6 +64,7 @@ someUnready es outstanding set = someBelow 32 (unreadyAt es outstanding set)
 abbrev pub finishTests : Facts → List Entry → ℕ → List Rung
 finishTests v es set = finishLadder (v .contradicts) (v .short) (inPhase v) (eqb set 0 || someUnready es (v .flow .outstanding) set)
 
+-- finish a set of tags
 unfoldable pub finishAct : Facts → List Entry → ℕ → Act
 finishAct v es set = decided (firstOf (finishTests v es set)) (Finish set)
 

@@ -58,6 +58,7 @@ busyBad s e t phase =
     ((aboveDepth s t || pastCapacity s e) || (countZero e || (otherTag e t || otherRange e)))
     || (movedAbove e || (movedBetween e phase || phaseDone e phase))
 
+-- some of a command's bytes 4-10 and 12-13 is not 0
 abbrev pub echoSet : Echo → Bool
 echoSet e =
     not (eqb (e .b4) 0 && eqb (e .b5) 0 && eqb (e .b6) 0 && eqb (e .b7) 0 && eqb (e .b8) 0 && eqb (e .b9) 0 && eqb (e .b10) 0
@@ -69,6 +70,7 @@ idleBad e =
     not (not (e .write) && eqb (e .first) 0 && eqb (e .count) 0 && eqb (e .moved) 0 && eqb (e .features) 0 && eqb (e .«features_high») 0)
     || echoSet (e .echo)
 
+-- an entry contradicts itself: by whether its tag is outstanding
 unfoldable pub entryBad : Settings → Entry → ℕ → Bool → Bool → Bool
 entryBad s e t busy phase = pick busy (busyBad s e t phase) (idleBad e)
 
@@ -96,6 +98,7 @@ haltedHeld f = f .halted && f .held
 abbrev pub heldRecord : Flow → Bool → Bool
 heldRecord f set = f .held && set
 
+-- outstanding, phase, halted and held contradict themselves
 unfoldable pub flowBad : Flow → Bool → Bool
 flowBad f set = (stoppedBusy f || haltedHeld f) || (heldRecord f set || phaseIdle f)
 
@@ -111,6 +114,7 @@ tagUnderNq r = r .nq && not (eqb (r .tag) 0)
 abbrev pub blankNotZero : ErrorRecord → Bool
 blankNotZero r = not (r .set) && ((r .nq || not (eqb (r .tag) 0)) || (not (eqb (r .error) 0) || echoSet (r .echo)))
 
+-- the record contradicts itself
 unfoldable pub recordBad : ErrorRecord → Bool
 recordBad r = (tagTooLarge r || tagUnderNq r) || blankNotZero r
 
@@ -118,9 +122,11 @@ recordBad r = (tagTooLarge r || tagUnderNq r) || blankNotZero r
 abbrev pub rowBad : ℕ → ℕ → ℕ → Bool
 rowBad mask row value = not (kept mask row) && not (eqb value 0)
 
+-- of one row
 abbrev pub rowBadAt : ℕ → List ℕ → ℕ → Bool
 rowBadAt mask values row = rowBad mask row (getD values row 0)
 
+-- of some row
 unfoldable pub rowsBad : ℕ → List ℕ → Bool
 rowsBad mask values = someBelow 16 (rowBadAt mask values)
 

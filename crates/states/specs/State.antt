@@ -17,6 +17,7 @@ placedBytes e = 0 ∷ 0 ∷ 0 ∷ 0 ∷ e .b4 ∷ e .b5 ∷ e .b6 ∷ e .b7 ∷ 
 unfoldable pub taskIn : Echo → Task
 taskIn e = taskOf (placedBytes e)
 
+-- the tag that they name
 abbrev pub tagIn : Echo → ℕ
 tagIn e = tagOf (taskIn e .count)
 
@@ -34,6 +35,7 @@ echoOf t = record {
   b13 = byteOf (t .count) 1;
 }
 
+-- no bytes of a command: all 0
 abbrev pub zeroEcho : Echo
 zeroEcho = record { b4 = 0; b5 = 0; b6 = 0; b7 = 0; b8 = 0; b9 = 0; b10 = 0; b12 = 0; b13 = 0 }
 
