@@ -1,0 +1,58 @@
+-- The bytes that a command's data frames carried: positions from DMA Setup and the lengths of the data frames that follow it. Assumes nothing.
+use mathlib.Core.Bool.{Bool, true, false, not, _&&_, _||_}
+use mathlib.Core.List.{List, [], _∷_, _++_}
+use Prim.Native.Nat.{ℕ, zero, suc, _+_, _*_}
+use lib.Dec.{eqb, ltb}
+use Rattle.bits.specs.Pick.{pick}
+use Rattle.history.specs.Seen.{Seen, Flow, still, flows, errs}
+use Rattle.history.specs.Fates.{Command, tagOf, outstandingAt}
+
+-- the bytes that an event carries in a direction: device data to the host, taken host data from it
+abbrev pub load : Bool → Seen → ℕ
+load toHost e = pick toHost (e .sends) (e .asks .brings)
+
+-- n bytes on; used up, a Setup has no more data
+abbrev pub onward : ℕ → Flow → Flow
+onward zero x = x
+onward (suc n) still = still
+onward (suc n) (flows d t a z) = pick (ltb (a + suc n) z) (flows d t (a + suc n) z) still
+
+-- the data of an event, in the direction of what is under way
+abbrev pub advanced : Seen → Flow → Flow
+advanced e still = still
+advanced e (flows d t a z) = onward (load d e) (flows d t a z)
+
+-- what is under way after a history: an error and a reset close it
+unfoldable pub flow : List Seen → Flow
+flow [] = still
+flow (e ∷ h) = pick (errs e || e .asks .resets) still (e .begins (advanced e (flow h)))
+
+-- n numbers from a on, rising
+unfoldable pub span : ℕ → ℕ → List ℕ
+span a zero = []
+span a (suc n) = a ∷ span (suc a) n
+
+-- the first byte of a command's range, and how many it has
+abbrev pub base : Command → ℕ
+base c = 512 * c .accepted .asks .first
+
+abbrev pub size : Command → ℕ
+size c = 512 * c .accepted .asks .count
+
+-- data of a tag in a direction is that of a command with this tag: a read after D 1, a write after D 0
+abbrev pub belongs : Bool → ℕ → Bool → ℕ → Bool
+belongs write tag d t = eqb t tag && pick write (not d) d
+
+-- the positions that an event carries of a command whose range begins at `start`
+abbrev pub piece : ℕ → Bool → ℕ → Seen → Flow → List ℕ
+piece start write tag e still = []
+piece start write tag e (flows d t a z) = pick (belongs write tag d t) (span (start + a) (load d e)) []
+
+-- the positions carried while the command was outstanding, in order
+unfoldable pub carriedAt : ℕ → Bool → ℕ → List Seen → List ℕ
+carriedAt start write tag [] = []
+carriedAt start write tag (e ∷ n) = carriedAt start write tag n ++ pick (outstandingAt tag n) (piece start write tag e (flow n)) []
+
+-- of a command
+abbrev pub carried : Command → List ℕ
+carried c = carriedAt (base c) (c .accepted .asks .write) (tagOf c) (c .after)

@@ -1,0 +1,81 @@
+-- Demand 3 and the truth of the counters, said of a history: of calls, refusals and bytes. The newest event stands first. Assumes nothing.
+use mathlib.Core.Path.{_≡_}
+use mathlib.Core.Bool.{Bool, true, false, not, _&&_, _||_}
+use mathlib.Core.List.{List, [], _∷_, _++_, map}
+use Prim.Native.Nat.{ℕ, _+_, _≤_, _<_}
+use lib.Dec.{ltb}
+use lib.ListN.{length, take, drop}
+use Rattle.pages.specs.Page11.{readCounter, noNumber}
+use Rattle.history.specs.Calls.{Event}
+use Rattle.history.specs.Asked.{brought}
+use Rattle.history.specs.Replied.{page, sent}
+use Rattle.history.specs.Seen.{Seen, seen, Flow, still, flows}
+use Rattle.history.specs.Fates.{Command, commands, tagOf, outstandingAt, finishedAt, givenUpAt, droppedAt, outstanding, finished, givenUp, dropped, one, All, total, totalWith}
+use Rattle.history.specs.Waits.{sactive, waits, givenUpThere, badSince}
+use Rattle.history.specs.Carried.{flow, span, base, size, belongs, carried}
+use Rattle.history.specs.Counted.{sends11, toldFor}
+
+-- exactly one of four
+abbrev pub exactlyOne : Bool → Bool → Bool → Bool → Type 0
+exactlyOne a b c d = one a + (one b + (one c + one d)) ≡ 1
+
+-- every queued command accepted is exactly one of these: outstanding, finished, given up at an error, dropped by a reset
+abbrev pub OneFate : Command → Type 0
+OneFate c = exactlyOne (outstanding c) (finished c) (givenUp c) (dropped c)
+
+-- once not outstanding it never changes, whatever the events x that follow
+pub record Settled (c : Command) (x : List Seen) : Type 0 where
+  pub outstanding : outstandingAt (tagOf c) (x ++ c .after) ≡ false
+  pub finished : finishedAt (tagOf c) (x ++ c .after) ≡ finished c
+  pub givenUp : givenUpAt (tagOf c) (x ++ c .after) ≡ givenUp c
+  pub dropped : droppedAt (tagOf c) (x ++ c .after) ≡ dropped c
+
+abbrev pub Fates : List Seen → Type 0
+Fates h = All (λ c. OneFate c × ((x : List Seen) → outstanding c ≡ false → Settled c x)) (commands h)
+
+-- l is a beginning of the n numbers from a on
+pub record Beginning (a n : ℕ) (l : List ℕ) : Type 0 where
+  pub long : ℕ
+  pub within : long ≤ n
+  pub is : l ≡ span a long
+
+-- a finished command's data frames carried each byte of its range once, in rising order, none outside; those of any command a beginning of its range
+abbrev pub Ranges : List Seen → Type 0
+Ranges h = All (λ c. (finished c ≡ true → carried c ≡ span (base c) (size c)) × Beginning (base c) (size c) (carried c)) (commands h)
+
+-- data at a place: read, the payload is what the medium lent to that call held there; written, the medium that the call left holds the payload there and is otherwise as it was
+pub record Moved (e : Event) (toHost : Bool) (at : ℕ) : Type 0 where
+  pub read : toHost ≡ true → sent e ≡ take (length (sent e)) (drop at (e .medium))
+  pub written : toHost ≡ false → e .left ≡ take at (e .medium) ++ (brought e ++ drop (at + length (brought e)) (e .medium))
+
+-- the data of an event that belongs to a command
+abbrev pub MovedOf : Event → Command → Flow → Type 0
+MovedOf e c still = Unit
+MovedOf e c (flows d t a z) = belongs (c .accepted .asks .write) (tagOf c) d t ≡ true → Moved e d (base c + a)
+
+-- one event after a history: each command's data in it, and a medium that stays as it was where no data came
+pub record Moves (e : Event) (h : List Seen) : Type 0 where
+  pub each : All (λ c. outstanding c ≡ true → MovedOf e c (flow (c .after))) (commands h)
+  pub untouched : brought e ≡ [] → e .left ≡ e .medium
+
+-- of every event
+unfoldable pub Contents : List Event → Type 0
+Contents [] = Unit
+Contents (e ∷ h) = Moves e (map seen h) × Contents h
+
+-- while no error waits to be read, SActive names exactly the outstanding tags
+abbrev pub Sactive : List Seen → Type 0
+Sactive h = waits h ≡ false → (t : ℕ) → t < 32 → sactive t h ≡ ltb 0 (totalWith t h)
+
+-- while one waits nothing is outstanding, and SActive names the tags given up at that error and those of queued commands answered with an error since
+abbrev pub Waiting : List Seen → Type 0
+Waiting h = waits h ≡ true → (total h ≡ 0) × ((t : ℕ) → t < 32 → sactive t h ≡ (givenUpThere t h || badSince t h))
+
+-- at most the queue depth is ever outstanding
+abbrev pub Depth : ℕ → List Seen → Type 0
+Depth depth h = total h ≤ depth
+
+-- every page 11h ever sent, read by the reader's definition, gives for each kept row its events since its zeroing, held at the top, and absent for every other number
+unfoldable pub Counters : ℕ → List Event → Type 0
+Counters mask [] = Unit
+Counters mask (e ∷ h) = (sends11 e ≡ true → (number : ℕ) → noNumber number ≡ false → readCounter (page e) number ≡ toldFor mask h number) × Counters mask h

@@ -1,0 +1,10 @@
+pub mod Calls
+pub mod Replied
+pub mod Asked
+pub mod Seen
+pub mod Fates
+pub mod Waits
+pub mod Carried
+pub mod Counted
+pub mod Demand3
+pub mod Run
