@@ -17,17 +17,17 @@ abbrev pub none : ℕ → Bool
 none t = false
 
 -- what is seen of an event: queued, accepted, bad, fails, resets, sweeps; the tags that it finishes and clears; the bytes that it sends and brings
-pub record Is (e : Seen) (queued accepted bad fails resets sweeps : Bool) (finishes clears : ℕ → Bool) (sends brings : ℕ) : Type 0 where
-  pub queued : e .asks .queued ≡ queued
-  pub accepted : accepts e ≡ accepted
-  pub bad : e .bad ≡ bad
-  pub fails : e .fails ≡ fails
-  pub resets : e .asks .resets ≡ resets
-  pub sweeps : e .sweeps ≡ sweeps
-  pub finishes : (t : ℕ) → e .finishes t ≡ finishes t
-  pub clears : (t : ℕ) → e .clears t ≡ clears t
-  pub sends : e .sends ≡ sends
-  pub brings : e .asks .brings ≡ brings
+pub record Is (e : Seen) (qu ac ba fa re sw : Bool) (fi cl : ℕ → Bool) (se br : ℕ) : Type 0 where
+  pub queued : e .asks .queued ≡ qu
+  pub accepted : accepts e ≡ ac
+  pub bad : e .bad ≡ ba
+  pub fails : e .fails ≡ fa
+  pub resets : e .asks .resets ≡ re
+  pub sweeps : e .sweeps ≡ sw
+  pub finishes : (t : ℕ) → e .finishes t ≡ fi t
+  pub clears : (t : ℕ) → e .clears t ≡ cl t
+  pub sends : e .sends ≡ se
+  pub brings : e .asks .brings ≡ br
 
 -- nothing begins
 abbrev pub Unbegun : Seen → Type 0
@@ -42,11 +42,11 @@ pub record Same (d d′ : Device) : Type 0 where
   pub entries : d′ .entries ≡ d .entries
 
 -- nothing outstanding, no phase open
-pub record Emptied (halted : Bool) (d d′ : Device) : Type 0 where
+pub record Emptied (ha : Bool) (d d′ : Device) : Type 0 where
   pub settings : d′ .settings ≡ d .settings
   pub outstanding : d′ .flow .outstanding ≡ 0
   pub phase : d′ .flow .phase ≡ 0
-  pub halted : d′ .flow .halted ≡ halted
+  pub halted : d′ .flow .halted ≡ ha
 
 -- a command that was accepted: its tag was free and below the depth, and its entry is what was asked for
 pub record Took (d : Device) (e : Seen) (d′ : Device) : Type 0 where
