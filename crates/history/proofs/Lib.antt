@@ -1,1 +1,4 @@
 pub mod Class
+pub mod Views
+pub mod Frames
+pub mod Changes
