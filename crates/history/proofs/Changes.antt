@@ -48,7 +48,7 @@ pub cleared-other : (es : List Entry) (set i : ℕ) → i < 32 → bitIn 32 set 
 unfolding pick
 cleared-other es set i l n = getD-cleared es set i l ∙ rw n
 
-no-bit-true : (t : ℕ) → bitIn 32 0 t ≡ true → ⊥
+pub no-bit-true : (t : ℕ) → bitIn 32 0 t ≡ true → ⊥
 no-bit-true t e = true≢false (sym e ∙ no-bit t)
 
 module _ (d : Device) (g : contradictoryDevice d ≡ false) where

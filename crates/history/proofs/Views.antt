@@ -20,7 +20,7 @@ use Rattle.frames.proofs.RoundTrip.{read-encoded}
 use Rattle.replies.specs.Fit.{Fitting}
 use Rattle.replies.specs.Replies.{activateIf}
 use Rattle.device.proofs.Never.{and-never}
-use Rattle.history.specs.Asked.{Asked, quiet, dataAsks}
+use Rattle.history.specs.Asked.{Asked, quiet, dataAsks, resetAsks}
 use Rattle.history.specs.Replied.{some, errIn, collect, isPio, dataIn, payloads}
 use Rattle.history.specs.Seen.{Seen, sight, names, begun, Flow, flows}
 use Rattle.history.proofs.Class.{none, Is, Unbegun}
@@ -198,6 +198,22 @@ is-failed s e z = record {
   sweeps = refl;
   finishes = λ t. rw e;
   clears = λ t. or-none (bitIn 32 (s .active) t) ∙ ap (λ (n : ℕ). bitIn 32 n t) z ∙ no-bit t;
+  sends = refl;
+  brings = refl;
+}
+
+-- COMRESET and its signature
+pub is-reset : (f : DevReg) → errIn (f .status) ≡ false → Is (view resetAsks (device f ∷ [])) false false false false true false none none 0 0
+unfolding view some collect pick
+is-reset f e = record {
+  queued = refl;
+  accepted = refl;
+  bad = rw e;
+  fails = refl;
+  resets = refl;
+  sweeps = refl;
+  finishes = λ t. refl;
+  clears = λ t. refl;
   sends = refl;
   brings = refl;
 }
