@@ -4,3 +4,4 @@ pub mod Spans
 pub mod Flowing
 pub mod Moving
 pub mod Table
+pub mod Strays
