@@ -5,3 +5,9 @@ pub mod Changes
 pub mod Hosts
 pub mod Events
 pub mod Steps
+pub mod Alls
+pub mod Spans
+pub mod Flowing
+pub mod Moving
+pub mod Table
+pub mod Strays
