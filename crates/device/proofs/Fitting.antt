@@ -44,16 +44,18 @@ use Rattle.device.proofs.Parts.{record-good}
 -- ---- bytes
 
 -- each of a list is a byte
-abbrev AllSmall : List ℕ → Type 0
+abbrev pub AllSmall : List ℕ → Type 0
 AllSmall [] = Unit
 AllSmall (x ∷ l) = (x < 256) × AllSmall l
 
-small-bytes : (l : List ℕ) → AllSmall l → Bytes l
+-- so it is a list of bytes
+pub small-bytes : (l : List ℕ) → AllSmall l → Bytes l
 small-bytes [] h i = omega arith
 small-bytes (x ∷ l) h zero = h .0
 small-bytes (x ∷ l) h (suc k) = small-bytes l (h .1) k
 
-byte-small : (x k : ℕ) → byteOf x k < 256
+-- one byte of a number is a byte
+pub byte-small : (x k : ℕ) → byteOf x k < 256
 byte-small x k = omega arith
 
 -- a command's bytes are bytes

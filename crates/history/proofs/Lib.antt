@@ -11,3 +11,4 @@ pub mod Flowing
 pub mod Moving
 pub mod Table
 pub mod Strays
+pub mod Widths
