@@ -1,1 +1,3 @@
 pub mod Class
+pub mod Commands
+pub mod Fated
