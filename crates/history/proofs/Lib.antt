@@ -1,3 +1,4 @@
 pub mod Class
 pub mod Commands
 pub mod Fated
+pub mod CoreSteps
