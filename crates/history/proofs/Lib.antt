@@ -2,3 +2,4 @@ pub mod Class
 pub mod Commands
 pub mod Fated
 pub mod CoreSteps
+pub mod Core
