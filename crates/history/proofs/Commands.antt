@@ -1,6 +1,6 @@
 -- Laws of the commands of a history: what one more event does to all of them, and to how many are outstanding. Assumes nothing.
 use mathlib.Core.Path.{_≡_, refl, sym, ap, ap₂, _∙_}
-use mathlib.Core.Bool.{Bool, true, false, not, _&&_, _||_}
+use mathlib.Core.Bool.{Bool, true, false, not, _&&_}
 use mathlib.Core.List.{List, [], _∷_, map}
 use mathlib.Core.Logic.{⊎-elim}
 use Prim.Native.Nat.{ℕ, zero, suc, _+_, _<_}
@@ -9,7 +9,7 @@ use native.Mathlib.Omega.{arith}
 use lib.Dec.{eqb}
 use borrow.Author.Tests.{eqb-true, eqb-false, eq-eqb, ne-eqb}
 use Rattle.bits.specs.Pick.{pick}
-use Rattle.bits.proofs.Picks.{tested, by-test, pick-yes, pick-no}
+use Rattle.bits.proofs.Picks.{tested, by-test}
 use Rattle.history.specs.Seen.{Seen, accepts}
 use Rattle.history.specs.Fates.{Command, later, commands, tagOf, ends, outstandingAt, outstanding, one, howMany, All, total, totalWith}
 
@@ -38,11 +38,11 @@ all-step P Q e h new old a =
 
 -- ---- how many are outstanding with a tag
 
--- those of a list that an event later are still outstanding with tag t
+-- a command is outstanding with tag t
 abbrev isOut : ℕ → Command → Bool
 isOut t c = eqb (tagOf c) t && outstanding c
 
--- one of several by a test: 0 where it ends them
+-- an event that ends tag t leaves none of that tag outstanding, any other leaves all: of one command more
 out-one : (t : ℕ) (e : Seen) (c : Command) (n : ℕ) → one (isOut t (later e c)) + pick (ends t e) 0 n ≡ pick (ends t e) 0 (one (isOut t c) + n)
 unfolding pick outstandingAt
 out-one t e c n =
@@ -61,13 +61,14 @@ out-one t e c n =
     none true = refl
     none false = refl
 
+-- of all commands of a list
 out-map : (t : ℕ) (e : Seen) (cs : List Command) → howMany (isOut t) (map (later e) cs) ≡ pick (ends t e) 0 (howMany (isOut t) cs)
 unfolding howMany
 out-map t e [] = sym (by-test (λ (n : ℕ). n ≡ 0) (ends t e) 0 0 (λ _. refl) (λ _. refl))
 out-map t e (c ∷ cs) = ap (λ (n : ℕ). one (isOut t (later e c)) + n) (out-map t e cs) ∙ out-one t e c (howMany (isOut t) cs)
 
--- how many of a picked list
-many-pick : (p : Command → Bool) (a : Bool) (c : Command) (cs : List Command) → howMany p (pick a (c ∷ cs) cs) ≡ one (a && p c) + howMany p cs
+-- how many are so, of a list that may have a command more
+pub many-pick : (p : Command → Bool) (a : Bool) (c : Command) (cs : List Command) → howMany p (pick a (c ∷ cs) cs) ≡ one (a && p c) + howMany p cs
 unfolding howMany pick
 many-pick p true c cs = refl
 many-pick p false c cs = sym (zero-add (howMany p cs))
@@ -84,6 +85,7 @@ with-step t e h =
     truth true = refl
     truth false = refl
 
+-- none at first
 pub with-none : (t : ℕ) → totalWith t [] ≡ 0
 unfolding totalWith commands howMany
 with-none t = refl
@@ -113,6 +115,7 @@ unfolding sumTo
 sum-add f g zero = refl
 sum-add f g (suc k) = let ih = sum-add (λ t. f (suc t)) (λ t. g (suc t)) k in omega arith
 
+-- numbers are equal where those after them are
 eqb-suc : (u t : ℕ) → eqb (suc u) (suc t) ≡ eqb u t
 eqb-suc u t =
     ⊎-elim
@@ -135,6 +138,7 @@ sum-one (suc u) b (suc k) l =
 
 -- ---- all that are outstanding, tag by tag
 
+-- of a list of commands
 many-sum : (k : ℕ) (cs : List Command) → All (λ c. tagOf c < k) cs → howMany outstanding cs ≡ sumTo (λ t. howMany (isOut t) cs) k
 unfolding howMany All
 many-sum k [] a = sym (sum-none k)
@@ -155,6 +159,7 @@ total-sum k h a = many-sum k (commands h) a
 pub tags-step : (k : ℕ) (e : Seen) (h : List Seen) → (accepts e ≡ true → e .asks .tag < k) → TagsBelow k h → TagsBelow k (e ∷ h)
 tags-step k e h new a = all-step (λ c. tagOf c < k) (λ c. tagOf c < k) e h new (λ c l. l) a
 
+-- of no events
 pub tags-none : (k : ℕ) → TagsBelow k []
 unfolding All commands
 tags-none k = tt

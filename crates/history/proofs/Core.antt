@@ -5,25 +5,25 @@ use mathlib.Core.List.{List, [], _∷_}
 use mathlib.Core.Logic.{⊎-elim}
 use Prim.Native.Nat.{ℕ, _+_, _-_, _^_, _<_}
 use native.Mathlib.Nat.{zero-add, lt-of-le-of-lt}
-use native.Mathlib.Omega.{arith}
-use lib.Bits.{bitOr, or-lt, and-le-l}
+use lib.Bits.{or-lt, and-le-l}
 use lib.Count.{ones, onesIn}
 use lib.Dec.{eqb, ltb, lit<}
 use lib.Pow.{pow-lt}
 use borrow.Author.Tests.{eqb-true, eqb-false, eq-eqb, ne-eqb, lt-ltb}
 use Rattle.bits.specs.Pick.{pick}
 use Rattle.bits.specs.Bit.{bitIn, withBitIn, clearIn}
-use Rattle.bits.proofs.Picks.{tested, by-test}
+use Rattle.bits.proofs.Picks.{tested}
 use Rattle.device.proofs.Tags.{bit-with, bit-without}
 use Rattle.device.specs.declared.state.Device.{Device}
-use Rattle.history.specs.Seen.{Seen, accepts}
+use Rattle.history.specs.Calls.{Event}
+use Rattle.history.specs.Seen.{Seen, seen, accepts}
 use Rattle.history.specs.Fates.{one, total, totalWith}
 use Rattle.history.specs.Waits.{sactive, waits, givenUpThere, badSince}
 use Rattle.history.specs.Demand3.{Sactive, Waiting}
 use Rattle.history.proofs.Class as kinds
-use Rattle.history.proofs.Class.{Class, Is, Took, none}
+use Rattle.history.proofs.Class.{Class, Is, none}
 use Rattle.history.proofs.Commands.{TagsBelow, tags-step, tags-none, with-none}
-use Rattle.history.proofs.CoreSteps.{waits-is, sactive-is, number-is, asked-is, blamed, blamed-on, blamed-new, Aimed, bit-none, ones-some, total-ones}
+use Rattle.history.proofs.CoreSteps.{waits-is, sactive-is, number-is, asked-is, blamed, blamed-on, blamed-new, Aimed, aimed, bit-none, ones-some, total-ones}
 
 -- k is the set outstanding, `halted` says whether the device is halted, h is what was seen
 pub record Inv (k : ℕ) (halted : Bool) (h : List Seen) : Type 0 where
@@ -50,7 +50,7 @@ inv-start = record {
   stop = λ x. absurd (false≢true x);
 }
 
--- ---- truth tables
+-- ---- truth tables, each for one of the kinds below
 
 keep-test : (w : Bool) → pick w true false ≡ w
 unfolding pick
@@ -102,6 +102,7 @@ halt-test true false false ba fa f x = refl
 halt-test false m true ba fa f x = refl
 halt-test false m false ba fa f x = refl
 
+-- an error, of a test that asks for more
 or-both : (a b c : Bool) → (a && b) || c ≡ true → a || c ≡ true
 or-both true b c x = refl
 or-both false b c x = x
@@ -112,6 +113,7 @@ or-both false b c x = x
 pub inv-total : {k : ℕ} {b : Bool} {h : List Seen} → Inv k b h → total h ≡ ones k
 inv-total {k} {b} {h} v = total-ones k h (v .bound) (v .tags) (v .number)
 
+-- some are outstanding exactly when the set is not empty
 some-is : {k : ℕ} {b : Bool} {h : List Seen} → Inv k b h → ltb 0 (total h) ≡ not (eqb k 0)
 some-is {k} v = ap (ltb 0) (inv-total v) ∙ ones-some k
 
@@ -265,6 +267,11 @@ keeps d d′ e h v a (kinds.opens tag i s) = rw (s .outstanding, s .halted) (kee
 keeps d d′ e h v a (kinds.carries tag n i u s) = rw (s .outstanding, s .halted) (keep-plain v i)
 keeps d d′ e h v a (kinds.ends set i u s) = rw (s .outstanding, s .halted) (keep-ends v set i (s .calm) (s .width))
 
+-- and so do they of every event, as it is seen
+pub keeps-seen : (d d′ : Device) (x : Event) (h : List Seen) → Inv (d .flow .outstanding) (d .flow .halted) h → Class d (seen x) d′
+    → Inv (d′ .flow .outstanding) (d′ .flow .halted) (seen x ∷ h)
+keeps-seen d d′ x h v c = keeps d d′ (seen x) h v (aimed x) c
+
 -- ---- what it says
 
 -- the halt is that an error waits
@@ -275,6 +282,7 @@ inv-waits v = v .waiting
 pub inv-number : {k : ℕ} {b : Bool} {h : List Seen} → Inv k b h → (t : ℕ) → t < 32 → totalWith t h ≡ one (bitIn 32 k t)
 inv-number v = v .number
 
+-- one is more than none
 one-test : (b : Bool) → ltb 0 (one b) ≡ b
 one-test true = refl
 one-test false = refl

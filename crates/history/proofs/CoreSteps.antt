@@ -1,6 +1,6 @@
 -- What one more event does to SActive, to how many are outstanding and to a waiting error, by what is seen of it; and the ones of a set of tags. Assumes nothing.
 use mathlib.Core.Path.{_≡_, refl, sym, ap, ap₂, _∙_}
-use mathlib.Core.Bool.{Bool, true, false, not, _&&_, _||_, and-false, true≢false, false≢true}
+use mathlib.Core.Bool.{Bool, true, false, not, _&&_, _||_, and-false}
 use mathlib.Core.List.{List, [], _∷_}
 use mathlib.Core.Logic.{⊎-elim}
 use Prim.Native.Nat.{ℕ, zero, suc, _+_, _/_, _%_, _^_, _<_}
@@ -11,19 +11,18 @@ use lib.Arith.{lt-one, bin-ind}
 use lib.Count.{ones, onesIn, ones-step}
 use lib.Dec.{eqb, ltb}
 use lib.Pow.{shr-lt}
-use borrow.Author.Tests.{eqb-true, eqb-false, lt-ltb, eq-eqb}
+use borrow.Author.Tests.{eqb-true, eqb-false, lt-ltb}
 use Rattle.bits.specs.Pick.{pick}
 use Rattle.bits.specs.Bit.{bitIn}
 use Rattle.bits.proofs.Masks.{bit-lt, bit-suc}
-use Rattle.bits.proofs.Picks.{tested, by-test, pick-yes, pick-no}
+use Rattle.bits.proofs.Picks.{tested, by-test}
 use Rattle.frames.specs.declared.shapes.Frame.{Frame}
 use Rattle.frames.specs.declared.shapes.Frame.the-variants.{Host, Device, Bits, Setup, Activate, Data, Bist, Pio, Refused}
-use Rattle.frames.specs.declared.shapes.HostReg.{HostReg}
 use Rattle.frames.specs.Read.{readFrame}
 use Rattle.history.specs.Calls.{Call, hostFrame, openPhase, sendData, finishTags, mediaError, linkEvent, comReset, Event, taken}
 use Rattle.history.specs.Asked.{Asked, quiet, frameAsks, callAsks, asks}
 use Rattle.history.specs.Replied.{some, frames, errIn, setBitsIn, collect}
-use Rattle.history.specs.Seen.{Seen, seen, errs, accepts}
+use Rattle.history.specs.Seen.{Seen, seen}
 use Rattle.history.specs.Fates.{ends, one, total, totalWith}
 use Rattle.history.specs.Waits.{sactive, waits, before, since, givenUpThere, asksBad, badSince}
 use Rattle.history.proofs.Class.{Is}
@@ -89,6 +88,7 @@ frame-command Bist x = x
 frame-command (Pio f) x = x
 frame-command Refused x = x
 
+-- of a call
 call-command : (c : Call) → callAsks c .queued ≡ true → callAsks c .command ≡ true
 call-command (hostFrame f) x = frame-command (readFrame f) x
 call-command (openPhase t) x = x
@@ -98,6 +98,7 @@ call-command (mediaError t e s) x = x
 call-command (linkEvent r) x = x
 call-command comReset x = x
 
+-- of an event
 asks-command : (e : Event) → asks e .queued ≡ true → asks e .command ≡ true
 asks-command e =
     by-test (λ (a : Asked). a .queued ≡ true → a .command ≡ true) (taken e) (callAsks (e .call)) quiet

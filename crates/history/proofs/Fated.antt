@@ -1,24 +1,25 @@
 -- Every command accepted has exactly one of four fates, and leaves "outstanding" once and for all. Assumes nothing.
-use mathlib.Core.Path.{_≡_, refl, sym, ap, _∙_}
+use mathlib.Core.Path.{_≡_, refl, _∙_}
 use mathlib.Core.Bool.{Bool, true, false, not, _&&_, _||_, true≢false}
 use mathlib.Core.List.{List, [], _∷_, _++_}
-use Prim.Native.Nat.{ℕ, _+_}
+use Prim.Native.Nat.{ℕ}
 use native.Mathlib.Omega.{arith}
 use Rattle.bits.specs.Bit.{bitIn}
 use Rattle.device.specs.declared.state.Device.{Device}
 use Rattle.history.specs.Seen.{Seen, errs}
-use Rattle.history.specs.Fates.{Command, later, commands, tagOf, ends, outstandingAt, finishedAt, givenUpAt, droppedAt, outstanding, finished, givenUp, dropped, All}
+use Rattle.history.specs.Fates.{Command, later, commands, tagOf, outstandingAt, finishedAt, givenUpAt, droppedAt, outstanding, finished, givenUp, dropped, All}
 use Rattle.history.specs.Demand3.{exactlyOne, OneFate, Settled, Fates}
 use Rattle.history.proofs.Class as kinds
 use Rattle.history.proofs.Class.{Class, Is}
 use Rattle.history.proofs.Commands.{all-step}
 
--- ---- an event never does two of these: finish a tag, answer an error, take a reset
+-- ---- finishing, giving up, dropping
 
+-- an event never does two of these: finish a tag, answer an error, take a reset
 abbrev pub Lone : Seen → Type 0
 Lone e = (t : ℕ) → (e .finishes t && (errs e || e .asks .resets)) || (errs e && e .asks .resets) ≡ false
 
--- no event of a history does
+-- no event of a history ever does
 unfoldable pub AllLone : List Seen → Type 0
 AllLone [] = Unit
 AllLone (e ∷ h) = Lone e × AllLone h
@@ -28,11 +29,13 @@ alone : {e : Seen} {qu ac ba fa re sw : Bool} {fi cl : ℕ → Bool} {se br : �
     → ((t : ℕ) → (fi t && ((ba || fa) || re)) || ((ba || fa) && re) ≡ false) → Lone e
 alone i f = λ t. rw (i .bad, i .fails, i .resets, i .finishes t) (f t)
 
+-- an error alone
 only-errs : (ba fa : Bool) → (false && ((ba || fa) || false)) || ((ba || fa) && false) ≡ false
 only-errs true fa = refl
 only-errs false true = refl
 only-errs false false = refl
 
+-- tags finished alone
 only-ends : (a : Bool) → (a && ((false || false) || false)) || ((false || false) && false) ≡ false
 only-ends true = refl
 only-ends false = refl
@@ -52,6 +55,7 @@ lone (kinds.ends set i u s) = alone i (λ t. only-ends (bitIn 32 set t))
 
 -- ---- exactly one of four
 
+-- one of four before an event that does at most one of three, and one of four after it
 one-fate : (o f g d fi er re : Bool) → (fi && (er || re)) || (er && re) ≡ false → exactlyOne o f g d
     → exactlyOne (o && not (fi || (er || re))) (f || (o && fi)) (g || (o && er)) (d || (o && re))
 one-fate false true true true fi er re x e = e
@@ -128,6 +132,7 @@ pub lone-step : (e : Seen) (h : List Seen) → Lone e → AllLone h → AllLone 
 unfolding AllLone
 lone-step e h l a = (l, a)
 
+-- of no events
 pub lone-none : AllLone []
 unfolding AllLone
 lone-none = tt

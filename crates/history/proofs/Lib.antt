@@ -3,3 +3,4 @@ pub mod Commands
 pub mod Fated
 pub mod CoreSteps
 pub mod Core
+pub mod Anchors
