@@ -5,6 +5,11 @@ pub mod Changes
 pub mod Hosts
 pub mod Events
 pub mod Steps
+pub mod Commands
+pub mod Fated
+pub mod CoreSteps
+pub mod Core
+pub mod Anchors
 pub mod Alls
 pub mod Spans
 pub mod Flowing
