@@ -70,13 +70,13 @@ module _ (d : Device) (tag : ℕ) (medium : Bool) (room : ℕ) (g : contradictor
     -- bad while halted; bad while nothing is outstanding
     answered-again : (e : ℕ) → h .«command_bit» ≡ true → d .flow .halted ≡ true → Comes d k (bad h e)
     unfolding repliesOf afterOf
-    answered-again e c x _ = again (k .queued) (is-bad k _ refl (no-reset c) refl) (answer-unbegun k _) x (halted-empty d g x) (same d)
+    answered-again e c x _ = again (k .queued) (is-bad k _ refl c (no-reset c) refl) (answer-unbegun k _) x (halted-empty d g x) (same d)
 
     -- a halt that a command raises
     faulted : (nq : Bool) (t e : ℕ) → h .«command_bit» ≡ true → d .flow .halted ≡ false → k .queued || not (eqb (d .flow .outstanding) 0) ≡ true → Comes d k (fault h nq t e)
     unfolding repliesOf afterOf haltWith
     faulted nq t e c x r _ =
-        halts (k .queued) true false (is-bad k _ refl (no-reset c) refl) x (rw r) (record { settings = refl; outstanding = refl; phase = refl; halted = refl })
+        halts (k .queued) true false (is-bad k _ refl c (no-reset c) refl) x (rw r) (record { settings = refl; outstanding = refl; phase = refl; halted = refl })
 
     -- rule 4
     accepted : h .«command_bit» ≡ true → k .queued ≡ true → d .flow .halted ≡ false → d .flow .phase ≡ 0 → bitIn 32 (d .flow .outstanding) (tagAsked h) ≡ false
@@ -104,7 +104,7 @@ module _ (d : Device) (tag : ℕ) (medium : Bool) (room : ℕ) (g : contradictor
     answered-free : (e : ℕ) → h .«command_bit» ≡ true → k .queued ≡ false → d .flow .halted ≡ false → d .flow .outstanding ≡ 0 → Comes d k (bad h e)
     unfolding repliesOf afterOf
     answered-free e c q x z _ =
-        freely (subst (λ (b : Bool). Is (actSeen d k (bad h e)) b false true false false false none none 0 0) q (is-bad k _ refl (no-reset c) refl)) (answer-unbegun k _) x z (same d)
+        freely (subst (λ (b : Bool). Is (actSeen d k (bad h e)) b false true false false false none none 0 0) q (is-bad k _ refl c (no-reset c) refl)) (answer-unbegun k _) x z (same d)
 
     -- page 10h: by whether the device was halted
     paged-ten : (b : Bool) → d .flow .halted ≡ b → h .«command_bit» ≡ true → k .queued ≡ false → eqb (d .flow .phase) 0 ≡ true

@@ -7,9 +7,9 @@ use native.Mathlib.Omega.{arith}
 use Rattle.bits.specs.Pick.{pick}
 use Rattle.states.specs.declared.shapes.Entry.{Entry}
 use Rattle.device.specs.declared.state.Device.{Device}
-use Rattle.history.specs.Seen.{Seen, Flow, still, flows}
+use Rattle.history.specs.Seen.{Seen, Flow}
 use Rattle.history.specs.Fates.{Command, commands, All}
-use Rattle.history.specs.Carried.{flow}
+use Rattle.history.specs.Carried.{flow, Due}
 use Rattle.history.proofs.Class as K
 use Rattle.history.proofs.Class.{Carried, Class}
 use Rattle.history.proofs.Alls.{all-imp}
@@ -17,16 +17,6 @@ use Rattle.history.proofs.Spans.{Empty}
 use Rattle.history.proofs.Flowing.{flowFor, flowOf, flow-open, empty-of}
 use Rattle.history.proofs.Moving.{entryAt}
 use Rattle.history.proofs.Table.{Following, Tracked}
-
--- n bytes in a direction are of what is under way, and within what is left of it
-abbrev pub Within : Bool → ℕ → Flow → Type 0
-Within d n still = ⊥
-Within d n (flows x t a z) = (x ≡ d) × (a + n ≤ z)
-
--- the data of an event are of what is under way: data sent of a Setup with D 1, data brought of one with D 0
-pub record Due (e : Seen) (x : Flow) : Type 0 where
-  pub sends : 0 < e .sends → Within true (e .sends) x
-  pub brings : 0 < e .asks .brings → Within false (e .asks .brings) x
 
 -- an event that carries nothing
 due-none : (e : Seen) (x : Flow) → Empty e → Due e x

@@ -86,7 +86,7 @@ module _ (k : Asked) where
   is-silent q = record {
     queued = q;
     accepted = rw q;
-    bad = refl;
+    bad = and-never (k .command);
     fails = refl;
     resets = refl;
     sweeps = and-never (k .command);
@@ -97,12 +97,12 @@ module _ (k : Asked) where
   }
 
   -- a bad answer
-  pub is-bad : (f : DevReg) → errIn (f .status) ≡ true → k .resets ≡ false → k .brings ≡ 0 → Is (view k (device f ∷ [])) (k .queued) false true false false false none none 0 0
+  pub is-bad : (f : DevReg) → errIn (f .status) ≡ true → k .command ≡ true → k .resets ≡ false → k .brings ≡ 0 → Is (view k (device f ∷ [])) (k .queued) false true false false false none none 0 0
   unfolding view some collect pick
-  is-bad f e r b = record {
+  is-bad f e c r b = record {
     queued = refl;
     accepted = rw e (and-never (k .queued));
-    bad = rw e;
+    bad = rw (c, e);
     fails = refl;
     resets = r;
     sweeps = and-never (k .command);
@@ -122,7 +122,7 @@ module _ (k : Asked) where
   is-good f e r b = record {
     queued = refl;
     accepted = rw e (and-always (k .queued));
-    bad = rw e;
+    bad = rw e (and-never (k .command));
     fails = refl;
     resets = r;
     sweeps = and-never (k .command);
@@ -139,7 +139,7 @@ module _ (k : Asked) where
   is-page f p q r b = record {
     queued = q;
     accepted = rw q;
-    bad = refl;
+    bad = and-never (k .command);
     fails = refl;
     resets = r;
     sweeps = and-never (k .command);
@@ -156,7 +156,7 @@ module _ (k : Asked) where
   is-swept s f p e c q r b = record {
     queued = q;
     accepted = rw q;
-    bad = refl;
+    bad = and-never (k .command);
     fails = rw e;
     resets = r;
     sweeps = rw c;
@@ -208,7 +208,7 @@ unfolding view some collect pick
 is-reset f e = record {
   queued = refl;
   accepted = refl;
-  bad = rw e;
+  bad = refl;
   fails = refl;
   resets = refl;
   sweeps = refl;

@@ -65,4 +65,4 @@ pub sized-record : (d : Device) → Wide d → SizedRecord d
 sized-record d w = record { error = w .error; echo = w .echo }
 
 zero-echo : EchoBytes (zeroEntry .echo)
-zero-echo = let z : 0 < 256 = omega arith in small-bytes _ (z, (z, (z, (z, (z, (z, (z, (z, (z, (z, (z, (z, (z, (z, tt))))))))))))))
+zero-echo = let z : 0 < 256 = omega arith in small-bytes (placedBytes (zeroEntry .echo)) (z, (z, (z, (z, (z, (z, (z, (z, (z, (z, (z, (z, (z, (z, tt))))))))))))))

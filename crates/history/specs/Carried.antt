@@ -1,7 +1,8 @@
 -- The bytes that a command's data frames carried: positions from DMA Setup and the lengths of the data frames that follow it. Assumes nothing.
+use mathlib.Core.Path.{_≡_}
 use mathlib.Core.Bool.{Bool, true, false, not, _&&_, _||_}
 use mathlib.Core.List.{List, [], _∷_, _++_}
-use Prim.Native.Nat.{ℕ, zero, suc, _+_, _*_}
+use Prim.Native.Nat.{ℕ, zero, suc, _+_, _*_, _≤_, _<_}
 use lib.Dec.{eqb, ltb}
 use Rattle.bits.specs.Pick.{pick}
 use Rattle.history.specs.Seen.{Seen, Flow, still, flows, errs}
@@ -56,3 +57,13 @@ carriedAt start write tag (e ∷ n) = carriedAt start write tag n ++ pick (outst
 -- of a command
 abbrev pub carried : Command → List ℕ
 carried c = carriedAt (base c) (c .accepted .asks .write) (tagOf c) (c .after)
+
+-- n bytes in a direction are of what is under way, and within what is left of it
+abbrev pub Within : Bool → ℕ → Flow → Type 0
+Within d n still = ⊥
+Within d n (flows x t a z) = (x ≡ d) × (a + n ≤ z)
+
+-- no stray data: data sent are of a Setup under way with D 1, data brought of one with D 0
+pub record Due (e : Seen) (x : Flow) : Type 0 where
+  pub sends : 0 < e .sends → Within true (e .sends) x
+  pub brings : 0 < e .asks .brings → Within false (e .asks .brings) x

@@ -10,9 +10,9 @@ use Rattle.history.specs.Calls.{Event}
 use Rattle.history.specs.Asked.{brought}
 use Rattle.history.specs.Replied.{page, sent}
 use Rattle.history.specs.Seen.{Seen, seen, Flow, still, flows}
-use Rattle.history.specs.Fates.{Command, commands, tagOf, outstandingAt, finishedAt, givenUpAt, droppedAt, outstanding, finished, givenUp, dropped, one, All, total, totalWith}
+use Rattle.history.specs.Fates.{Command, commands, tagOf, outstandingAt, finishedAt, givenUpAt, droppedAt, outstanding, finished, givenUp, dropped, one, howMany, All, total, totalWith}
 use Rattle.history.specs.Waits.{sactive, waits, givenUpThere, badSince}
-use Rattle.history.specs.Carried.{flow, span, base, size, belongs, carried}
+use Rattle.history.specs.Carried.{flow, span, base, size, belongs, carried, Due}
 use Rattle.history.specs.Counted.{sends11, toldFor}
 
 -- exactly one of four
@@ -53,8 +53,17 @@ abbrev pub MovedOf : Event → Command → Flow → Type 0
 MovedOf e c still = Unit
 MovedOf e c (flows d t a z) = belongs (c .accepted .asks .write) (tagOf c) d t ≡ true → Moved e d (base c + a)
 
--- one event after a history: each command's data in it, and a medium that stays as it was where no data came
+-- what is under way is the data of exactly one command, which is outstanding
+abbrev pub Owned : Flow → List Command → Type 0
+Owned still cs = Unit
+Owned (flows d t a z) cs = howMany (λ c. outstanding c && belongs (c .accepted .asks .write) (tagOf c) d t) cs ≡ 1
+
+-- one event after a history: its data are of what is under way, which is one command's, the same for each command as for the whole history;
+-- each command's data stand as they should, and where no data came the medium is as it was
 pub record Moves (e : Event) (h : List Seen) : Type 0 where
+  pub due : Due (seen e) (flow h)
+  pub owned : Owned (flow h) (commands h)
+  pub since : All (λ c. flow (c .after) ≡ flow h) (commands h)
   pub each : All (λ c. outstanding c ≡ true → MovedOf e c (flow (c .after))) (commands h)
   pub untouched : brought e ≡ [] → e .left ≡ e .medium
 

@@ -26,7 +26,7 @@ begun (s ∷ ss) x = begun ss (flows (s .«to_host») (s .tag) (s .offset) (s .o
 
 pub record Seen : Type 0 where
   pub asks : Asked
-  -- answered by a 34h without ERR; by one with ERR; an A1h with ERR was sent
+  -- answered by a 34h without ERR; a command answered by one with ERR; an A1h with ERR was sent
   pub good : Bool
   pub bad : Bool
   pub fails : Bool
@@ -50,7 +50,7 @@ abbrev pub sight : Asked → List Frame → ℕ → Seen
 sight a fs n = record {
   asks = a;
   good = some (λ r. not (errIn (r .status))) (collect registerIn fs);
-  bad = some (λ r. errIn (r .status)) (collect registerIn fs);
+  bad = a .command && some (λ r. errIn (r .status)) (collect registerIn fs);
   fails = some (λ f. errIn (f .status)) (collect setBitsIn fs);
   sweeps = a .command && some (λ f. true) (collect setBitsIn fs);
   finishes = λ t. not (a .command) && some (λ f. not (errIn (f .status)) && names t f) (collect setBitsIn fs);
