@@ -16,4 +16,3 @@ pub mod Flowing
 pub mod Moving
 pub mod Table
 pub mod Strays
-pub mod Widths
