@@ -1,2 +1,4 @@
 pub mod Class
 pub mod Tally
+pub mod Impact
+pub mod Hearing
