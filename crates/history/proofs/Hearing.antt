@@ -30,7 +30,7 @@ use Rattle.replies.specs.Replies.{repliesOf}
 use Rattle.device.proofs.Never.{and-never}
 use Rattle.history.specs.Replied.{some, isPio}
 use Rattle.history.specs.Counted.{readsLog11, frameReads11, frameZeroes}
-use Rattle.history.proofs.Tally.{Effect, stay, wipe, wipes}
+use Rattle.history.proofs.Tally.{Effect, stay, wipe, wipes, raises}
 use Rattle.history.proofs.Impact.{effectOf}
 
 -- some frame of these is a 5Fh
@@ -42,9 +42,10 @@ pub record Logs (a : Act) : Type 0 where
   pub log : Log
   pub is : a ≡ Log11 log
 
--- of a frame that is read as f: it zeroes exactly if its act does, and a page that answers a read of 11h is page 11h
+-- of a frame that is read as f: it zeroes exactly if its act does, raises no row, and a page that answers a read of 11h is page 11h
 pub record Hears (f : Frame) (paged : Bool) (a : Act) : Type 0 where
   pub zeroed : eqb (numberOf a) 0 && frameZeroes paged f ≡ wipes (effectOf a)
+  pub rowless : (k : ℕ) → raises k (effectOf a) ≡ false
   pub shown : paged ≡ true → frameReads11 f ≡ true → Logs a
 
 -- ---- the page that a command names
@@ -100,6 +101,12 @@ unfolding pick
 eleven-zeroes r true e = rw e
 eleven-zeroes r false e = rw e
 
+-- and raises no row
+wipe-rowless : (k : ℕ) (x : Bool) → raises k (pick x wipe stay) ≡ false
+unfolding pick
+wipe-rowless k true = refl
+wipe-rowless k false = refl
+
 -- ---- each kind of host frame
 
 module _ (r : ErrorRecord) (mask : ℕ) (values : List ℕ) where
@@ -116,20 +123,22 @@ module _ (r : ErrorRecord) (mask : ℕ) (values : List ℕ) where
       let eleven : Act = Log11 (record { also = bitIn 8 (h .features) 0; task = h .task }) in
       let fourth : Act = pick (eqb (pageAsked h) 0x11) eleven (bad h 0x04) in
       let third : Act = pick (eqb (pageAsked h) 0x10) ten fourth in
-      let no : P (bad h 0x04) = record { zeroed = refl; shown = λ p _. absurd (false≢true p) } in
+      let no : P (bad h 0x04) = record { zeroed = refl; rowless = λ k. refl; shown = λ p _. absurd (false≢true p) } in
       by-test P (v .flow .halted && not (eqb (pageAsked h) 0x10)) (bad h 0x04) (pick (not (eqb (v .flow .outstanding) 0)) (fault h true 0 0x04) third) (λ _. no)
       (λ _.
-      by-test P (not (eqb (v .flow .outstanding) 0)) (fault h true 0 0x04) third (λ _. record { zeroed = refl; shown = λ p _. absurd (false≢true p) })
+      by-test P (not (eqb (v .flow .outstanding) 0)) (fault h true 0 0x04) third (λ _. record { zeroed = refl; rowless = λ k. refl; shown = λ p _. absurd (false≢true p) })
       (λ _.
       by-test P (eqb (pageAsked h) 0x10) ten fourth
       (λ t. record {
         zeroed = ten-zeroes (pioIn (repliesOf r mask values [] ten)) (readsLog11 h) (bitIn 8 (h .features) 0) (reads-ten h t);
+        rowless = λ k. refl;
         shown = λ _ q. absurd (false≢true (sym (reads-ten h t) ∙ q));
       })
       (λ _.
       by-test P (eqb (pageAsked h) 0x11) eleven (bad h 0x04)
       (λ t. record {
         zeroed = eleven-zeroes (readsLog11 h) (bitIn 8 (h .features) 0) (reads-eleven h c t);
+        rowless = λ k. wipe-rowless k (bitIn 8 (h .features) 0);
         shown = λ _ _. record { log = record { also = bitIn 8 (h .features) 0; task = h .task }; is = refl };
       })
       (λ _. no))))
@@ -144,15 +153,15 @@ module _ (r : ErrorRecord) (mask : ℕ) (values : List ℕ) where
       let wrong : Bool = v .flow .held || not (eqb (v .flow .phase) 0) in
       by-test P (not (h .«command_bit»)) (controlAct v h) (pick wrong (Refuse 5) third)
       (λ _.
-      control-all P v h (record { zeroed = refl; shown = λ p _. absurd (false≢true p) }) (record { zeroed = refl; shown = λ p _. absurd (false≢true p) })
-      (record { zeroed = refl; shown = λ p _. absurd (false≢true p) }))
+      control-all P v h (record { zeroed = refl; rowless = λ k. refl; shown = λ p _. absurd (false≢true p) }) (record { zeroed = refl; rowless = λ k. refl; shown = λ p _. absurd (false≢true p) })
+      (record { zeroed = refl; rowless = λ k. refl; shown = λ p _. absurd (false≢true p) }))
       (λ c.
-      by-test P wrong (Refuse 5) third (λ _. record { zeroed = refl; shown = λ p _. absurd (false≢true p) })
+      by-test P wrong (Refuse 5) third (λ _. record { zeroed = refl; rowless = λ k. refl; shown = λ p _. absurd (false≢true p) })
       (λ _.
       by-test P queued (queuedAct v h) (otherAct v h)
       (λ _.
-      queued-all P v h (record { zeroed = refl; shown = λ p _. absurd (false≢true p) }) (record { zeroed = refl; shown = λ p _. absurd (false≢true p) })
-      (record { zeroed = refl; shown = λ p _. absurd (false≢true p) }) (record { zeroed = refl; shown = λ p _. absurd (false≢true p) }))
+      queued-all P v h (record { zeroed = refl; rowless = λ k. refl; shown = λ p _. absurd (false≢true p) }) (record { zeroed = refl; rowless = λ k. refl; shown = λ p _. absurd (false≢true p) })
+      (record { zeroed = refl; rowless = λ k. refl; shown = λ p _. absurd (false≢true p) }) (record { zeroed = refl; rowless = λ k. refl; shown = λ p _. absurd (false≢true p) }))
       (λ _. other-heard v h (not-false (h .«command_bit») c))))
 
   -- host data
@@ -162,22 +171,22 @@ module _ (r : ErrorRecord) (mask : ℕ) (values : List ℕ) where
       let P : Act → Type 0 = Heard (fs.Data n) in
       let kept : Act = Keep (moveOf (v .flow) (v .entry)) in
       let due : Bool = eqb n (moveOf (v .flow) (v .entry) .size) in
-      by-test P (eqb (v .flow .phase) 0 || not (v .entry .write)) (Refuse 5) (pick (not due) (Refuse 6) kept) (λ _. record { zeroed = refl; shown = λ _ q. absurd (false≢true q) })
+      by-test P (eqb (v .flow .phase) 0 || not (v .entry .write)) (Refuse 5) (pick (not due) (Refuse 6) kept) (λ _. record { zeroed = refl; rowless = λ k. refl; shown = λ _ q. absurd (false≢true q) })
       (λ _.
-      by-test P (not due) (Refuse 6) kept (λ _. record { zeroed = refl; shown = λ _ q. absurd (false≢true q) })
-      (λ _. record { zeroed = refl; shown = λ _ q. absurd (false≢true q) }))
+      by-test P (not due) (Refuse 6) kept (λ _. record { zeroed = refl; rowless = λ k. refl; shown = λ _ q. absurd (false≢true q) })
+      (λ _. record { zeroed = refl; rowless = λ k. refl; shown = λ _ q. absurd (false≢true q) }))
 
   -- BIST Activate
   bist-heard : (v : Facts) → Heard fs.Bist (bistAct v)
   unfolding bistAct numberOf
   bist-heard v =
-      by-test (Heard fs.Bist) (not (eqb (v .flow .phase) 0)) (Refuse 5) Zero (λ _. record { zeroed = refl; shown = λ _ q. absurd (false≢true q) })
-      (λ _. record { zeroed = refl; shown = λ _ q. absurd (false≢true q) })
+      by-test (Heard fs.Bist) (not (eqb (v .flow .phase) 0)) (Refuse 5) Zero (λ _. record { zeroed = refl; rowless = λ k. refl; shown = λ _ q. absurd (false≢true q) })
+      (λ _. record { zeroed = refl; rowless = λ k. refl; shown = λ _ q. absurd (false≢true q) })
 
   -- a kind that no host sends, or no frame at all
   wrong-heard : (f : Frame) → Heard f (Refuse 4)
   unfolding numberOf repliesOf some
-  wrong-heard f = record { zeroed = refl; shown = λ p _. absurd (false≢true p) }
+  wrong-heard f = record { zeroed = refl; rowless = λ k. refl; shown = λ p _. absurd (false≢true p) }
 
   -- any frame
   kind-heard : (v : Facts) (f : Frame) → Heard f (kindAct v f)
@@ -195,7 +204,7 @@ module _ (r : ErrorRecord) (mask : ℕ) (values : List ℕ) where
   -- a frame that a number refuses zeroes nothing
   refused-heard : (n : ℕ) (f : Frame) → eqb n 0 ≡ false → Heard f (Refuse n)
   unfolding numberOf repliesOf some
-  refused-heard n f e = record { zeroed = rw e; shown = λ p _. absurd (false≢true p) }
+  refused-heard n f e = record { zeroed = rw e; rowless = λ k. refl; shown = λ p _. absurd (false≢true p) }
 
   -- what is decided of any host frame is what the history reads of it
   pub host-heard : (v : Facts) (f : Frame) → Heard f (decideOf v f)

@@ -2,3 +2,4 @@ pub mod Class
 pub mod Tally
 pub mod Impact
 pub mod Hearing
+pub mod Counts
