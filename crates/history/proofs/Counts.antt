@@ -179,8 +179,8 @@ module _ (d : Device) (m b : List ℕ) (h : List Event) (i : Counting d h) where
       i
 
   -- a device event that comes to an act
-  counting-act : (e : Event) (a : Act) (row : ℕ) → Does row a → Reads e (effectOf a) → Counting (afterOf d a) (e ∷ h)
-  counting-act e a row g s = counting-by d (afterOf d a) e h (effectOf a) (act-values d a) (act-within a) s i
+  counting-act : (e : Event) (a : Act) → Reads e (effectOf a) → Counting (afterOf d a) (e ∷ h)
+  counting-act e a s = counting-by d (afterOf d a) e h (effectOf a) (act-values d a) (act-within a) s i
 
   counting-link : (row : ℕ) → Counting (result d (lent m b (linkEvent row)) .outcome .state) (eventOf d (lent m b (linkEvent row)) ∷ h)
   unfolding linkStep pick
@@ -204,19 +204,19 @@ module _ (d : Device) (m b : List ℕ) (h : List Event) (i : Counting d h) where
   counting-call (hostFrame f) q = counting-host f q
   counting-call (openPhase t) q =
       let g = open-does d t (length b) in
-      counting-act (eventOf d (lent m b (openPhase t))) (openOf d t (length b)) 16 g
+      counting-act (eventOf d (lent m b (openPhase t))) (openOf d t (length b))
       (record { zeroed = and-never (eqb (numberOf (openOf d t (length b))) 0) ∙ sym (g .wipeless); raised = g .raised })
   counting-call sendData q =
       let g = send-does d (length m) (length b) in
-      counting-act (eventOf d (lent m b sendData)) (sendOf d (length m) (length b)) 16 g
+      counting-act (eventOf d (lent m b sendData)) (sendOf d (length m) (length b))
       (record { zeroed = and-never (eqb (numberOf (sendOf d (length m) (length b))) 0) ∙ sym (g .wipeless); raised = g .raised })
   counting-call (finishTags s) q =
       let g = finish-does d s (length b) in
-      counting-act (eventOf d (lent m b (finishTags s))) (finishOf d s (length b)) 16 g
+      counting-act (eventOf d (lent m b (finishTags s))) (finishOf d s (length b))
       (record { zeroed = and-never (eqb (numberOf (finishOf d s (length b))) 0) ∙ sym (g .wipeless); raised = g .raised })
   counting-call (mediaError t e s) q =
       let g = media-does d t e s (length b) in
-      counting-act (eventOf d (lent m b (mediaError t e s))) (mediaOf d t e s (length b)) (pick (bitIn 8 e 7) 0 16) g
+      counting-act (eventOf d (lent m b (mediaError t e s))) (mediaOf d t e s (length b))
       (record { zeroed = and-never (eqb (numberOf (mediaOf d t e s (length b))) 0) ∙ sym (g .wipeless); raised = g .raised })
   counting-call (linkEvent r) q = counting-link r
   counting-call comReset q = counting-comreset

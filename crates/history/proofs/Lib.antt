@@ -3,3 +3,4 @@ pub mod Tally
 pub mod Impact
 pub mod Hearing
 pub mod Counts
+pub mod Pages
