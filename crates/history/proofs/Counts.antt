@@ -13,7 +13,7 @@ use Rattle.bits.specs.Bit.{bitIn}
 use Rattle.bits.specs.First.{firstOf}
 use Rattle.bits.proofs.Firsts as firsts
 use Rattle.bits.proofs.Picks.{by-test, tested, or-left, or-right}
-use Rattle.frames.specs.Write.{Sent}
+use Rattle.frames.specs.Write.{encode}
 use Rattle.frames.specs.Trip.{seen}
 use Rattle.frames.specs.Read.{readFrame}
 use Rattle.frames.specs.declared.shapes.Frame.{Frame}
@@ -34,7 +34,7 @@ use Rattle.device.specs.Calls.{factsOf, openTag, mediumWrong, hostAct, hostStep
 use Rattle.device.specs.declared.state.Device.{Device}
 use Rattle.device.proofs.Never.{and-never}
 use Rattle.history.specs.Calls.{Call, hostFrame, openPhase, sendData, finishTags, mediaError, linkEvent, comReset, Event}
-use Rattle.history.specs.Replied.{frames, some, isPio}
+use Rattle.history.specs.Replied.{pieces, frames, some, isPio}
 use Rattle.history.specs.Counted.{rowRaised, frameZeroes}
 use Rattle.history.specs.Run.{Lent, Gave, result, done, event}
 use Rattle.history.proofs.Tally.{Effect, stay, raise, wipe, counted, wipes, raises, Within, Reads, Counting, tells}
@@ -45,22 +45,25 @@ use Rattle.history.proofs.Hearing.{host-heard}
 abbrev pub lent : List ℕ → List ℕ → Call → Lent
 lent m b c = record { call = c; medium = m; buffer = b }
 
--- the frames that a call replies
-abbrev pub repliedFor : Device → List ℕ → List ℕ → Call → List Sent
-repliedFor d m b (hostFrame f) = hostStep d f (length m) (length b) .frames
-repliedFor d m b (openPhase t) = openStep d t (length b) .frames
-repliedFor d m b sendData = sendStep d m (length b) .frames
-repliedFor d m b (finishTags s) = finishStep d s (length b) .frames
-repliedFor d m b (mediaError t e s) = mediaStep d t e s (length b) .frames
-repliedFor d m b (linkEvent r) = []
-repliedFor d m b comReset = comresetStep d (length b) .frames
-
-abbrev pub replied : Device → Lent → List Sent
-replied d a = repliedFor d (a .medium) (a .buffer) (a .call)
-
 -- what the outside sees of a call of the definitions
 abbrev pub eventOf : Device → Lent → Event
 eventOf d a = event (done a (result d a))
+
+-- what must be known of the replies: those of a host frame, cut and read, are the frames that its step sends
+abbrev pub RepliesFor : Device → List ℕ → List ℕ → Call → Type 0
+RepliesFor d m b (hostFrame f) =
+    (pieces (eventOf d (lent m b (hostFrame f))) ≡ map encode (hostStep d f (length m) (length b) .frames))
+    × (frames (eventOf d (lent m b (hostFrame f))) ≡ map seen (hostStep d f (length m) (length b) .frames))
+RepliesFor d m b (openPhase t) = Unit
+RepliesFor d m b sendData = Unit
+RepliesFor d m b (finishTags s) = Unit
+RepliesFor d m b (mediaError t e s) = Unit
+RepliesFor d m b (linkEvent r) = Unit
+RepliesFor d m b comReset = Unit
+
+-- of a call with what is lent to it
+abbrev pub Replies : Device → Lent → Type 0
+Replies d a = RepliesFor d (a .medium) (a .buffer) (a .call)
 
 -- values that changed as the history reads the event
 counting-by : (d d′ : Device) (e : Event) (h : List Event) (x : Effect) → d′ .values ≡ counted x (d .values) → Within x → Reads e x → Counting d h → Counting d′ (e ∷ h)
@@ -200,8 +203,8 @@ module _ (d : Device) (m b : List ℕ) (h : List Event) (i : Counting d h) where
       (λ f. rw f) i
 
   -- by what the call is
-  counting-call : (c : Call) → frames (eventOf d (lent m b c)) ≡ map seen (repliedFor d m b c) → Counting (result d (lent m b c) .outcome .state) (eventOf d (lent m b c) ∷ h)
-  counting-call (hostFrame f) q = counting-host f q
+  counting-call : (c : Call) → RepliesFor d m b c → Counting (result d (lent m b c) .outcome .state) (eventOf d (lent m b c) ∷ h)
+  counting-call (hostFrame f) q = counting-host f (q .1)
   counting-call (openPhase t) q =
       let g = open-does d t (length b) in
       counting-act (eventOf d (lent m b (openPhase t))) (openOf d t (length b))
@@ -222,5 +225,5 @@ module _ (d : Device) (m b : List ℕ) (h : List Event) (i : Counting d h) where
   counting-call comReset q = counting-comreset
 
 -- every call, refused or taken: the counters go on telling the history
-pub counting-step : (d : Device) (a : Lent) (h : List Event) → frames (eventOf d a) ≡ map seen (replied d a) → Counting d h → Counting (result d a .outcome .state) (eventOf d a ∷ h)
+pub counting-step : (d : Device) (a : Lent) (h : List Event) → Replies d a → Counting d h → Counting (result d a .outcome .state) (eventOf d a ∷ h)
 counting-step d a h q i = counting-call d (a .medium) (a .buffer) h i (a .call) q

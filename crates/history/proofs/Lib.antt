@@ -4,3 +4,4 @@ pub mod Impact
 pub mod Hearing
 pub mod Counts
 pub mod Pages
+pub mod Shown

@@ -35,14 +35,15 @@ use Rattle.replies.specs.Replies.{pioReply, page11Of, logReplies, repliesOf}
 use Rattle.device.specs.Device.{contradictoryDevice}
 use Rattle.device.specs.Calls.{factsOf, openTag, mediumWrong, hostAct, hostStep}
 use Rattle.device.specs.declared.state.Device.{Device}
-use Rattle.device.proofs.Keeping.{both-kept}
+use Rattle.states.specs.Clauses.{settingsOut}
+use Rattle.device.proofs.Keeping.{settings-good, both-kept}
 use Rattle.history.specs.Calls.{Call, hostFrame, openPhase, sendData, finishTags, mediaError, linkEvent, comReset, Event, taken}
 use Rattle.history.specs.Replied.{pieces, frames, some, isPio, payloads, page}
 use Rattle.history.specs.Counted.{callReads11, paged, sends11, toldAt, toldFor}
 use Rattle.history.specs.Run.{Lent}
 use Rattle.history.proofs.Tally.{Tells, Counting, tells-small}
 use Rattle.history.proofs.Hearing.{Logs, host-heard}
-use Rattle.history.proofs.Counts.{lent, repliedFor, replied, eventOf}
+use Rattle.history.proofs.Counts.{lent, eventOf, RepliesFor, Replies}
 
 -- ---- what the reader gives of a page made of counters that tell a history
 
@@ -91,3 +92,70 @@ page-is e task l p q =
     let x : readFrame (encode (pioReply task)) ≡ seen (pioReply task) = cc in
     let y : readFrame (encode (payload l)) ≡ seen (payload l) = cc in
     ap pageIn p ∙ page-sent task l x y
+
+-- ---- every call
+
+-- the settings of a device are within bounds only with this mask
+abbrev pub Masked : ℕ → Device → Type 0
+Masked mask d = settingsOut (d .settings) ≡ false → d .settings .mask ≡ mask
+
+-- page 11h, if it was sent, read for every number, gives what the history before it tells
+abbrev pub Shows : ℕ → Event → List Event → Type 0
+Shows mask e h = sends11 e ≡ true → (number : ℕ) → noNumber number ≡ false → readCounter (page e) number ≡ toldFor mask h number
+
+-- a call that asks for no page 11h
+unasked : (mask : ℕ) (e : Event) (h : List Event) → callReads11 (e .call) ≡ false → Shows mask e h
+unasked mask e h n s =
+    absurd (false≢true (sym n ∙ and-right (paged e) (callReads11 (e .call)) (and-right (taken e) (paged e && callReads11 (e .call)) s)))
+
+-- the page of a host frame whose act is a read of page 11h
+shown-page : (d : Device) (e : Event) (h : List Event) (a : Act) → contradictoryDevice d ≡ false → Counting d h → Logs a
+    → pieces e ≡ map encode (repliesOf (d .errors) (d .settings .mask) (d .values) [] a) → frames e ≡ map seen (repliesOf (d .errors) (d .settings .mask) (d .values) [] a)
+    → (number : ℕ) → noNumber number ≡ false → readCounter (page e) number ≡ toldFor (d .settings .mask) h number
+unfolding repliesOf pick
+shown-page d e h a g i w p q number n =
+    let mask = d .settings .mask in
+    let l = w .log in
+    let x : pieces e ≡ map encode (logReplies false (l .task) (page11Of mask (d .values))) =
+    p ∙ ap (λ (y : Act). map encode (repliesOf (d .errors) mask (d .values) [] y)) (w .is) in
+    let z : frames e ≡ map seen (logReplies false (l .task) (page11Of mask (d .values))) =
+    q ∙ ap (λ (y : Act). map seen (repliesOf (d .errors) mask (d .values) [] y)) (w .is) in
+    ap (λ (y : List ℕ). readCounter y number) (page-is e (l .task) (page11Of mask (d .values)) x z ∙ pick-yes (keepsBoth mask) (page11 mask (d .values)) [] (both-kept d g))
+    ∙ page-tells mask (d .values) h i number n
+
+-- a taken host frame came to a state that does not contradict itself
+taken-good : (d : Device) (f : List ℕ) (n room : ℕ) → hostStep d f n room .refusal ≡ 0 → contradictoryDevice d ≡ false
+unfolding hostAct
+taken-good d f n room z =
+    let v = factsOf d (openTag (d .flow .phase)) (mediumWrong (d .settings .capacity) n) room in
+    firsts.first-exactly (lentLadder (contradictoryDevice d) (mediumWrong (d .settings .capacity) n) (ltb room 8196)) tt .none .0 (lent-none v (readFrame f) z) 0 (lit< tt)
+
+-- a host frame
+shows-host : (mask : ℕ) (d : Device) (m b f : List ℕ) (h : List Event) → Masked mask d → Counting d h
+    → pieces (eventOf d (lent m b (hostFrame f))) ≡ map encode (hostStep d f (length m) (length b) .frames)
+    → frames (eventOf d (lent m b (hostFrame f))) ≡ map seen (hostStep d f (length m) (length b) .frames) → Shows mask (eventOf d (lent m b (hostFrame f))) h
+unfolding hostAct
+shows-host mask d m b f h k i p q s number n =
+    let e : Event = eventOf d (lent m b (hostFrame f)) in
+    let a : Act = hostAct d f (length m) (length b) in
+    let v = factsOf d (openTag (d .flow .phase)) (mediumWrong (d .settings .capacity) (length m)) (length b) in
+    let t = eqb-true (numberOf a) 0 (and-left (taken e) (paged e && callReads11 (hostFrame f)) s) in
+    let u = and-right (taken e) (paged e && callReads11 (hostFrame f)) s in
+    let c = taken-good d f (length m) (length b) t in
+    let w = host-heard (d .errors) (d .settings .mask) (d .values) v (readFrame f) .shown
+    (sym (ap (some isPio) q) ∙ and-left (paged e) (callReads11 (hostFrame f)) u) (and-right (paged e) (callReads11 (hostFrame f)) u) in
+    shown-page d e h a c i w p q number n ∙ ap (λ (x : ℕ). toldFor x h number) (k (settings-good d c))
+
+-- by what the call is
+shows-call : (mask : ℕ) (d : Device) (m b : List ℕ) (h : List Event) (c : Call) → Masked mask d → Counting d h → RepliesFor d m b c → Shows mask (eventOf d (lent m b c)) h
+shows-call mask d m b h (hostFrame f) k i q = shows-host mask d m b f h k i (q .0) (q .1)
+shows-call mask d m b h (openPhase t) k i q = unasked mask (eventOf d (lent m b (openPhase t))) h refl
+shows-call mask d m b h sendData k i q = unasked mask (eventOf d (lent m b sendData)) h refl
+shows-call mask d m b h (finishTags x) k i q = unasked mask (eventOf d (lent m b (finishTags x))) h refl
+shows-call mask d m b h (mediaError t e x) k i q = unasked mask (eventOf d (lent m b (mediaError t e x))) h refl
+shows-call mask d m b h (linkEvent r) k i q = unasked mask (eventOf d (lent m b (linkEvent r))) h refl
+shows-call mask d m b h comReset k i q = unasked mask (eventOf d (lent m b comReset)) h refl
+
+-- every call: a page 11h in its replies shows what the history before it tells
+pub counters-step : (mask : ℕ) (d : Device) (a : Lent) (h : List Event) → Masked mask d → Counting d h → Replies d a → Shows mask (eventOf d a) h
+counters-step mask d a h k i q = shows-call mask d (a .medium) (a .buffer) h (a .call) k i q
