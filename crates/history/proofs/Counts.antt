@@ -1,8 +1,7 @@
 -- Over every call the counters go on telling the events since their zeroing. Assumes nothing.
-use mathlib.Core.Path.{_≡_, refl, sym, ap, _∙_, subst⁻¹}
+use mathlib.Core.Path.{_≡_, refl, sym, ap, _∙_}
 use mathlib.Core.Bool.{Bool, true, false, not, _&&_, _||_}
-use mathlib.Core.List.{List, [], _∷_, map}
-use mathlib.Core.Logic.{⊎-elim}
+use mathlib.Core.List.{List, _∷_, map}
 use Prim.Native.Nat.{ℕ, _≤_, _<_}
 use native.Mathlib.Omega.{arith}
 use lib.Dec.{eqb, ltb, lit<}
@@ -10,9 +9,8 @@ use lib.ListN.{length}
 use borrow.Author.Tests.{eqb-true, ne-eqb, not-true, ltb-false}
 use Rattle.bits.specs.Pick.{pick}
 use Rattle.bits.specs.Bit.{bitIn}
-use Rattle.bits.specs.First.{firstOf}
 use Rattle.bits.proofs.Firsts as firsts
-use Rattle.bits.proofs.Picks.{by-test, tested, or-left, or-right}
+use Rattle.bits.proofs.Picks.{by-test, or-left, or-right}
 use Rattle.frames.specs.Write.{encode}
 use Rattle.frames.specs.Trip.{seen}
 use Rattle.frames.specs.Read.{readFrame}
@@ -20,23 +18,21 @@ use Rattle.frames.specs.declared.shapes.Frame.{Frame}
 use Rattle.pages.specs.Rows.{kept}
 use Rattle.ladders.specs.Ladders.{linkLadder}
 use Rattle.states.specs.Clauses.{rowRefused}
-use Rattle.rules.specs.Facts.{moveOf}
-use Rattle.rules.specs.Events.{decided, openTests, openAct, sendTests, sendAct, finishTests, finishAct, failing, mediaTests, mediaAct}
+use Rattle.rules.specs.Events.{decided, openAct, sendAct, finishAct, mediaAct}
 use Rattle.rules.specs.Taking.{numberOf}
-use Rattle.rules.specs.declared.acts.Fault.{Fault}
 use Rattle.rules.specs.declared.acts.Act.{Act}
 use Rattle.rules.specs.declared.acts.Act.the-variants.{Refuse, Nothing, Answer, Halt, Accept, Log10, Log11, Reset, Release, Zero, Keep, Open, Send, Finish, Media}
 use Rattle.device.specs.Device.{contradictoryDevice}
 use Rattle.device.specs.Events.{linkNumber, linkStep}
 use Rattle.device.specs.After.{afterOf}
-use Rattle.device.specs.Reset.{renewed, comresetNumber, comresetStep}
-use Rattle.device.specs.Calls.{factsOf, openTag, mediumWrong, hostAct, hostStep, openOf, openStep, sendOf, sendStep, finishOf, finishStep, mediaOf, mediaStep}
+use Rattle.device.specs.Reset.{comresetNumber, comresetStep}
+use Rattle.device.specs.Calls.{factsOf, openTag, mediumWrong, hostAct, hostStep, openOf, sendOf, finishOf, mediaOf}
 use Rattle.device.specs.declared.state.Device.{Device}
 use Rattle.device.proofs.Never.{and-never}
 use Rattle.history.specs.Calls.{Call, hostFrame, openPhase, sendData, finishTags, mediaError, linkEvent, comReset, Event}
 use Rattle.history.specs.Replied.{pieces, frames, some, isPio}
-use Rattle.history.specs.Counted.{rowRaised, frameZeroes}
-use Rattle.history.specs.Run.{Lent, Gave, result, done, event}
+use Rattle.history.specs.Counted.{frameZeroes}
+use Rattle.history.specs.Run.{Lent, result, done, event}
 use Rattle.history.proofs.Tally.{Effect, stay, raise, wipe, counted, wipes, raises, Within, Reads, Counting, tells}
 use Rattle.history.proofs.Impact.{effectOf, raised-values, act-values, renewed-values}
 use Rattle.history.proofs.Hearing.{host-heard}

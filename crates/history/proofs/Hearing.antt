@@ -1,14 +1,14 @@
 -- What the history reads of a host frame is what its act does to the counters; and only page 11h is read as such. Assumes nothing.
 use mathlib.Core.Path.{_≡_, refl, sym, ap, _∙_}
 use mathlib.Core.Bool.{Bool, true, false, not, _&&_, _||_, false≢true, true≢false}
-use mathlib.Core.List.{List, [], _∷_, map}
-use Prim.Native.Nat.{ℕ, _+_, _/_, _%_, _^_}
+use mathlib.Core.List.{List, [], map}
+use Prim.Native.Nat.{ℕ, _%_}
 use native.Mathlib.Omega.{arith}
-use lib.Dec.{eqb, ltb, leb}
+use lib.Dec.{eqb}
 use borrow.Author.Tests.{eqb-true, not-false, not-true}
 use Rattle.bits.specs.Pick.{pick}
 use Rattle.bits.specs.Bit.{bitIn}
-use Rattle.bits.proofs.Picks.{by-test, and-left, and-right}
+use Rattle.bits.proofs.Picks.{by-test, and-left}
 use Rattle.wire.specs.declared.pieces.Task.{Task}
 use Rattle.frames.specs.Write.{Sent}
 use Rattle.frames.specs.Trip.{seen}
@@ -19,18 +19,18 @@ use Rattle.states.specs.State.{echoOf}
 use Rattle.states.specs.declared.shapes.Echo.{Echo}
 use Rattle.states.specs.declared.shapes.ErrorRecord.{ErrorRecord}
 use Rattle.rules.specs.Facts.{moveOf}
-use Rattle.rules.specs.Decide.{bad, fault, tagAsked, entryFor, queuedAct, logPage, pageAsked, otherAct, controlAct, registerAct, dataAct, bistAct, kindAct, lentOf, decideOf}
+use Rattle.rules.specs.Decide.{bad, fault, queuedAct, logPage, pageAsked, otherAct, controlAct, registerAct, dataAct, bistAct, kindAct, lentOf, decideOf}
 use Rattle.rules.specs.Taking.{numberOf}
 use Rattle.rules.specs.declared.facts.Facts.{Facts}
 use Rattle.rules.specs.declared.acts.Log.{Log}
 use Rattle.rules.specs.declared.acts.Act.{Act}
-use Rattle.rules.specs.declared.acts.Act.the-variants.{Refuse, Nothing, Answer, Halt, Accept, Log10, Log11, Reset, Release, Zero, Keep}
+use Rattle.rules.specs.declared.acts.Act.the-variants.{Refuse, Log10, Log11, Zero, Keep}
 use Rattle.rules.proofs.Leaves.{control-all, queued-all}
 use Rattle.replies.specs.Replies.{repliesOf}
 use Rattle.device.proofs.Never.{and-never}
 use Rattle.history.specs.Replied.{some, isPio}
 use Rattle.history.specs.Counted.{readsLog11, frameReads11, frameZeroes}
-use Rattle.history.proofs.Tally.{Effect, stay, wipe, wipes, raises}
+use Rattle.history.proofs.Tally.{stay, wipe, wipes, raises}
 use Rattle.history.proofs.Impact.{effectOf}
 
 -- some frame of these is a 5Fh

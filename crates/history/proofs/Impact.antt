@@ -1,14 +1,13 @@
 -- What each act, a link event and COMRESET do to the counters and to the settings. Assumes nothing.
-use mathlib.Core.Path.{_≡_, refl, ap, _∙_}
+use mathlib.Core.Path.{_≡_, refl}
 use mathlib.Core.Bool.{Bool, true, false}
-use mathlib.Core.List.{List, []}
+use mathlib.Core.List.{List}
 use Prim.Native.Nat.{ℕ, _<_}
-use native.Mathlib.Omega.{arith}
 use lib.Dec.{leb, eqb, lit<}
 use borrow.Author.Tests.{lt-leb}
 use Rattle.bits.specs.Pick.{pick}
 use Rattle.bits.specs.Bit.{bitIn}
-use Rattle.bits.proofs.Picks.{by-test, pick-no}
+use Rattle.bits.proofs.Picks.{by-test}
 use Rattle.rules.specs.declared.acts.Fault.{Fault}
 use Rattle.rules.specs.declared.acts.Act.{Act}
 use Rattle.rules.specs.declared.acts.Act.the-variants.{Refuse, Nothing, Answer, Halt, Accept, Log10, Log11, Reset, Release, Zero, Keep, Open, Send, Finish, Media}
@@ -16,9 +15,9 @@ use Rattle.device.specs.Events.{withValue, linkNumber, linkStep}
 use Rattle.device.specs.After.{haltWith, acceptedBy, unhalted, zeroedIf, resetHeld, released, movedBy, openedFor, finishedBy, failedBy, afterOf}
 use Rattle.device.specs.Reset.{renewed, comresetNumber, comresetStep}
 use Rattle.device.specs.declared.state.Device.{Device}
-use Rattle.history.specs.Run.{Lent, result}
+use Rattle.history.specs.Run.{result}
 use Rattle.history.specs.Calls.{Call, hostFrame, openPhase, sendData, finishTags, mediaError, linkEvent, comReset}
-use Rattle.history.proofs.Tally.{Effect, stay, raise, wipe, counted, Within}
+use Rattle.history.proofs.Tally.{Effect, stay, raise, wipe, counted}
 
 -- the effect of an act: a media error whose byte has bit 7 raises row 0; BIST, and page 11h read with features bit 0, zero all
 abbrev pub effectOf : Act → Effect

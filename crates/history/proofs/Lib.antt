@@ -5,3 +5,5 @@ pub mod Hearing
 pub mod Counts
 pub mod Pages
 pub mod Shown
+pub mod Widths
+pub mod Widening

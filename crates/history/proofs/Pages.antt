@@ -1,35 +1,30 @@
 -- Every page 11h that is sent shows the events since the last zeroing before it. Assumes nothing.
 use mathlib.Core.Path.{_≡_, refl, sym, ap, _∙_, subst}
-use mathlib.Core.Bool.{Bool, true, false, not, _&&_, _||_, false≢true}
-use mathlib.Core.List.{List, [], _∷_, _++_, map, append-nil}
-use mathlib.Core.Logic.{⊎-elim}
-use Prim.Native.Nat.{ℕ, _^_, _≤_, _<_}
+use mathlib.Core.Bool.{Bool, true, false, not, _&&_, false≢true}
+use mathlib.Core.List.{List, [], _∷_, map, append-nil}
+use Prim.Native.Nat.{ℕ, _<_}
 use native.Mathlib.Omega.{arith}
-use lib.Dec.{eqb, ltb, lit<}
+use lib.Dec.{ltb, lit<}
 use lib.ListN.{length, getD}
 use borrow.Author.Tests.{eqb-true, ltb-false}
 use Rattle.bits.specs.Pick.{pick}
 use Rattle.bits.proofs.Firsts as firsts
-use Rattle.bits.proofs.Picks.{tested, pick-yes, pick-no, and-left, and-right, or-left, or-right}
+use Rattle.bits.proofs.Picks.{pick-yes, pick-no, and-left, and-right, or-left, or-right}
 use Rattle.wire.specs.declared.pieces.Task.{Task}
-use Rattle.frames.specs.Write.{Sent, payload, encode}
+use Rattle.frames.specs.Write.{payload, encode}
 use Rattle.frames.specs.Trip.{seen}
 use Rattle.frames.specs.Read.{readFrame}
-use Rattle.frames.specs.declared.shapes.Frame.{Frame}
-use Rattle.frames.specs.declared.shapes.Frame.the-variants.{Data}
-use Rattle.pages.specs.Rows.{idOf, kept, keepsBoth, rowOf}
+use Rattle.pages.specs.Rows.{kept, keepsBoth, rowOf}
 use Rattle.pages.specs.Page11.{readCounter, noNumber}
 use Rattle.pages.specs.Made11.{page11}
 use Rattle.pages.specs.declared.rows.Place.{Place}
 use Rattle.pages.specs.declared.rows.Place.the-variants.{Row, Nowhere}
-use Rattle.pages.specs.declared.page11.Counter.{Counter}
 use Rattle.pages.specs.declared.page11.Counter.the-variants.{Value, Absent}
 use Rattle.pages.proofs.RowLaws.{row-found, row-only, row-missing}
 use Rattle.pages.proofs.Trip11.{unkept-absent, kept-reads}
 use Rattle.ladders.specs.Ladders.{lentLadder}
 use Rattle.rules.specs.Taking.{numberOf}
 use Rattle.rules.specs.declared.acts.Act.{Act}
-use Rattle.rules.specs.declared.acts.Act.the-variants.{Log11}
 use Rattle.rules.proofs.Numbers.{lent-none}
 use Rattle.replies.specs.Replies.{pioReply, page11Of, logReplies, repliesOf}
 use Rattle.device.specs.Device.{contradictoryDevice}

@@ -11,7 +11,6 @@ use Rattle.states.specs.Clauses.{settingsOut}
 use Rattle.states.specs.declared.shapes.Settings.{Settings}
 use Rattle.device.specs.Device.{freshDevice, powerNumber, powerOn}
 use Rattle.device.specs.declared.state.Device.{Device}
-use Rattle.history.specs.Calls.{Event}
 use Rattle.history.specs.Demand3.{Counters}
 use Rattle.history.specs.Run.{Lent, Done, done, event, result, Typed, AllTyped, run, runFrom, history}
 use Rattle.history.proofs.Tally.{Counting, counting-start}

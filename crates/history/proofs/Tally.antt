@@ -5,15 +5,15 @@ use mathlib.Core.List.{List, [], _∷_}
 use mathlib.Core.Logic.{⊎-elim}
 use Prim.Native.Nat.{ℕ, zero, suc, _+_, _^_, _≤_, _<_, min}
 use native.Mathlib.Omega.{arith}
-use lib.Dec.{eqb, ltb, lit<}
+use lib.Dec.{eqb, ltb}
 use lib.ListN.{length, getD, set, replicate, length-set, length-replicate, List·getD-eq-default}
 use lib.Seq.{getD-set-same, getD-set-other}
 use borrow.Author.Tests.{eqb-true, eqb-false, ltb-true, ltb-false}
 use Rattle.bits.specs.Pick.{pick}
-use Rattle.bits.proofs.Picks.{tested, pick-yes, pick-no}
+use Rattle.bits.proofs.Picks.{tested, pick-yes}
 use Rattle.ladders.specs.Counts.{bumped}
 use Rattle.states.specs.declared.shapes.Settings.{Settings}
-use Rattle.device.specs.Device.{freshDevice, powerOn, zeroDevice, powerNumber}
+use Rattle.device.specs.Device.{freshDevice, powerOn, powerNumber}
 use Rattle.device.specs.declared.state.Device.{Device}
 use Rattle.history.specs.Calls.{Event}
 use Rattle.history.specs.Counted.{zeroes, raisesRow, countedIn, told}
