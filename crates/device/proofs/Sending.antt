@@ -40,14 +40,15 @@ use Rattle.device.proofs.Tags.{busy-below}
 use Rattle.device.proofs.Rooms.{move-within}
 use Rattle.device.proofs.Fitting.{host-fits}
 
--- the reply bytes of a step are those of its frames, one behind the other, and cut by kind and length they are its frames again
+-- every reply of a step can be written; the reply bytes are those of its frames, one behind the other, and cut by kind and length they are its frames again
 pub record Whole (s : Step) : Type 0 where
+  pub fitting : Fitting (s .frames)
   pub all : sentAll (s .frames) ≡ joined (map encode (s .frames))
   pub cut-replies : (b : List ℕ) (r : Outcome) (b′ : List ℕ) → Answered s b r b′ → cut (take (r .len) b′) ≡ map encode (s .frames)
 
-whole-frames : (s : Step) → Fitting (s .frames) → Neat (s .frames) → Whole s
+pub whole-frames : (s : Step) → Fitting (s .frames) → Neat (s .frames) → Whole s
 whole-frames s fit neat =
-    record { all = all-sent (s .frames) fit; cut-replies = λ b r b′ w. cut-replies (s .frames) b (r .len) b′ fit neat (record { len = w .len; bytes = w .reply }) }
+    record { fitting = fit; all = all-sent (s .frames) fit; cut-replies = λ b r b′ w. cut-replies (s .frames) b (r .len) b′ fit neat (record { len = w .len; bytes = w .reply }) }
 
 whole : (d : Device) (part : List ℕ) (a : Act) → Fit (d .errors) (d .settings .mask) part a → Whole (stepBy d part a)
 whole d part a h =

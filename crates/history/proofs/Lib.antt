@@ -1,4 +1,16 @@
 pub mod Class
+pub mod Views
+pub mod Frames
+pub mod Changes
+pub mod Hosts
+pub mod Events
+pub mod Steps
+pub mod Alls
+pub mod Spans
+pub mod Flowing
+pub mod Moving
+pub mod Table
+pub mod Strays
 pub mod Tally
 pub mod Impact
 pub mod Hearing
@@ -7,3 +19,4 @@ pub mod Pages
 pub mod Shown
 pub mod Widths
 pub mod Widening
+pub mod Counters

@@ -43,7 +43,7 @@ module _ (Held : Device → Type 0) (keeps : (d : Device) (a : Lent) → Typed (
       counters-from mask (result d a .outcome .state) (done a (result d a) ∷ h) as′ (keeps d a (t .0) held) (masked-step mask d a k) (counting-step d a (map event h) q i)
       (counters-step mask d a (map event h) k i q, c) (t .1)
 
-  -- the state at the end too
+  -- and the state at the end tells the whole history
   pub counting-from : (d : Device) (h : List Done) (as′ : List Lent) → Held d → Counting d (map event h) → AllTyped as′ → Counting (run d h as′ .state) (map event (run d h as′ .calls))
   unfolding run AllTyped
   counting-from d h [] held i t = i
@@ -55,5 +55,6 @@ module _ (Held : Device → Type 0) (keeps : (d : Device) (a : Lent) → Typed (
   unfolding Counters
   counters-run s as′ held t = counters-from (s .mask) (powerOn s .state) [] as′ held (masked-start s) (counting-start s) tt t
 
+  -- and so at its end
   pub counting-run : (s : Settings) (as′ : List Lent) → Held (powerOn s .state) → AllTyped as′ → Counting (runFrom s as′ .state) (history s as′)
   counting-run s as′ held t = counting-from (powerOn s .state) [] as′ held (counting-start s) t

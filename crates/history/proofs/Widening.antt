@@ -55,6 +55,7 @@ Puts (Send m) = Small (m .entry .echo)
 Puts (Finish set) = Unit
 Puts (Media f) = (f .error < 256) × Small (f .echo)
 
+-- and so record and table stay bytes
 act-wide : (d : Device) (a : Act) → Wide d → Puts a → Wide (afterOf d a)
 unfolding Puts afterOf haltWith acceptedBy unhalted zeroedIf resetHeld released movedBy openedFor finishedBy failedBy
 act-wide d (Refuse n) w p = w

@@ -1,0 +1,140 @@
+-- What each change of the state does to settings, commands, phase and halt. Assumes nothing.
+use mathlib.Core.Path.{_≡_, refl, sym, ap, _∙_}
+use mathlib.Core.Bool.{Bool, true, false, not, _&&_, _||_, true≢false}
+use mathlib.Core.List.{List}
+use Prim.Native.Nat.{ℕ, _+_, _-_, _*_, _^_, _≤_, _<_, min}
+use native.Mathlib.Omega.{arith}
+use lib.Dec.{eqb, leb}
+use borrow.Author.Tests.{eqb-true, eqb-false, eq-eqb, ne-eqb, not-false}
+use Rattle.bits.specs.Pick.{pick}
+use Rattle.bits.specs.Bit.{bitIn}
+use Rattle.bits.proofs.Picks.{or-left, or-right}
+use Rattle.states.specs.Table.{entryOf, placed, cleared}
+use Rattle.states.specs.Clauses.{flowBad, busyBad, aboveDepth, pastCapacity, countZero, otherTag, otherRange, movedAbove, movedBetween, phaseDone, stoppedBusy, haltedHeld, heldRecord, phaseIdle}
+use Rattle.states.specs.declared.shapes.Entry.{Entry}
+use Rattle.states.specs.declared.shapes.Flow.{Flow}
+use Rattle.states.proofs.TableLaws.{getD-placed, getD-cleared}
+use Rattle.frames.specs.declared.shapes.HostReg.{HostReg}
+use Rattle.rules.specs.Facts.{dueOf, moveOf, advancedOf}
+use Rattle.rules.specs.Decide.{tagAsked, entryFor}
+use Rattle.device.specs.Device.{contradictoryDevice}
+use Rattle.device.specs.After.{acceptedBy, movedBy, finishedBy, openedFor}
+use Rattle.device.specs.declared.state.Device.{Device}
+use Rattle.device.proofs.Parts.{flow-good}
+use Rattle.device.proofs.Flows.{phase-busy}
+use Rattle.device.proofs.Busy.{phaseOf, busy-good, phase-more}
+use Rattle.device.proofs.Tags.{busy-below}
+use Rattle.device.proofs.Entering.{tag-small}
+use Rattle.history.specs.Asked.{Asked, registerAsks}
+use Rattle.history.specs.Seen.{Seen}
+use Rattle.history.proofs.Class.{Same, Took, Carried}
+use Rattle.history.proofs.Views.{no-bit}
+
+-- the same state
+pub same : (d : Device) → Same d d
+same d = record { settings = refl; outstanding = refl; phase = refl; halted = refl; entries = refl }
+
+-- a table with one entry anew
+pub placed-same : (es : List Entry) (t : ℕ) (e : Entry) → t < 32 → entryOf (placed es t e) t ≡ e
+unfolding pick
+placed-same es t e l = getD-placed es t e t l ∙ rw (eq-eqb t t refl)
+
+pub placed-other : (es : List Entry) (t : ℕ) (e : Entry) (i : ℕ) → i < 32 → (i ≡ t → ⊥) → entryOf (placed es t e) i ≡ entryOf es i
+unfolding pick
+placed-other es t e i l n = getD-placed es t e i l ∙ rw (ne-eqb i t n)
+
+-- a table without the entries of a set: the others stay
+pub cleared-other : (es : List Entry) (set i : ℕ) → i < 32 → bitIn 32 set i ≡ false → entryOf (cleared es set) i ≡ entryOf es i
+unfolding pick
+cleared-other es set i l n = getD-cleared es set i l ∙ rw n
+
+pub no-bit-true : (t : ℕ) → bitIn 32 0 t ≡ true → ⊥
+no-bit-true t e = true≢false (sym e ∙ no-bit t)
+
+module _ (d : Device) (g : contradictoryDevice d ≡ false) where
+  -- a halted state has nothing outstanding
+  pub halted-empty : d .flow .halted ≡ true → d .flow .outstanding ≡ 0
+  unfolding flowBad
+  halted-empty h =
+      let f = d .flow in
+      let busy = or-left (stoppedBusy f) (haltedHeld f) (or-left (stoppedBusy f || haltedHeld f) (heldRecord f (d .errors .set) || phaseIdle f) (flow-good d g)) in
+      eqb-true (f .outstanding) 0 (not-false (eqb (f .outstanding) 0) (rw h at busy))
+
+  -- a state with something outstanding is not halted
+  pub busy-calm : (t : ℕ) → bitIn 32 (d .flow .outstanding) t ≡ true → d .flow .halted ≡ false
+  busy-calm t b = go (d .flow .halted) refl
+    where
+      go : (x : Bool) → d .flow .halted ≡ x → d .flow .halted ≡ false
+      go true e = absurd (let z : bitIn 32 0 t ≡ true = ap (λ (k : ℕ). bitIn 32 k t) (sym (halted-empty e)) ∙ b in no-bit-true t z)
+      go false e = e
+
+  -- rule 4: the tag is outstanding, and its entry is what the command asks for
+  pub took-by : (h : HostReg) (e : Seen) → e .asks ≡ registerAsks h → d .flow .halted ≡ false → d .flow .phase ≡ 0 → bitIn 32 (d .flow .outstanding) (tagAsked h) ≡ false
+      → Took d e (acceptedBy d (record { tag = tagAsked h; entry = entryFor h }))
+  unfolding acceptedBy
+  took-by h e a calm shut free =
+      let l = tag-small (h .task .count) in
+      let t = tagAsked h in
+      let p = placed-same (d .entries) t (entryFor h) l in
+      rw a (record {
+        calm = calm;
+        shut = shut;
+        small = l;
+        free = free;
+        settings = refl;
+        outstanding = refl;
+        phase = refl;
+        halted = refl;
+        write = ap (λ (x : Entry). x .write) p;
+        first = ap (λ (x : Entry). x .first) p;
+        count = ap (λ (x : Entry). x .count) p;
+        moved = ap (λ (x : Entry). x .moved) p;
+        others = λ i k n. placed-other (d .entries) t (entryFor h) i k n;
+      })
+
+  -- what is due moves, in the open phase
+  pub carried-by : (n : eqb (d .flow .phase) 0 ≡ false)
+      → let e : Entry = entryOf (d .entries) (d .flow .phase - 1) in
+      Carried (d .flow .phase - 1) (dueOf (e .count) (e .moved)) d (movedBy d (moveOf (d .flow) e))
+  unfolding movedBy moveOf advancedOf
+  carried-by n =
+      let t : ℕ = d .flow .phase - 1 in
+      let e : Entry = entryOf (d .entries) t in
+      let some = eqb-false (d .flow .phase) 0 n in
+      let back : d .flow .phase ≡ t + 1 = omega (arith, some) in
+      let busy = phase-busy (d .flow) (d .errors .set) (flow-good d g) n in
+      let l = busy-below (d .flow .outstanding) t busy in
+      let more = phase-more d t g busy (eq-eqb (d .flow .phase) (t + 1) back) in
+      let p = placed-same (d .entries) t (advancedOf e) l in
+      record {
+        phased = back;
+        busy = busy;
+        some = omega (arith, more);
+        within = omega (arith, more);
+        settings = refl;
+        outstanding = refl;
+        phase = refl;
+        halted = refl;
+        write = ap (λ (x : Entry). x .write) p;
+        first = ap (λ (x : Entry). x .first) p;
+        count = ap (λ (x : Entry). x .count) p;
+        moved = ap (λ (x : Entry). x .moved) p;
+        others = λ i k m. placed-other (d .entries) t (advancedOf e) i k m;
+      }
+
+  -- a command whose phase is closed and that is not wholly moved has not moved at all
+  pub unmoved : (t : ℕ) → bitIn 32 (d .flow .outstanding) t ≡ true → d .flow .phase ≡ 0 → eqb (entryOf (d .entries) t .moved) (entryOf (d .entries) t .count) ≡ false
+      → entryOf (d .entries) t .moved ≡ 0
+  unfolding busyBad
+  unmoved t b p n =
+      let e : Entry = entryOf (d .entries) t in
+      let low = (aboveDepth (d .settings) t || pastCapacity (d .settings) e) || (countZero e || (otherTag e t || otherRange e)) in
+      let shut : phaseOf d t ≡ false = ne-eqb (d .flow .phase) (t + 1) (λ z. omega arith) in
+      let high = movedAbove e || (movedBetween e (phaseOf d t) || phaseDone e (phaseOf d t)) in
+      let between = or-left (movedBetween e (phaseOf d t)) (phaseDone e (phaseOf d t))
+      (or-right (movedAbove e) (movedBetween e (phaseOf d t) || phaseDone e (phaseOf d t)) (or-right low high (busy-good d t g b))) in
+      eqb-true (e .moved) 0 (moved-none (eqb (e .moved) 0) (rw (shut, n) at between))
+    where
+      moved-none : (x : Bool) → not x && true ≡ false → x ≡ true
+      moved-none true q = refl
+      moved-none false q = sym q

@@ -1,0 +1,58 @@
+-- No stray data: whatever is sent or brought is of the Setup under way, in its direction, and within what is left of it. Assumes nothing.
+use mathlib.Core.Path.{_≡_, refl, sym, ap, _∙_, subst⁻¹}
+use mathlib.Core.Bool.{Bool, true, false, not}
+use mathlib.Core.List.{List}
+use Prim.Native.Nat.{ℕ, _+_, _*_, _≤_, _<_}
+use native.Mathlib.Omega.{arith}
+use Rattle.bits.specs.Pick.{pick}
+use Rattle.states.specs.declared.shapes.Entry.{Entry}
+use Rattle.device.specs.declared.state.Device.{Device}
+use Rattle.history.specs.Seen.{Seen, Flow, still, flows}
+use Rattle.history.specs.Fates.{Command, commands, All}
+use Rattle.history.specs.Carried.{flow}
+use Rattle.history.proofs.Class as K
+use Rattle.history.proofs.Class.{Carried, Class}
+use Rattle.history.proofs.Alls.{all-imp}
+use Rattle.history.proofs.Spans.{Empty}
+use Rattle.history.proofs.Flowing.{flowFor, flowOf, flow-open, empty-of}
+use Rattle.history.proofs.Moving.{entryAt}
+use Rattle.history.proofs.Table.{Following, Tracked}
+
+-- n bytes in a direction are of what is under way, and within what is left of it
+abbrev pub Within : Bool → ℕ → Flow → Type 0
+Within d n still = ⊥
+Within d n (flows x t a z) = (x ≡ d) × (a + n ≤ z)
+
+-- the data of an event are of what is under way: data sent of a Setup with D 1, data brought of one with D 0
+pub record Due (e : Seen) (x : Flow) : Type 0 where
+  pub sends : 0 < e .sends → Within true (e .sends) x
+  pub brings : 0 < e .asks .brings → Within false (e .asks .brings) x
+
+-- an event that carries nothing
+due-none : (e : Seen) (x : Flow) → Empty e → Due e x
+due-none e x y = record { sends = λ l. absurd (omega arith); brings = λ l. absurd (omega arith) }
+
+-- data of a phase, within what is left of its command
+due-entry : (w : Bool) (e : Seen) (x : Entry) (t n : ℕ) → w ≡ x .write → e .sends ≡ pick w 0 (512 * n) → e .asks .brings ≡ pick w (512 * n) 0
+    → x .moved + n ≤ x .count → Due e (flowFor x t)
+unfolding pick
+due-entry true e x t n w s b l = record { sends = λ y. absurd (omega arith); brings = λ _. (sym (ap not w), omega arith) }
+due-entry false e x t n w s b l = record { sends = λ _. (sym (ap not w), omega arith); brings = λ y. absurd (omega arith) }
+
+-- of each kind of effect, after a history that the state follows
+pub due : (d d′ : Device) (e : Seen) (h : List Seen) → flow h ≡ flowOf d → Class d e d′ → Due e (flow h)
+due d d′ e h f (K.plain s u k) = due-none e (flow h) (empty-of s)
+due d d′ e h f (K.again q s u ha o k) = due-none e (flow h) (empty-of s)
+due d d′ e h f (K.freely s u ha o k) = due-none e (flow h) (empty-of s)
+due d d′ e h f (K.halts q ba fa s ha w k) = due-none e (flow h) (empty-of s)
+due d d′ e h f (K.resets s k) = due-none e (flow h) (empty-of s)
+due d d′ e h f (K.sweeps cl a s u ha o p k) = due-none e (flow h) (empty-of s)
+due d d′ e h f (K.takes s u k) = due-none e (flow h) (empty-of s)
+due d d′ e h f (K.opens tag s k) = due-none e (flow h) (empty-of s)
+due d d′ e h f (K.carries tag n s u k) =
+    subst⁻¹ (Due e) (f ∙ flow-open d tag (k .phased)) (due-entry (entryAt d tag .write) e (entryAt d tag) tag n refl (s .sends) (s .brings) (k .within))
+due d d′ e h f (K.ends set s u k) = due-none e (flow h) (empty-of s)
+
+-- what is under way since a command was accepted is what is under way after the whole history: no Setup from before reaches into it
+pub flow-since : (d : Device) (h : List Seen) → Tracked d h → All (λ c. flow (c .after) ≡ flow h) (commands h)
+flow-since d h i = all-imp (Following d) _ (λ c f. f .under ∙ sym (i .under)) (commands h) (i .commands)
