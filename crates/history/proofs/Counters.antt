@@ -1,9 +1,10 @@
 -- The truth of the counters, for every run of typed calls from any power-on. Assumes nothing.
-use mathlib.Core.List.{List}
+use mathlib.Core.List.{List, []}
 use Prim.Native.Nat.{ℕ}
 use lib.ListN.{length}
 use Rattle.rules.specs.Taking.{keptIn}
 use Rattle.states.specs.declared.shapes.Settings.{Settings}
+use Rattle.device.specs.Device.{powerOn}
 use Rattle.device.specs.Calls.{hostAct, hostStep}
 use Rattle.device.specs.declared.state.Device.{Device}
 use Rattle.history.specs.Calls.{Call, hostFrame, openPhase, sendData, finishTags, mediaError, linkEvent, comReset}
@@ -14,7 +15,8 @@ use Rattle.history.proofs.Tally.{Counting}
 use Rattle.history.proofs.Widths.{Wide}
 use Rattle.history.proofs.Widening.{wide-step, wide-start}
 use Rattle.history.proofs.Counts.{lent, eventOf, RepliesFor, Replies}
-use Rattle.history.proofs.Shown.{counters-run, counting-run}
+use Rattle.history.proofs.Shown.{masked-start, masked-run, counters-run, counting-run}
+use Rattle.history.proofs.Pages.{Masked}
 
 -- the replies of a call on a state of bytes, cut and read, are what its step sends
 replies-call : (d : Device) (m b : List ℕ) (c : Call) → Typed c → Wide d → RepliesFor d m b c
@@ -39,3 +41,7 @@ counters-true s as′ t = counters-run Wide wide-step replies-read s as′ (wide
 -- and so do the counters that the state holds
 pub counting-true : (s : Settings) (as′ : List Lent) → AllTyped as′ → Counting (runFrom s as′ .state) (history s as′)
 counting-true s as′ t = counting-run Wide wide-step replies-read s as′ (wide-start s) t
+
+-- the settings at the end are those of power-on, or out of bounds
+pub masked-true : (s : Settings) (as′ : List Lent) → Masked (s .mask) (runFrom s as′ .state)
+masked-true s as′ = masked-run (s .mask) (powerOn s .state) [] as′ (masked-start s)

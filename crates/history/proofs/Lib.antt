@@ -20,3 +20,4 @@ pub mod Shown
 pub mod Widths
 pub mod Widening
 pub mod Counters
+pub mod Asked11

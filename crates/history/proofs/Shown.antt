@@ -31,6 +31,12 @@ masked-step mask d a k =
     let e = settings-stay d (a .medium) (a .buffer) (a .call) in
     λ o. ap (λ (s : Settings). s .mask) e ∙ k (rw e at o)
 
+-- nor does a run
+pub masked-run : (mask : ℕ) (d : Device) (h : List Done) (as′ : List Lent) → Masked mask d → Masked mask (run d h as′ .state)
+unfolding run
+masked-run mask d h [] k = k
+masked-run mask d h (a ∷ as′) k = masked-run mask (result d a .outcome .state) (done a (result d a) ∷ h) as′ (masked-step mask d a k)
+
 -- Held is any property of states that power-on gives, that every call keeps, and under which the replies of a call can be read
 module _ (Held : Device → Type 0) (keeps : (d : Device) (a : Lent) → Typed (a .call) → Held d → Held (result d a .outcome .state)) (replies : (d : Device) (a : Lent) → Typed (a .call) → Held d → Replies d a) where
   -- from any state that tells its history
