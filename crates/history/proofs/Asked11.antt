@@ -1,10 +1,8 @@
 -- A counter asked for by its number gives what the history tells; and a run in which a page 11h is sent. Assumes nothing.
-use mathlib.Core.Path.{_≡_, refl, sym, ap, _∙_}
-use mathlib.Core.Bool.{Bool, true, false}
+use mathlib.Core.Path.{_≡_, refl, ap, _∙_}
 use mathlib.Core.List.{List}
 use Prim.Native.Nat.{ℕ}
 use lib.Dec.{eqb, lit<}
-use lib.ListN.{getD}
 use borrow.Author.Tests.{eq-eqb}
 use Rattle.bits.specs.Pick.{pick}
 use Rattle.bits.specs.First.{firstOf}
@@ -14,7 +12,6 @@ use Rattle.pages.specs.Rows.{kept, rowOf}
 use Rattle.pages.specs.Made11.{onRow, shownFor}
 use Rattle.pages.specs.declared.rows.Place.{Place}
 use Rattle.pages.specs.declared.rows.Place.the-variants.{Row, Nowhere}
-use Rattle.pages.specs.declared.page11.Counter.{Counter}
 use Rattle.pages.specs.declared.page11.Counter.the-variants.{Value, Absent, Refused}
 use Rattle.pages.proofs.RowLaws.{row-only}
 use Rattle.states.specs.declared.shapes.Settings.{Settings}

@@ -21,3 +21,4 @@ pub mod Widths
 pub mod Widening
 pub mod Counters
 pub mod Asked11
+pub mod Sample
