@@ -132,7 +132,7 @@ module _ (d : Device) (g : contradictoryDevice d ≡ false) where
       let shut : phaseOf d t ≡ false = ne-eqb (d .flow .phase) (t + 1) (λ z. omega arith) in
       let high = movedAbove e || (movedBetween e (phaseOf d t) || phaseDone e (phaseOf d t)) in
       let between = or-left (movedBetween e (phaseOf d t)) (phaseDone e (phaseOf d t))
-          (or-right (movedAbove e) (movedBetween e (phaseOf d t) || phaseDone e (phaseOf d t)) (or-right low high (busy-good d t g b))) in
+      (or-right (movedAbove e) (movedBetween e (phaseOf d t) || phaseDone e (phaseOf d t)) (or-right low high (busy-good d t g b))) in
       eqb-true (e .moved) 0 (moved-none (eqb (e .moved) 0) (rw (shut, n) at between))
     where
       moved-none : (x : Bool) → not x && true ≡ false → x ≡ true

@@ -16,3 +16,14 @@ pub mod Flowing
 pub mod Moving
 pub mod Table
 pub mod Strays
+pub mod Tally
+pub mod Impact
+pub mod Hearing
+pub mod Counts
+pub mod Pages
+pub mod Shown
+pub mod Widths
+pub mod Widening
+pub mod Counters
+pub mod Asked11
+pub mod Sample

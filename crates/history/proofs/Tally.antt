@@ -1,0 +1,137 @@
+-- What an event does to the sixteen counters, and that they then tell the events since the last zeroing. Assumes nothing.
+use mathlib.Core.Path.{_≡_, refl, sym, ap, _∙_, subst⁻¹}
+use mathlib.Core.Bool.{Bool, true, false}
+use mathlib.Core.List.{List, [], _∷_}
+use mathlib.Core.Logic.{⊎-elim}
+use Prim.Native.Nat.{ℕ, zero, suc, _+_, _^_, _≤_, _<_, min}
+use native.Mathlib.Omega.{arith}
+use lib.Dec.{eqb, ltb}
+use lib.ListN.{length, getD, set, replicate, length-set, length-replicate, List·getD-eq-default}
+use lib.Seq.{getD-set-same, getD-set-other}
+use borrow.Author.Tests.{eqb-true, eqb-false, ltb-true, ltb-false}
+use Rattle.bits.specs.Pick.{pick}
+use Rattle.bits.proofs.Picks.{tested, pick-yes}
+use Rattle.ladders.specs.Counts.{bumped}
+use Rattle.states.specs.declared.shapes.Settings.{Settings}
+use Rattle.device.specs.Device.{freshDevice, powerOn, powerNumber}
+use Rattle.device.specs.declared.state.Device.{Device}
+use Rattle.history.specs.Calls.{Event}
+use Rattle.history.specs.Counted.{zeroes, raisesRow, countedIn, told}
+
+-- what a call does to the counters: nothing; one more at a row; all zeroed
+pub data Effect : Type 0 where
+  stay : Effect
+  raise : ℕ → Effect
+  wipe : Effect
+
+-- the values after an effect
+abbrev pub counted : Effect → List ℕ → List ℕ
+counted stay l = l
+counted (raise r) l = set l r (bumped (getD l r 0) 1)
+counted wipe l = replicate 16 0
+
+-- an effect zeroes all
+abbrev pub wipes : Effect → Bool
+wipes stay = false
+wipes (raise k) = false
+wipes wipe = true
+
+-- an effect raises a row
+abbrev pub raises : ℕ → Effect → Bool
+raises r stay = false
+raises r (raise k) = eqb k r
+raises r wipe = false
+
+-- a row that is raised is one of the sixteen
+abbrev pub Within : Effect → Type 0
+Within stay = Unit
+Within (raise k) = k < 16
+Within wipe = Unit
+
+-- what the history reads of an event is this effect
+pub record Reads (e : Event) (x : Effect) : Type 0 where
+  pub zeroed : zeroes e ≡ wipes x
+  pub raised : (r : ℕ) → r < 16 → raisesRow r e ≡ raises r x
+
+-- each of sixteen counters is its events since the last zeroing, held at the top
+pub record Tells (values : List ℕ) (h : List Event) : Type 0 where
+  pub long : length values ≡ 16
+  pub value : (r : ℕ) → r < 16 → getD values r 0 ≡ told r h
+
+-- of a device
+abbrev pub Counting : Device → List Event → Type 0
+Counting d h = Tells (d .values) h
+
+-- zeros have zeros everywhere
+zeros : (n r : ℕ) → _≡_ {A = ℕ} (getD (replicate n 0) r 0) 0
+zeros zero r = refl
+zeros (suc n) zero = refl
+zeros (suc n) (suc r) = zeros n r
+
+-- one more, held at the top
+bumped-told : (n : ℕ) → bumped (min 4294967295 n) 1 ≡ min 4294967295 (1 + n)
+bumped-told n = omega arith
+
+-- a further event that raises a row
+counted-more : (e : Event) (h : List Event) (r : ℕ) → zeroes e ≡ false → raisesRow r e ≡ true → countedIn r (e ∷ h) ≡ 1 + countedIn r h
+unfolding countedIn pick
+counted-more e h r z u = rw (z, u)
+
+-- a further event that does not
+counted-same : (e : Event) (h : List Event) (r : ℕ) → zeroes e ≡ false → raisesRow r e ≡ false → countedIn r (e ∷ h) ≡ countedIn r h
+unfolding countedIn pick
+counted-same e h r z u = rw (z, u) (omega arith)
+
+-- an event that zeroes
+counted-none : (e : Event) (h : List Event) (r : ℕ) → zeroes e ≡ true → countedIn r (e ∷ h) ≡ 0
+unfolding countedIn
+counted-none e h r z = pick-yes (zeroes e) 0 (pick (raisesRow r e) 1 0 + countedIn r h) z
+
+-- values that changed as the history reads the event still tell it
+pub tells : (x : Effect) (values : List ℕ) (e : Event) (h : List Event) → Within x → Reads e x → Tells values h → Tells (counted x values) (e ∷ h)
+tells stay values e h w s i = record {
+  long = i .long;
+  value = λ r u. i .value r u ∙ ap (min 4294967295) (sym (counted-same e h r (s .zeroed) (s .raised r u)));
+}
+tells (raise k) values e h w s i = record {
+  long = length-set values k (bumped (getD values k 0) 1) ∙ i .long;
+  value = λ r u.
+      ⊎-elim
+      (λ (t : eqb k r ≡ true).
+      let q : k ≡ r = eqb-true k r t in
+      let m : countedIn r (e ∷ h) ≡ 1 + countedIn r h = counted-more e h r (s .zeroed) (s .raised r u ∙ t) in
+      ap (λ (x : ℕ). getD (set values k (bumped (getD values k 0) 1)) x 0) (sym q)
+      ∙ getD-set-same values k (bumped (getD values k 0) 1) 0 (subst⁻¹ (λ (x : ℕ). k < x) (i .long) w)
+      ∙ ap (λ (x : ℕ). bumped (getD values x 0) 1) q ∙ ap (λ (x : ℕ). bumped x 1) (i .value r u) ∙ bumped-told (countedIn r h) ∙ ap (min 4294967295) (sym m))
+      (λ (f : eqb k r ≡ false).
+      let q : k ≡ r → ⊥ = eqb-false k r f in
+      getD-set-other values k r (bumped (getD values k 0) 1) 0 (λ z. q (sym z)) ∙ i .value r u
+      ∙ ap (min 4294967295) (sym (counted-same e h r (s .zeroed) (s .raised r u ∙ f))))
+      (tested (eqb k r));
+}
+tells wipe values e h w s i = record {
+  long = length-replicate {A = ℕ} 16 0;
+  value = λ r u. zeros 16 r ∙ ap (min 4294967295) (sym (counted-none e h r (s .zeroed)));
+}
+
+-- sixteen zeros tell an empty history
+pub tells-zeros : Tells (replicate 16 0) []
+unfolding countedIn
+tells-zeros = record { long = length-replicate {A = ℕ} 16 0; value = λ r u. zeros 16 r }
+
+-- no value is wider than 32 bits
+pub tells-small : (values : List ℕ) (h : List Event) → Tells values h → (r : ℕ) → getD values r 0 < 2 ^ 32
+tells-small values h i r =
+    ⊎-elim
+    (λ (t : ltb r 16 ≡ true). let u : r < 16 = ltb-true r 16 t in let q = i .value r u in omega arith)
+    (λ (f : ltb r 16 ≡ false).
+    let u : 16 ≤ r = ltb-false r 16 f in
+    let q : getD values r 0 ≡ 0 = List·getD-eq-default values 0 (rw (i .long) u) in
+    omega arith)
+    (tested (ltb r 16))
+
+-- power-on, refused or not: all counters are zero, and nothing has happened
+pub counting-start : (s : Settings) → Counting (powerOn s .state) []
+unfolding powerOn freshDevice pick
+counting-start s =
+    ⊎-elim (λ (t : eqb (powerNumber s) 0 ≡ true). rw t tells-zeros) (λ (f : eqb (powerNumber s) 0 ≡ false). rw f tells-zeros) (tested (eqb (powerNumber s) 0))
