@@ -27,3 +27,7 @@ pub mod Widening
 pub mod Counters
 pub mod Asked11
 pub mod Sample
+pub mod Soundness
+pub mod Runs
+pub mod Told
+pub mod Contracts

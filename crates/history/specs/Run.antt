@@ -113,3 +113,20 @@ history s as′ = map event (runFrom s as′ .calls)
 unfoldable pub Follows : Device → List Done → Type 0
 Follows d [] = Unit
 Follows d (x ∷ xs) = Allowed d (x .lent) (x .gave) × Follows (x .gave .outcome .state) xs
+
+-- the same sequence with the newest first, and the state that its last call returned
+unfoldable pub newestFirst : List Done → List Done → List Done
+newestFirst h [] = h
+newestFirst h (x ∷ xs) = newestFirst (x ∷ h) xs
+
+unfoldable pub final : Device → List Done → Device
+final d [] = d
+final d (x ∷ xs) = final (x .gave .outcome .state) xs
+
+-- what was lent, call by call
+abbrev pub lents : List Done → List Lent
+lents xs = map (λ x. x .lent) xs
+
+-- its history
+abbrev pub historyOf : List Done → List Event
+historyOf xs = map event (newestFirst [] xs)

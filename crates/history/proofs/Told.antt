@@ -1,0 +1,40 @@
+-- The state at the end of every run is what its history tells. Assumes nothing.
+use mathlib.Core.Path.{_≡_, sym, subst}
+use mathlib.Core.List.{List, map}
+use Prim.Native.Nat.{ℕ, _≤_}
+use lib.Count.{ones}
+use Rattle.states.specs.declared.shapes.Settings.{Settings}
+use Rattle.history.specs.Seen.{seen}
+use Rattle.history.specs.Run.{Lent, AllTyped, runFrom, history}
+use Rattle.history.specs.Told.{ToldOutstanding, ToldWaits, ToldCounters, ToldAsked, ToldDepth, ToldConsistent}
+use Rattle.history.proofs.Core.{inv-waits, inv-number, inv-total}
+use Rattle.history.proofs.Counters.{counting-true}
+use Rattle.history.proofs.Asked11.{counter-true}
+use Rattle.history.proofs.Runs.{held, demand3-depth}
+
+module _ (s : Settings) (as′ : List Lent) (t : AllTyped as′) where
+  -- bit t of the mask is set exactly when a command with tag t is outstanding by the history, and there is at most one
+  pub told-outstanding : ToldOutstanding (runFrom s as′ .state) (history s as′)
+  told-outstanding = inv-number (held s as′ t .inv)
+
+  -- halted exactly while an error waits
+  pub told-waits : ToldWaits (runFrom s as′ .state) (history s as′)
+  told-waits = inv-waits (held s as′ t .inv)
+
+  -- every counter is its events since the last zeroing, held at the top
+  pub told-counters : ToldCounters (runFrom s as′ .state) (history s as′)
+  told-counters = counting-true s as′ t .value
+
+  -- and so is the answer of the call that gives a counter by its number
+  pub told-asked : ToldAsked (s .mask) (runFrom s as′ .state) (history s as′)
+  told-asked = counter-true s as′ t
+
+  -- the ones of the mask are the commands outstanding, at most the depth
+  pub told-depth : ToldDepth (s .depth) (runFrom s as′ .state) (history s as′)
+  told-depth =
+      let e = inv-total (held s as′ t .inv) in
+      record { counted = sym e; most = subst (λ (n : ℕ). n ≤ s .depth) e (demand3-depth s as′ t) }
+
+  -- the state does not contradict itself
+  pub told-consistent : ToldConsistent s (runFrom s as′ .state)
+  told-consistent = record { good = held s as′ t .sound .good; zeros = held s as′ t .sound .zeros }

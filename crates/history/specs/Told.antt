@@ -1,0 +1,44 @@
+-- The state against the history: what the device keeps is what its calls, refusals and reply bytes tell. Assumes nothing.
+use mathlib.Core.Path.{_≡_}
+use mathlib.Core.Bool.{Bool, false}
+use mathlib.Core.List.{List, map}
+use Prim.Native.Nat.{ℕ, _≤_, _<_}
+use lib.Count.{ones}
+use lib.ListN.{getD}
+use Rattle.bits.specs.Bit.{bitIn}
+use Rattle.bits.specs.First.{firstOf}
+use Rattle.states.specs.declared.shapes.Settings.{Settings}
+use Rattle.device.specs.Device.{contradictoryDevice, powerOn, zeroDevice}
+use Rattle.device.specs.Counter.{counterTests, counterOf}
+use Rattle.device.specs.declared.state.Device.{Device}
+use Rattle.history.specs.Calls.{Event}
+use Rattle.history.specs.Seen.{seen}
+use Rattle.history.specs.Fates.{one, total, totalWith}
+use Rattle.history.specs.Waits.{waits}
+use Rattle.history.specs.Counted.{told, toldFor}
+
+-- bit t of the mask is set exactly when a command with tag t, accepted in the history, is outstanding by the history; and there is at most one
+abbrev pub ToldOutstanding : Device → List Event → Type 0
+ToldOutstanding d h = (t : ℕ) → t < 32 → totalWith t (map seen h) ≡ one (bitIn 32 (d .flow .outstanding) t)
+
+-- the device is halted exactly while an error waits
+abbrev pub ToldWaits : Device → List Event → Type 0
+ToldWaits d h = waits (map seen h) ≡ d .flow .halted
+
+-- every counter is its events since the last zeroing, held at the top
+abbrev pub ToldCounters : Device → List Event → Type 0
+ToldCounters d h = (row : ℕ) → row < 16 → getD (d .values) row 0 ≡ told row h
+
+-- and so is the answer of the call that gives a counter by its number, where it is not refused
+abbrev pub ToldAsked : ℕ → Device → List Event → Type 0
+ToldAsked mask d h = (number : ℕ) → firstOf (counterTests d number) ≡ 0 → counterOf d number ≡ toldFor mask h number
+
+-- the ones of the mask are the commands outstanding, at most the depth
+pub record ToldDepth (depth : ℕ) (d : Device) (h : List Event) : Type 0 where
+  pub counted : ones (d .flow .outstanding) ≡ total (map seen h)
+  pub most : ones (d .flow .outstanding) ≤ depth
+
+-- after a power-on that was taken the state does not contradict itself; after a refused one it is all zeros
+pub record ToldConsistent (s : Settings) (d : Device) : Type 0 where
+  pub good : powerOn s .refusal ≡ 0 → contradictoryDevice d ≡ false
+  pub zeros : (powerOn s .refusal ≡ 0 → ⊥) → d ≡ zeroDevice
