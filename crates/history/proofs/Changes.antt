@@ -1,10 +1,10 @@
 -- What each change of the state does to settings, commands, phase and halt. Assumes nothing.
 use mathlib.Core.Path.{_≡_, refl, sym, ap, _∙_}
-use mathlib.Core.Bool.{Bool, true, false, not, _&&_, _||_, true≢false}
+use mathlib.Core.Bool.{Bool, true, false, not, _&&_, _||_}
 use mathlib.Core.List.{List}
-use Prim.Native.Nat.{ℕ, _+_, _-_, _*_, _^_, _≤_, _<_, min}
+use Prim.Native.Nat.{ℕ, _+_, _-_, _<_}
 use native.Mathlib.Omega.{arith}
-use lib.Dec.{eqb, leb}
+use lib.Dec.{eqb}
 use borrow.Author.Tests.{eqb-true, eqb-false, eq-eqb, ne-eqb, not-false}
 use Rattle.bits.specs.Pick.{pick}
 use Rattle.bits.specs.Bit.{bitIn}
@@ -12,23 +12,22 @@ use Rattle.bits.proofs.Picks.{or-left, or-right}
 use Rattle.states.specs.Table.{entryOf, placed, cleared}
 use Rattle.states.specs.Clauses.{flowBad, busyBad, aboveDepth, pastCapacity, countZero, otherTag, otherRange, movedAbove, movedBetween, phaseDone, stoppedBusy, haltedHeld, heldRecord, phaseIdle}
 use Rattle.states.specs.declared.shapes.Entry.{Entry}
-use Rattle.states.specs.declared.shapes.Flow.{Flow}
 use Rattle.states.proofs.TableLaws.{getD-placed, getD-cleared}
 use Rattle.frames.specs.declared.shapes.HostReg.{HostReg}
 use Rattle.rules.specs.Facts.{dueOf, moveOf, advancedOf}
 use Rattle.rules.specs.Decide.{tagAsked, entryFor}
 use Rattle.device.specs.Device.{contradictoryDevice}
-use Rattle.device.specs.After.{acceptedBy, movedBy, finishedBy, openedFor}
+use Rattle.device.specs.After.{acceptedBy, movedBy}
 use Rattle.device.specs.declared.state.Device.{Device}
 use Rattle.device.proofs.Parts.{flow-good}
 use Rattle.device.proofs.Flows.{phase-busy}
 use Rattle.device.proofs.Busy.{phaseOf, busy-good, phase-more}
 use Rattle.device.proofs.Tags.{busy-below}
 use Rattle.device.proofs.Entering.{tag-small}
-use Rattle.history.specs.Asked.{Asked, registerAsks}
+use Rattle.history.specs.Asked.{registerAsks}
 use Rattle.history.specs.Seen.{Seen}
 use Rattle.history.proofs.Class.{Same, Took, Carried}
-use Rattle.history.proofs.Views.{no-bit}
+use Rattle.history.proofs.Sets.{no-busy}
 
 -- the same state
 pub same : (d : Device) → Same d d
@@ -48,9 +47,6 @@ pub cleared-other : (es : List Entry) (set i : ℕ) → i < 32 → bitIn 32 set 
 unfolding pick
 cleared-other es set i l n = getD-cleared es set i l ∙ rw n
 
-pub no-bit-true : (t : ℕ) → bitIn 32 0 t ≡ true → ⊥
-no-bit-true t e = true≢false (sym e ∙ no-bit t)
-
 module _ (d : Device) (g : contradictoryDevice d ≡ false) where
   -- a halted state has nothing outstanding
   pub halted-empty : d .flow .halted ≡ true → d .flow .outstanding ≡ 0
@@ -65,7 +61,7 @@ module _ (d : Device) (g : contradictoryDevice d ≡ false) where
   busy-calm t b = go (d .flow .halted) refl
     where
       go : (x : Bool) → d .flow .halted ≡ x → d .flow .halted ≡ false
-      go true e = absurd (let z : bitIn 32 0 t ≡ true = ap (λ (k : ℕ). bitIn 32 k t) (sym (halted-empty e)) ∙ b in no-bit-true t z)
+      go true e = absurd (no-busy (d .flow .outstanding) t (halted-empty e) b)
       go false e = e
 
   -- rule 4: the tag is outstanding, and its entry is what the command asks for

@@ -1,14 +1,11 @@
 -- What a call can do, as demand 3 reads it: ten kinds of effect. A new call or command comes to one of them. Assumes nothing.
 use mathlib.Core.Path.{_≡_}
 use mathlib.Core.Bool.{Bool, true, false, not, _&&_, _||_}
-use mathlib.Core.List.{List}
-use Prim.Native.Nat.{ℕ, _+_, _*_, _^_, _≤_, _<_, min, _-_}
+use Prim.Native.Nat.{ℕ, _+_, _*_, _^_, _≤_, _<_}
 use lib.Dec.{eqb, leb}
 use Rattle.bits.specs.Pick.{pick}
 use Rattle.bits.specs.Bit.{bitIn, withBitIn, clearIn}
 use Rattle.states.specs.Table.{entryOf}
-use Rattle.states.specs.declared.shapes.Settings.{Settings}
-use Rattle.states.specs.declared.shapes.Entry.{Entry}
 use Rattle.device.specs.declared.state.Device.{Device}
 use Rattle.history.specs.Seen.{Seen, Flow, flows, accepts}
 

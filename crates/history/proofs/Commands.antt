@@ -12,29 +12,7 @@ use Rattle.bits.specs.Pick.{pick}
 use Rattle.bits.proofs.Picks.{tested, by-test}
 use Rattle.history.specs.Seen.{Seen, accepts}
 use Rattle.history.specs.Fates.{Command, later, commands, tagOf, ends, outstandingAt, outstanding, one, howMany, All, total, totalWith}
-
--- ---- all commands
-
--- what holds of the image of each holds of all images
-pub all-map : (P Q : Command → Type 0) (f : Command → Command) → ((c : Command) → Q c → P (f c)) → (cs : List Command) → All Q cs → All P (map f cs)
-unfolding All
-all-map P Q f g [] a = tt
-all-map P Q f g (c ∷ cs) a = (g c (a .0), all-map P Q f g cs (a .1))
-
--- what holds of each that is so holds of all
-pub all-of : (P Q : Command → Type 0) → ((c : Command) → Q c → P c) → (cs : List Command) → All Q cs → All P cs
-unfolding All
-all-of P Q g [] a = tt
-all-of P Q g (c ∷ cs) a = (g c (a .0), all-of P Q g cs (a .1))
-
--- one more event: what holds of the command that it accepts, and of each older one an event later, holds of all
-pub all-step : (P Q : Command → Type 0) (e : Seen) (h : List Seen) → (accepts e ≡ true → P (record { accepted = e; after = [] }))
-    → ((c : Command) → Q c → P (later e c)) → All Q (commands h) → All P (commands (e ∷ h))
-unfolding commands All
-all-step P Q e h new old a =
-    let rest : All P (map (later e) (commands h)) = all-map P Q (later e) old (commands h) a in
-    by-test (All P) (accepts e) (record { accepted = e; after = [] } ∷ map (later e) (commands h)) (map (later e) (commands h))
-    (λ x. (new x, rest)) (λ _. rest)
+use Rattle.history.proofs.Alls.{all-step}
 
 -- ---- how many are outstanding with a tag
 

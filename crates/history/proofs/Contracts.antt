@@ -1,5 +1,5 @@
 -- From contracts to runs: what the public calls' contracts allow, call by call, is the run of the definitions. Assumes nothing.
-use mathlib.Core.Path.{_≡_, refl, sym, ap, ap₂, subst, _∙_}
+use mathlib.Core.Path.{_≡_, refl, sym, ap, subst, _∙_}
 use mathlib.Core.List.{List, [], _∷_, map}
 use Prim.Native.Nat.{ℕ}
 use lib.ListN.{length}
@@ -12,7 +12,7 @@ use Rattle.device.specs.Calls.{hostAct, hostStep, openStep, sendStep, finishSte
 use Rattle.device.specs.declared.state.Device.{Device}
 use Rattle.device.specs.declared.state.Outcome.{Outcome}
 use Rattle.history.specs.Calls.{Call, hostFrame, openPhase, sendData, finishTags, mediaError, linkEvent, comReset, Event}
-use Rattle.history.specs.Run.{Lent, Gave, AllowedFor, Allowed, gives, resultFor, result, Done, done, event, AllTyped, Run, run, runFrom, history, Follows, newestFirst, final, lents, historyOf}
+use Rattle.history.specs.Run.{Lent, Gave, AllowedFor, Allowed, gives, resultFor, result, Done, done, event, Run, run, runFrom, history, Follows, newestFirst, final, lents, historyOf}
 
 same-gave : {d d′ : Device} {n n′ l l′ : ℕ} {m m′ b b′ : List ℕ} → d ≡ d′ → n ≡ n′ → l ≡ l′ → m ≡ m′ → b ≡ b′
     → _≡_ {A = Gave} (record { outcome = record { state = d; refusal = n; len = l }; medium = m; buffer = b }) (record { outcome = record { state = d′; refusal = n′; len = l′ }; medium = m′; buffer = b′ })

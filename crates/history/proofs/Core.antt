@@ -23,7 +23,8 @@ use Rattle.history.specs.Demand3.{Sactive, Waiting}
 use Rattle.history.proofs.Class as kinds
 use Rattle.history.proofs.Class.{Class, Is, none}
 use Rattle.history.proofs.Commands.{TagsBelow, tags-step, tags-none, with-none}
-use Rattle.history.proofs.CoreSteps.{waits-is, sactive-is, number-is, asked-is, blamed, blamed-on, blamed-new, Aimed, aimed, bit-none, ones-some, total-ones}
+use Rattle.history.proofs.CoreSteps.{waits-is, sactive-is, number-is, asked-is, blamed, blamed-on, blamed-new, Aimed, aimed, ones-some, total-ones}
+use Rattle.history.proofs.Sets.{no-bit}
 
 -- k is the set outstanding, `halted` says whether the device is halted, h is what was seen
 pub record Inv (k : ℕ) (halted : Bool) (h : List Seen) : Type 0 where
@@ -44,9 +45,9 @@ unfolding waits sactive
 inv-start = record {
   bound = lit< tt;
   tags = tags-none 32;
-  number = λ t _. rw (bit-none t) (with-none t);
+  number = λ t _. rw (no-bit t) (with-none t);
   waiting = refl;
-  calm = λ _ t _. sym (bit-none t);
+  calm = λ _ t _. sym (no-bit t);
   stop = λ x. absurd (false≢true x);
 }
 
@@ -144,7 +145,7 @@ module _ {k : ℕ} {b : Bool} {h : List Seen} (v : Inv k b h) {e : Seen} where
   keep-again {q} i x = record {
     bound = v .bound;
     tags = same-tags v e (i .accepted);
-    number = λ t u. number-is h i t ∙ sym (rw (v .stop x .0) (ap one (bit-none t)));
+    number = λ t u. number-is h i t ∙ sym (rw (v .stop x .0) (ap one (no-bit t)));
     waiting = waits-is h i ∙ rw (v .waiting, x);
     calm = λ y. absurd (true≢false (sym x ∙ y));
     stop = λ _. (
@@ -161,7 +162,7 @@ module _ {k : ℕ} {b : Bool} {h : List Seen} (v : Inv k b h) {e : Seen} where
   keep-freely i x z = record {
     bound = v .bound;
     tags = same-tags v e (i .accepted);
-    number = λ t u. number-is h i t ∙ sym (rw z (ap one (bit-none t)));
+    number = λ t u. number-is h i t ∙ sym (rw z (ap one (no-bit t)));
     waiting = waits-is h i ∙ rw (v .waiting, x, some-is v, eq-eqb k 0 z);
     calm = λ y t u. sactive-is h i t ∙ and-true (sactive t h) ∙ v .calm y t u;
     stop = λ y. absurd (false≢true (sym x ∙ y));
@@ -175,7 +176,7 @@ module _ {k : ℕ} {b : Bool} {h : List Seen} (v : Inv k b h) {e : Seen} where
       record {
         bound = lit< tt;
         tags = same-tags v e (i .accepted);
-        number = λ t u. number-is h i t ∙ rw (bad, bit-none t);
+        number = λ t u. number-is h i t ∙ rw (bad, no-bit t);
         waiting = waits-is h i ∙ rw (v .waiting, x, some-is v) c;
         calm = λ y. absurd (true≢false y);
         stop = λ _. (
@@ -196,9 +197,9 @@ module _ {k : ℕ} {b : Bool} {h : List Seen} (v : Inv k b h) {e : Seen} where
   keep-resets i = record {
     bound = lit< tt;
     tags = same-tags v e (i .accepted);
-    number = λ t u. number-is h i t ∙ sym (ap one (bit-none t));
+    number = λ t u. number-is h i t ∙ sym (ap one (no-bit t));
     waiting = waits-is h i ∙ gone-test (waits h);
-    calm = λ _ t u. sactive-is h i t ∙ off-test (sactive t h) ∙ sym (bit-none t);
+    calm = λ _ t u. sactive-is h i t ∙ off-test (sactive t h) ∙ sym (no-bit t);
     stop = λ y. absurd (false≢true y);
   }
 
@@ -210,7 +211,7 @@ module _ {k : ℕ} {b : Bool} {h : List Seen} (v : Inv k b h) {e : Seen} where
     tags = same-tags v e (i .accepted);
     number = λ t u. number-is h i t ∙ zero-add (totalWith t h) ∙ v .number t u ∙ ap (λ (n : ℕ). one (bitIn 32 n t)) (v .stop x .0);
     waiting = waits-is h i ∙ gone-test (waits h);
-    calm = λ _ t u. sactive-is h i t ∙ rw (all t u) (off-test (sactive t h)) ∙ sym (bit-none t);
+    calm = λ _ t u. sactive-is h i t ∙ rw (all t u) (off-test (sactive t h)) ∙ sym (no-bit t);
     stop = λ y. absurd (false≢true y);
   }
 

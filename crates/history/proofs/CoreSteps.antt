@@ -1,10 +1,10 @@
 -- What one more event does to SActive, to how many are outstanding and to a waiting error, by what is seen of it; and the ones of a set of tags. Assumes nothing.
 use mathlib.Core.Path.{_≡_, refl, sym, ap, ap₂, _∙_}
-use mathlib.Core.Bool.{Bool, true, false, not, _&&_, _||_, and-false}
+use mathlib.Core.Bool.{Bool, true, false, not, _&&_, _||_}
 use mathlib.Core.List.{List, [], _∷_}
 use mathlib.Core.Logic.{⊎-elim}
 use Prim.Native.Nat.{ℕ, zero, suc, _+_, _/_, _%_, _^_, _<_}
-use native.Mathlib.Nat.{zero-div, div-one}
+use native.Mathlib.Nat.{div-one}
 use native.Mathlib.Numerals.{add-one}
 use native.Mathlib.Omega.{arith}
 use lib.Arith.{lt-one, bin-ind}
@@ -117,10 +117,6 @@ aimed e x y =
     ap₂ _&&_ (asks-command e x) (some-any (λ f. errIn (f .status)) (collect setBitsIn (frames e)) y)
 
 -- ---- sets of tags
-
--- no tag is in the empty set
-pub bit-none : (t : ℕ) → bitIn 32 0 t ≡ false
-bit-none t = rw (zero-div (2 ^ t)) (and-false (ltb t 32))
 
 -- a digit is 1 where its bit is on, else 0
 bit-digit : (m t : ℕ) → t < 32 → one (bitIn 32 m t) ≡ m / 2 ^ t % 2

@@ -1,45 +1,43 @@
 -- Every taken device event comes to one of the ten kinds. Assumes nothing.
 use mathlib.Core.Path.{_≡_, refl, sym, ap, subst, _∙_}
-use mathlib.Core.Bool.{Bool, true, false, not, _&&_, _||_, true≢false}
-use mathlib.Core.List.{List, [], _∷_}
-use Prim.Native.Nat.{ℕ, _+_, _-_, _*_, _/_, _%_, _^_, _≤_, _<_, min}
+use mathlib.Core.Bool.{Bool, true, false, not, _||_}
+use mathlib.Core.List.{List, []}
+use Prim.Native.Nat.{ℕ, _+_, _-_, _*_, _^_, _≤_, _<_}
 use native.Mathlib.Omega.{arith}
-use native.Mathlib.Nat.{zero-add, zero-div}
-use lib.Dec.{eqb, ltb, leb, lit<}
-use lib.ListN.{length, take, drop, length-take, length-drop}
-use borrow.Author.Tests.{eqb-true, eqb-false, not-false, lt-ltb}
+use native.Mathlib.Nat.{zero-add}
+use lib.Dec.{eqb, leb, lit<}
+use lib.ListN.{length, length-take, length-drop}
+use borrow.Author.Tests.{eqb-true, eqb-false, not-false}
 use Rattle.bits.specs.Pick.{pick}
 use Rattle.bits.specs.Bit.{bitIn}
 use Rattle.bits.specs.First.{firstOf}
-use Rattle.bits.proofs.Masks.{bit-lt, bits-ext}
 use Rattle.bits.proofs.Firsts as firsts
-use Rattle.bits.proofs.Picks.{by-test, pick-no, and-left, and-right, or-left, or-right}
+use Rattle.bits.proofs.Picks.{by-test, pick-no, or-left, or-right}
 use Rattle.frames.specs.declared.shapes.DmaSetup.{DmaSetup}
 use Rattle.states.specs.Table.{entryOf}
 use Rattle.states.specs.declared.shapes.Entry.{Entry}
 use Rattle.states.proofs.TableLaws.{some-absent}
-use Rattle.ladders.specs.Ladders.{comresetLadder, linkLadder}
-use Rattle.rules.specs.Facts.{moveOf, dueOf, placeOf}
+use Rattle.rules.specs.Facts.{moveOf, dueOf}
 use Rattle.rules.specs.Events.{openTests, openAct, sendTests, sendAct, finishTests, finishAct, mediaTests, mediaAct, failing, someUnready, unreadyAt, allMoved}
-use Rattle.rules.specs.Taking.{numberOf, spanOf}
-use Rattle.rules.specs.declared.facts.Facts.{Facts}
+use Rattle.rules.specs.Taking.{spanOf}
 use Rattle.rules.specs.declared.acts.Fault.{Fault}
 use Rattle.rules.specs.declared.acts.Act.{Act}
 use Rattle.rules.specs.declared.acts.Act.the-variants.{Open, Send, Finish, Media}
 use Rattle.rules.proofs.Numbers.{not-refused, decided-is}
-use Rattle.replies.specs.Replies.{repliesOf, setupReply}
+use Rattle.replies.specs.Replies.{repliesOf}
 use Rattle.device.specs.Device.{contradictoryDevice}
 use Rattle.device.specs.Events.{linkStep, linkNumber, withValue}
-use Rattle.device.specs.After.{afterOf, haltWith, failedBy, openedFor, movedBy, finishedBy, resetHeld, released}
-use Rattle.device.specs.Reset.{comresetStep, comresetNumber, renewed}
+use Rattle.device.specs.After.{afterOf, haltWith, failedBy, openedFor, finishedBy, resetHeld, released}
+use Rattle.device.specs.Reset.{comresetStep, renewed}
 use Rattle.device.specs.Calls.{factsOf, openTag, mediumWrong, openOf, openStep, partOf, sendOf, sendStep, finishOf, finishStep, mediaOf, mediaStep}
 use Rattle.device.specs.declared.state.Device.{Device}
 use Rattle.device.proofs.Rooms.{move-within}
-use Rattle.history.specs.Asked.{Asked, quiet, resetAsks}
-use Rattle.history.specs.Seen.{Seen, flows}
-use Rattle.history.proofs.Class.{none, Is, Class, Same, Emptied, Opened, Ended, plain, halts, resets, opens, carries, ends}
-use Rattle.history.proofs.Views.{view, no-bit, is-silent, is-good, is-finish, is-failed, is-reset, is-setup, setup-begins, is-sent, silent-unbegun, bits-unbegun, sent-unbegun}
-use Rattle.history.proofs.Changes.{same, no-bit-true, halted-empty, busy-calm, carried-by, unmoved, cleared-other}
+use Rattle.history.specs.Asked.{quiet, resetAsks}
+use Rattle.history.specs.Seen.{flows}
+use Rattle.history.proofs.Class.{none, Class, Same, plain, halts, resets, opens, carries, ends}
+use Rattle.history.proofs.Sets.{no-busy, no-bits}
+use Rattle.history.proofs.Views.{view, is-silent, is-finish, is-failed, is-reset, is-setup, setup-begins, is-sent, silent-unbegun, bits-unbegun, sent-unbegun}
+use Rattle.history.proofs.Changes.{same, halted-empty, busy-calm, carried-by, unmoved, cleared-other}
 
 -- an act's part of the medium, and what is seen of it
 abbrev pub Happens : Device → List ℕ → Act → Type 0
@@ -127,14 +125,6 @@ send-comes d m room z =
 ready-at : (busy : Bool) (e : Entry) → not busy || not (allMoved e) ≡ false → (busy ≡ true) × (e .moved ≡ e .count)
 ready-at busy e h = (not-false busy (or-left (not busy) (not (allMoved e)) h), eqb-true (e .moved) (e .count) (not-false (allMoved e) (or-right (not busy) (not (allMoved e)) h)))
 
--- a number of 32 bits none of which is on
-no-bits : (m : ℕ) → m < 2 ^ 32 → ((t : ℕ) → t < 32 → bitIn 32 m t ≡ false) → m ≡ 0
-no-bits m l h =
-    bits-ext 32 m 0 l (lit< tt)
-    (λ t u.
-    let e : eqb (m / 2 ^ t % 2) 1 ≡ false = rw (lt-ltb t 32 u) at (h t u) in
-    omega (arith, eqb-false (m / 2 ^ t % 2) 1 e, bit-lt m t, ap (λ (n : ℕ). n % 2) (zero-div (2 ^ t))))
-
 -- a set that is not empty, all of it outstanding: the device is not halted
 some-busy : (d : Device) → contradictoryDevice d ≡ false → (set : ℕ) → set < 2 ^ 32 → eqb set 0 ≡ false → ((t : ℕ) → t < 32 → bitIn 32 set t ≡ true → bitIn 32 (d .flow .outstanding) t ≡ true)
     → d .flow .halted ≡ false
@@ -145,7 +135,7 @@ some-busy d g set l n all = go (d .flow .halted) refl
     unless false h = refl
 
     go : (x : Bool) → d .flow .halted ≡ x → d .flow .halted ≡ false
-    go true e = absurd (eqb-false set 0 n (no-bits set l (λ t u. unless (bitIn 32 set t) (λ b. no-bit-true t (ap (λ (k : ℕ). bitIn 32 k t) (sym (halted-empty d g e)) ∙ all t u b)))))
+    go true e = absurd (eqb-false set 0 n (no-bits set l (λ t u. unless (bitIn 32 set t) (λ b. no-busy (d .flow .outstanding) t (halted-empty d g e) (all t u b)))))
     go false e = e
 
 -- a set of tags, each outstanding and wholly moved

@@ -11,7 +11,7 @@ use Rattle.history.specs.Fates.{Command, later, commands, tagOf, outstan
 use Rattle.history.specs.Demand3.{exactlyOne, OneFate, Settled, Fates}
 use Rattle.history.proofs.Class as kinds
 use Rattle.history.proofs.Class.{Class, Is}
-use Rattle.history.proofs.Commands.{all-step}
+use Rattle.history.proofs.Alls.{all-step}
 
 -- ---- finishing, giving up, dropping
 

@@ -2,15 +2,14 @@
 use mathlib.Core.Path.{_≡_, refl, sym, ap, ap₂, _∙_}
 use mathlib.Core.Bool.{Bool, true, false, not, _&&_, _||_, false≢true}
 use mathlib.Core.List.{List, [], _∷_}
-use Prim.Native.Nat.{ℕ, zero, suc, _+_, _*_, _/_, _%_, _^_}
-use native.Mathlib.Nat.{zero-div}
+use Prim.Native.Nat.{ℕ, zero, suc, _+_, _*_}
 use native.Mathlib.Numerals.{add-one}
 use native.Mathlib.Omega.{arith}
 use lib.Dec.{eqb, ltb, leb}
 use borrow.Author.Tests.{lt-ltb, le-ltb, leb-true, leb-false}
 use Rattle.bits.specs.Pick.{pick}
 use Rattle.bits.specs.Bit.{bitIn}
-use Rattle.bits.proofs.Picks.{pick-yes, pick-no, and-right}
+use Rattle.bits.proofs.Picks.{pick-yes, pick-no}
 use Rattle.states.specs.Table.{entryOf}
 use Rattle.states.specs.declared.shapes.Entry.{Entry}
 use Rattle.device.specs.declared.state.Device.{Device}
@@ -18,6 +17,7 @@ use Rattle.history.specs.Seen.{Seen, Flow, still, flows, errs}
 use Rattle.history.specs.Carried.{load, onward, advanced, flow}
 use Rattle.history.proofs.Class.{Is, Unbegun, Same, Carried, Class, plain, again, freely, halts, resets, sweeps, takes, opens, carries, ends}
 use Rattle.history.proofs.Spans.{Empty, advanced-none, onward-some}
+use Rattle.history.proofs.Sets.{no-busy}
 
 -- what an entry's open phase stands for: a read's data go to the host; the next byte is behind those moved
 abbrev pub flowFor : Entry → ℕ → Flow
@@ -35,14 +35,6 @@ flowOf d = flowAt (d .entries) (d .flow .phase)
 -- the tag of an open phase is outstanding
 pub record Phased (d : Device) : Type 0 where
   pub busy : (t : ℕ) → d .flow .phase ≡ t + 1 → bitIn 32 (d .flow .outstanding) t ≡ true
-
--- no tag is in the empty set
-pub no-bit : (t : ℕ) → bitIn 32 0 t ≡ true → ⊥
-no-bit t e = false≢true (rw (zero-div (2 ^ t)) at (and-right (ltb t 32) (eqb (0 / 2 ^ t % 2) 1) e))
-
--- of a set that is empty, no tag
-pub no-busy : (m t : ℕ) → m ≡ 0 → bitIn 32 m t ≡ true → ⊥
-no-busy m t z e = no-bit t (ap (λ (x : ℕ). bitIn 32 x t) (sym z) ∙ e)
 
 -- a closed phase stands for nothing
 pub flow-shut : (d : Device) → d .flow .phase ≡ 0 → flowOf d ≡ still

@@ -1,16 +1,16 @@
 -- From reply bytes to frames: what is read of an event's bytes is what the step sent. Assumes nothing.
-use mathlib.Core.Path.{_≡_, refl, sym, ap, ap₂, _∙_}
-use mathlib.Core.Bool.{Bool, true, false, not}
-use mathlib.Core.List.{List, [], _∷_, map}
+use mathlib.Core.Path.{_≡_, refl, ap, ap₂, _∙_}
+use mathlib.Core.Bool.{true, false}
+use mathlib.Core.List.{List, [], map}
 use mathlib.Core.Logic.{⊎-elim}
 use Prim.Native.Nat.{ℕ, _^_, _<_}
 use lib.Dec.{eqb}
-use lib.ListN.{length, take}
-use borrow.Author.Tests.{eqb-true, eqb-false, ne-eqb}
+use lib.ListN.{length}
+use borrow.Author.Tests.{eqb-true, eqb-false}
 use Rattle.bits.specs.Pick.{pick}
 use Rattle.bits.specs.Little.{Bytes}
 use Rattle.bits.proofs.Picks.{tested}
-use Rattle.wire.specs.Cut.{cut, cutTo}
+use Rattle.wire.specs.Cut.{cut}
 use Rattle.frames.specs.Read.{readFrame}
 use Rattle.frames.specs.Write.{Sent, encode}
 use Rattle.frames.specs.Neat.{Neat}
@@ -19,17 +19,17 @@ use Rattle.frames.specs.declared.shapes.Frame.{Frame}
 use Rattle.replies.specs.Fit.{Fitting}
 use Rattle.rules.specs.Taking.{spanOf}
 use Rattle.device.specs.Sized.{SizedRecord}
-use Rattle.device.specs.Step.{Step, Answered}
+use Rattle.device.specs.Step.{Step}
 use Rattle.device.specs.Reset.{comresetStep}
 use Rattle.device.specs.Calls.{hostAct, hostStep, openOf, openStep, partOf, sendOf, sendStep, finishOf, finishStep, mediaOf, mediaStep}
 use Rattle.device.specs.declared.state.Device.{Device}
 use Rattle.device.proofs.Sending.{Whole, whole-frames, whole-host, whole-open, whole-send, whole-finish, whole-media, whole-comreset}
-use Rattle.device.proofs.Refusals.{Keeps, refused-keeps, refused-keeps-comreset}
+use Rattle.device.proofs.Refusals.{refused-keeps, refused-keeps-comreset}
 use Rattle.history.specs.Calls.{Call, Event}
 use Rattle.history.specs.Asked.{Asked, asks}
 use Rattle.history.specs.Replied.{frames, pieces, some, isPio, payloads, sent}
-use Rattle.history.specs.Seen.{Seen, sight, seen}
-use Rattle.history.specs.Run.{Lent, gives, done, event}
+use Rattle.history.specs.Seen.{sight, seen}
+use Rattle.history.specs.Run.{gives, done, event}
 use Rattle.history.proofs.Views.{view, all-read, all-payloads, payloadsOf, sentIn}
 
 -- the reply bytes of an event are those of the frames fs, each of which can be written

@@ -1,12 +1,11 @@
 -- Every taken host frame comes to one of the ten kinds. Assumes nothing.
 use mathlib.Core.Path.{_≡_, refl, sym, ap, subst, _∙_}
-use mathlib.Core.Bool.{Bool, true, false, not, _&&_, _||_, true≢false}
-use mathlib.Core.List.{List, [], _∷_}
-use Prim.Native.Nat.{ℕ, _+_, _-_, _*_, _/_, _%_, _^_, _<_}
+use mathlib.Core.Bool.{Bool, true, false, not, _&&_, _||_}
+use mathlib.Core.List.{List, []}
+use Prim.Native.Nat.{ℕ, _+_, _-_, _/_, _%_, _^_, _<_}
 use native.Mathlib.Nat.{zero-div}
 use native.Mathlib.Omega.{arith}
 use lib.Dec.{eqb, ltb, leb, lit<}
-use lib.ListN.{length}
 use borrow.Author.Tests.{eqb-true, eqb-false, not-false, not-true, lt-ltb}
 use Rattle.bits.specs.Pick.{pick}
 use Rattle.bits.specs.Bit.{bitIn}
@@ -19,23 +18,22 @@ use Rattle.frames.specs.declared.shapes.HostReg.{HostReg}
 use Rattle.frames.specs.declared.shapes.Frame.{Frame}
 use Rattle.frames.specs.declared.shapes.Frame.the-variants as fs
 use Rattle.states.specs.Table.{entryOf}
-use Rattle.states.specs.declared.shapes.Entry.{Entry}
 use Rattle.ladders.specs.Ladders.{lentLadder}
 use Rattle.rules.specs.Facts.{moveOf, dueOf}
 use Rattle.rules.specs.Decide.{bad, fault, tagAsked, countAsked, entryFor, pageAsked, queuedAct, otherAct, controlAct, registerAct, dataAct, bistAct, kindAct, decideOf, lentOf}
 use Rattle.rules.specs.Taking.{numberOf}
 use Rattle.rules.specs.declared.facts.Facts.{Facts}
 use Rattle.rules.specs.declared.acts.Act.{Act}
-use Rattle.rules.specs.declared.acts.Act.the-variants.{Refuse, Nothing, Answer, Halt, Accept, Log10, Log11, Reset, Release, Zero, Keep}
+use Rattle.rules.specs.declared.acts.Act.the-variants.{Refuse, Nothing, Accept, Log10, Log11, Reset, Release, Zero, Keep}
 use Rattle.rules.proofs.Numbers.{lent-none}
-use Rattle.replies.specs.Replies.{repliesOf, good, sweep, pioReply, page10Of, page11Of, signature}
+use Rattle.replies.specs.Replies.{repliesOf}
 use Rattle.device.specs.Device.{contradictoryDevice}
-use Rattle.device.specs.After.{afterOf, haltWith, unhalted, zeroedIf, resetHeld, released, acceptedBy, movedBy}
-use Rattle.device.specs.Calls.{factsOf, openTag, mediumWrong, hostAct, hostStep}
+use Rattle.device.specs.After.{afterOf, haltWith, unhalted, zeroedIf, resetHeld, released}
+use Rattle.device.specs.Calls.{factsOf, openTag, mediumWrong, hostAct}
 use Rattle.device.specs.declared.state.Device.{Device}
 use Rattle.history.specs.Asked.{Asked, registerAsks, dataAsks, frameAsks}
 use Rattle.history.specs.Seen.{Seen}
-use Rattle.history.proofs.Class.{none, Is, Class, Same, Emptied, plain, again, freely, halts, resets, sweeps, takes, carries}
+use Rattle.history.proofs.Class.{none, Is, Class, plain, again, freely, halts, resets, sweeps, takes, carries}
 use Rattle.history.proofs.Views.{view, is-silent, is-bad, is-good, is-page, is-swept, is-brought, silent-unbegun, answer-unbegun, page-unbegun, swept-unbegun, active-unbegun}
 use Rattle.history.proofs.Changes.{same, halted-empty, took-by, carried-by}
 

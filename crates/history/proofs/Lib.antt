@@ -1,3 +1,4 @@
+pub mod Sets
 pub mod Class
 pub mod Views
 pub mod Frames
@@ -5,12 +6,12 @@ pub mod Changes
 pub mod Hosts
 pub mod Events
 pub mod Steps
+pub mod Alls
 pub mod Commands
 pub mod Fated
 pub mod CoreSteps
 pub mod Core
 pub mod Anchors
-pub mod Alls
 pub mod Spans
 pub mod Flowing
 pub mod Moving

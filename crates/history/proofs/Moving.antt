@@ -19,7 +19,8 @@ use Rattle.history.specs.Carried.{load, flow, span, belongs, piece}
 use Rattle.history.proofs.Class as K
 use Rattle.history.proofs.Class.{Took, Carried, Ended, Class}
 use Rattle.history.proofs.Spans.{Empty, piece-none, span-add, belongs-own, belongs-other}
-use Rattle.history.proofs.Flowing.{flowOf, flow-open, no-busy, empty-of, closing, b-halt, load-own}
+use Rattle.history.proofs.Flowing.{flowOf, flow-open, empty-of, closing, b-halt, load-own}
+use Rattle.history.proofs.Sets.{no-busy}
 
 -- the entry of a tag
 abbrev pub entryAt : Device → ℕ → Entry

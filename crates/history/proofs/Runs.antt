@@ -1,12 +1,12 @@
 -- Demand 3 over every run from power-on. Assumes nothing.
-use mathlib.Core.Path.{_≡_, refl, sym, ap, subst, _∙_}
-use mathlib.Core.Bool.{Bool, true, false}
+use mathlib.Core.Path.{_≡_, refl, ap, subst, _∙_}
+use mathlib.Core.Bool.{true, false}
 use mathlib.Core.List.{List, [], _∷_, map}
 use mathlib.Core.Logic.{⊎-elim}
-use Prim.Native.Nat.{ℕ, _^_, _≤_, _<_}
+use Prim.Native.Nat.{_≤_}
 use native.Mathlib.Nat.{le-trans, le-of-eq}
 use native.Mathlib.Omega.{arith}
-use lib.Dec.{eqb, lit<}
+use lib.Dec.{eqb}
 use lib.Count.{ones}
 use borrow.Author.Tests.{eqb-true, eqb-false}
 use Rattle.bits.proofs.Picks.{by-test, tested}
@@ -15,15 +15,15 @@ use Rattle.device.specs.Device.{powerOn, freshDevice, zeroDevice, powerNumber}
 use Rattle.device.specs.declared.state.Device.{Device}
 use Rattle.device.proofs.Opens.{ones-most}
 use Rattle.history.specs.Calls.{Event}
-use Rattle.history.specs.Seen.{Seen, seen}
+use Rattle.history.specs.Seen.{seen}
 use Rattle.history.specs.Fates.{total}
-use Rattle.history.specs.Demand3.{Fates, Ranges, Contents, Sactive, Waiting, Depth}
+use Rattle.history.specs.Demand3.{Fates, Sactive, Waiting, Depth}
 use Rattle.history.specs.Run.{Lent, Done, done, event, result, AllTyped, run, runFrom, history}
 use Rattle.history.proofs.Class.{Class}
 use Rattle.history.proofs.Steps.{comes}
 use Rattle.history.proofs.Fated.{AllLone, lone, lone-step, lone-none, fates}
-use Rattle.history.proofs.Core.{Inv, inv-start, keeps-seen, inv-sactive, inv-waiting, inv-total, inv-number}
-use Rattle.history.proofs.Table.{Tracked, tracked-start, tracked-step, ranges}
+use Rattle.history.proofs.Core.{Inv, inv-start, keeps-seen, inv-sactive, inv-waiting, inv-total}
+use Rattle.history.proofs.Table.{Tracked, tracked-start, tracked-step}
 use Rattle.history.proofs.Widths.{Wide}
 use Rattle.history.proofs.Widening.{wide-step, wide-start}
 use Rattle.history.proofs.Soundness.{Sound, sound-power, sound-step}

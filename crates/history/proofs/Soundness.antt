@@ -1,9 +1,9 @@
 -- The state at the end of a run never contradicts itself; after a refused power-on it stays all zeros. Assumes nothing.
-use mathlib.Core.Path.{_≡_, refl, sym, ap, subst, _∙_}
-use mathlib.Core.Bool.{Bool, true, false}
+use mathlib.Core.Path.{_≡_, ap, _∙_}
+use mathlib.Core.Bool.{true, false}
 use mathlib.Core.List.{List, []}
 use mathlib.Core.Logic.{⊎-elim}
-use Prim.Native.Nat.{ℕ, _^_, _<_}
+use Prim.Native.Nat.{ℕ}
 use native.Mathlib.Omega.{arith}
 use lib.Dec.{eqb}
 use lib.ListN.{length}
@@ -12,7 +12,7 @@ use Rattle.bits.specs.Pick.{pick}
 use Rattle.bits.proofs.Picks.{tested}
 use Rattle.rules.specs.Taking.{spanOf}
 use Rattle.states.specs.declared.shapes.Settings.{Settings}
-use Rattle.device.specs.Device.{contradictoryDevice, powerOn, freshDevice, zeroDevice, powerNumber}
+use Rattle.device.specs.Device.{contradictoryDevice, powerOn, freshDevice, zeroDevice}
 use Rattle.device.specs.Events.{linkStep}
 use Rattle.device.specs.Reset.{comresetStep}
 use Rattle.device.specs.Step.{Step}

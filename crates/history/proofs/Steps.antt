@@ -3,18 +3,15 @@ use mathlib.Core.Path.{_≡_, refl, sym, ap, subst, _∙_}
 use mathlib.Core.Bool.{Bool, true, false}
 use mathlib.Core.List.{List, []}
 use mathlib.Core.Logic.{⊎-elim}
-use Prim.Native.Nat.{ℕ, _^_, _<_}
+use Prim.Native.Nat.{ℕ}
 use lib.Dec.{eqb}
-use lib.ListN.{length, take}
-use borrow.Author.Tests.{eqb-true, eqb-false, eq-eqb, ne-eqb}
+use lib.ListN.{length}
+use borrow.Author.Tests.{eqb-true, eqb-false, ne-eqb}
 use Rattle.bits.specs.Pick.{pick}
-use Rattle.bits.specs.Little.{Bytes}
 use Rattle.bits.proofs.Picks.{tested}
 use Rattle.wire.specs.Cut.{cut, cutTo}
-use Rattle.frames.specs.Read.{readFrame}
 use Rattle.rules.specs.Taking.{keptIn, spanOf}
 use Rattle.replies.specs.Fit.{Fitting}
-use Rattle.replies.specs.Replies.{sentAll}
 use Rattle.device.specs.Sized.{SizedRecord}
 use Rattle.device.specs.Step.{Step}
 use Rattle.device.specs.Events.{linkStep}
@@ -22,11 +19,11 @@ use Rattle.device.specs.Reset.{comresetStep}
 use Rattle.device.specs.Calls.{hostAct, hostStep, openOf, openStep, partOf, sendOf, sendStep, finishOf, finishStep, mediaOf, mediaStep}
 use Rattle.device.specs.declared.state.Device.{Device}
 use Rattle.device.proofs.Sending.{Whole}
-use Rattle.device.proofs.Refusals.{Keeps, refused-keeps, refused-keeps-comreset, refused-keeps-link}
+use Rattle.device.proofs.Refusals.{Keeps, refused-keeps, refused-keeps-comreset}
 use Rattle.history.specs.Calls.{Call, hostFrame, openPhase, sendData, finishTags, mediaError, linkEvent, comReset, Event, taken}
-use Rattle.history.specs.Asked.{Asked, quiet, resetAsks, frameAsks, callAsks, asks}
+use Rattle.history.specs.Asked.{quiet, callAsks, asks}
 use Rattle.history.specs.Seen.{Seen, seen}
-use Rattle.history.specs.Run.{Lent, Typed, gives, resultFor, result, done, event}
+use Rattle.history.specs.Run.{Lent, Typed, gives, resultFor, done, event}
 use Rattle.history.proofs.Class.{Class, plain}
 use Rattle.history.proofs.Views.{view, is-silent, silent-unbegun}
 use Rattle.history.proofs.Frames.{Read, read-seen, read-step, always-host, always-open, always-send, always-finish, always-media, always-comreset}

@@ -2,16 +2,16 @@
 use mathlib.Core.Path.{_≡_, refl, sym, ap, _∙_, subst⁻¹}
 use mathlib.Core.Bool.{Bool, true, false, not}
 use mathlib.Core.List.{List}
-use Prim.Native.Nat.{ℕ, _+_, _*_, _≤_, _<_}
+use Prim.Native.Nat.{ℕ, _+_, _*_, _≤_}
 use native.Mathlib.Omega.{arith}
 use Rattle.bits.specs.Pick.{pick}
 use Rattle.states.specs.declared.shapes.Entry.{Entry}
 use Rattle.device.specs.declared.state.Device.{Device}
 use Rattle.history.specs.Seen.{Seen, Flow}
-use Rattle.history.specs.Fates.{Command, commands, All}
+use Rattle.history.specs.Fates.{commands, All}
 use Rattle.history.specs.Carried.{flow, Due}
 use Rattle.history.proofs.Class as K
-use Rattle.history.proofs.Class.{Carried, Class}
+use Rattle.history.proofs.Class.{Class}
 use Rattle.history.proofs.Alls.{all-imp}
 use Rattle.history.proofs.Spans.{Empty}
 use Rattle.history.proofs.Flowing.{flowFor, flowOf, flow-open, empty-of}

@@ -1,10 +1,8 @@
 -- The state at the end of every run is what its history tells. Assumes nothing.
-use mathlib.Core.Path.{_≡_, sym, subst}
-use mathlib.Core.List.{List, map}
+use mathlib.Core.Path.{sym, subst}
+use mathlib.Core.List.{List}
 use Prim.Native.Nat.{ℕ, _≤_}
-use lib.Count.{ones}
 use Rattle.states.specs.declared.shapes.Settings.{Settings}
-use Rattle.history.specs.Seen.{seen}
 use Rattle.history.specs.Run.{Lent, AllTyped, runFrom, history}
 use Rattle.history.specs.Told.{ToldOutstanding, ToldWaits, ToldCounters, ToldAsked, ToldDepth, ToldConsistent}
 use Rattle.history.proofs.Core.{inv-waits, inv-number, inv-total}

@@ -1,11 +1,9 @@
 -- What the host sees of replies that were sent: the reader's view of the frames, and what demand 3 reads of them. Assumes nothing.
-use mathlib.Core.Path.{_≡_, refl, sym, ap, ap₂, _∙_}
+use mathlib.Core.Path.{_≡_, refl, ap, ap₂, _∙_}
 use mathlib.Core.Bool.{Bool, true, false, not, _&&_, _||_}
 use mathlib.Core.List.{List, [], _∷_, _++_, map, append-nil}
-use Prim.Native.Nat.{ℕ, _+_, _^_}
-use native.Mathlib.Nat.{zero-div}
-use lib.Dec.{eqb, ltb}
-use lib.ListN.{length, drop}
+use Prim.Native.Nat.{ℕ, _+_}
+use lib.ListN.{length}
 use Rattle.bits.specs.Pick.{pick}
 use Rattle.bits.specs.Bit.{bitIn}
 use Rattle.frames.specs.Read.{readFrame}
@@ -23,11 +21,8 @@ use Rattle.device.proofs.Never.{and-never}
 use Rattle.history.specs.Asked.{Asked, quiet, dataAsks, resetAsks}
 use Rattle.history.specs.Replied.{some, errIn, collect, isPio, dataIn, payloads}
 use Rattle.history.specs.Seen.{Seen, sight, names, begun, Flow, flows}
+use Rattle.history.proofs.Sets.{no-bit}
 use Rattle.history.proofs.Class.{none, Is, Unbegun}
-
--- no bit of 0 is on
-pub no-bit : (t : ℕ) → bitIn 32 0 t ≡ false
-no-bit t = rw (zero-div (2 ^ t)) (and-never (ltb t 32))
 
 -- the payload of a frame that is sent
 abbrev pub payloadOf : Sent → List ℕ

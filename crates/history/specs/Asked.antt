@@ -3,7 +3,6 @@ use mathlib.Core.Bool.{Bool, true, false, not, _&&_, _||_}
 use mathlib.Core.List.{List, []}
 use Prim.Native.Nat.{ℕ}
 use lib.Dec.{eqb}
-use lib.ListN.{length}
 use Rattle.bits.specs.Pick.{pick}
 use Rattle.wire.specs.Piece.{tagOf, sectorsOf, srstOf}
 use Rattle.frames.specs.Read.{readFrame}

@@ -1,5 +1,5 @@
 -- The events that a counter has counted since its zeroing, from calls and replies alone. Assumes nothing.
-use mathlib.Core.Bool.{Bool, true, false, not, _&&_, _||_}
+use mathlib.Core.Bool.{Bool, true, false, _&&_}
 use mathlib.Core.List.{List, [], _∷_}
 use Prim.Native.Nat.{ℕ, _+_, _%_, min}
 use lib.Dec.{eqb}

@@ -1,5 +1,4 @@
 -- Commands, each known by its accepting call, and what became of them. Histories stand with the newest event first. Assumes nothing.
-use mathlib.Core.Path.{_≡_}
 use mathlib.Core.Bool.{Bool, true, false, not, _&&_, _||_}
 use mathlib.Core.List.{List, [], _∷_, map}
 use Prim.Native.Nat.{ℕ, _+_}

@@ -1,5 +1,5 @@
 -- What the replies of a call say: its reply bytes cut into frames, each read by the frame reader's own definition. Assumes nothing.
-use mathlib.Core.Bool.{Bool, true, false, not, _&&_, _||_}
+use mathlib.Core.Bool.{Bool, true, false, _||_}
 use mathlib.Core.List.{List, [], _∷_, _++_, map}
 use Prim.Native.Nat.{ℕ}
 use lib.ListN.{drop}

@@ -1,12 +1,10 @@
 -- All that demand 3 reads of an event: what a taken call asks for, and what its replies say. Assumes nothing.
-use mathlib.Core.Bool.{Bool, true, false, not, _&&_, _||_}
+use mathlib.Core.Bool.{Bool, true, not, _&&_, _||_}
 use mathlib.Core.List.{List, [], _∷_}
-use Prim.Native.Nat.{ℕ, zero, suc, _+_}
-use lib.Dec.{eqb, ltb}
+use Prim.Native.Nat.{ℕ, _+_}
+use lib.Dec.{eqb}
 use lib.ListN.{length}
-use Rattle.bits.specs.Pick.{pick}
 use Rattle.bits.specs.Bit.{bitIn}
-use Rattle.frames.specs.declared.shapes.DevReg.{DevReg}
 use Rattle.frames.specs.declared.shapes.SetBits.{SetBits}
 use Rattle.frames.specs.declared.shapes.DmaSetup.{DmaSetup}
 use Rattle.frames.specs.declared.shapes.Frame.{Frame}

@@ -1,6 +1,6 @@
 -- The state against the history: what the device keeps is what its calls, refusals and reply bytes tell. Assumes nothing.
 use mathlib.Core.Path.{_≡_}
-use mathlib.Core.Bool.{Bool, false}
+use mathlib.Core.Bool.{false}
 use mathlib.Core.List.{List, map}
 use Prim.Native.Nat.{ℕ, _≤_, _<_}
 use lib.Count.{ones}
