@@ -18,3 +18,6 @@ pub mod Table
 pub mod Strays
 pub mod Widths
 pub mod Owners
+pub mod Placed
+pub mod Kept
+pub mod Contents

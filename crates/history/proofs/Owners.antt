@@ -10,7 +10,6 @@ use borrow.Author.Tests.{eqb-true, eqb-false, eq-eqb, ne-eqb}
 use Rattle.bits.specs.Pick.{pick}
 use Rattle.bits.specs.Bit.{bitIn}
 use Rattle.bits.proofs.Picks.{tested}
-use Rattle.states.specs.declared.shapes.Entry.{Entry}
 use Rattle.device.specs.declared.state.Device.{Device}
 use Rattle.device.proofs.Tags.{busy-below}
 use Rattle.device.proofs.Never.{and-never}
