@@ -5,14 +5,13 @@ use Prim.Native.Nat.{ℕ}
 use lib.ListN.{length}
 use Rattle.states.specs.declared.shapes.Settings.{Settings}
 use Rattle.rules.specs.Taking.{keptIn}
-use Rattle.device.specs.Device.{powerOn}
 use Rattle.device.specs.Step.{Step, Answered}
 use Rattle.device.specs.Reset.{comresetStep}
 use Rattle.device.specs.Calls.{hostAct, hostStep, openStep, sendStep, finishStep, mediaStep}
 use Rattle.device.specs.declared.state.Device.{Device}
 use Rattle.device.specs.declared.state.Outcome.{Outcome}
 use Rattle.history.specs.Calls.{Call, hostFrame, openPhase, sendData, finishTags, mediaError, linkEvent, comReset, Event}
-use Rattle.history.specs.Run.{Lent, Gave, AllowedFor, Allowed, gives, resultFor, result, Done, done, event, Run, run, runFrom, history, Follows, newestFirst, final, lents, historyOf}
+use Rattle.history.specs.Run.{Lent, Gave, AllowedFor, Allowed, gives, resultFor, result, Done, done, event, Run, run, runFrom, history, Follows, newestFirst, final, lents, historyOf, Began}
 
 same-gave : {d d′ : Device} {n n′ l l′ : ℕ} {m m′ b b′ : List ℕ} → d ≡ d′ → n ≡ n′ → l ≡ l′ → m ≡ m′ → b ≡ b′
     → _≡_ {A = Gave} (record { outcome = record { state = d; refusal = n; len = l }; medium = m; buffer = b }) (record { outcome = record { state = d′; refusal = n′; len = l′ }; medium = m′; buffer = b′ })
@@ -45,11 +44,6 @@ follows-run [] d h f = refl
 follows-run (x ∷ xs) d h f =
     let e : x .gave ≡ result d (x .lent) = only d (x .lent) (x .gave) (f .0) in
     ap (λ (g : Gave). run (g .outcome .state) (done (x .lent) g ∷ h) (lents xs)) (sym e) ∙ follows-run xs (x .gave .outcome .state) (x ∷ h) (f .1)
-
--- from power-on: its outcome as the contract allows it, and a sequence from the state that it returned
-pub record Began (s : Settings) (r : Outcome) (xs : List Done) : Type 0 where
-  pub power : r ≡ powerOn s
-  pub follows : Follows (r .state) xs
 
 module _ (s : Settings) (r : Outcome) (xs : List Done) (b : Began s r xs) where
   -- it is the run from power-on

@@ -35,8 +35,8 @@ pub replies-read : (d : Device) (a : Lent) → Typed (a .call) → Wide d → Re
 replies-read d a t w = replies-call d (a .medium) (a .buffer) (a .call) t w
 
 -- every page 11h ever sent gives, for each kept row, its events since the last zeroing, held at the top, and absent for every other number
-pub counters-true : (s : Settings) (as′ : List Lent) → AllTyped as′ → Counters (s .mask) (history s as′)
-counters-true s as′ t = counters-run Wide wide-step replies-read s as′ (wide-start s) t
+pub counters-tell : (s : Settings) (as′ : List Lent) → AllTyped as′ → Counters (s .mask) (history s as′)
+counters-tell s as′ t = counters-run Wide wide-step replies-read s as′ (wide-start s) t
 
 -- and so do the counters that the state holds
 pub counting-true : (s : Settings) (as′ : List Lent) → AllTyped as′ → Counting (runFrom s as′ .state) (history s as′)

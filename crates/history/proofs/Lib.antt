@@ -17,6 +17,10 @@ pub mod Flowing
 pub mod Moving
 pub mod Table
 pub mod Strays
+pub mod Owners
+pub mod Placed
+pub mod Kept
+pub mod Contents
 pub mod Tally
 pub mod Impact
 pub mod Hearing
@@ -32,3 +36,4 @@ pub mod Soundness
 pub mod Runs
 pub mod Told
 pub mod Contracts
+pub mod Demand3

@@ -17,13 +17,14 @@ use Rattle.device.proofs.Opens.{ones-most}
 use Rattle.history.specs.Calls.{Event}
 use Rattle.history.specs.Seen.{seen}
 use Rattle.history.specs.Fates.{total}
-use Rattle.history.specs.Demand3.{Fates, Sactive, Waiting, Depth}
-use Rattle.history.specs.Run.{Lent, Done, done, event, result, AllTyped, run, runFrom, history}
+use Rattle.history.specs.Demand3.{Fates, Ranges, Contents, Sactive, Waiting, Depth}
+use Rattle.history.specs.Run.{Lent, Done, done, event, result, Typed, AllTyped, run, runFrom, history}
 use Rattle.history.proofs.Class.{Class}
 use Rattle.history.proofs.Steps.{comes}
 use Rattle.history.proofs.Fated.{AllLone, lone, lone-step, lone-none, fates}
-use Rattle.history.proofs.Core.{Inv, inv-start, keeps-seen, inv-sactive, inv-waiting, inv-total}
-use Rattle.history.proofs.Table.{Tracked, tracked-start, tracked-step}
+use Rattle.history.proofs.Core.{Inv, inv-start, keeps-seen, inv-sactive, inv-waiting, inv-total, inv-number}
+use Rattle.history.proofs.Table.{Tracked, tracked-start, tracked-step, ranges}
+use Rattle.history.proofs.Contents.{moves}
 use Rattle.history.proofs.Widths.{Wide}
 use Rattle.history.proofs.Widening.{wide-step, wide-start}
 use Rattle.history.proofs.Soundness.{Sound, sound-power, sound-step}
@@ -35,38 +36,41 @@ pub record Held (s : Settings) (d : Device) (h : List Event) : Type 0 where
   pub inv : Inv (d .flow .outstanding) (d .flow .halted) (map seen h)
   pub lone : AllLone (map seen h)
   pub tracked : Tracked d (map seen h)
+  pub contents : Contents h
 
 -- one call more
-pub held-step : (s : Settings) (d : Device) (a : Lent) (h : List Event) → AllTyped (a ∷ []) → Held s d h → Held s (result d a .outcome .state) (event (done a (result d a)) ∷ h)
-unfolding AllTyped
+pub held-step : (s : Settings) (d : Device) (a : Lent) (h : List Event) → Typed (a .call) → Held s d h → Held s (result d a .outcome .state) (event (done a (result d a)) ∷ h)
+unfolding Contents
 held-step s d a h t i =
     let d′ : Device = result d a .outcome .state in
     let x : Event = event (done a (result d a)) in
-    let c : Class d (seen x) d′ = comes d (a .call) (a .medium) (a .buffer) (t .0) (i .wide .sized) in
+    let c : Class d (seen x) d′ = comes d (a .call) (a .medium) (a .buffer) t (i .wide .sized) in
     record {
-      wide = wide-step d a (t .0) (i .wide);
-      sound = sound-step s d (a .call) (a .medium) (a .buffer) (t .0) (i .sound);
+      wide = wide-step d a t (i .wide);
+      sound = sound-step s d (a .call) (a .medium) (a .buffer) t (i .sound);
       inv = keeps-seen d d′ x (map seen h) (i .inv) c;
       lone = lone-step (seen x) (map seen h) (lone c) (i .lone);
       tracked = tracked-step d d′ (seen x) (map seen h) (i .tracked) c;
+      contents = (moves d (a .call) (a .medium) (a .buffer) (map seen h) t (i .wide .sized) (i .tracked) (inv-number (i .inv)), i .contents);
     }
 
 -- power-on
 pub held-power : (s : Settings) → Held s (powerOn s .state) []
-unfolding powerOn freshDevice
+unfolding powerOn freshDevice Contents
 held-power s = record {
   wide = wide-start s;
   sound = sound-power s;
   inv = by-test (λ (d : Device). Inv (d .flow .outstanding) (d .flow .halted) []) (eqb (powerNumber s) 0) (freshDevice s) zeroDevice (λ _. inv-start) (λ _. inv-start);
   lone = lone-none;
   tracked = tracked-start (powerOn s .state) (by-test (λ (d : Device). d .flow .phase ≡ 0) (eqb (powerNumber s) 0) (freshDevice s) zeroDevice (λ _. refl) (λ _. refl));
+  contents = tt;
 }
 
 -- a run
 pub held-run : (s : Settings) (d : Device) (h : List Done) (as′ : List Lent) → AllTyped as′ → Held s d (map event h) → Held s (run d h as′ .state) (map event (run d h as′ .calls))
 unfolding run AllTyped
 held-run s d h [] t i = i
-held-run s d h (a ∷ as′) t i = held-run s (result d a .outcome .state) (done a (result d a) ∷ h) as′ (t .1) (held-step s d a (map event h) (t .0, tt) i)
+held-run s d h (a ∷ as′) t i = held-run s (result d a .outcome .state) (done a (result d a) ∷ h) as′ (t .1) (held-step s d a (map event h) (t .0) i)
 
 -- a run from power-on
 pub held : (s : Settings) (as′ : List Lent) → AllTyped as′ → Held s (runFrom s as′ .state) (history s as′)
@@ -90,6 +94,10 @@ module _ (s : Settings) (as′ : List Lent) (t : AllTyped as′) where
   -- each accepted queued command is exactly one of the four, and once not outstanding it never changes
   pub demand3-fates : Fates (map seen (history s as′))
   demand3-fates = fates (map seen (history s as′)) (held s as′ t .lone)
+
+  -- a finished command's data frames carried each byte of its range once, in rising order, none outside, any other's a beginning of it; and each byte is the medium's
+  pub demand3-data : Ranges (map seen (history s as′)) × Contents (history s as′)
+  demand3-data = (ranges (runFrom s as′ .state) (map seen (history s as′)) (held s as′ t .tracked .commands), held s as′ t .contents)
 
   -- while no error waits to be read, SActive names exactly the outstanding tags
   pub demand3-sactive : Sactive (map seen (history s as′))

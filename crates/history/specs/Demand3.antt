@@ -88,3 +88,13 @@ Depth depth h = total h ≤ depth
 unfoldable pub Counters : ℕ → List Event → Type 0
 Counters mask [] = Unit
 Counters mask (e ∷ h) = (sends11 e ≡ true → (number : ℕ) → noNumber number ≡ false → readCounter (page e) number ≡ toldFor mask h number) × Counters mask h
+
+-- demand 3 whole, and the truth of the counters
+pub record Demand3 (deep mask : ℕ) (h : List Event) : Type 0 where
+  pub fates : Fates (map seen h)
+  pub ranges : Ranges (map seen h)
+  pub contents : Contents h
+  pub sactive : Sactive (map seen h)
+  pub waiting : Waiting (map seen h)
+  pub depth : Depth deep (map seen h)
+  pub counters : Counters mask h

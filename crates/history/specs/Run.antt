@@ -130,3 +130,8 @@ lents xs = map (λ x. x .lent) xs
 -- its history
 abbrev pub historyOf : List Done → List Event
 historyOf xs = map event (newestFirst [] xs)
+
+-- from power-on: its outcome as the contract allows it, and a sequence from the state that it returned
+pub record Began (s : Settings) (r : Outcome) (xs : List Done) : Type 0 where
+  pub power : r ≡ powerOn s
+  pub follows : Follows (r .state) xs

@@ -42,3 +42,12 @@ pub record ToldDepth (depth : ℕ) (d : Device) (h : List Event) : Type 0 where
 pub record ToldConsistent (s : Settings) (d : Device) : Type 0 where
   pub good : powerOn s .refusal ≡ 0 → contradictoryDevice d ≡ false
   pub zeros : (powerOn s .refusal ≡ 0 → ⊥) → d ≡ zeroDevice
+
+-- all of it
+pub record Told (s : Settings) (d : Device) (h : List Event) : Type 0 where
+  pub outstanding : ToldOutstanding d h
+  pub waits : ToldWaits d h
+  pub counters : ToldCounters d h
+  pub asked : ToldAsked (s .mask) d h
+  pub depth : ToldDepth (s .depth) d h
+  pub consistent : ToldConsistent s d
