@@ -17,3 +17,4 @@ pub mod Moving
 pub mod Table
 pub mod Strays
 pub mod Widths
+pub mod NotEmpty

@@ -8,3 +8,4 @@ pub mod Carried
 pub mod Counted
 pub mod Demand3
 pub mod Run
+pub mod Example
