@@ -57,7 +57,7 @@ bytes [] h i = omega arith
 bytes (x ∷ l) h zero = ltb-true x 256 (and-left (ltb x 256) (small l) h)
 bytes (x ∷ l) h (suc k) = bytes l (and-right (ltb x 256) (small l) h) k
 
--- a call's arguments are of their types
+-- a call's arguments are of their types, as a test
 fine : Call → Bool
 fine (hostFrame f) = small f
 fine (openPhase t) = true
@@ -67,6 +67,7 @@ fine (mediaError t e s) = ltb e 256
 fine (linkEvent r) = true
 fine comReset = true
 
+-- where the test holds, they are
 fine-typed : (c : Call) → fine c ≡ true → Typed c
 unfolding fine
 fine-typed (hostFrame f) h = bytes f h
@@ -77,17 +78,18 @@ fine-typed (mediaError t e s) h = ltb-true e 256 h
 fine-typed (linkEvent r) h = tt
 fine-typed comReset h = tt
 
--- so are those of every call of a list
+-- the same test of every call of a list
 allFine : List Lent → Bool
 allFine [] = true
 allFine (a ∷ l) = fine (a .call) && allFine l
 
+-- where it holds, all of them are
 all-typed : (l : List Lent) → allFine l ≡ true → AllTyped l
 unfolding allFine AllTyped
 all-typed [] h = tt
 all-typed (a ∷ l) h = (fine-typed (a .call) (and-left (fine (a .call)) (allFine l) h), all-typed l (and-right (fine (a .call)) (allFine l) h))
 
--- and of the run
+-- those of the run are
 typed : AllTyped calls
 unfolding allFine fine small
 typed = all-typed calls refl

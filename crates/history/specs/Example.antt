@@ -108,6 +108,7 @@ pub record Line : Type 0 where
   pub waiting : Bool
   pub fates : List Four
 
+-- a reply of a kind and a length
 abbrev pub reply : ℕ → ℕ → Reply
 reply k n = record { kind = k; long = n }
 
@@ -134,6 +135,7 @@ unfoldable pub linesOf : List Event → List Line
 linesOf [] = []
 linesOf (e ∷ h) = linesOf h ++ (lineOf e (map seen (e ∷ h)) ∷ [])
 
+-- a line of what stands in it
 abbrev pub line : ℕ → List Reply → List ℕ → Bool → List Four → Line
 line n rs ts w fs = record { refusal = n; replies = rs; active = ts; waiting = w; fates = fs }
 
