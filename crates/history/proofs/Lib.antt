@@ -31,9 +31,9 @@ pub mod Widths
 pub mod Widening
 pub mod Counters
 pub mod Asked11
-pub mod Sample
 pub mod Soundness
 pub mod Runs
 pub mod Told
 pub mod Contracts
 pub mod Demand3
+pub mod NotEmpty

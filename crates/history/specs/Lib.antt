@@ -9,3 +9,4 @@ pub mod Counted
 pub mod Demand3
 pub mod Run
 pub mod Told
+pub mod Example

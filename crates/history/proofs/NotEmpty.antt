@@ -1,0 +1,117 @@
+-- The theorems over every run are not empty: a run in which all that they speak of comes up, computed by the definitions. Assumes nothing.
+use mathlib.Core.Path.{_≡_, refl}
+use mathlib.Core.Bool.{Bool, true, _&&_}
+use mathlib.Core.List.{List, [], _∷_}
+use Prim.Native.Nat.{ℕ, zero, suc, _^_}
+use native.Mathlib.Omega.{arith}
+use lib.Dec.{ltb}
+use borrow.Author.Tests.{ltb-true}
+use Rattle.bits.specs.Little.{Bytes}
+use Rattle.bits.proofs.Picks.{and-left, and-right}
+use Rattle.history.specs.Calls.{Call, hostFrame, openPhase, sendData, finishTags, mediaError, linkEvent, comReset}
+use Rattle.bits.specs.First.{firstOf}
+use Rattle.bits.specs.Laid.{over}
+use Rattle.bits.specs.Pick.{pick}
+use Rattle.wire.specs.Cut.{joined, cut, cutTo, pieceOf}
+use Rattle.wire.specs.Piece.{registerBytes}
+use Rattle.wire.specs.Size.{readable, fixedSize}
+use Rattle.frames.specs.Read.{readFrame, byKind}
+use Rattle.frames.specs.Write.{fits, encode, setupBytes, bitsBytes}
+use Rattle.pages.specs.Entries.{entries, entriesFrom, idAt, howMany as entriesSo, someOf}
+use Rattle.pages.specs.Made11.{page11, openTo, rowsTo, rowBytes}
+use Rattle.pages.specs.Page10.{fits10, page10}
+use Rattle.pages.specs.Page11.{readCounter, damaged, valueIn}
+use Rattle.pages.specs.Rows.{ids, rowOf, rowFrom}
+use Rattle.pages.specs.Sum.{sealed, sum256, sumTo}
+use Rattle.states.specs.Clauses.{contradictory, flowBad, settingsOut, recordBad, rowsBad, tableBad, entryBad, busyBad, idleBad}
+use Rattle.states.specs.State.{echoOf, taskIn}
+use Rattle.states.specs.Table.{someBelow, placed, tab, cleared}
+use Rattle.rules.specs.Decide.{decideOf, kindAct, registerAct, queuedAct, otherAct, logPage, dataAct}
+use Rattle.rules.specs.Events.{openAct, decided, mediaAct, failing, finishAct, someUnready, sendAct}
+use Rattle.rules.specs.Facts.{moveOf, advancedOf}
+use Rattle.rules.specs.Taking.{numberOf, spanOf, keptIn, stored}
+use Rattle.replies.specs.Replies.{sentAll, sentBytes, repliesOf}
+use Rattle.device.specs.After.{afterOf, zeroedIf, resetHeld, movedBy, unhalted, finishedBy, failedBy, haltWith, released, openedFor, acceptedBy}
+use Rattle.device.specs.Calls.{hostAct, openTag, openOf, mediaOf, finishOf, sendOf}
+use Rattle.device.specs.Device.{contradictoryDevice, powerOn, freshDevice}
+use Rattle.device.specs.Events.{withValue}
+use Rattle.device.specs.Reset.{comresetStep, renewed}
+use Rattle.history.specs.Carried.{carriedAt, span, flow}
+use Rattle.history.specs.Counted.{countedIn}
+use Rattle.history.specs.Example.{story, tagsFrom, linesOf, calls, Shown}
+use Rattle.history.specs.Fates.{commands, outstandingAt, finishedAt, givenUpAt, droppedAt, total, totalWith, howMany}
+use Rattle.history.specs.Replied.{collect, some, payloads}
+use Rattle.history.specs.Run.{run, Lent, Typed, AllTyped}
+use Rattle.history.specs.Seen.{seen, begun}
+use Rattle.history.specs.Waits.{waits, sactive, before, since}
+
+-- each of a list is a byte
+small : List ℕ → Bool
+small [] = true
+small (x ∷ l) = ltb x 256 && small l
+
+-- so it is a list of bytes
+bytes : (l : List ℕ) → small l ≡ true → Bytes l
+unfolding small
+bytes [] h i = omega arith
+bytes (x ∷ l) h zero = ltb-true x 256 (and-left (ltb x 256) (small l) h)
+bytes (x ∷ l) h (suc k) = bytes l (and-right (ltb x 256) (small l) h) k
+
+-- a call's arguments are of their types, as a test
+fine : Call → Bool
+fine (hostFrame f) = small f
+fine (openPhase t) = true
+fine sendData = true
+fine (finishTags s) = ltb s (2 ^ 32)
+fine (mediaError t e s) = ltb e 256
+fine (linkEvent r) = true
+fine comReset = true
+
+-- where the test holds, they are
+fine-typed : (c : Call) → fine c ≡ true → Typed c
+unfolding fine
+fine-typed (hostFrame f) h = bytes f h
+fine-typed (openPhase t) h = tt
+fine-typed sendData h = tt
+fine-typed (finishTags s) h = ltb-true s (2 ^ 32) h
+fine-typed (mediaError t e s) h = ltb-true e 256 h
+fine-typed (linkEvent r) h = tt
+fine-typed comReset h = tt
+
+-- the same test of every call of a list
+allFine : List Lent → Bool
+allFine [] = true
+allFine (a ∷ l) = fine (a .call) && allFine l
+
+-- where it holds, all of them are
+all-typed : (l : List Lent) → allFine l ≡ true → AllTyped l
+unfolding allFine AllTyped
+all-typed [] h = tt
+all-typed (a ∷ l) h = (fine-typed (a .call) (and-left (fine (a .call)) (allFine l) h), all-typed l (and-right (fine (a .call)) (allFine l) h))
+
+-- those of the run are
+typed : AllTyped calls
+unfolding allFine fine small
+typed = all-typed calls refl
+
+-- the run: all four fates, an error that waits and is read, a tag used three times, a page that shows counters
+pub not-empty : Shown
+unfolding firstOf over pick joined cut cutTo pieceOf registerBytes readable fixedSize readFrame byKind fits encode setupBytes bitsBytes entries entriesFrom idAt entriesSo someOf page11 openTo rowsTo rowBytes fits10 page10 readCounter damaged valueIn ids rowOf rowFrom sealed sum256 sumTo contradictory flowBad settingsOut recordBad rowsBad tableBad entryBad busyBad idleBad echoOf taskIn someBelow placed tab cleared decideOf kindAct registerAct queuedAct otherAct logPage dataAct openAct decided mediaAct failing finishAct someUnready sendAct moveOf advancedOf numberOf spanOf keptIn stored sentAll sentBytes repliesOf afterOf zeroedIf resetHeld movedBy unhalted finishedBy failedBy haltWith released openedFor acceptedBy hostAct openTag openOf mediaOf finishOf sendOf contradictoryDevice powerOn freshDevice withValue comresetStep renewed carriedAt span flow countedIn story tagsFrom linesOf commands outstandingAt finishedAt givenUpAt droppedAt total totalWith howMany collect some payloads run seen begun waits sactive before since
+not-empty = record {
+  powered = refl;
+  typed = typed;
+  lines = refl;
+  tags = refl;
+  both = refl;
+  ranges = refl;
+  reading = refl;
+  writing = refl;
+  read = refl;
+  written = refl;
+  stored = refl;
+  blamed = refl;
+  bad = refl;
+  paged = refl;
+  shows = refl;
+  tells = refl;
+}
