@@ -10,7 +10,7 @@ use borrow.Author.Tests.{ltb-true}
 use Rattle.bits.specs.Pick.{pick}
 use Rattle.bits.proofs.Picks.{tested, pick-yes, pick-no}
 use Rattle.history.specs.Seen.{Seen, errs, accepts}
-use Rattle.history.specs.Fates.{Command, later, commands, tagOf, outstandingAt, givenUpAt, outstanding, givenUp, one, howMany, All, total, totalWith}
+use Rattle.history.specs.Fates.{Command, later, commands, ownTag, outstandingAt, givenUpAt, outstanding, givenUp, one, howMany, All, total, totalWith}
 use Rattle.history.specs.Waits.{waits, raises, before, since, givenUpThere}
 use Rattle.history.proofs.Commands.{many-pick}
 
@@ -140,7 +140,7 @@ all-since P (e ∷ x) h a = all-since (λ c. P (later e c)) x h (all-back P e (x
 
 -- given up, with tag t
 abbrev pub isUp : ℕ → Command → Bool
-isUp t c = eqb (tagOf c) t && givenUp c
+isUp t c = eqb (ownTag c) t && givenUp c
 
 -- as many are so, or more, where each that was so is so
 many-le : (p q : Command → Bool) (f : Command → Command) → ((c : Command) → p c ≡ true → q (f c) ≡ true) → (cs : List Command)
@@ -168,7 +168,7 @@ up-on t e h =
       arith,
       many-event (isUp t) e h,
       many-le (isUp t) (isUp t) (later e)
-          (λ c x. go (eqb (tagOf c) t) (givenUp c) (outstanding c && errs e) x) (commands h),
+          (λ c x. go (eqb (ownTag c) t) (givenUp c) (outstanding c && errs e) x) (commands h),
     )
   where
     go : (a g b : Bool) → a && g ≡ true → a && (g || b) ≡ true
@@ -183,8 +183,8 @@ up-at t e h r =
     omega (
       arith,
       many-event (isUp t) e h,
-      many-le (λ c. eqb (tagOf c) t && outstanding c) (isUp t) (later e)
-          (λ c x. go (eqb (tagOf c) t) (givenUp c) (outstanding c) (errs e) r x) (commands h),
+      many-le (λ c. eqb (ownTag c) t && outstanding c) (isUp t) (later e)
+          (λ c x. go (eqb (ownTag c) t) (givenUp c) (outstanding c) (errs e) r x) (commands h),
     )
   where
     go : (a g o b : Bool) → b ≡ true → a && o ≡ true → a && (g || (o && b)) ≡ true

@@ -110,11 +110,11 @@ pub data Class (d : Device) (e : Seen) (d′ : Device) : Type 0 where
   again : (q : Bool) → Is e q false true false false false none none 0 0 → Unbegun e → d .flow .halted ≡ true → d .flow .outstanding ≡ 0 → Same d d′ → Class d e d′
   -- an error answered to a command that is not queued, while nothing is outstanding
   freely : Is e false false true false false false none none 0 0 → Unbegun e → d .flow .halted ≡ false → d .flow .outstanding ≡ 0 → Same d d′ → Class d e d′
-  -- a halt: a bad answer to a queued command, or to another while something is outstanding; or an A1h with ERR
-  halts : (q bad fails : Bool) → Is e q false bad fails false false none none 0 0 → d .flow .halted ≡ false
+  -- a halt: a bad answer to a queued command, or to another while something is outstanding; or an A1h with ERR, which answers no queued command
+  halts : (q bad fails : Bool) → Is e q false bad fails false false none none 0 0 → Unbegun e → (q ≡ true → fails ≡ false) → d .flow .halted ≡ false
       → (bad && (q || not (eqb (d .flow .outstanding) 0))) || fails ≡ true → Emptied true d d′ → Class d e d′
   -- SRST, COMRESET
-  resets : Is e false false false false true false none none 0 0 → Emptied false d d′ → Class d e d′
+  resets : Is e false false false false true false none none 0 0 → Unbegun e → Emptied false d d′ → Class d e d′
   -- the sweep clears every bit, and the halt ends
   sweeps : (clears : ℕ → Bool) → ((t : ℕ) → t < 32 → clears t ≡ true) → Is e false false false false false true none clears 0 0 → Unbegun e
       → d .flow .halted ≡ true → d .flow .outstanding ≡ 0 → d .flow .phase ≡ 0 → Emptied false d d′ → Class d e d′

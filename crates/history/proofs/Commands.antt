@@ -11,23 +11,23 @@ use borrow.Author.Tests.{eqb-true, eqb-false, eq-eqb, ne-eqb}
 use Rattle.bits.specs.Pick.{pick}
 use Rattle.bits.proofs.Picks.{tested, by-test}
 use Rattle.history.specs.Seen.{Seen, accepts}
-use Rattle.history.specs.Fates.{Command, later, commands, tagOf, ends, outstandingAt, outstanding, one, howMany, All, total, totalWith}
+use Rattle.history.specs.Fates.{Command, later, commands, ownTag, ends, outstandingAt, outstanding, one, howMany, All, total, totalWith}
 use Rattle.history.proofs.Alls.{all-step}
 
 -- ---- how many are outstanding with a tag
 
 -- a command is outstanding with tag t
 abbrev isOut : ℕ → Command → Bool
-isOut t c = eqb (tagOf c) t && outstanding c
+isOut t c = eqb (ownTag c) t && outstanding c
 
 -- an event that ends tag t leaves none of that tag outstanding, any other leaves all: of one command more
 out-one : (t : ℕ) (e : Seen) (c : Command) (n : ℕ) → one (isOut t (later e c)) + pick (ends t e) 0 n ≡ pick (ends t e) 0 (one (isOut t c) + n)
 unfolding pick outstandingAt
 out-one t e c n =
     ⊎-elim
-    (λ (x : eqb (tagOf c) t ≡ true). rw (x, eqb-true (tagOf c) t x) (go (outstandingAt t (c .after)) (ends t e)))
-    (λ (x : eqb (tagOf c) t ≡ false). rw x (none (ends t e)))
-    (tested (eqb (tagOf c) t))
+    (λ (x : eqb (ownTag c) t ≡ true). rw (x, eqb-true (ownTag c) t x) (go (outstandingAt t (c .after)) (ends t e)))
+    (λ (x : eqb (ownTag c) t ≡ false). rw x (none (ends t e)))
+    (tested (eqb (ownTag c) t))
   where
     go : (o d : Bool) → _≡_ {A = ℕ} (one (o && not d) + pick d 0 n) (pick d 0 (one o + n))
     go true true = refl
@@ -117,16 +117,16 @@ sum-one (suc u) b (suc k) l =
 -- ---- all that are outstanding, tag by tag
 
 -- of a list of commands
-many-sum : (k : ℕ) (cs : List Command) → All (λ c. tagOf c < k) cs → howMany outstanding cs ≡ sumTo (λ t. howMany (isOut t) cs) k
+many-sum : (k : ℕ) (cs : List Command) → All (λ c. ownTag c < k) cs → howMany outstanding cs ≡ sumTo (λ t. howMany (isOut t) cs) k
 unfolding howMany All
 many-sum k [] a = sym (sum-none k)
 many-sum k (c ∷ cs) a =
-    ap₂ (λ (x y : ℕ). x + y) (sym (sum-one (tagOf c) (outstanding c) k (a .0))) (many-sum k cs (a .1))
+    ap₂ (λ (x y : ℕ). x + y) (sym (sum-one (ownTag c) (outstanding c) k (a .0))) (many-sum k cs (a .1))
     ∙ sym (sum-add (λ t. one (isOut t c)) (λ t. howMany (isOut t) cs) k)
 
 -- every command's tag is below a bound
 abbrev pub TagsBelow : ℕ → List Seen → Type 0
-TagsBelow k h = All (λ c. tagOf c < k) (commands h)
+TagsBelow k h = All (λ c. ownTag c < k) (commands h)
 
 -- how many are outstanding is the sum over the tags
 pub total-sum : (k : ℕ) (h : List Seen) → TagsBelow k h → total h ≡ sumTo (λ t. totalWith t h) k
@@ -135,7 +135,7 @@ total-sum k h a = many-sum k (commands h) a
 
 -- the tags of a history and one more event are below the bound, where that of the command that it accepts is
 pub tags-step : (k : ℕ) (e : Seen) (h : List Seen) → (accepts e ≡ true → e .asks .tag < k) → TagsBelow k h → TagsBelow k (e ∷ h)
-tags-step k e h new a = all-step (λ c. tagOf c < k) (λ c. tagOf c < k) e h new (λ c l. l) a
+tags-step k e h new a = all-step (λ c. ownTag c < k) (λ c. ownTag c < k) e h new (λ c l. l) a
 
 -- of no events
 pub tags-none : (k : ℕ) → TagsBelow k []

@@ -23,9 +23,9 @@ use Rattle.history.specs.Calls.{Call, hostFrame, openPhase, sendData, fi
 use Rattle.history.specs.Asked.{brought}
 use Rattle.history.specs.Replied.{sent}
 use Rattle.history.specs.Seen.{Seen, seen}
-use Rattle.history.specs.Fates.{Command, commands, tagOf, outstanding, one, totalWith}
+use Rattle.history.specs.Fates.{Command, commands, ownTag, outstanding, one, totalWith}
 use Rattle.history.specs.Carried.{flow, base}
-use Rattle.history.specs.Demand3.{Moved, MovedOf, Moves}
+use Rattle.history.specs.Demand3.{Moved, MovedOf, Reaches, Moves}
 use Rattle.history.specs.Run.{Typed, gives, resultFor, done, event}
 use Rattle.history.proofs.Views.{sentIn}
 use Rattle.history.proofs.Frames.{read-step, read-sent, always-host, always-open, always-send, always-finish, always-media, always-comreset}
@@ -90,7 +90,7 @@ placed d comReset m b t s =
 -- data at the place of the open phase are those of the command to which they belong, at its next byte
 command-moved : (d : Device) (x : Event) (t : ℕ) (c : Command) → Placed x (placeOf (entryAt d t)) → Standing d c → MovedOf x c (flowFor (entryAt d t) t)
 command-moved d x t c p s b =
-    let e : t ≡ tagOf c = eqb-true t (tagOf c) (and-left (eqb t (tagOf c)) (pick (c .accepted .asks .write) (not (not (entryAt d t .write))) (not (entryAt d t .write))) b) in
+    let e : t ≡ ownTag c = eqb-true t (ownTag c) (and-left (eqb t (ownTag c)) (pick (c .accepted .asks .write) (not (not (entryAt d t .write))) (not (entryAt d t .write))) b) in
     let first : entryAt d t .first ≡ c .accepted .asks .first = ap (λ (u : ℕ). entryAt d u .first) e ∙ s .first in
     let at : base c + 512 * entryAt d t .moved ≡ placeOf (entryAt d t) = omega arith in
     subst⁻¹ (Moved x (not (entryAt d t .write))) at (record { read = λ _. p .sends; written = λ _. p .keeps })
@@ -103,6 +103,19 @@ each-moved d x c p f o = subst⁻¹ (MovedOf x c) (f .under) (go (d .flow .phase
     go zero e = subst⁻¹ (MovedOf x c) (flow-shut d e) tt
     go (suc t) e = let q = e ∙ sym (add-one t) in subst⁻¹ (MovedOf x c) (flow-open d t q) (command-moved d x t c (subst (Placed x) (phase-place d t q) p) (f .stands o))
 
+-- the Setup of the open phase reaches to the end of its command's range
+command-reaches : (d : Device) (t : ℕ) (c : Command) → Standing d c → Reaches c (flowFor (entryAt d t) t)
+command-reaches d t c s b =
+    let e : t ≡ ownTag c = eqb-true t (ownTag c) (and-left (eqb t (ownTag c)) (pick (c .accepted .asks .write) (not (not (entryAt d t .write))) (not (entryAt d t .write))) b) in
+    ap (λ (n : ℕ). 512 * n) (ap (λ (u : ℕ). entryAt d u .count) e ∙ s .count)
+
+each-reaches : (d : Device) (c : Command) → Following d c → outstanding c ≡ true → Reaches c (flow (c .after))
+each-reaches d c f o = subst⁻¹ (Reaches c) (f .under) (go (d .flow .phase) refl)
+  where
+    go : (k : ℕ) → d .flow .phase ≡ k → Reaches c (flowOf d)
+    go zero e = subst⁻¹ (Reaches c) (flow-shut d e) tt
+    go (suc t) e = subst⁻¹ (Reaches c) (flow-open d t (e ∙ sym (add-one t))) (command-reaches d t c (f .stands o))
+
 -- one call after a history that the state follows
 pub moves : (d : Device) (c : Call) (m b : List ℕ) (h : List Seen) → Typed c → SizedRecord d → Tracked d h
     → ((t : ℕ) → t < 32 → totalWith t h ≡ one (bitIn 32 (d .flow .outstanding) t)) → Moves (event (done (lend c m b) (resultFor d m b c))) h
@@ -113,6 +126,7 @@ moves d c m b h t s i counts =
       due = due d (resultFor d m b c .outcome .state) (seen x) h (i .under) (comes d c m b t s);
       owned = owned d h i counts;
       since = flow-since d h i;
+      reaches = all-imp (Following d) _ (λ y f. each-reaches d y f) (commands h) (i .commands);
       each = all-imp (Following d) _ (λ y f. each-moved d x y p f) (commands h) (i .commands);
       untouched = left-same (placeOf (phaseEntry d)) m (x .left) (brought x) (p .keeps);
     }

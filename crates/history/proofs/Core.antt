@@ -15,15 +15,14 @@ use Rattle.bits.specs.Bit.{bitIn, withBitIn, clearIn}
 use Rattle.bits.proofs.Picks.{tested}
 use Rattle.device.proofs.Tags.{bit-with, bit-without}
 use Rattle.device.specs.declared.state.Device.{Device}
-use Rattle.history.specs.Calls.{Event}
-use Rattle.history.specs.Seen.{Seen, seen, accepts}
+use Rattle.history.specs.Seen.{Seen, accepts}
 use Rattle.history.specs.Fates.{one, total, totalWith}
 use Rattle.history.specs.Waits.{sactive, waits, givenUpThere, badSince}
 use Rattle.history.specs.Demand3.{Sactive, Waiting}
 use Rattle.history.proofs.Class as kinds
 use Rattle.history.proofs.Class.{Class, Is, none}
 use Rattle.history.proofs.Commands.{TagsBelow, tags-step, tags-none, with-none}
-use Rattle.history.proofs.CoreSteps.{waits-is, sactive-is, number-is, asked-is, blamed, blamed-on, blamed-new, Aimed, aimed, ones-some, total-ones}
+use Rattle.history.proofs.CoreSteps.{waits-is, sactive-is, number-is, asked-is, blamed, blamed-on, blamed-new, ones-some, total-ones}
 use Rattle.history.proofs.Sets.{no-bit}
 
 -- k is the set outstanding, `halted` says whether the device is halted, h is what was seen
@@ -169,7 +168,7 @@ module _ {k : ℕ} {b : Bool} {h : List Seen} (v : Inv k b h) {e : Seen} where
   }
 
   -- a halt
-  keep-halts : {q ba fa : Bool} → Is e q false ba fa false false none none 0 0 → Aimed e → b ≡ false → (ba && (q || not (eqb k 0))) || fa ≡ true → Inv 0 true (e ∷ h)
+  keep-halts : {q ba fa : Bool} → Is e q false ba fa false false none none 0 0 → (q ≡ true → fa ≡ false) → b ≡ false → (ba && (q || not (eqb k 0))) || fa ≡ true → Inv 0 true (e ∷ h)
   unfolding pick
   keep-halts {q} {ba} {fa} i a x c =
       let bad : ba || fa ≡ true = or-both ba (q || not (eqb k 0)) fa c in
@@ -182,14 +181,10 @@ module _ {k : ℕ} {b : Bool} {h : List Seen} (v : Inv k b h) {e : Seen} where
         stop = λ _. (
           refl,
           λ t u. sactive-is h i t ∙ ap (λ (s : Bool). ((q && eqb (e .asks .tag) t) || s) && true) (v .calm x t u)
-              ∙ halt-test q (eqb (e .asks .tag) t) (bitIn 32 k t) ba fa not-both bad
+              ∙ halt-test q (eqb (e .asks .tag) t) (bitIn 32 k t) ba fa a bad
               ∙ sym (blamed-new t e h (v .waiting ∙ x) ∙ ap₂ (λ (n : ℕ) (s : Bool). ltb 0 n || (s || false)) (v .number t u) (asked-is h i t)),
         );
       }
-    where
-      not-both : q ≡ true → fa ≡ false
-      not-both y =
-          ⊎-elim (λ (z : fa ≡ true). absurd (true≢false (sym (a (i .queued ∙ y) (i .fails ∙ z)) ∙ i .sweeps))) (λ (z : fa ≡ false). z) (tested fa)
 
   -- SRST, COMRESET
   keep-resets : Is e false false false false true false none none 0 0 → Inv 0 false (e ∷ h)
@@ -255,23 +250,18 @@ module _ {k : ℕ} {b : Bool} {h : List Seen} (v : Inv k b h) {e : Seen} where
   }
 
 -- every kind of effect keeps it
-pub keeps : (d d′ : Device) (e : Seen) (h : List Seen) → Inv (d .flow .outstanding) (d .flow .halted) h → Aimed e → Class d e d′
+pub keeps : (d d′ : Device) (e : Seen) (h : List Seen) → Inv (d .flow .outstanding) (d .flow .halted) h → Class d e d′
     → Inv (d′ .flow .outstanding) (d′ .flow .halted) (e ∷ h)
-keeps d d′ e h v a (kinds.plain i u s) = rw (s .outstanding, s .halted) (keep-plain v i)
-keeps d d′ e h v a (kinds.again q i u x z s) = rw (s .outstanding, s .halted) (keep-again v i x)
-keeps d d′ e h v a (kinds.freely i u x z s) = rw (s .outstanding, s .halted) (keep-freely v i x z)
-keeps d d′ e h v a (kinds.halts q ba fa i x c s) = rw (s .outstanding, s .halted) (keep-halts v i a x c)
-keeps d d′ e h v a (kinds.resets i s) = rw (s .outstanding, s .halted) (keep-resets v i)
-keeps d d′ e h v a (kinds.sweeps cl all i u x z p s) = rw (s .outstanding, s .halted) (keep-sweeps v all i x)
-keeps d d′ e h v a (kinds.takes i u s) = rw (s .outstanding, s .halted) (keep-takes v i (s .calm) (s .small) (s .free))
-keeps d d′ e h v a (kinds.opens tag i s) = rw (s .outstanding, s .halted) (keep-plain v i)
-keeps d d′ e h v a (kinds.carries tag n i u s) = rw (s .outstanding, s .halted) (keep-plain v i)
-keeps d d′ e h v a (kinds.ends set i u s) = rw (s .outstanding, s .halted) (keep-ends v set i (s .calm) (s .width))
-
--- and so do they of every event, as it is seen
-pub keeps-seen : (d d′ : Device) (x : Event) (h : List Seen) → Inv (d .flow .outstanding) (d .flow .halted) h → Class d (seen x) d′
-    → Inv (d′ .flow .outstanding) (d′ .flow .halted) (seen x ∷ h)
-keeps-seen d d′ x h v c = keeps d d′ (seen x) h v (aimed x) c
+keeps d d′ e h v (kinds.plain i u s) = rw (s .outstanding, s .halted) (keep-plain v i)
+keeps d d′ e h v (kinds.again q i u x z s) = rw (s .outstanding, s .halted) (keep-again v i x)
+keeps d d′ e h v (kinds.freely i u x z s) = rw (s .outstanding, s .halted) (keep-freely v i x z)
+keeps d d′ e h v (kinds.halts q ba fa i u a x c s) = rw (s .outstanding, s .halted) (keep-halts v i a x c)
+keeps d d′ e h v (kinds.resets i u s) = rw (s .outstanding, s .halted) (keep-resets v i)
+keeps d d′ e h v (kinds.sweeps cl all i u x z p s) = rw (s .outstanding, s .halted) (keep-sweeps v all i x)
+keeps d d′ e h v (kinds.takes i u s) = rw (s .outstanding, s .halted) (keep-takes v i (s .calm) (s .small) (s .free))
+keeps d d′ e h v (kinds.opens tag i s) = rw (s .outstanding, s .halted) (keep-plain v i)
+keeps d d′ e h v (kinds.carries tag n i u s) = rw (s .outstanding, s .halted) (keep-plain v i)
+keeps d d′ e h v (kinds.ends set i u s) = rw (s .outstanding, s .halted) (keep-ends v set i (s .calm) (s .width))
 
 -- ---- what it says
 

@@ -1,7 +1,7 @@
 -- What one more event does to SActive, to how many are outstanding and to a waiting error, by what is seen of it; and the ones of a set of tags. Assumes nothing.
 use mathlib.Core.Path.{_≡_, refl, sym, ap, ap₂, _∙_}
 use mathlib.Core.Bool.{Bool, true, false, not, _&&_, _||_}
-use mathlib.Core.List.{List, [], _∷_}
+use mathlib.Core.List.{List, _∷_}
 use mathlib.Core.Logic.{⊎-elim}
 use Prim.Native.Nat.{ℕ, zero, suc, _+_, _/_, _%_, _^_, _<_}
 use native.Mathlib.Nat.{div-one}
@@ -15,14 +15,10 @@ use borrow.Author.Tests.{eqb-true, eqb-false, lt-ltb}
 use Rattle.bits.specs.Pick.{pick}
 use Rattle.bits.specs.Bit.{bitIn}
 use Rattle.bits.proofs.Masks.{bit-lt, bit-suc}
-use Rattle.bits.proofs.Picks.{tested, by-test}
-use Rattle.frames.specs.declared.shapes.Frame.{Frame}
-use Rattle.frames.specs.declared.shapes.Frame.the-variants.{Host, Device, Bits, Setup, Activate, Data, Bist, Pio, Refused}
-use Rattle.frames.specs.Read.{readFrame}
-use Rattle.history.specs.Calls.{Call, hostFrame, openPhase, sendData, finishTags, mediaError, linkEvent, comReset, Event, taken}
-use Rattle.history.specs.Asked.{Asked, quiet, frameAsks, callAsks, asks}
-use Rattle.history.specs.Replied.{some, frames, errIn, setBitsIn, collect}
-use Rattle.history.specs.Seen.{Seen, seen}
+use Rattle.bits.proofs.Picks.{tested}
+use Rattle.history.specs.Asked.{asks}
+use Rattle.history.specs.Replied.{some}
+use Rattle.history.specs.Seen.{Seen}
 use Rattle.history.specs.Fates.{ends, one, total, totalWith}
 use Rattle.history.specs.Waits.{sactive, waits, before, since, givenUpThere, asksBad, badSince}
 use Rattle.history.proofs.Class.{Is}
@@ -65,56 +61,6 @@ blamed-on t e h w = rw w
 pub blamed-new : (t : ℕ) (e : Seen) (h : List Seen) → waits h ≡ false → blamed t (e ∷ h) ≡ ltb 0 (totalWith t h) || (asksBad t e || false)
 unfolding before since some pick
 blamed-new t e h w = rw w
-
--- ---- an A1h with ERR never answers a queued command but as the sweep
-
--- what is seen of an event never has a queued command, an A1h with ERR, and no sweep
-abbrev pub Aimed : Seen → Type 0
-Aimed e = e .asks .queued ≡ true → e .fails ≡ true → e .sweeps ≡ true
-
--- a queued command is a command
-frame-command : (f : Frame) → frameAsks f .queued ≡ true → frameAsks f .command ≡ true
-frame-command (Host h) x = go (h .«command_bit») (eqb (h .command) 0x60 || eqb (h .command) 0x61) x
-  where
-    go : (a b : Bool) → a && b ≡ true → a ≡ true
-    go true b x = refl
-    go false b x = x
-frame-command (Device f) x = x
-frame-command (Bits f) x = x
-frame-command (Setup f) x = x
-frame-command Activate x = x
-frame-command (Data n) x = x
-frame-command Bist x = x
-frame-command (Pio f) x = x
-frame-command Refused x = x
-
--- of a call
-call-command : (c : Call) → callAsks c .queued ≡ true → callAsks c .command ≡ true
-call-command (hostFrame f) x = frame-command (readFrame f) x
-call-command (openPhase t) x = x
-call-command sendData x = x
-call-command (finishTags s) x = x
-call-command (mediaError t e s) x = x
-call-command (linkEvent r) x = x
-call-command comReset x = x
-
--- of an event
-asks-command : (e : Event) → asks e .queued ≡ true → asks e .command ≡ true
-asks-command e =
-    by-test (λ (a : Asked). a .queued ≡ true → a .command ≡ true) (taken e) (callAsks (e .call)) quiet
-    (λ _. call-command (e .call)) (λ _ x. x)
-
--- if one of a list is so, the list has one
-some-any : {A : Type 0} (p : A → Bool) (xs : List A) → some p xs ≡ true → some (λ x. true) xs ≡ true
-unfolding some
-some-any p [] x = x
-some-any p (y ∷ ys) x = refl
-
--- it holds of every event
-pub aimed : (e : Event) → Aimed (seen e)
-unfolding seen
-aimed e x y =
-    ap₂ _&&_ (asks-command e x) (some-any (λ f. errIn (f .status)) (collect setBitsIn (frames e)) y)
 
 -- ---- sets of tags
 

@@ -8,8 +8,8 @@ use Rattle.history.specs.Demand3.{Demand3}
 use Rattle.history.specs.Told.{Told}
 use Rattle.history.specs.Run.{Lent, Done, AllTyped, runFrom, history, final, lents, historyOf, Began}
 use Rattle.history.proofs.Counters.{counters-tell}
-use Rattle.history.proofs.Runs.{demand3-fates, demand3-data, demand3-sactive, demand3-waiting, demand3-depth}
-use Rattle.history.proofs.Told.{told-outstanding, told-waits, told-counters, told-asked, told-depth, told-consistent}
+use Rattle.history.proofs.Runs.{demand3-fates, demand3-data, demand3-sactive, demand3-waiting, demand3-depth, demand3-single, demand3-manners}
+use Rattle.history.proofs.Told.{told-outstanding, told-waits, told-counters, told-asked, told-depth, told-count, told-consistent}
 use Rattle.history.proofs.Contracts.{for-all}
 
 -- any settings, any calls with anything lent to them, refused ones included
@@ -21,6 +21,8 @@ demand3 s as′ t = record {
   sactive = demand3-sactive s as′ t;
   waiting = demand3-waiting s as′ t;
   depth = demand3-depth s as′ t;
+  single = demand3-single s as′ t;
+  manners = demand3-manners s as′ t;
   counters = counters-tell s as′ t;
 }
 
@@ -32,6 +34,7 @@ told s as′ t = record {
   counters = told-counters s as′ t;
   asked = told-asked s as′ t;
   depth = told-depth s as′ t;
+  count = told-count s as′ t;
   consistent = told-consistent s as′ t;
 }
 

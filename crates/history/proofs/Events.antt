@@ -1,6 +1,6 @@
 -- Every taken device event comes to one of the ten kinds. Assumes nothing.
 use mathlib.Core.Path.{_≡_, refl, sym, ap, subst, _∙_}
-use mathlib.Core.Bool.{Bool, true, false, not, _||_}
+use mathlib.Core.Bool.{Bool, true, false, not, _||_, true≢false}
 use mathlib.Core.List.{List, []}
 use Prim.Native.Nat.{ℕ, _+_, _-_, _*_, _^_, _≤_, _<_}
 use native.Mathlib.Omega.{arith}
@@ -36,7 +36,7 @@ use Rattle.history.specs.Asked.{quiet, resetAsks}
 use Rattle.history.specs.Seen.{flows}
 use Rattle.history.proofs.Class.{none, Class, Same, plain, halts, resets, opens, carries, ends}
 use Rattle.history.proofs.Sets.{no-busy, no-bits}
-use Rattle.history.proofs.Views.{view, is-silent, is-finish, is-failed, is-reset, is-setup, setup-begins, is-sent, silent-unbegun, bits-unbegun, sent-unbegun}
+use Rattle.history.proofs.Views.{view, is-silent, is-finish, is-failed, is-reset, is-setup, setup-begins, is-sent, silent-unbegun, answer-unbegun, bits-unbegun, sent-unbegun}
 use Rattle.history.proofs.Changes.{same, halted-empty, busy-calm, carried-by, unmoved, cleared-other}
 
 -- an act's part of the medium, and what is seen of it
@@ -179,7 +179,7 @@ value-same d row = by-test (Same d) (leb 16 row) d _ (λ _. same d) (λ _. recor
 failed-comes : (d : Device) (f : Fault) → d .flow .halted ≡ false → Happens d [] (Media f)
 unfolding repliesOf afterOf failedBy haltWith
 failed-comes d f x =
-    halts false false true (is-failed _ refl refl) x refl (record { settings = by-test (λ (y : Device). y .settings ≡ d .settings) (bitIn 8 (f .error) 7) (withValue d 0) d (λ _. value-same d 0 .settings) (λ _. refl); outstanding = refl; phase = refl; halted = refl })
+    halts false false true (is-failed _ refl refl) (bits-unbegun quiet _) (λ q. absurd (true≢false (sym q))) x refl (record { settings = by-test (λ (y : Device). y .settings ≡ d .settings) (bitIn 8 (f .error) 7) (withValue d 0) d (λ _. value-same d 0 .settings) (λ _. refl); outstanding = refl; phase = refl; halted = refl })
 
 -- media error
 pub media-comes : (d : Device) (tag error sector room : ℕ) → mediaStep d tag error sector room .refusal ≡ 0
@@ -197,7 +197,7 @@ media-comes d tag error sector room z =
 -- COMRESET
 pub comreset-comes : (d : Device) (room : ℕ) → comresetStep d room .refusal ≡ 0 → Class d (view resetAsks (comresetStep d room .frames)) (comresetStep d room .state)
 unfolding comresetStep pick renewed resetHeld released withValue
-comreset-comes d room z = rw z (resets (is-reset _ refl) (record { settings = refl; outstanding = refl; phase = refl; halted = refl }))
+comreset-comes d room z = rw z (resets (is-reset _ refl) (answer-unbegun resetAsks _) (record { settings = refl; outstanding = refl; phase = refl; halted = refl }))
 
 -- link event
 pub link-comes : (d : Device) (row : ℕ) → Class d (view quiet []) (linkStep d row .state)

@@ -7,7 +7,7 @@ use native.Mathlib.Omega.{arith}
 use Rattle.bits.specs.Bit.{bitIn}
 use Rattle.device.specs.declared.state.Device.{Device}
 use Rattle.history.specs.Seen.{Seen, errs}
-use Rattle.history.specs.Fates.{Command, later, commands, tagOf, outstandingAt, finishedAt, givenUpAt, droppedAt, outstanding, finished, givenUp, dropped, All}
+use Rattle.history.specs.Fates.{Command, later, commands, ownTag, outstandingAt, finishedAt, givenUpAt, droppedAt, outstanding, finished, givenUp, dropped, All}
 use Rattle.history.specs.Demand3.{exactlyOne, OneFate, Settled, Fates}
 use Rattle.history.proofs.Class as kinds
 use Rattle.history.proofs.Class.{Class, Is}
@@ -45,8 +45,8 @@ pub lone : {d d′ : Device} {e : Seen} → Class d e d′ → Lone e
 lone (kinds.plain i u s) = alone i (λ t. refl)
 lone (kinds.again q i u x z s) = alone i (λ t. refl)
 lone (kinds.freely i u x z s) = alone i (λ t. refl)
-lone (kinds.halts q ba fa i x c s) = alone i (λ t. only-errs ba fa)
-lone (kinds.resets i s) = alone i (λ t. refl)
+lone (kinds.halts q ba fa i u a x c s) = alone i (λ t. only-errs ba fa)
+lone (kinds.resets i u s) = alone i (λ t. refl)
 lone (kinds.sweeps cl all i u x z p s) = alone i (λ t. refl)
 lone (kinds.takes i u s) = alone i (λ t. refl)
 lone (kinds.opens tag i s) = alone i (λ t. refl)
@@ -85,7 +85,7 @@ one-fate true false false false false false false x e = refl
 -- an event later a command still has exactly one fate
 later-fate : (e : Seen) (c : Command) → Lone e → OneFate c → OneFate (later e c)
 unfolding outstandingAt finishedAt givenUpAt droppedAt
-later-fate e c l o = one-fate (outstanding c) (finished c) (givenUp c) (dropped c) (e .finishes (tagOf c)) (errs e) (e .asks .resets) (l (tagOf c)) o
+later-fate e c l o = one-fate (outstanding c) (finished c) (givenUp c) (dropped c) (e .finishes (ownTag c)) (errs e) (e .asks .resets) (l (ownTag c)) o
 
 -- a command just accepted is outstanding
 new-fate : (e : Seen) → OneFate (record { accepted = e; after = [] })
@@ -106,7 +106,7 @@ unfolding outstandingAt finishedAt givenUpAt droppedAt
 settled c [] o = record { outstanding = o; finished = refl; givenUp = refl; dropped = refl }
 settled c (e ∷ x) o =
     let s : Settled c x = settled c x o in
-    let t : ℕ = tagOf c in
+    let t : ℕ = ownTag c in
     let n : List Seen = x ++ c .after in
     record {
       outstanding = rw (s .outstanding);

@@ -79,8 +79,8 @@ pub phased-step : (d d′ : Device) (e : Seen) → Phased d → Class d e d′ �
 phased-step d d′ e i (plain s u k) = phased-same d d′ i (k .phase) (k .outstanding)
 phased-step d d′ e i (again q s u ha o k) = phased-same d d′ i (k .phase) (k .outstanding)
 phased-step d d′ e i (freely s u ha o k) = phased-same d d′ i (k .phase) (k .outstanding)
-phased-step d d′ e i (halts q ba fa s ha w k) = phased-shut d′ (k .phase)
-phased-step d d′ e i (resets s k) = phased-shut d′ (k .phase)
+phased-step d d′ e i (halts q ba fa s u a ha w k) = phased-shut d′ (k .phase)
+phased-step d d′ e i (resets s u k) = phased-shut d′ (k .phase)
 phased-step d d′ e i (sweeps cl a s u ha o p k) = phased-shut d′ (k .phase)
 phased-step d d′ e i (takes s u k) = phased-shut d′ (k .phase ∙ k .shut)
 phased-step d d′ e i (opens tag s k) = record { busy = λ t x. ap₂ (bitIn 32) (k .outstanding) (opened-tag t tag (d′ .flow .phase) x (k .phase)) ∙ k .busy }
@@ -155,9 +155,9 @@ pub whole-flow-step : (d d′ : Device) (e : Seen) (n : List Seen) → Phased d 
 whole-flow-step d d′ e n i f (plain s u k) = flow-stays e n (closing s) u (empty-of s) ∙ f ∙ sym (flow-same d d′ k)
 whole-flow-step d d′ e n i f (again q s u ha o k) = flow-closed e n (closing s) ∙ sym (flow-shut d′ (k .phase ∙ phase-none d i o))
 whole-flow-step d d′ e n i f (freely s u ha o k) = flow-closed e n (closing s) ∙ sym (flow-shut d′ (k .phase ∙ phase-none d i o))
-whole-flow-step d d′ e n i f (halts q ba fa s ha w k) =
+whole-flow-step d d′ e n i f (halts q ba fa s u a ha w k) =
     flow-closed e n (closing s ∙ b-halt q (not (eqb (d .flow .outstanding) 0)) ba fa w) ∙ sym (flow-shut d′ (k .phase))
-whole-flow-step d d′ e n i f (resets s k) = flow-closed e n (closing s) ∙ sym (flow-shut d′ (k .phase))
+whole-flow-step d d′ e n i f (resets s u k) = flow-closed e n (closing s) ∙ sym (flow-shut d′ (k .phase))
 whole-flow-step d d′ e n i f (sweeps cl a s u ha o p k) = flow-stays e n (closing s) u (empty-of s) ∙ f ∙ flow-shut d p ∙ sym (flow-shut d′ (k .phase))
 whole-flow-step d d′ e n i f (takes s u k) = flow-stays e n (closing s) u (empty-of s) ∙ f ∙ flow-shut d (k .shut) ∙ sym (flow-shut d′ (k .phase ∙ k .shut))
 whole-flow-step d d′ e n i f (opens tag s k) =

@@ -29,7 +29,8 @@ use Rattle.rules.proofs.Leaves.{control-all, queued-all}
 use Rattle.replies.specs.Replies.{repliesOf}
 use Rattle.device.proofs.Never.{and-never}
 use Rattle.history.specs.Replied.{some, isPio}
-use Rattle.history.specs.Counted.{readsLog11, frameReads11, frameZeroes}
+use Rattle.history.specs.Logs.{readsLog, frameReads}
+use Rattle.history.specs.Counted.{frameZeroes}
 use Rattle.history.proofs.Tally.{stay, wipe, wipes, raises}
 use Rattle.history.proofs.Impact.{effectOf}
 
@@ -46,7 +47,7 @@ pub record Logs (a : Act) : Type 0 where
 pub record Hears (f : Frame) (paged : Bool) (a : Act) : Type 0 where
   pub zeroed : eqb (numberOf a) 0 && frameZeroes paged f ≡ wipes (effectOf a)
   pub rowless : (k : ℕ) → raises k (effectOf a) ≡ false
-  pub shown : paged ≡ true → frameReads11 f ≡ true → Logs a
+  pub shown : paged ≡ true → frameReads 0x11 f ≡ true → Logs a
 
 -- ---- the page that a command names
 
@@ -77,15 +78,15 @@ last-not true true c e = e
 last-not true false c e = refl
 last-not false b c e = refl
 
--- a well-formed read of page 11h is one that the history reads as such
-reads-eleven : (h : HostReg) → h .«command_bit» ≡ true → eqb (pageAsked h) 0x11 ≡ true → readsLog11 h ≡ true
-reads-eleven h c p =
-    let q = log-page 0x11 (h .command) (echoOf (h .task)) refl p in
-    let l : eqb (h .task .lba % 256) 0x11 ≡ true = ap (λ (x : ℕ). eqb x 0x11) (sym (first-byte (h .task))) ∙ q .1 in
-    both (h .«command_bit») (eqb (h .command) 0x2F && eqb (h .task .lba % 256) 0x11) c (both (eqb (h .command) 0x2F) (eqb (h .task .lba % 256) 0x11) (q .0) l)
+-- a well-formed read of a page is one that the history reads as such
+pub reads-page : (n : ℕ) (h : HostReg) → eqb 0 n ≡ false → h .«command_bit» ≡ true → eqb (pageAsked h) n ≡ true → readsLog n h ≡ true
+reads-page n h z c p =
+    let q = log-page n (h .command) (echoOf (h .task)) z p in
+    let l : eqb (h .task .lba % 256) n ≡ true = ap (λ (x : ℕ). eqb x n) (sym (first-byte (h .task))) ∙ q .1 in
+    both (h .«command_bit») (eqb (h .command) 0x2F && eqb (h .task .lba % 256) n) c (both (eqb (h .command) 0x2F) (eqb (h .task .lba % 256) n) (q .0) l)
 
 -- one of page 10h is not
-reads-ten : (h : HostReg) → eqb (pageAsked h) 0x10 ≡ true → readsLog11 h ≡ false
+reads-ten : (h : HostReg) → eqb (pageAsked h) 0x10 ≡ true → readsLog 0x11 h ≡ false
 reads-ten h p =
     let q = log-page 0x10 (h .command) (echoOf (h .task)) refl p in
     let b : h .task .lba % 256 ≡ 0x10 = sym (first-byte (h .task)) ∙ eqb-true (echoOf (h .task) .b4) 0x10 (q .1) in
@@ -130,14 +131,14 @@ module _ (r : ErrorRecord) (mask : ℕ) (values : List ℕ) where
       (λ _.
       by-test P (eqb (pageAsked h) 0x10) ten fourth
       (λ t. record {
-        zeroed = ten-zeroes (pioIn (repliesOf r mask values [] ten)) (readsLog11 h) (bitIn 8 (h .features) 0) (reads-ten h t);
+        zeroed = ten-zeroes (pioIn (repliesOf r mask values [] ten)) (readsLog 0x11 h) (bitIn 8 (h .features) 0) (reads-ten h t);
         rowless = λ k. refl;
         shown = λ _ q. absurd (false≢true (sym (reads-ten h t) ∙ q));
       })
       (λ _.
       by-test P (eqb (pageAsked h) 0x11) eleven (bad h 0x04)
       (λ t. record {
-        zeroed = eleven-zeroes (readsLog11 h) (bitIn 8 (h .features) 0) (reads-eleven h c t);
+        zeroed = eleven-zeroes (readsLog 0x11 h) (bitIn 8 (h .features) 0) (reads-page 0x11 h refl c t);
         rowless = λ k. wipe-rowless k (bitIn 8 (h .features) 0);
         shown = λ _ _. record { log = record { also = bitIn 8 (h .features) 0; task = h .task }; is = refl };
       })

@@ -74,7 +74,7 @@ module _ (d : Device) (tag : ℕ) (medium : Bool) (room : ℕ) (g : contradictor
     faulted : (nq : Bool) (t e : ℕ) → h .«command_bit» ≡ true → d .flow .halted ≡ false → k .queued || not (eqb (d .flow .outstanding) 0) ≡ true → Comes d k (fault h nq t e)
     unfolding repliesOf afterOf haltWith
     faulted nq t e c x r _ =
-        halts (k .queued) true false (is-bad k _ refl c (no-reset c) refl) x (rw r) (record { settings = refl; outstanding = refl; phase = refl; halted = refl })
+        halts (k .queued) true false (is-bad k _ refl c (no-reset c) refl) (answer-unbegun k _) (λ _. refl) x (rw r) (record { settings = refl; outstanding = refl; phase = refl; halted = refl })
 
     -- rule 4
     accepted : h .«command_bit» ≡ true → k .queued ≡ true → d .flow .halted ≡ false → d .flow .phase ≡ 0 → bitIn 32 (d .flow .outstanding) (tagAsked h) ≡ false
@@ -157,7 +157,7 @@ module _ (d : Device) (tag : ℕ) (medium : Bool) (room : ℕ) (g : contradictor
     control-comes c =
         let queued : k .queued ≡ false = rw c in
         by-test (Comes d k) (srstOf (h .control)) Reset (pick (d .flow .held) Release Nothing)
-        (λ s _. resets (subst (λ (b : Bool). Is (actSeen d k Reset) false false false false b false none none 0 0) (let r : k .resets ≡ true = rw (c, s) in r) (is-silent k queued))
+        (λ s _. resets (subst (λ (b : Bool). Is (actSeen d k Reset) false false false false b false none none 0 0) (let r : k .resets ≡ true = rw (c, s) in r) (is-silent k queued)) (silent-unbegun k)
         (record { settings = refl; outstanding = refl; phase = refl; halted = refl }))
         (λ s.
         let r : k .resets ≡ false = rw (c, s) in

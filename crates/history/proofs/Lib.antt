@@ -12,6 +12,7 @@ pub mod Fated
 pub mod CoreSteps
 pub mod Core
 pub mod Anchors
+pub mod Polite
 pub mod Spans
 pub mod Flowing
 pub mod Moving
@@ -25,6 +26,7 @@ pub mod Tally
 pub mod Impact
 pub mod Hearing
 pub mod Counts
+pub mod Said
 pub mod Pages
 pub mod Shown
 pub mod Widths
@@ -34,6 +36,9 @@ pub mod Asked11
 pub mod Soundness
 pub mod Runs
 pub mod Told
+pub mod Brings
+pub mod Mannerly
+pub mod Manners
 pub mod Contracts
 pub mod Demand3
 pub mod NotEmpty

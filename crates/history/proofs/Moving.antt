@@ -200,9 +200,9 @@ pub moving : (d d′ : Device) (e : Seen) → Class d e d′ → Moving d e d′
 moving d d′ e (K.plain s u k) = gone d d′ e (empty-of s) (s .accepted) (s .finishes) (λ t b x. kept d d′ e t (empty-of s) (k .outstanding) (k .entries) b)
 moving d d′ e (K.again q s u ha o k) = gone d d′ e (empty-of s) (s .accepted) (s .finishes) (λ t b x. never d d′ e (closing s) t x)
 moving d d′ e (K.freely s u ha o k) = gone d d′ e (empty-of s) (s .accepted) (s .finishes) (λ t b x. never d d′ e (closing s) t x)
-moving d d′ e (K.halts q ba fa s ha w k) =
+moving d d′ e (K.halts q ba fa s u a ha w k) =
     gone d d′ e (empty-of s) (s .accepted) (s .finishes) (λ t b x. never d d′ e (closing s ∙ b-halt q (not (eqb (d .flow .outstanding) 0)) ba fa w) t x)
-moving d d′ e (K.resets s k) = gone d d′ e (empty-of s) (s .accepted) (s .finishes) (λ t b x. never d d′ e (closing s) t x)
+moving d d′ e (K.resets s u k) = gone d d′ e (empty-of s) (s .accepted) (s .finishes) (λ t b x. never d d′ e (closing s) t x)
 moving d d′ e (K.sweeps cl a s u ha o p k) = gone d d′ e (empty-of s) (s .accepted) (s .finishes) (λ t b x. absurd (no-busy (d .flow .outstanding) t o b))
 moving d d′ e (K.takes s u k) = record {
   stay = λ t b x. took-stays d d′ e (empty-of s) k t b;

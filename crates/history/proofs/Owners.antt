@@ -14,7 +14,7 @@ use Rattle.device.specs.declared.state.Device.{Device}
 use Rattle.device.proofs.Tags.{busy-below}
 use Rattle.device.proofs.Never.{and-never}
 use Rattle.history.specs.Seen.{Seen, Flow}
-use Rattle.history.specs.Fates.{Command, commands, tagOf, outstanding, one, howMany, All, totalWith}
+use Rattle.history.specs.Fates.{Command, commands, ownTag, outstanding, one, howMany, All, totalWith}
 use Rattle.history.specs.Carried.{flow, belongs}
 use Rattle.history.specs.Demand3.{Owned}
 use Rattle.history.proofs.Alls.{all-imp}
@@ -52,10 +52,10 @@ and-agree false a b h = sym (and-never b)
 
 -- the open phase's data belong to the outstanding commands of its tag
 phase-own : (d : Device) (t : ℕ) (c : Command) → Following d c
-    → (outstanding c && belongs (c .accepted .asks .write) (tagOf c) (not (entryAt d t .write)) t) ≡ (eqb (tagOf c) t && outstanding c)
+    → (outstanding c && belongs (c .accepted .asks .write) (ownTag c) (not (entryAt d t .write)) t) ≡ (eqb (ownTag c) t && outstanding c)
 phase-own d t c f =
-    and-agree (outstanding c) (belongs (c .accepted .asks .write) (tagOf c) (not (entryAt d t .write)) t) (eqb (tagOf c) t)
-    (λ o. belongs-tag (entryAt d t .write) (c .accepted .asks .write) t (tagOf c) (λ e. ap (λ (u : ℕ). entryAt d u .write) e ∙ f .stands o .write))
+    and-agree (outstanding c) (belongs (c .accepted .asks .write) (ownTag c) (not (entryAt d t .write)) t) (eqb (ownTag c) t)
+    (λ o. belongs-tag (entryAt d t .write) (c .accepted .asks .write) t (ownTag c) (λ e. ap (λ (u : ℕ). entryAt d u .write) e ∙ f .stands o .write))
 
 module _ (d : Device) (h : List Seen) (i : Tracked d h) (counts : (t : ℕ) → t < 32 → totalWith t h ≡ one (bitIn 32 (d .flow .outstanding) t)) where
   -- an open phase: one command
@@ -63,7 +63,7 @@ module _ (d : Device) (h : List Seen) (i : Tracked d h) (counts : (t : ℕ) → 
   unfolding totalWith
   owned-open t p =
       let busy = i .phased .busy t p in
-      many-same (λ c. outstanding c && belongs (c .accepted .asks .write) (tagOf c) (not (entryAt d t .write)) t) (λ c. eqb (tagOf c) t && outstanding c) (commands h)
+      many-same (λ c. outstanding c && belongs (c .accepted .asks .write) (ownTag c) (not (entryAt d t .write)) t) (λ c. eqb (ownTag c) t && outstanding c) (commands h)
       (all-imp (Following d) _ (phase-own d t) (commands h) (i .commands))
       ∙ counts t (busy-below (d .flow .outstanding) t busy) ∙ ap one busy
 

@@ -34,7 +34,9 @@ use Rattle.states.specs.Clauses.{settingsOut}
 use Rattle.device.proofs.Keeping.{settings-good, both-kept}
 use Rattle.history.specs.Calls.{Call, hostFrame, openPhase, sendData, finishTags, mediaError, linkEvent, comReset, Event, taken}
 use Rattle.history.specs.Replied.{pieces, frames, some, isPio, payloads, page}
-use Rattle.history.specs.Counted.{callReads11, paged, sends11, toldAt, toldFor}
+use Rattle.history.specs.Logs.{callReads}
+use Rattle.history.specs.Replied.{paged}
+use Rattle.history.specs.Counted.{sends11, toldAt, toldFor}
 use Rattle.history.specs.Run.{Lent}
 use Rattle.history.proofs.Tally.{Tells, Counting, tells-small}
 use Rattle.history.proofs.Hearing.{Logs, host-heard}
@@ -99,9 +101,9 @@ abbrev pub Shows : ℕ → Event → List Event → Type 0
 Shows mask e h = sends11 e ≡ true → (number : ℕ) → noNumber number ≡ false → readCounter (page e) number ≡ toldFor mask h number
 
 -- a call that asks for no page 11h
-unasked : (mask : ℕ) (e : Event) (h : List Event) → callReads11 (e .call) ≡ false → Shows mask e h
+unasked : (mask : ℕ) (e : Event) (h : List Event) → callReads 0x11 (e .call) ≡ false → Shows mask e h
 unasked mask e h n s =
-    absurd (false≢true (sym n ∙ and-right (paged e) (callReads11 (e .call)) (and-right (taken e) (paged e && callReads11 (e .call)) s)))
+    absurd (false≢true (sym n ∙ and-right (paged e) (callReads 0x11 (e .call)) (and-right (taken e) (paged e && callReads 0x11 (e .call)) s)))
 
 -- the page of a host frame whose act is a read of page 11h
 shown-page : (d : Device) (e : Event) (h : List Event) (a : Act) → contradictoryDevice d ≡ false → Counting d h → Logs a
@@ -134,11 +136,11 @@ shows-host mask d m b f h k i p q s number n =
     let e : Event = eventOf d (lent m b (hostFrame f)) in
     let a : Act = hostAct d f (length m) (length b) in
     let v = factsOf d (openTag (d .flow .phase)) (mediumWrong (d .settings .capacity) (length m)) (length b) in
-    let t = eqb-true (numberOf a) 0 (and-left (taken e) (paged e && callReads11 (hostFrame f)) s) in
-    let u = and-right (taken e) (paged e && callReads11 (hostFrame f)) s in
+    let t = eqb-true (numberOf a) 0 (and-left (taken e) (paged e && callReads 0x11 (hostFrame f)) s) in
+    let u = and-right (taken e) (paged e && callReads 0x11 (hostFrame f)) s in
     let c = taken-good d f (length m) (length b) t in
     let w = host-heard (d .errors) (d .settings .mask) (d .values) v (readFrame f) .shown
-    (sym (ap (some isPio) q) ∙ and-left (paged e) (callReads11 (hostFrame f)) u) (and-right (paged e) (callReads11 (hostFrame f)) u) in
+    (sym (ap (some isPio) q) ∙ and-left (paged e) (callReads 0x11 (hostFrame f)) u) (and-right (paged e) (callReads 0x11 (hostFrame f)) u) in
     shown-page d e h a c i w p q number n ∙ ap (λ (x : ℕ). toldFor x h number) (k (settings-good d c))
 
 -- by what the call is

@@ -1,6 +1,6 @@
 -- Demand 3 over every run from power-on. Assumes nothing.
 use mathlib.Core.Path.{_≡_, refl, ap, subst, _∙_}
-use mathlib.Core.Bool.{true, false}
+use mathlib.Core.Bool.{Bool, true, false}
 use mathlib.Core.List.{List, [], _∷_, map}
 use mathlib.Core.Logic.{⊎-elim}
 use Prim.Native.Nat.{_≤_}
@@ -9,6 +9,7 @@ use native.Mathlib.Omega.{arith}
 use lib.Dec.{eqb}
 use lib.Count.{ones}
 use borrow.Author.Tests.{eqb-true, eqb-false}
+use Rattle.bits.specs.Bit.{bitIn}
 use Rattle.bits.proofs.Picks.{by-test, tested}
 use Rattle.states.specs.declared.shapes.Settings.{Settings}
 use Rattle.device.specs.Device.{powerOn, freshDevice, zeroDevice, powerNumber}
@@ -16,15 +17,16 @@ use Rattle.device.specs.declared.state.Device.{Device}
 use Rattle.device.proofs.Opens.{ones-most}
 use Rattle.history.specs.Calls.{Event}
 use Rattle.history.specs.Seen.{seen}
-use Rattle.history.specs.Fates.{total}
-use Rattle.history.specs.Demand3.{Fates, Ranges, Contents, Sactive, Waiting, Depth}
+use Rattle.history.specs.Fates.{one, total}
+use Rattle.history.specs.Demand3.{Fates, Ranges, Contents, Sactive, Waiting, Depth, Single, Manners}
 use Rattle.history.specs.Run.{Lent, Done, done, event, result, Typed, AllTyped, run, runFrom, history}
 use Rattle.history.proofs.Class.{Class}
 use Rattle.history.proofs.Steps.{comes}
 use Rattle.history.proofs.Fated.{AllLone, lone, lone-step, lone-none, fates}
-use Rattle.history.proofs.Core.{Inv, inv-start, keeps-seen, inv-sactive, inv-waiting, inv-total, inv-number}
+use Rattle.history.proofs.Core.{Inv, inv-start, keeps, inv-sactive, inv-waiting, inv-total, inv-number}
 use Rattle.history.proofs.Table.{Tracked, tracked-start, tracked-step, ranges}
 use Rattle.history.proofs.Contents.{moves}
+use Rattle.history.proofs.Manners.{mannered}
 use Rattle.history.proofs.Widths.{Wide}
 use Rattle.history.proofs.Widening.{wide-step, wide-start}
 use Rattle.history.proofs.Soundness.{Sound, sound-power, sound-step}
@@ -37,10 +39,11 @@ pub record Held (s : Settings) (d : Device) (h : List Event) : Type 0 where
   pub lone : AllLone (map seen h)
   pub tracked : Tracked d (map seen h)
   pub contents : Contents h
+  pub manners : Manners h
 
 -- one call more
 pub held-step : (s : Settings) (d : Device) (a : Lent) (h : List Event) → Typed (a .call) → Held s d h → Held s (result d a .outcome .state) (event (done a (result d a)) ∷ h)
-unfolding Contents
+unfolding Contents Manners
 held-step s d a h t i =
     let d′ : Device = result d a .outcome .state in
     let x : Event = event (done a (result d a)) in
@@ -48,15 +51,16 @@ held-step s d a h t i =
     record {
       wide = wide-step d a t (i .wide);
       sound = sound-step s d (a .call) (a .medium) (a .buffer) t (i .sound);
-      inv = keeps-seen d d′ x (map seen h) (i .inv) c;
+      inv = keeps d d′ (seen x) (map seen h) (i .inv) c;
       lone = lone-step (seen x) (map seen h) (lone c) (i .lone);
       tracked = tracked-step d d′ (seen x) (map seen h) (i .tracked) c;
       contents = (moves d (a .call) (a .medium) (a .buffer) (map seen h) t (i .wide .sized) (i .tracked) (inv-number (i .inv)), i .contents);
+      manners = (mannered d (a .call) (a .medium) (a .buffer) (map seen h) t (i .wide .sized) (i .inv), i .manners);
     }
 
 -- power-on
 pub held-power : (s : Settings) → Held s (powerOn s .state) []
-unfolding powerOn freshDevice Contents
+unfolding powerOn freshDevice Contents Manners
 held-power s = record {
   wide = wide-start s;
   sound = sound-power s;
@@ -64,6 +68,7 @@ held-power s = record {
   lone = lone-none;
   tracked = tracked-start (powerOn s .state) (by-test (λ (d : Device). d .flow .phase ≡ 0) (eqb (powerNumber s) 0) (freshDevice s) zeroDevice (λ _. refl) (λ _. refl));
   contents = tt;
+  manners = tt;
 }
 
 -- a run
@@ -110,3 +115,15 @@ module _ (s : Settings) (as′ : List Lent) (t : AllTyped as′) where
   -- at most the queue depth is ever outstanding
   pub demand3-depth : Depth (s .depth) (map seen (history s as′))
   demand3-depth = within-depth s (runFrom s as′ .state) (history s as′) (held s as′ t)
+
+  -- no two commands of one tag are outstanding
+  pub demand3-single : Single (map seen (history s as′))
+  demand3-single u l = le-trans (le-of-eq (inv-number (held s as′ t .inv) u l)) (one-most (bitIn 32 (runFrom s as′ .state .flow .outstanding) u))
+    where
+      one-most : (b : Bool) → one b ≤ 1
+      one-most true = omega arith
+      one-most false = omega arith
+
+  -- every event says what it may, and leaves nothing unsaid
+  pub demand3-manners : Manners (history s as′)
+  demand3-manners = held s as′ t .manners

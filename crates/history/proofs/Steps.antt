@@ -48,21 +48,27 @@ asks-refused x n = rw (ne-eqb (x .refusal) 0 n)
 pub nothing-seen : (d d′ : Device) → d′ ≡ d → Class d (view quiet []) d′
 nothing-seen d d′ e = rw e (plain (is-silent quiet refl) (silent-unbegun quiet) (same d))
 
--- a step, by whether it is refused
-stepped : (d : Device) (s : Step) (c : Call) (m b left : List ℕ) → Whole s → (s .refusal ≡ 0 → Class d (view (callAsks c) (s .frames)) (s .state)) → ((s .refusal ≡ 0 → ⊥) → Keeps d s)
-    → Class d (seen (event (done (lend c m b) (gives s left b)))) (s .state)
-stepped d s c m b left w go keep =
+-- what holds of what is seen of a step, by whether it is refused
+pub by-view : (P : Seen → Type 0) (s : Step) (c : Call) (m b left : List ℕ) → Whole s → (s .refusal ≡ 0 → P (view (callAsks c) (s .frames)))
+    → ((s .refusal ≡ 0 → ⊥) → (s .frames ≡ []) × P (view quiet [])) → P (seen (event (done (lend c m b) (gives s left b))))
+by-view P s c m b left w go keep =
     let x : Event = event (done (lend c m b) (gives s left b)) in
     let r : Read x (s .frames) = read-step s c m b left w in
     ⊎-elim
     (λ (t : eqb (s .refusal) 0 ≡ true).
     let z = eqb-true (s .refusal) 0 t in
-    subst (λ (e : Seen). Class d e (s .state)) (sym (read-seen x (s .frames) r (callAsks c) (asks-taken x z))) (go z))
+    subst P (sym (read-seen x (s .frames) r (callAsks c) (asks-taken x z))) (go z))
     (λ (f : eqb (s .refusal) 0 ≡ false).
     let n = eqb-false (s .refusal) 0 f in
     let k = keep n in
-    subst (λ (e : Seen). Class d e (s .state)) (sym (read-seen x (s .frames) r quiet (asks-refused x n) ∙ ap (view quiet) (k .frames))) (nothing-seen d (s .state) (k .state)))
+    subst P (sym (read-seen x (s .frames) r quiet (asks-refused x n) ∙ ap (view quiet) (k .0))) (k .1))
     (tested (eqb (s .refusal) 0))
+
+-- its kind
+stepped : (d : Device) (s : Step) (c : Call) (m b left : List ℕ) → Whole s → (s .refusal ≡ 0 → Class d (view (callAsks c) (s .frames)) (s .state)) → ((s .refusal ≡ 0 → ⊥) → Keeps d s)
+    → Class d (seen (event (done (lend c m b) (gives s left b)))) (s .state)
+stepped d s c m b left w go keep =
+    by-view (λ (e : Seen). Class d e (s .state)) s c m b left w go (λ n. (keep n .frames, nothing-seen d (s .state) (keep n .state)))
 
 -- a link event replies nothing
 pub link-read : (d : Device) (row : ℕ) (m b : List ℕ) → Read (event (done (lend (linkEvent row) m b) (resultFor d m b (linkEvent row)))) []
@@ -73,6 +79,12 @@ pick-same : {A : Type 0} (b : Bool) (x : A) → pick b x x ≡ x
 unfolding pick
 pick-same true x = refl
 pick-same false x = refl
+
+-- and nothing is seen of it
+pub link-seen : (d : Device) (row : ℕ) (m b : List ℕ) → seen (event (done (lend (linkEvent row) m b) (resultFor d m b (linkEvent row)))) ≡ view quiet []
+link-seen d row m b =
+    let x : Event = event (done (lend (linkEvent row) m b) (resultFor d m b (linkEvent row))) in
+    read-seen x [] (link-read d row m b) quiet (pick-same (taken x) quiet)
 
 -- every call
 pub comes : (d : Device) (c : Call) (m b : List ℕ) → Typed c → SizedRecord d
@@ -90,8 +102,6 @@ comes d (finishTags set) m b t s =
 comes d (mediaError tag e sector) m b t s =
     stepped d (mediaStep d tag e sector (length b)) (mediaError tag e sector) m b m (always-media d tag e sector (length b) t) (media-comes d tag e sector (length b))
     (λ n. refused-keeps d [] (mediaOf d tag e sector (length b)) n)
-comes d (linkEvent row) m b t s =
-    let x : Event = event (done (lend (linkEvent row) m b) (resultFor d m b (linkEvent row))) in
-    subst (λ (e : Seen). Class d e (linkStep d row .state)) (sym (read-seen x [] (link-read d row m b) quiet (pick-same (taken x) quiet))) (link-comes d row)
+comes d (linkEvent row) m b t s = subst (λ (e : Seen). Class d e (linkStep d row .state)) (sym (link-seen d row m b)) (link-comes d row)
 comes d comReset m b t s =
     stepped d (comresetStep d (length b)) comReset m b m (always-comreset d (length b)) (comreset-comes d (length b)) (λ n. refused-keeps-comreset d (length b) n)

@@ -9,7 +9,7 @@ use borrow.Author.Tests.{not-true}
 use Rattle.bits.proofs.Picks.{tested, and-left, and-right}
 use Rattle.device.specs.declared.state.Device.{Device}
 use Rattle.history.specs.Seen.{Seen, Flow}
-use Rattle.history.specs.Fates.{Command, later, commands, tagOf, ends, outstandingAt, finishedAt, outstanding, finished, All}
+use Rattle.history.specs.Fates.{Command, later, commands, ownTag, ends, outstandingAt, finishedAt, outstanding, finished, All}
 use Rattle.history.specs.Carried.{flow, span, base, size, piece, carriedAt, carried}
 use Rattle.history.specs.Demand3.{Beginning, Ranges}
 use Rattle.history.proofs.Class.{Class}
@@ -20,12 +20,12 @@ use Rattle.history.proofs.Moving.{entryAt, busyAt, New, Moving, moving}
 
 -- an outstanding command against its tag's entry: outstanding there too, asking for the same, and with as much moved as was carried
 pub record Standing (d : Device) (c : Command) : Type 0 where
-  pub busy : busyAt d (tagOf c) ≡ true
-  pub write : entryAt d (tagOf c) .write ≡ c .accepted .asks .write
-  pub first : entryAt d (tagOf c) .first ≡ c .accepted .asks .first
-  pub count : entryAt d (tagOf c) .count ≡ c .accepted .asks .count
-  pub moved : entryAt d (tagOf c) .moved ≤ entryAt d (tagOf c) .count
-  pub bytes : carried c ≡ span (base c) (512 * entryAt d (tagOf c) .moved)
+  pub busy : busyAt d (ownTag c) ≡ true
+  pub write : entryAt d (ownTag c) .write ≡ c .accepted .asks .write
+  pub first : entryAt d (ownTag c) .first ≡ c .accepted .asks .first
+  pub count : entryAt d (ownTag c) .count ≡ c .accepted .asks .count
+  pub moved : entryAt d (ownTag c) .moved ≤ entryAt d (ownTag c) .count
+  pub bytes : carried c ≡ span (base c) (512 * entryAt d (ownTag c) .moved)
 
 -- a command against the state: what is under way since it was accepted, its entry while it is outstanding, and the positions that it carried
 pub record Following (d : Device) (c : Command) : Type 0 where
@@ -36,7 +36,7 @@ pub record Following (d : Device) (c : Command) : Type 0 where
 
 -- what an outstanding command carried is a beginning of its range
 stands-begins : (d : Device) (c : Command) → Standing d c → Beginning (base c) (size c) (carried c)
-stands-begins d c s = record { long = 512 * entryAt d (tagOf c) .moved; within = stands-within (s .moved) (s .count); is = s .bytes }
+stands-begins d c s = record { long = 512 * entryAt d (ownTag c) .moved; within = stands-within (s .moved) (s .count); is = s .bytes }
   where
     stands-within : {m n k : ℕ} → m ≤ n → n ≡ k → 512 * m ≤ 512 * k
     stands-within l e = omega arith
@@ -65,9 +65,9 @@ follows-new d′ e k =
     }
 
 -- an outstanding command that stays so
-stands-later : (d d′ : Device) (e : Seen) (c : Command) → Moving d e d′ → flow (c .after) ≡ flowOf d → outstanding c ≡ true → Standing d c → ends (tagOf c) e ≡ false → Standing d′ (later e c)
+stands-later : (d d′ : Device) (e : Seen) (c : Command) → Moving d e d′ → flow (c .after) ≡ flowOf d → outstanding c ≡ true → Standing d c → ends (ownTag c) e ≡ false → Standing d′ (later e c)
 stands-later d d′ e c m f o s x =
-    let t = tagOf c in
+    let t = ownTag c in
     let k = m .stay t (s .busy) x in
     record {
       busy = k .busy;
@@ -105,11 +105,11 @@ module _ (d d′ : Device) (e : Seen) (c : Command) (m : Moving d e d′) (k : F
   old : outstanding c ≡ false → Following d′ (later e c)
   unfolding outstandingAt finishedAt
   old o =
-      let same = carried-after (base c) (c .accepted .asks .write) (tagOf c) e (c .after) o in
+      let same = carried-after (base c) (c .accepted .asks .write) (ownTag c) e (c .after) o in
       record {
         under = u;
-        stands = λ x. absurd (b-gone (outstanding c) (ends (tagOf c) e) o x);
-        whole = λ f. same ∙ k .whole (b-before (finished c) (outstanding c) (e .finishes (tagOf c)) f o);
+        stands = λ x. absurd (b-gone (outstanding c) (ends (ownTag c) e) o x);
+        whole = λ f. same ∙ k .whole (b-before (finished c) (outstanding c) (e .finishes (ownTag c)) f o);
         begins = same-begins (base c) (size c) (carried (later e c)) (carried c) same (k .begins);
       }
 
@@ -117,24 +117,24 @@ module _ (d d′ : Device) (e : Seen) (c : Command) (m : Moving d e d′) (k : F
   now : outstanding c ≡ true → Standing d c → finished (later e c) ≡ true → carried (later e c) ≡ span (base c) (size c)
   unfolding finishedAt
   now o s f =
-      let t = tagOf c in
+      let t = ownTag c in
       let g = b-now (finished c) (outstanding c) (e .finishes t) f (finished-over t (c .after)) o in
       carried-none (base c) (c .accepted .asks .write) t e (c .after) (m .over t (b-over (e .finishes t) _ g))
       ∙ s .bytes ∙ ap (λ (n : ℕ). span (base c) (512 * n)) (m .done t (s .busy) g ∙ s .count)
 
   -- ended by this event
-  ended : outstanding c ≡ true → Standing d c → ends (tagOf c) e ≡ true → Following d′ (later e c)
+  ended : outstanding c ≡ true → Standing d c → ends (ownTag c) e ≡ true → Following d′ (later e c)
   unfolding outstandingAt
   ended o s x = record {
     under = u;
-    stands = λ y. absurd (true≢false (sym x ∙ not-true (ends (tagOf c) e) (and-right (outstanding c) (not (ends (tagOf c) e)) y)));
+    stands = λ y. absurd (true≢false (sym x ∙ not-true (ends (ownTag c) e) (and-right (outstanding c) (not (ends (ownTag c) e)) y)));
     whole = now o s;
     begins = same-begins (base c) (size c) (carried (later e c)) (carried c)
-        (carried-none (base c) (c .accepted .asks .write) (tagOf c) e (c .after) (m .over (tagOf c) x)) (k .begins);
+        (carried-none (base c) (c .accepted .asks .write) (ownTag c) e (c .after) (m .over (ownTag c) x)) (k .begins);
   }
 
   -- outstanding still
-  stays : outstanding c ≡ true → Standing d c → ends (tagOf c) e ≡ false → Following d′ (later e c)
+  stays : outstanding c ≡ true → Standing d c → ends (ownTag c) e ≡ false → Following d′ (later e c)
   stays o s x =
       let r = stands-later d d′ e c m (k .under) o s x in
       record { under = u; stands = λ _. r; whole = now o s; begins = stands-begins d′ (later e c) r }
@@ -143,7 +143,7 @@ module _ (d d′ : Device) (e : Seen) (c : Command) (m : Moving d e d′) (k : F
   follows-later : Following d′ (later e c)
   follows-later =
       ⊎-elim
-      (λ (o : outstanding c ≡ true). ⊎-elim (ended o (k .stands o)) (stays o (k .stands o)) (tested (ends (tagOf c) e)))
+      (λ (o : outstanding c ≡ true). ⊎-elim (ended o (k .stands o)) (stays o (k .stands o)) (tested (ends (ownTag c) e)))
       old
       (tested (outstanding c))
 

@@ -1,10 +1,16 @@
 -- The state at the end of every run is what its history tells. Assumes nothing.
-use mathlib.Core.Path.{sym, subst}
+use mathlib.Core.Path.{sym, ap, subst, _∙_}
 use mathlib.Core.List.{List}
 use Prim.Native.Nat.{ℕ, _≤_}
+use lib.Count.{ones}
+use Rattle.bits.proofs.Picks.{pick-no}
+use Rattle.pages.specs.declared.page11.Counter.the-variants.{Value, Refused}
+use Rattle.device.specs.Device.{contradictoryDevice}
+use Rattle.device.specs.Counter.{countOf}
+use Rattle.device.specs.declared.state.Device.{Device}
 use Rattle.states.specs.declared.shapes.Settings.{Settings}
 use Rattle.history.specs.Run.{Lent, AllTyped, runFrom, history}
-use Rattle.history.specs.Told.{ToldOutstanding, ToldWaits, ToldCounters, ToldAsked, ToldDepth, ToldConsistent}
+use Rattle.history.specs.Told.{ToldOutstanding, ToldWaits, ToldCounters, ToldAsked, ToldDepth, ToldCount, ToldConsistent}
 use Rattle.history.proofs.Core.{inv-waits, inv-number, inv-total}
 use Rattle.history.proofs.Counters.{counting-true}
 use Rattle.history.proofs.Asked11.{counter-true}
@@ -32,6 +38,13 @@ module _ (s : Settings) (as′ : List Lent) (t : AllTyped as′) where
   told-depth =
       let e = inv-total (held s as′ t .inv) in
       record { counted = sym e; most = subst (λ (n : ℕ). n ≤ s .depth) e (demand3-depth s as′ t) }
+
+  -- and so is the answer of the call that counts them
+  pub told-count : ToldCount s (runFrom s as′ .state) (history s as′)
+  unfolding countOf
+  told-count z =
+      let d : Device = runFrom s as′ .state in
+      pick-no (contradictoryDevice d) (Refused 1) (Value (ones (d .flow .outstanding))) (held s as′ t .sound .good z) ∙ ap Value (sym (inv-total (held s as′ t .inv)))
 
   -- the state does not contradict itself
   pub told-consistent : ToldConsistent s (runFrom s as′ .state)

@@ -6,7 +6,7 @@ use Prim.Native.Nat.{ℕ, zero, suc, _+_, _*_, _≤_, _<_}
 use lib.Dec.{eqb, ltb}
 use Rattle.bits.specs.Pick.{pick}
 use Rattle.history.specs.Seen.{Seen, Flow, still, flows, errs}
-use Rattle.history.specs.Fates.{Command, tagOf, outstandingAt}
+use Rattle.history.specs.Fates.{Command, ownTag, outstandingAt}
 
 -- the bytes that an event carries in a direction: device data to the host, taken host data from it
 abbrev pub load : Bool → Seen → ℕ
@@ -56,7 +56,7 @@ carriedAt start write tag (e ∷ n) = carriedAt start write tag n ++ pick (outst
 
 -- of a command
 abbrev pub carried : Command → List ℕ
-carried c = carriedAt (base c) (c .accepted .asks .write) (tagOf c) (c .after)
+carried c = carriedAt (base c) (c .accepted .asks .write) (ownTag c) (c .after)
 
 -- n bytes in a direction are of what is under way, and within what is left of it
 abbrev pub Within : Bool → ℕ → Flow → Type 0

@@ -1,12 +1,11 @@
 -- The events that a counter has counted since its zeroing, from calls and replies alone. Assumes nothing.
 use mathlib.Core.Bool.{Bool, true, false, _&&_}
 use mathlib.Core.List.{List, [], _∷_}
-use Prim.Native.Nat.{ℕ, _+_, _%_, min}
+use Prim.Native.Nat.{ℕ, _+_, min}
 use lib.Dec.{eqb}
 use Rattle.bits.specs.Pick.{pick}
 use Rattle.bits.specs.Bit.{bitIn}
 use Rattle.frames.specs.Read.{readFrame}
-use Rattle.frames.specs.declared.shapes.HostReg.{HostReg}
 use Rattle.frames.specs.declared.shapes.Frame.{Frame}
 use Rattle.frames.specs.declared.shapes.Frame.the-variants.{Host, Device, Bits, Setup, Activate, Data, Bist, Pio, Refused}
 use Rattle.pages.specs.Rows.{kept, rowOf}
@@ -15,7 +14,8 @@ use Rattle.pages.specs.declared.rows.Place.the-variants.{Row, Nowhere}
 use Rattle.pages.specs.declared.page11.Counter.{Counter}
 use Rattle.pages.specs.declared.page11.Counter.the-variants.{Value, Absent}
 use Rattle.history.specs.Calls.{Call, hostFrame, openPhase, sendData, finishTags, mediaError, linkEvent, comReset, Event, taken}
-use Rattle.history.specs.Replied.{frames, some, isPio}
+use Rattle.history.specs.Replied.{paged}
+use Rattle.history.specs.Logs.{readsLog, callReads}
 
 -- the row whose counter a call raises once it is taken; 16 stands for none. A media error whose byte has bit 7: row 0 (001h); COMRESET: row 9 (00Ah); a link event: its row
 abbrev pub rowRaised : Call → ℕ
@@ -27,60 +27,31 @@ rowRaised (mediaError t e s) = pick (bitIn 8 e 7) 0 16
 rowRaised (linkEvent r) = r
 rowRaised comReset = 9
 
--- READ LOG EXT (2Fh) of page 11h
-abbrev pub readsLog11 : HostReg → Bool
-readsLog11 h = h .«command_bit» && (eqb (h .command) 0x2F && eqb (h .task .lba % 256) 0x11)
-
--- a host frame asks for page 11h
-abbrev pub frameReads11 : Frame → Bool
-frameReads11 (Host h) = readsLog11 h
-frameReads11 (Device f) = false
-frameReads11 (Bits f) = false
-frameReads11 (Setup f) = false
-frameReads11 Activate = false
-frameReads11 (Data n) = false
-frameReads11 Bist = false
-frameReads11 (Pio f) = false
-frameReads11 Refused = false
-
 -- a host frame zeroes the counters if it is taken, and answered with a page if it asks for one: BIST; page 11h with features bit 0
 abbrev pub frameZeroes : Bool → Frame → Bool
-frameZeroes paged (Host h) = paged && (readsLog11 h && bitIn 8 (h .features) 0)
-frameZeroes paged (Device f) = false
-frameZeroes paged (Bits f) = false
-frameZeroes paged (Setup f) = false
-frameZeroes paged Activate = false
-frameZeroes paged (Data n) = false
-frameZeroes paged Bist = true
-frameZeroes paged (Pio f) = false
-frameZeroes paged Refused = false
+frameZeroes on (Host h) = on && (readsLog 0x11 h && bitIn 8 (h .features) 0)
+frameZeroes on (Device f) = false
+frameZeroes on (Bits f) = false
+frameZeroes on (Setup f) = false
+frameZeroes on Activate = false
+frameZeroes on (Data n) = false
+frameZeroes on Bist = true
+frameZeroes on (Pio f) = false
+frameZeroes on Refused = false
 
--- of a call
-abbrev pub callReads11 : Call → Bool
-callReads11 (hostFrame f) = frameReads11 (readFrame f)
-callReads11 (openPhase t) = false
-callReads11 sendData = false
-callReads11 (finishTags s) = false
-callReads11 (mediaError t e s) = false
-callReads11 (linkEvent r) = false
-callReads11 comReset = false
-
+-- a call zeroes them
 abbrev pub callZeroes : Bool → Call → Bool
-callZeroes paged (hostFrame f) = frameZeroes paged (readFrame f)
-callZeroes paged (openPhase t) = false
-callZeroes paged sendData = false
-callZeroes paged (finishTags s) = false
-callZeroes paged (mediaError t e s) = false
-callZeroes paged (linkEvent r) = false
-callZeroes paged comReset = false
-
--- a page was sent: the replies hold a 5Fh
-abbrev pub paged : Event → Bool
-paged e = some isPio (frames e)
+callZeroes on (hostFrame f) = frameZeroes on (readFrame f)
+callZeroes on (openPhase t) = false
+callZeroes on sendData = false
+callZeroes on (finishTags s) = false
+callZeroes on (mediaError t e s) = false
+callZeroes on (linkEvent r) = false
+callZeroes on comReset = false
 
 -- page 11h was sent
 abbrev pub sends11 : Event → Bool
-sends11 e = taken e && (paged e && callReads11 (e .call))
+sends11 e = taken e && (paged e && callReads 0x11 (e .call))
 
 -- an event zeroes the counters: taken BIST, or a good read of page 11h with bit 0
 abbrev pub zeroes : Event → Bool

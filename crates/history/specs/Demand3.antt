@@ -10,9 +10,10 @@ use Rattle.history.specs.Calls.{Event}
 use Rattle.history.specs.Asked.{brought}
 use Rattle.history.specs.Replied.{page, sent}
 use Rattle.history.specs.Seen.{Seen, seen, Flow, still, flows}
-use Rattle.history.specs.Fates.{Command, commands, tagOf, outstandingAt, finishedAt, givenUpAt, droppedAt, outstanding, finished, givenUp, dropped, one, howMany, All, total, totalWith}
+use Rattle.history.specs.Fates.{Command, commands, ownTag, outstandingAt, finishedAt, givenUpAt, droppedAt, outstanding, finished, givenUp, dropped, one, howMany, All, total, totalWith}
 use Rattle.history.specs.Waits.{sactive, waits, givenUpThere, badSince}
 use Rattle.history.specs.Carried.{flow, span, base, size, belongs, carried, Due}
+use Rattle.history.specs.Manners.{Mannered}
 use Rattle.history.specs.Counted.{sends11, toldFor}
 
 -- exactly one of four
@@ -25,10 +26,10 @@ OneFate c = exactlyOne (outstanding c) (finished c) (givenUp c) (dropped c)
 
 -- once not outstanding it never changes, whatever the events x that follow
 pub record Settled (c : Command) (x : List Seen) : Type 0 where
-  pub outstanding : outstandingAt (tagOf c) (x ++ c .after) ≡ false
-  pub finished : finishedAt (tagOf c) (x ++ c .after) ≡ finished c
-  pub givenUp : givenUpAt (tagOf c) (x ++ c .after) ≡ givenUp c
-  pub dropped : droppedAt (tagOf c) (x ++ c .after) ≡ dropped c
+  pub outstanding : outstandingAt (ownTag c) (x ++ c .after) ≡ false
+  pub finished : finishedAt (ownTag c) (x ++ c .after) ≡ finished c
+  pub givenUp : givenUpAt (ownTag c) (x ++ c .after) ≡ givenUp c
+  pub dropped : droppedAt (ownTag c) (x ++ c .after) ≡ dropped c
 
 abbrev pub Fates : List Seen → Type 0
 Fates h = All (λ c. OneFate c × ((x : List Seen) → outstanding c ≡ false → Settled c x)) (commands h)
@@ -51,19 +52,25 @@ pub record Moved (e : Event) (toHost : Bool) (at : ℕ) : Type 0 where
 -- the data of an event that belongs to a command
 abbrev pub MovedOf : Event → Command → Flow → Type 0
 MovedOf e c still = Unit
-MovedOf e c (flows d t a z) = belongs (c .accepted .asks .write) (tagOf c) d t ≡ true → Moved e d (base c + a)
+MovedOf e c (flows d t a z) = belongs (c .accepted .asks .write) (ownTag c) d t ≡ true → Moved e d (base c + a)
 
 -- what is under way is the data of exactly one command, which is outstanding
 abbrev pub Owned : Flow → List Command → Type 0
 Owned still cs = Unit
-Owned (flows d t a z) cs = howMany (λ c. outstanding c && belongs (c .accepted .asks .write) (tagOf c) d t) cs ≡ 1
+Owned (flows d t a z) cs = howMany (λ c. outstanding c && belongs (c .accepted .asks .write) (ownTag c) d t) cs ≡ 1
 
--- one event after a history: its data are of what is under way, which is one command's, the same for each command as for the whole history;
+-- a Setup under way ends where the command's range ends
+abbrev pub Reaches : Command → Flow → Type 0
+Reaches c still = Unit
+Reaches c (flows d t a z) = belongs (c .accepted .asks .write) (ownTag c) d t ≡ true → z ≡ size c
+
+-- one event after a history: its data are of what is under way, which is one command's and reaches to the end of its range, the same for each command as for the whole history;
 -- each command's data stand as they should, and where no data came the medium is as it was
 pub record Moves (e : Event) (h : List Seen) : Type 0 where
   pub due : Due (seen e) (flow h)
   pub owned : Owned (flow h) (commands h)
   pub since : All (λ c. flow (c .after) ≡ flow h) (commands h)
+  pub reaches : All (λ c. outstanding c ≡ true → Reaches c (flow (c .after))) (commands h)
   pub each : All (λ c. outstanding c ≡ true → MovedOf e c (flow (c .after))) (commands h)
   pub untouched : brought e ≡ [] → e .left ≡ e .medium
 
@@ -84,6 +91,15 @@ Waiting h = waits h ≡ true → (total h ≡ 0) × ((t : ℕ) → t < 32 → sa
 abbrev pub Depth : ℕ → List Seen → Type 0
 Depth depth h = total h ≤ depth
 
+-- no two commands of one tag are outstanding
+abbrev pub Single : List Seen → Type 0
+Single h = (t : ℕ) → t < 32 → totalWith t h ≤ 1
+
+-- every event says what it may, and leaves nothing unsaid
+unfoldable pub Manners : List Event → Type 0
+Manners [] = Unit
+Manners (e ∷ h) = Mannered e (map seen h) × Manners h
+
 -- every page 11h ever sent, read by the reader's definition, gives for each kept row its events since its zeroing, held at the top, and absent for every other number
 unfoldable pub Counters : ℕ → List Event → Type 0
 Counters mask [] = Unit
@@ -97,4 +113,6 @@ pub record Demand3 (deep mask : ℕ) (h : List Event) : Type 0 where
   pub sactive : Sactive (map seen h)
   pub waiting : Waiting (map seen h)
   pub depth : Depth deep (map seen h)
+  pub single : Single (map seen h)
+  pub manners : Manners h
   pub counters : Counters mask h

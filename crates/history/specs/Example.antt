@@ -13,8 +13,8 @@ use Rattle.device.specs.Device.{powerOn}
 use Rattle.history.specs.Calls.{Call, hostFrame, openPhase, sendData, finishTags, mediaError, comReset, Event}
 use Rattle.history.specs.Replied.{pieces, page, sent}
 use Rattle.history.specs.Asked.{brought}
-use Rattle.history.specs.Seen.{Seen, seen, Flow, flows}
-use Rattle.history.specs.Fates.{Command, commands, tagOf, outstanding, finished, givenUp, dropped, total}
+use Rattle.history.specs.Seen.{Seen, seen, flows}
+use Rattle.history.specs.Fates.{Command, commands, ownTag, outstanding, finished, givenUp, dropped, total}
 use Rattle.history.specs.Waits.{sactive, waits, givenUpThere, badSince}
 use Rattle.history.specs.Carried.{flow, span, carried}
 use Rattle.history.specs.Counted.{sends11, toldFor}
@@ -187,7 +187,7 @@ pub record Shown : Type 0 where
   -- every call: refusal, replies, SActive, whether an error waits, fates
   pub lines : linesOf story ≡ table
   -- tag 0 is used by three commands
-  pub tags : map tagOf accepted ≡ 0 ∷ 0 ∷ 3 ∷ 0 ∷ 5 ∷ []
+  pub tags : map ownTag accepted ≡ 0 ∷ 0 ∷ 3 ∷ 0 ∷ 5 ∷ []
   -- two are outstanding at once
   pub both : total (seenAfter 7) ≡ 2
   -- the finished read carried each byte of its range once, in rising order; so did the write before it was given up; the others carried none

@@ -21,8 +21,8 @@ commands [] = []
 commands (e ∷ h) = pick (accepts e) (record { accepted = e; after = [] } ∷ map (later e) (commands h)) (map (later e) (commands h))
 
 -- what a command asked for
-abbrev pub tagOf : Command → ℕ
-tagOf c = c .accepted .asks .tag
+abbrev pub ownTag : Command → ℕ
+ownTag c = c .accepted .asks .tag
 
 -- an event ends a command of tag t: an A1h names it finished, an error is answered, or a reset is taken
 abbrev pub ends : ℕ → Seen → Bool
@@ -50,16 +50,16 @@ droppedAt t (e ∷ n) = droppedAt t n || (outstandingAt t n && e .asks .resets)
 
 -- the four fates of a command
 abbrev pub outstanding : Command → Bool
-outstanding c = outstandingAt (tagOf c) (c .after)
+outstanding c = outstandingAt (ownTag c) (c .after)
 
 abbrev pub finished : Command → Bool
-finished c = finishedAt (tagOf c) (c .after)
+finished c = finishedAt (ownTag c) (c .after)
 
 abbrev pub givenUp : Command → Bool
-givenUp c = givenUpAt (tagOf c) (c .after)
+givenUp c = givenUpAt (ownTag c) (c .after)
 
 abbrev pub dropped : Command → Bool
-dropped c = droppedAt (tagOf c) (c .after)
+dropped c = droppedAt (ownTag c) (c .after)
 
 -- 1 for a test that holds
 abbrev pub one : Bool → ℕ
@@ -81,4 +81,4 @@ unfoldable pub total : List Seen → ℕ
 total h = howMany outstanding (commands h)
 
 unfoldable pub totalWith : ℕ → List Seen → ℕ
-totalWith t h = howMany (λ c. eqb (tagOf c) t && outstanding c) (commands h)
+totalWith t h = howMany (λ c. eqb (ownTag c) t && outstanding c) (commands h)

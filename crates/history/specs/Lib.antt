@@ -1,10 +1,12 @@
 pub mod Calls
 pub mod Replied
 pub mod Asked
+pub mod Logs
 pub mod Seen
 pub mod Fates
 pub mod Waits
 pub mod Carried
+pub mod Manners
 pub mod Counted
 pub mod Demand3
 pub mod Run

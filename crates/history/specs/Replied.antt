@@ -101,10 +101,14 @@ unfoldable pub payloads : List (List ℕ) → List ℕ
 payloads [] = []
 payloads (p ∷ ps) = dataIn p (readFrame p) ++ payloads ps
 
--- a 46h behind a 5Fh in one reply is a page
+-- a page was sent: the replies hold a 5Fh
+abbrev pub paged : Event → Bool
+paged e = some isPio (frames e)
+
+-- a 46h behind a 5Fh in one reply is a page; what a 46h takes is all that is left, so that nothing stands behind it
 abbrev pub page : Event → List ℕ
-page e = pick (some isPio (frames e)) (payloads (pieces e)) []
+page e = pick (paged e) (payloads (pieces e)) []
 
 -- and belongs to no command; what is sent without a 5Fh is a command's data
 abbrev pub sent : Event → List ℕ
-sent e = pick (some isPio (frames e)) [] (payloads (pieces e))
+sent e = pick (paged e) [] (payloads (pieces e))

@@ -7,9 +7,10 @@ use lib.Count.{ones}
 use lib.ListN.{getD}
 use Rattle.bits.specs.Bit.{bitIn}
 use Rattle.bits.specs.First.{firstOf}
+use Rattle.pages.specs.declared.page11.Counter.the-variants.{Value}
 use Rattle.states.specs.declared.shapes.Settings.{Settings}
 use Rattle.device.specs.Device.{contradictoryDevice, powerOn, zeroDevice}
-use Rattle.device.specs.Counter.{counterTests, counterOf}
+use Rattle.device.specs.Counter.{counterTests, counterOf, countOf}
 use Rattle.device.specs.declared.state.Device.{Device}
 use Rattle.history.specs.Calls.{Event}
 use Rattle.history.specs.Seen.{seen}
@@ -38,6 +39,10 @@ pub record ToldDepth (depth : ℕ) (d : Device) (h : List Event) : Type 0 where
   pub counted : ones (d .flow .outstanding) ≡ total (map seen h)
   pub most : ones (d .flow .outstanding) ≤ depth
 
+-- and so is the answer of the call that counts them, after a power-on that was taken
+abbrev pub ToldCount : Settings → Device → List Event → Type 0
+ToldCount s d h = powerOn s .refusal ≡ 0 → countOf d ≡ Value (total (map seen h))
+
 -- after a power-on that was taken the state does not contradict itself; after a refused one it is all zeros
 pub record ToldConsistent (s : Settings) (d : Device) : Type 0 where
   pub good : powerOn s .refusal ≡ 0 → contradictoryDevice d ≡ false
@@ -50,4 +55,5 @@ pub record Told (s : Settings) (d : Device) (h : List Event) : Type 0 where
   pub counters : ToldCounters d h
   pub asked : ToldAsked (s .mask) d h
   pub depth : ToldDepth (s .depth) d h
+  pub count : ToldCount s d h
   pub consistent : ToldConsistent s d

@@ -1,0 +1,138 @@
+-- What the replies of each act may hold: an A1h answers a host frame only with page 10h, and a page only a read of 10h or 11h. Assumes nothing.
+use mathlib.Core.Path.{_≡_, refl, sym, _∙_}
+use mathlib.Core.Bool.{Bool, true, false, not, _&&_, _||_, false≢true}
+use mathlib.Core.List.{List, [], _∷_, map}
+use Prim.Native.Nat.{ℕ}
+use lib.Dec.{eqb}
+use borrow.Author.Tests.{not-false}
+use Rattle.bits.specs.Pick.{pick}
+use Rattle.bits.specs.Bit.{bitIn}
+use Rattle.bits.proofs.Picks.{by-test}
+use Rattle.frames.specs.Write.{Sent, host, device, setBits, setup, activate, payload, bist, pio}
+use Rattle.frames.specs.Trip as trip
+use Rattle.frames.specs.declared.shapes.SetBits.{SetBits}
+use Rattle.frames.specs.declared.shapes.HostReg.{HostReg}
+use Rattle.frames.specs.declared.shapes.Frame.{Frame}
+use Rattle.frames.specs.declared.shapes.Frame.the-variants as fs
+use Rattle.states.specs.declared.shapes.ErrorRecord.{ErrorRecord}
+use Rattle.rules.specs.Facts.{moveOf}
+use Rattle.rules.specs.Decide.{bad, fault, pageAsked, queuedAct, otherAct, controlAct, registerAct, dataAct, bistAct, kindAct, decideOf, lentOf}
+use Rattle.rules.specs.declared.facts.Facts.{Facts}
+use Rattle.rules.specs.declared.acts.Act.{Act}
+use Rattle.rules.specs.declared.acts.Act.the-variants.{Refuse, Log10, Log11, Zero, Keep}
+use Rattle.rules.proofs.Leaves.{control-all, queued-all}
+use Rattle.replies.specs.Replies.{repliesOf}
+use Rattle.history.specs.Logs.{frameReads}
+use Rattle.history.specs.Replied.{some, setBitsIn, collect}
+use Rattle.history.specs.Manners.{isRefused}
+use Rattle.history.proofs.Hearing.{pioIn, reads-page}
+
+-- the A1h frames of what is sent
+abbrev pub bitsIn : List Sent → List SetBits
+bitsIn rs = collect setBitsIn (map trip.seen rs)
+
+-- some A1h
+abbrev pub someBits : List Sent → Bool
+someBits rs = some (λ f. true) (bitsIn rs)
+
+-- no reply is one that the reader refuses
+pub none-refused : (rs : List Sent) → some isRefused (map trip.seen rs) ≡ false
+unfolding some
+none-refused [] = refl
+none-refused (host f ∷ rs) = none-refused rs
+none-refused (device f ∷ rs) = none-refused rs
+none-refused (setBits f ∷ rs) = none-refused rs
+none-refused (setup f ∷ rs) = none-refused rs
+none-refused (activate ∷ rs) = none-refused rs
+none-refused (payload p ∷ rs) = none-refused rs
+none-refused (bist ∷ rs) = none-refused rs
+none-refused (pio f ∷ rs) = none-refused rs
+
+-- of a host frame that is read as f, and its replies
+pub record Says (f : Frame) (rs : List Sent) : Type 0 where
+  pub swept : someBits rs ≡ true → frameReads 0x10 f && pioIn rs ≡ true
+  pub paged : pioIn rs ≡ true → frameReads 0x10 f || frameReads 0x11 f ≡ true
+
+module _ (r : ErrorRecord) (mask : ℕ) (values : List ℕ) where
+  -- of an act
+  abbrev Said : Frame → Act → Type 0
+  Said f a = Says f (repliesOf r mask values [] a)
+
+  -- no A1h and no page
+  mild : (f : Frame) (rs : List Sent) → someBits rs ≡ false → pioIn rs ≡ false → Says f rs
+  mild f rs a b = record { swept = λ x. absurd (false≢true (sym a ∙ x)); paged = λ x. absurd (false≢true (sym b ∙ x)) }
+
+  or-true : (a b : Bool) → b ≡ true → a || b ≡ true
+  or-true true b e = refl
+  or-true false b e = e
+
+  -- page 10h, with or without the sweep
+  ten-said : (v : Facts) (h : HostReg) → frameReads 0x10 (fs.Host h) ≡ true → (on : Bool) → Said (fs.Host h) (Log10 (record { also = on; task = h .task }))
+  unfolding repliesOf some collect pick
+  ten-said v h t true = record { swept = λ _. rw t; paged = λ _. rw t }
+  ten-said v h t false = record { swept = λ _. rw t; paged = λ _. rw t }
+
+  other-said : (v : Facts) (h : HostReg) → h .«command_bit» ≡ true → Said (fs.Host h) (otherAct v h)
+  unfolding otherAct repliesOf some collect pick
+  other-said v h c =
+      let P : Act → Type 0 = Said (fs.Host h) in
+      let ten : Act = Log10 (record { also = v .flow .halted; task = h .task }) in
+      let eleven : Act = Log11 (record { also = bitIn 8 (h .features) 0; task = h .task }) in
+      let fourth : Act = pick (eqb (pageAsked h) 0x11) eleven (bad h 0x04) in
+      let third : Act = pick (eqb (pageAsked h) 0x10) ten fourth in
+      by-test P (v .flow .halted && not (eqb (pageAsked h) 0x10)) (bad h 0x04) (pick (not (eqb (v .flow .outstanding) 0)) (fault h true 0 0x04) third) (λ _. mild _ _ refl refl)
+      (λ _. by-test P (not (eqb (v .flow .outstanding) 0)) (fault h true 0 0x04) third (λ _. mild _ _ refl refl)
+      (λ _. by-test P (eqb (pageAsked h) 0x10) ten fourth (λ t. ten-said v h (reads-page 0x10 h refl c t) (v .flow .halted))
+      (λ _. by-test P (eqb (pageAsked h) 0x11) eleven (bad h 0x04)
+      (λ t. record { swept = λ x. absurd (false≢true x); paged = λ _. or-true (frameReads 0x10 (fs.Host h)) (frameReads 0x11 (fs.Host h)) (reads-page 0x11 h refl c t) }) (λ _. mild _ _ refl refl))))
+
+  register-said : (v : Facts) (h : HostReg) → Said (fs.Host h) (registerAct v h)
+  unfolding registerAct repliesOf some collect
+  register-said v h =
+      let P : Act → Type 0 = Said (fs.Host h) in
+      let queued : Bool = eqb (h .command) 0x60 || eqb (h .command) 0x61 in
+      let third : Act = pick queued (queuedAct v h) (otherAct v h) in
+      let wrong : Bool = v .flow .held || not (eqb (v .flow .phase) 0) in
+      by-test P (not (h .«command_bit»)) (controlAct v h) (pick wrong (Refuse 5) third) (λ _. control-all P v h (mild _ _ refl refl) (mild _ _ refl refl) (mild _ _ refl refl))
+      (λ c. by-test P wrong (Refuse 5) third (λ _. mild _ _ refl refl)
+      (λ _. by-test P queued (queuedAct v h) (otherAct v h)
+      (λ _. queued-all P v h (mild _ _ refl refl) (mild _ _ refl refl) (mild _ _ refl refl) (mild _ _ refl refl)) (λ _. other-said v h (not-false (h .«command_bit») c))))
+
+  -- an Activate or none
+  kept-said : (f : Frame) (v : Facts) → Said f (Keep (moveOf (v .flow) (v .entry)))
+  unfolding repliesOf some collect
+  kept-said f v = by-test (Says f) (not (moveOf (v .flow) (v .entry) .last)) (activate ∷ []) [] (λ _. mild _ _ refl refl) (λ _. mild _ _ refl refl)
+
+  data-said : (f : Frame) (v : Facts) (n : ℕ) → Said f (dataAct v n)
+  unfolding dataAct repliesOf some collect
+  data-said f v n =
+      let due : Bool = eqb n (moveOf (v .flow) (v .entry) .size) in
+      let kept : Act = Keep (moveOf (v .flow) (v .entry)) in
+      by-test (Said f) (eqb (v .flow .phase) 0 || not (v .entry .write)) (Refuse 5) (pick (not due) (Refuse 6) kept) (λ _. mild _ _ refl refl)
+      (λ _. by-test (Said f) (not due) (Refuse 6) kept (λ _. mild _ _ refl refl) (λ _. kept-said f v))
+
+  bist-said : (f : Frame) (v : Facts) → Said f (bistAct v)
+  unfolding bistAct repliesOf some collect
+  bist-said f v = by-test (Said f) (not (eqb (v .flow .phase) 0)) (Refuse 5) Zero (λ _. mild _ _ refl refl) (λ _. mild _ _ refl refl)
+
+  -- refused
+  pub refused-said : (f : Frame) (n : ℕ) → Said f (Refuse n)
+  unfolding repliesOf some collect
+  refused-said f n = mild _ _ refl refl
+
+  kind-said : (v : Facts) (f : Frame) → Said f (kindAct v f)
+  unfolding kindAct
+  kind-said v (fs.Host h) = register-said v h
+  kind-said v (fs.Device f) = refused-said _ 4
+  kind-said v (fs.Bits f) = refused-said _ 4
+  kind-said v (fs.Setup f) = refused-said _ 4
+  kind-said v fs.Activate = refused-said _ 4
+  kind-said v (fs.Data n) = data-said _ v n
+  kind-said v fs.Bist = bist-said _ v
+  kind-said v (fs.Pio f) = refused-said _ 4
+  kind-said v fs.Refused = refused-said _ 4
+
+  -- every host frame
+  pub host-said : (v : Facts) (f : Frame) → Said f (decideOf v f)
+  unfolding decideOf
+  host-said v f = by-test (Said f) (not (eqb (lentOf v) 0)) (Refuse (lentOf v)) (kindAct v f) (λ _. refused-said f (lentOf v)) (λ _. kind-said v f)
