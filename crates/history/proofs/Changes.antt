@@ -38,6 +38,7 @@ pub placed-same : (es : List Entry) (t : ℕ) (e : Entry) → t < 32 → entryOf
 unfolding pick
 placed-same es t e l = getD-placed es t e t l ∙ rw (eq-eqb t t refl)
 
+-- every other entry stays
 pub placed-other : (es : List Entry) (t : ℕ) (e : Entry) (i : ℕ) → i < 32 → (i ≡ t → ⊥) → entryOf (placed es t e) i ≡ entryOf es i
 unfolding pick
 placed-other es t e i l n = getD-placed es t e i l ∙ rw (ne-eqb i t n)

@@ -42,5 +42,6 @@ told s as′ t = record {
 pub demand3-code : (s : Settings) (r : Outcome) (xs : List Done) → Began s r xs → AllTyped (lents xs) → Demand3 (s .depth) (s .mask) (historyOf xs)
 demand3-code s r xs b t = for-all s r xs b (λ (d : Device) (h : List Event). Demand3 (s .depth) (s .mask) h) (demand3 s (lents xs) t)
 
+-- and their last state is what their history tells
 pub told-code : (s : Settings) (r : Outcome) (xs : List Done) → Began s r xs → AllTyped (lents xs) → Told s (final (r .state) xs) (historyOf xs)
 told-code s r xs b t = for-all s r xs b (Told s) (told s (lents xs) t)

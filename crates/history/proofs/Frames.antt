@@ -72,22 +72,28 @@ by-refusal s done′ none′ =
     ⊎-elim (λ (t : eqb (s .refusal) 0 ≡ true). done′ (eqb-true (s .refusal) 0 t)) (λ (f : eqb (s .refusal) 0 ≡ false). whole-none s (none′ (eqb-false (s .refusal) 0 f))) (tested (eqb (s .refusal) 0))
 
 module _ (d : Device) where
+  -- host frame
   pub always-host : (f : List ℕ) (n room : ℕ) → Bytes f → SizedRecord d → Whole (hostStep d f n room)
   always-host f n room b s = by-refusal (hostStep d f n room) (whole-host d f n room b s) (λ z. refused-keeps d [] (hostAct d f n room) z .frames)
 
+  -- open
   pub always-open : (tag room : ℕ) → Whole (openStep d tag room)
   always-open tag room = by-refusal (openStep d tag room) (whole-open d tag room) (λ z. refused-keeps d [] (openOf d tag room) z .frames)
 
+  -- send
   pub always-send : (m : List ℕ) (room : ℕ) → Whole (sendStep d m room)
   always-send m room =
       by-refusal (sendStep d m room) (whole-send d m room) (λ z. refused-keeps d (partOf (spanOf (sendOf d (length m) room)) m) (sendOf d (length m) room) z .frames)
 
+  -- finish
   pub always-finish : (set room : ℕ) → set < 2 ^ 32 → Whole (finishStep d set room)
   always-finish set room l = by-refusal (finishStep d set room) (whole-finish d set room l) (λ z. refused-keeps d [] (finishOf d set room) z .frames)
 
+  -- media error
   pub always-media : (tag error sector room : ℕ) → error < 256 → Whole (mediaStep d tag error sector room)
   always-media tag error sector room l =
       by-refusal (mediaStep d tag error sector room) (whole-media d tag error sector room l) (λ z. refused-keeps d [] (mediaOf d tag error sector room) z .frames)
 
+  -- COMRESET
   pub always-comreset : (room : ℕ) → Whole (comresetStep d room)
   always-comreset room = by-refusal (comresetStep d room) (whole-comreset d room) (λ z. refused-keeps-comreset d room z .frames)

@@ -250,31 +250,38 @@ is-sent p = record {
 -- ---- what begins nothing
 
 module _ (k : Asked) where
+  -- no reply
   pub silent-unbegun : Unbegun (view k [])
   unfolding view collect begun
   silent-unbegun x = refl
 
+  -- an answer
   pub answer-unbegun : (f : DevReg) → Unbegun (view k (device f ∷ []))
   unfolding view collect begun
   answer-unbegun f x = refl
 
+  -- a page
   pub page-unbegun : (f : PioSetup) (p : List ℕ) → Unbegun (view k (pio f ∷ payload p ∷ []))
   unfolding view collect begun
   page-unbegun f p x = refl
 
+  -- the sweep and a page
   pub swept-unbegun : (s : SetBits) (f : PioSetup) (p : List ℕ) → Unbegun (view k (setBits s ∷ pio f ∷ payload p ∷ []))
   unfolding view collect begun
   swept-unbegun s f p x = refl
 
+  -- an Activate
   pub active-unbegun : (on : Bool) → Unbegun (view k (activateIf on))
   unfolding view collect begun pick
   active-unbegun true x = refl
   active-unbegun false x = refl
 
+  -- an A1h
   pub bits-unbegun : (s : SetBits) → Unbegun (view k (setBits s ∷ []))
   unfolding view collect begun
   bits-unbegun s x = refl
 
+  -- device data
   pub sent-unbegun : (p : List ℕ) → Unbegun (view k (payload p ∷ []))
   unfolding view collect begun
   sent-unbegun p x = refl

@@ -93,5 +93,6 @@ idle-entry zero t = refl
 idle-entry (suc n) zero = refl
 idle-entry (suc n) (suc t) = idle-entry n t
 
+-- a table of idle entries
 pub idle-small : SmallAll (replicate 32 zeroEntry)
 idle-small t = subst⁻¹ (λ (e : Entry). Small (e .echo)) (idle-entry 32 t) zero-small

@@ -33,10 +33,11 @@ unfoldable pub span : ℕ → ℕ → List ℕ
 span a zero = []
 span a (suc n) = a ∷ span (suc a) n
 
--- the first byte of a command's range, and how many it has
+-- the first byte of a command's range
 abbrev pub base : Command → ℕ
 base c = 512 * c .accepted .asks .first
 
+-- and how many bytes it has
 abbrev pub size : Command → ℕ
 size c = 512 * c .accepted .asks .count
 

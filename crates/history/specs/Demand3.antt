@@ -31,6 +31,7 @@ pub record Settled (c : Command) (x : List Seen) : Type 0 where
   pub givenUp : givenUpAt (ownTag c) (x ++ c .after) ≡ givenUp c
   pub dropped : droppedAt (ownTag c) (x ++ c .after) ≡ dropped c
 
+-- of every command accepted
 abbrev pub Fates : List Seen → Type 0
 Fates h = All (λ c. OneFate c × ((x : List Seen) → outstanding c ≡ false → Settled c x)) (commands h)
 

@@ -48,16 +48,19 @@ unfoldable pub droppedAt : ℕ → List Seen → Bool
 droppedAt t [] = false
 droppedAt t (e ∷ n) = droppedAt t n || (outstandingAt t n && e .asks .resets)
 
--- the four fates of a command
+-- a command is outstanding
 abbrev pub outstanding : Command → Bool
 outstanding c = outstandingAt (ownTag c) (c .after)
 
+-- finished
 abbrev pub finished : Command → Bool
 finished c = finishedAt (ownTag c) (c .after)
 
+-- given up at an error
 abbrev pub givenUp : Command → Bool
 givenUp c = givenUpAt (ownTag c) (c .after)
 
+-- dropped by a reset
 abbrev pub dropped : Command → Bool
 dropped c = droppedAt (ownTag c) (c .after)
 
@@ -76,9 +79,10 @@ unfoldable pub All : (Command → Type 0) → List Command → Type 0
 All P [] = Unit
 All P (c ∷ cs) = P c × All P cs
 
--- how many commands are outstanding; and with tag t
+-- how many commands are outstanding
 unfoldable pub total : List Seen → ℕ
 total h = howMany outstanding (commands h)
 
+-- and with tag t
 unfoldable pub totalWith : ℕ → List Seen → ℕ
 totalWith t h = howMany (λ c. eqb (ownTag c) t && outstanding c) (commands h)

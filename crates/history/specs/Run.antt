@@ -49,6 +49,7 @@ AllowedFor d m b g (mediaError t e s) = Answered (mediaStep d t e s (length b)) 
 AllowedFor d m b g (linkEvent r) = (g .outcome ≡ linkStep d r) × ((g .medium ≡ m) × (g .buffer ≡ b))
 AllowedFor d m b g comReset = Answered (comresetStep d (length b)) b (g .outcome) (g .buffer) × (g .medium ≡ m)
 
+-- of a call with what was lent
 abbrev pub Allowed : Device → Lent → Gave → Type 0
 Allowed d a g = AllowedFor d (a .medium) (a .buffer) g (a .call)
 
@@ -66,6 +67,7 @@ resultFor d m b (mediaError t e s) = gives (mediaStep d t e s (length b)) m b
 resultFor d m b (linkEvent r) = record { outcome = linkStep d r; medium = m; buffer = b }
 resultFor d m b comReset = gives (comresetStep d (length b)) m b
 
+-- of a call with what was lent
 abbrev pub result : Device → Lent → Gave
 result d a = resultFor d (a .medium) (a .buffer) (a .call)
 
@@ -74,6 +76,7 @@ pub record Done : Type 0 where
   pub lent : Lent
   pub gave : Gave
 
+-- a call and what it gave
 abbrev pub done : Lent → Gave → Done
 done a g = record { lent = a; gave = g }
 
@@ -92,11 +95,12 @@ unfoldable pub AllTyped : List Lent → Type 0
 AllTyped [] = Unit
 AllTyped (a ∷ as′) = Typed (a .call) × AllTyped as′
 
--- the run of the definitions: the state at the end, and the calls as they went, the newest first
+-- where a run ends: the state, and the calls as they went, the newest first
 pub record Run : Type 0 where
   pub state : Device
   pub calls : List Done
 
+-- the run of the definitions: each call is given the state that the last one returned
 unfoldable pub run : Device → List Done → List Lent → Run
 run d h [] = record { state = d; calls = h }
 run d h (a ∷ as′) = run (result d a .outcome .state) (done a (result d a) ∷ h) as′
@@ -114,11 +118,12 @@ unfoldable pub Follows : Device → List Done → Type 0
 Follows d [] = Unit
 Follows d (x ∷ xs) = Allowed d (x .lent) (x .gave) × Follows (x .gave .outcome .state) xs
 
--- the same sequence with the newest first, and the state that its last call returned
+-- the same sequence with the newest first
 unfoldable pub newestFirst : List Done → List Done → List Done
 newestFirst h [] = h
 newestFirst h (x ∷ xs) = newestFirst (x ∷ h) xs
 
+-- and the state that its last call returned
 unfoldable pub final : Device → List Done → Device
 final d [] = d
 final d (x ∷ xs) = final (x .gave .outcome .state) xs

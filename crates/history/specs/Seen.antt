@@ -22,6 +22,7 @@ unfoldable pub begun : List DmaSetup → Flow → Flow
 begun [] x = x
 begun (s ∷ ss) x = begun ss (flows (s .«to_host») (s .tag) (s .offset) (s .offset + s .count))
 
+-- what is seen of an event
 pub record Seen : Type 0 where
   pub asks : Asked
   -- answered by a 34h without ERR; a command answered by one with ERR; an A1h with ERR was sent
