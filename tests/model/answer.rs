@@ -20,8 +20,9 @@
 //!   T  tag and sectors of a queued command: body 0 features, 1 features high,
 //!      2-3 count
 
+use crate::fields::little_endian;
 use crate::frames::{self, Frame};
-use crate::pages::{self, little_endian};
+use crate::pages;
 
 /// A case is a header and a body.
 pub const HEADER: usize = 16;

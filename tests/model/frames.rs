@@ -1,6 +1,8 @@
 //! Frames: one table of fields for each kind. Reading, writing and cutting
 //! follow the tables and know nothing else about a kind.
 
+use crate::fields::{lba, part, set_bits_status, whole, Field};
+
 /// Refusal numbers of this layer.
 pub const BAD_FRAME: u8 = 24;
 pub const BAD_VALUE: u8 = 25;
@@ -11,72 +13,6 @@ pub const DATA: u8 = 0x46;
 
 /// A data frame: 4 bytes of header, then the payload.
 const DATA_HEADER: usize = 4;
-
-/// Neighbouring bits: `bits` of them, from bit `at` of the bytes (bit 0 of
-/// byte 0 comes first), standing for the value's bits from `to` upwards.
-#[derive(Clone, Copy)]
-struct Run {
-    at: usize,
-    to: usize,
-    bits: usize,
-}
-
-/// A named field. None has more than two runs of bits.
-pub struct Field {
-    pub name: &'static str,
-    runs: [Run; 2],
-}
-
-const NO_RUN: Run = Run { at: 0, to: 0, bits: 0 };
-
-const fn run(byte: usize, low: usize, to: usize, bits: usize) -> Run {
-    Run { at: 8 * byte + low, to, bits }
-}
-
-/// `bits` bits from bit `low` of byte `byte`.
-pub const fn part(name: &'static str, byte: usize, low: usize, bits: usize) -> Field {
-    Field { name, runs: [run(byte, low, 0, bits), NO_RUN] }
-}
-
-/// Whole bytes, the lowest first.
-pub const fn whole(name: &'static str, byte: usize, bytes: usize) -> Field {
-    part(name, byte, 0, 8 * bytes)
-}
-
-/// Bytes 4-6 are LBA 0-23, bytes 8-10 are LBA 24-47, wherever there is an LBA.
-pub const fn lba() -> Field {
-    Field { name: "lba", runs: [run(4, 0, 0, 24), run(8, 0, 24, 24)] }
-}
-
-/// The status of A1h: bits 6:4 and 2:0 of byte 2 are those bits of status.
-const fn set_bits_status() -> Field {
-    Field { name: "status", runs: [run(2, 0, 0, 3), run(2, 4, 4, 3)] }
-}
-
-impl Field {
-    /// Each bit of the field: (its bit in the bytes, its bit in the value).
-    fn places(&self) -> impl Iterator<Item = (usize, usize)> + '_ {
-        self.runs.iter().flat_map(|r| (0..r.bits).map(move |i| (r.at + i, r.to + i)))
-    }
-
-    /// The field's value in these bytes.
-    pub fn take(&self, bytes: &[u8]) -> u64 {
-        self.places().map(|(at, to)| u64::from(bytes[at / 8] >> (at % 8) & 1) << to).sum()
-    }
-
-    /// Sets the field in bytes where it is still 0.
-    pub fn put(&self, value: u64, bytes: &mut [u8]) {
-        for (at, to) in self.places() {
-            bytes[at / 8] |= ((value >> to & 1) as u8) << (at % 8);
-        }
-    }
-
-    /// No bit of the value lies outside the field (refusal 25 otherwise).
-    pub fn holds(&self, value: u64) -> bool {
-        let room: u128 = self.places().map(|(_, to)| 1u128 << to).sum();
-        u128::from(value) & !room == 0
-    }
-}
 
 /// What a kind looks like. `length` of 46h is that of its header.
 pub struct Layout {
@@ -198,7 +134,7 @@ impl Frame {
 /// 46h: 8 to 8,196 bytes in steps of 4. Every other kind: its own length.
 fn length_fits(layout: &Layout, length: usize) -> bool {
     match layout.kind {
-        DATA => (8..=8196).step_by(4).any(|good| good == length),
+        DATA => (8..=8196).contains(&length) && length % 4 == 0,
         _ => length == layout.length,
     }
 }
@@ -213,7 +149,7 @@ pub fn read(bytes: &[u8]) -> Result<Frame, u8> {
     Ok(Frame {
         kind,
         values: layout.fields.iter().map(|f| f.take(bytes)).collect(),
-        payload: bytes[layout.length..].iter().copied().filter(|_| kind == DATA).collect(),
+        payload: bytes[layout.length..].to_vec(),
     })
 }
 
@@ -233,13 +169,15 @@ pub fn write(frame: &Frame, buffer: &mut [u8]) -> Result<usize, u8> {
     if !may_be_written(layout, frame) {
         return Err(BAD_VALUE);
     }
-    let mut image = vec![0; layout.length];
-    image[0] = frame.kind;
+    let length = layout.length + frame.payload.len();
+    let (header, payload) = buffer.get_mut(..length).ok_or(NO_ROOM)?.split_at_mut(layout.length);
+    header.fill(0);
+    header[0] = frame.kind;
     for (field, &value) in layout.fields.iter().zip(&frame.values) {
-        field.put(value, &mut image);
+        field.put(value, header);
     }
-    image.extend(&frame.payload);
-    place(&image, buffer)
+    payload.copy_from_slice(&frame.payload);
+    Ok(length)
 }
 
 /// Copies a finished image to the start of the buffer; refusal 26 if it is
