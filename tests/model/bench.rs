@@ -1,5 +1,7 @@
-//! The benchmark's event file: a queue kept full, reads and writes of 16
+//! The benchmark. Its event file: a queue kept full, reads and writes of 16
 //! sectors by turns, each command finished and its tag used again at once.
+
+pub mod timing;
 
 use crate::program::{self, event};
 use std::io::{self, Write};

@@ -9,7 +9,7 @@
 //!   --random SEED              the random event file of a seed
 //!   --compare N FROM T R       random files through the programs T (trace) and
 //!                              R (run; empty: not compared) and the model
-//!   --bench-events N           the benchmark's events
+//!   --bench N PROGRAM          N events through PROGRAM and through the model
 //!   --run, --trace             the event program: events in, lines out; a
 //!                              trace shows the bytes of each reply
 
@@ -49,7 +49,7 @@ fn main() {
             listed(cases.iter().map(|(case, line)| (&case.comment[..], line.clone())))
         }
         ["--examples"] => return run_examples(),
-        ["--bench-events", count] => return bench_events(number(count)),
+        ["--bench", count, program] => return measure(number(count), program),
         ["--random", seed] => random::file(number(seed)).bytes,
         ["--compare", count, from, trace, run] => {
             return compare_with(number(count), number(from), trace, run)
@@ -67,12 +67,10 @@ fn number(text: &str) -> u64 {
     text.parse().unwrap_or_else(|_| fail(USAGE))
 }
 
-/// The benchmark's events; the bytes that they move go to the error output.
-fn bench_events(count: u64) {
-    let mut output = BufWriter::new(io::stdout().lock());
-    match bench::write_events(&mut output, count).and_then(|n| output.flush().map(|_| n)) {
-        Ok(bytes) => eprintln!("{}", bytes),
-        Err(error) => fail(&format!("model: cannot write: {}", error)),
+/// The benchmark's file and its times, the program against the model.
+fn measure(count: u64, program: &str) {
+    if let Err(fault) = bench::timing::measure(count, program, Path::new("target/bench.events")) {
+        fail(&format!("model: {}", fault));
     }
 }
 
