@@ -85,7 +85,7 @@ fn frame_read(bytes: &[u8]) -> String {
         Err(number) => number.to_string(),
         Ok(frame) => {
             let mut out = vec![0, u64::from(frame.kind)];
-            out.extend(&frame.values);
+            out.extend(frame.values());
             if frame.kind == frames::DATA {
                 out.push(frame.payload.len() as u64);
             }
@@ -174,7 +174,7 @@ fn counter_read(bytes: &[u8], number: u16) -> String {
 
 fn pieces(bytes: &[u8]) -> String {
     let words: Vec<String> =
-        frames::cut(bytes).iter().map(|piece| format!("{}:{}", piece[0], piece.len())).collect();
+        frames::cut(bytes).map(|piece| format!("{}:{}", piece[0], piece.len())).collect();
     if words.is_empty() {
         "none".to_string()
     } else {

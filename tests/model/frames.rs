@@ -2,6 +2,7 @@
 //! follow the tables and know nothing else about a kind.
 
 use crate::fields::{lba, part, set_bits_status, whole, Field};
+use std::borrow::Cow;
 
 /// Refusal numbers of this layer.
 pub const BAD_FRAME: u8 = 24;
@@ -96,27 +97,49 @@ pub fn layout(kind: u8) -> Option<&'static Layout> {
     LAYOUTS.iter().find(|l| l.kind == kind)
 }
 
-/// A frame taken apart: the values stand in the order of the kind's fields.
+/// A frame taken apart; its payload may stand where it was found.
 #[derive(Clone, Debug, PartialEq)]
-pub struct Frame {
+pub struct Frame<'a> {
     pub kind: u8,
-    pub values: Vec<u64>,
-    pub payload: Vec<u8>,
+    values: [u64; MOST_FIELDS],
+    pub payload: Cow<'a, [u8]>,
 }
 
-impl Frame {
-    /// A frame of a known kind; `value_of` gives each field by its name.
-    pub fn new(kind: u8, payload: &[u8], value_of: impl Fn(&str) -> u64) -> Frame {
-        let fields = layout(kind).expect("a known kind").fields;
-        Frame {
-            kind,
-            values: fields.iter().map(|f| value_of(f.name)).collect(),
-            payload: payload.to_vec(),
+/// No kind has more fields.
+const MOST_FIELDS: usize = 9;
+
+impl<'a> Frame<'a> {
+    /// A frame of a known layout; `value_of` gives each field.
+    fn laid(
+        layout: &Layout,
+        payload: Cow<'a, [u8]>,
+        value_of: impl Fn(&Field) -> u64,
+    ) -> Frame<'a> {
+        let mut values = [0; MOST_FIELDS];
+        for (value, field) in values.iter_mut().zip(layout.fields) {
+            *value = value_of(field);
         }
+        Frame { kind: layout.kind, values, payload }
+    }
+
+    /// A frame of a known kind; `value_of` gives each field by its name.
+    pub fn new(kind: u8, payload: &'a [u8], value_of: impl Fn(&str) -> u64) -> Frame<'a> {
+        let layout = layout(kind).expect("a known kind");
+        Frame::laid(layout, Cow::Borrowed(payload), |field| value_of(field.name))
+    }
+
+    /// The values, in the order of the kind's fields.
+    pub fn values(&self) -> &[u64] {
+        &self.values[..layout(self.kind).expect("a known kind").fields.len()]
+    }
+
+    /// The same frame, with its payload for its own.
+    pub fn owned(self) -> Frame<'static> {
+        Frame { payload: Cow::Owned(self.payload.into_owned()), ..self }
     }
 
     /// A frame of a known kind with the fields named, the others 0.
-    pub fn with(kind: u8, payload: &[u8], fields: &[(&str, u64)]) -> Frame {
+    pub fn with(kind: u8, payload: &'a [u8], fields: &[(&str, u64)]) -> Frame<'a> {
         let known = layout(kind).map_or(&[][..], |l| l.fields);
         assert!(fields.iter().all(|f| known.iter().any(|k| k.name == f.0)));
         let value_of = |name: &str| fields.iter().find(|f| f.0 == name).map_or(0, |f| f.1);
@@ -140,17 +163,14 @@ fn length_fits(layout: &Layout, length: usize) -> bool {
 }
 
 /// Reads one frame; refusal 24 by kind and length alone.
-pub fn read(bytes: &[u8]) -> Result<Frame, u8> {
+pub fn read(bytes: &[u8]) -> Result<Frame<'_>, u8> {
     let kind = *bytes.first().ok_or(BAD_FRAME)?;
     let layout = layout(kind).ok_or(BAD_FRAME)?;
     if !length_fits(layout, bytes.len()) {
         return Err(BAD_FRAME);
     }
-    Ok(Frame {
-        kind,
-        values: layout.fields.iter().map(|f| f.take(bytes)).collect(),
-        payload: bytes[layout.length..].to_vec(),
-    })
+    let payload = Cow::Borrowed(&bytes[layout.length..]);
+    Ok(Frame::laid(layout, payload, |field| field.take(bytes)))
 }
 
 /// Refusal 25 is not due: each value fits, and a payload is 4 to 8,192 bytes
@@ -197,15 +217,16 @@ fn piece_length(rest: &[u8]) -> usize {
 }
 
 /// Several frames behind one another, cut apart.
-pub fn cut(bytes: &[u8]) -> Vec<&[u8]> {
-    let mut pieces = Vec::new();
+pub fn cut(bytes: &[u8]) -> impl Iterator<Item = &[u8]> {
     let mut rest = bytes;
-    while !rest.is_empty() {
+    std::iter::from_fn(move || {
+        if rest.is_empty() {
+            return None;
+        }
         let (piece, left) = rest.split_at(piece_length(rest));
-        pieces.push(piece);
         rest = left;
-    }
-    pieces
+        Some(piece)
+    })
 }
 
 /// A queued command's tag: bits 7:3 of byte 12, the low byte of the count.

@@ -8,7 +8,7 @@ use std::path::Path;
 use std::process::{Command, Stdio};
 use std::time::Instant;
 
-const RUNS: u32 = 3;
+const RUNS: u32 = 5;
 
 /// The plain copy moves the bytes as a device does: so many at a time.
 const FRAME: usize = 8_192;
@@ -23,9 +23,8 @@ pub fn measure(events: u64, program: &str, path: &Path) -> Result<(), String> {
         return Err(format!("{} and the model print different lines", program));
     }
     let events = lines.iter().filter(|&&byte| byte == b'\n').count();
-    let programs = best(|| time(program, path))?;
-    let models = best(|| time(&model, path))?;
-    let copies = best(|| Ok(time_copy(bytes)))?;
+    let [programs, models, copies] =
+        best(|| Ok([time(program, path)?, time(&model, path)?, time_copy(bytes)]))?;
     println!("{} events, {} bytes moved; best of {} runs", events, bytes, RUNS);
     for (name, seconds) in [(program, programs), ("model", models), ("plain copy", copies)] {
         let rate = bytes as f64 / seconds / 1e6;
@@ -82,10 +81,13 @@ fn time_copy(bytes: u64) -> f64 {
     begin.elapsed().as_secs_f64()
 }
 
-fn best(run: impl Fn() -> Result<f64, String>) -> Result<f64, String> {
-    let mut seconds = f64::INFINITY;
+/// The best of each, the three by turns, so that a busy moment strikes all.
+fn best(turn: impl Fn() -> Result<[f64; 3], String>) -> Result<[f64; 3], String> {
+    let mut seconds = [f64::INFINITY; 3];
     for _ in 0..RUNS {
-        seconds = seconds.min(run()?);
+        for (least, new) in seconds.iter_mut().zip(turn()?) {
+            *least = least.min(new);
+        }
     }
     Ok(seconds)
 }

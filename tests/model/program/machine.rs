@@ -70,7 +70,7 @@ impl Machine {
     }
 
     /// The frames that the last event was answered with.
-    pub fn replies(&self) -> Vec<&[u8]> {
+    pub fn replies(&self) -> impl Iterator<Item = &[u8]> {
         frames::cut(&self.reply[..self.replied])
     }
 }

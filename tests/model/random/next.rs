@@ -142,7 +142,11 @@ fn finish(random: &mut Random, state: &State) -> Vec<u8> {
     if random.percent(50) {
         set &= random.word() as u32;
     }
-    if random.percent(6) {
+    let waiting = tags(state, false);
+    if !waiting.is_empty() && random.percent(6) {
+        set |= 1 << random.one_of(&waiting);
+    }
+    if random.percent(3) {
         set |= 1 << random.below(32);
     }
     [&[event::FINISH][..], &set.to_le_bytes()].concat()
