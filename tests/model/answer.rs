@@ -20,8 +20,9 @@
 //!   T  tag and sectors of a queued command: body 0 features, 1 features high,
 //!      2-3 count
 
+use crate::fields::little_endian;
 use crate::frames::{self, Frame};
-use crate::pages::{self, little_endian};
+use crate::pages;
 
 /// A case is a header and a body.
 pub const HEADER: usize = 16;
@@ -84,7 +85,7 @@ fn frame_read(bytes: &[u8]) -> String {
         Err(number) => number.to_string(),
         Ok(frame) => {
             let mut out = vec![0, u64::from(frame.kind)];
-            out.extend(&frame.values);
+            out.extend(frame.values());
             if frame.kind == frames::DATA {
                 out.push(frame.payload.len() as u64);
             }
@@ -173,7 +174,7 @@ fn counter_read(bytes: &[u8], number: u16) -> String {
 
 fn pieces(bytes: &[u8]) -> String {
     let words: Vec<String> =
-        frames::cut(bytes).iter().map(|piece| format!("{}:{}", piece[0], piece.len())).collect();
+        frames::cut(bytes).map(|piece| format!("{}:{}", piece[0], piece.len())).collect();
     if words.is_empty() {
         "none".to_string()
     } else {

@@ -30,8 +30,8 @@
 use crate::device::command::Command;
 use crate::device::host::Verdict;
 use crate::device::{clauses, events, host, Answer, Echo, Entry, Record, State};
+use crate::fields::little_endian;
 use crate::frames;
-use crate::pages::little_endian;
 
 /// A record, the medium buffer and the reply buffer have these lengths.
 pub const RECORD: usize = 32;

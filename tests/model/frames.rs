@@ -1,6 +1,9 @@
 //! Frames: one table of fields for each kind. Reading, writing and cutting
 //! follow the tables and know nothing else about a kind.
 
+use crate::fields::{lba, part, set_bits_status, whole, Field};
+use std::borrow::Cow;
+
 /// Refusal numbers of this layer.
 pub const BAD_FRAME: u8 = 24;
 pub const BAD_VALUE: u8 = 25;
@@ -11,72 +14,6 @@ pub const DATA: u8 = 0x46;
 
 /// A data frame: 4 bytes of header, then the payload.
 const DATA_HEADER: usize = 4;
-
-/// Neighbouring bits: `bits` of them, from bit `at` of the bytes (bit 0 of
-/// byte 0 comes first), standing for the value's bits from `to` upwards.
-#[derive(Clone, Copy)]
-struct Run {
-    at: usize,
-    to: usize,
-    bits: usize,
-}
-
-/// A named field. None has more than two runs of bits.
-pub struct Field {
-    pub name: &'static str,
-    runs: [Run; 2],
-}
-
-const NO_RUN: Run = Run { at: 0, to: 0, bits: 0 };
-
-const fn run(byte: usize, low: usize, to: usize, bits: usize) -> Run {
-    Run { at: 8 * byte + low, to, bits }
-}
-
-/// `bits` bits from bit `low` of byte `byte`.
-pub const fn part(name: &'static str, byte: usize, low: usize, bits: usize) -> Field {
-    Field { name, runs: [run(byte, low, 0, bits), NO_RUN] }
-}
-
-/// Whole bytes, the lowest first.
-pub const fn whole(name: &'static str, byte: usize, bytes: usize) -> Field {
-    part(name, byte, 0, 8 * bytes)
-}
-
-/// Bytes 4-6 are LBA 0-23, bytes 8-10 are LBA 24-47, wherever there is an LBA.
-pub const fn lba() -> Field {
-    Field { name: "lba", runs: [run(4, 0, 0, 24), run(8, 0, 24, 24)] }
-}
-
-/// The status of A1h: bits 6:4 and 2:0 of byte 2 are those bits of status.
-const fn set_bits_status() -> Field {
-    Field { name: "status", runs: [run(2, 0, 0, 3), run(2, 4, 4, 3)] }
-}
-
-impl Field {
-    /// Each bit of the field: (its bit in the bytes, its bit in the value).
-    fn places(&self) -> impl Iterator<Item = (usize, usize)> + '_ {
-        self.runs.iter().flat_map(|r| (0..r.bits).map(move |i| (r.at + i, r.to + i)))
-    }
-
-    /// The field's value in these bytes.
-    pub fn take(&self, bytes: &[u8]) -> u64 {
-        self.places().map(|(at, to)| u64::from(bytes[at / 8] >> (at % 8) & 1) << to).sum()
-    }
-
-    /// Sets the field in bytes where it is still 0.
-    pub fn put(&self, value: u64, bytes: &mut [u8]) {
-        for (at, to) in self.places() {
-            bytes[at / 8] |= ((value >> to & 1) as u8) << (at % 8);
-        }
-    }
-
-    /// No bit of the value lies outside the field (refusal 25 otherwise).
-    pub fn holds(&self, value: u64) -> bool {
-        let room: u128 = self.places().map(|(_, to)| 1u128 << to).sum();
-        u128::from(value) & !room == 0
-    }
-}
 
 /// What a kind looks like. `length` of 46h is that of its header.
 pub struct Layout {
@@ -160,27 +97,49 @@ pub fn layout(kind: u8) -> Option<&'static Layout> {
     LAYOUTS.iter().find(|l| l.kind == kind)
 }
 
-/// A frame taken apart: the values stand in the order of the kind's fields.
+/// A frame taken apart; its payload may stand where it was found.
 #[derive(Clone, Debug, PartialEq)]
-pub struct Frame {
+pub struct Frame<'a> {
     pub kind: u8,
-    pub values: Vec<u64>,
-    pub payload: Vec<u8>,
+    values: [u64; MOST_FIELDS],
+    pub payload: Cow<'a, [u8]>,
 }
 
-impl Frame {
-    /// A frame of a known kind; `value_of` gives each field by its name.
-    pub fn new(kind: u8, payload: &[u8], value_of: impl Fn(&str) -> u64) -> Frame {
-        let fields = layout(kind).expect("a known kind").fields;
-        Frame {
-            kind,
-            values: fields.iter().map(|f| value_of(f.name)).collect(),
-            payload: payload.to_vec(),
+/// No kind has more fields.
+const MOST_FIELDS: usize = 9;
+
+impl<'a> Frame<'a> {
+    /// A frame of a known layout; `value_of` gives each field.
+    fn laid(
+        layout: &Layout,
+        payload: Cow<'a, [u8]>,
+        value_of: impl Fn(&Field) -> u64,
+    ) -> Frame<'a> {
+        let mut values = [0; MOST_FIELDS];
+        for (value, field) in values.iter_mut().zip(layout.fields) {
+            *value = value_of(field);
         }
+        Frame { kind: layout.kind, values, payload }
+    }
+
+    /// A frame of a known kind; `value_of` gives each field by its name.
+    pub fn new(kind: u8, payload: &'a [u8], value_of: impl Fn(&str) -> u64) -> Frame<'a> {
+        let layout = layout(kind).expect("a known kind");
+        Frame::laid(layout, Cow::Borrowed(payload), |field| value_of(field.name))
+    }
+
+    /// The values, in the order of the kind's fields.
+    pub fn values(&self) -> &[u64] {
+        &self.values[..layout(self.kind).expect("a known kind").fields.len()]
+    }
+
+    /// The same frame, with its payload for its own.
+    pub fn owned(self) -> Frame<'static> {
+        Frame { payload: Cow::Owned(self.payload.into_owned()), ..self }
     }
 
     /// A frame of a known kind with the fields named, the others 0.
-    pub fn with(kind: u8, payload: &[u8], fields: &[(&str, u64)]) -> Frame {
+    pub fn with(kind: u8, payload: &'a [u8], fields: &[(&str, u64)]) -> Frame<'a> {
         let known = layout(kind).map_or(&[][..], |l| l.fields);
         assert!(fields.iter().all(|f| known.iter().any(|k| k.name == f.0)));
         let value_of = |name: &str| fields.iter().find(|f| f.0 == name).map_or(0, |f| f.1);
@@ -198,23 +157,20 @@ impl Frame {
 /// 46h: 8 to 8,196 bytes in steps of 4. Every other kind: its own length.
 fn length_fits(layout: &Layout, length: usize) -> bool {
     match layout.kind {
-        DATA => (8..=8196).step_by(4).any(|good| good == length),
+        DATA => (8..=8196).contains(&length) && length % 4 == 0,
         _ => length == layout.length,
     }
 }
 
 /// Reads one frame; refusal 24 by kind and length alone.
-pub fn read(bytes: &[u8]) -> Result<Frame, u8> {
+pub fn read(bytes: &[u8]) -> Result<Frame<'_>, u8> {
     let kind = *bytes.first().ok_or(BAD_FRAME)?;
     let layout = layout(kind).ok_or(BAD_FRAME)?;
     if !length_fits(layout, bytes.len()) {
         return Err(BAD_FRAME);
     }
-    Ok(Frame {
-        kind,
-        values: layout.fields.iter().map(|f| f.take(bytes)).collect(),
-        payload: bytes[layout.length..].iter().copied().filter(|_| kind == DATA).collect(),
-    })
+    let payload = Cow::Borrowed(&bytes[layout.length..]);
+    Ok(Frame::laid(layout, payload, |field| field.take(bytes)))
 }
 
 /// Refusal 25 is not due: each value fits, and a payload is 4 to 8,192 bytes
@@ -233,13 +189,15 @@ pub fn write(frame: &Frame, buffer: &mut [u8]) -> Result<usize, u8> {
     if !may_be_written(layout, frame) {
         return Err(BAD_VALUE);
     }
-    let mut image = vec![0; layout.length];
-    image[0] = frame.kind;
+    let length = layout.length + frame.payload.len();
+    let (header, payload) = buffer.get_mut(..length).ok_or(NO_ROOM)?.split_at_mut(layout.length);
+    header.fill(0);
+    header[0] = frame.kind;
     for (field, &value) in layout.fields.iter().zip(&frame.values) {
-        field.put(value, &mut image);
+        field.put(value, header);
     }
-    image.extend(&frame.payload);
-    place(&image, buffer)
+    payload.copy_from_slice(&frame.payload);
+    Ok(length)
 }
 
 /// Copies a finished image to the start of the buffer; refusal 26 if it is
@@ -259,15 +217,16 @@ fn piece_length(rest: &[u8]) -> usize {
 }
 
 /// Several frames behind one another, cut apart.
-pub fn cut(bytes: &[u8]) -> Vec<&[u8]> {
-    let mut pieces = Vec::new();
+pub fn cut(bytes: &[u8]) -> impl Iterator<Item = &[u8]> {
     let mut rest = bytes;
-    while !rest.is_empty() {
+    std::iter::from_fn(move || {
+        if rest.is_empty() {
+            return None;
+        }
         let (piece, left) = rest.split_at(piece_length(rest));
-        pieces.push(piece);
         rest = left;
-    }
-    pieces
+        Some(piece)
+    })
 }
 
 /// A queued command's tag: bits 7:3 of byte 12, the low byte of the count.

@@ -1,6 +1,7 @@
 //! Log pages 10h and 11h: reading and writing, and the table of rows.
 
-use crate::frames::{lba, part, place, whole, Field, BAD_VALUE};
+use crate::fields::{lba, little_endian, part, whole, Field};
+use crate::frames::{place, BAD_VALUE};
 
 /// Refusal numbers of the page readers.
 pub const NOT_512: u8 = 20;
@@ -157,11 +158,6 @@ fn value_length(identifier: u16) -> Option<usize> {
         4 => Some(8),
         _ => None,
     }
-}
-
-/// Bytes, the lowest first, as a number.
-pub fn little_endian(bytes: &[u8]) -> u64 {
-    bytes.iter().rev().fold(0, |number, &b| number << 8 | u64::from(b))
 }
 
 /// All entries of the area between bytes 4 and 508, or `None` at the first

@@ -3,19 +3,14 @@
 
 use super::state::{Entry, Record, State, ROW_001H, ROW_00AH, TAGS, TOP_CAPACITY};
 
-/// A clause and its name.
+/// A clause over the whole state, and its name.
 pub type Clause = (&'static str, fn(&State) -> bool);
 
-pub const CLAUSES: [Clause; 21] = [
+/// A clause over one outstanding tag with its entry, and its name.
+type EntryClause = (&'static str, fn(&State, u32, &Entry) -> bool);
+
+const CLAUSES: [Clause; 13] = [
     ("settings", settings_out_of_bounds),
-    ("tag at or above the depth", tag_above_depth),
-    ("range past capacity", range_past_capacity),
-    ("count 0", count_zero),
-    ("bytes name another tag", names_another_tag),
-    ("bytes name another first sector", names_another_first),
-    ("bytes name another count", names_another_count),
-    ("moved above count", moved_above_count),
-    ("moved between, no phase of its own", moved_between),
     ("open tag not outstanding", open_not_outstanding),
     ("open tag all moved", open_all_moved),
     ("halted with something outstanding", halted_outstanding),
@@ -30,14 +25,31 @@ pub const CLAUSES: [Clause; 21] = [
     ("unkept row not zero", unkept_row_not_zero),
 ];
 
+const ENTRY_CLAUSES: [EntryClause; 8] = [
+    ("tag at or above the depth", tag_above_depth),
+    ("range past capacity", range_past_capacity),
+    ("count 0", count_zero),
+    ("bytes name another tag", names_another_tag),
+    ("bytes name another first sector", names_another_first),
+    ("bytes name another count", names_another_count),
+    ("moved above count", moved_above_count),
+    ("moved between, no phase of its own", moved_between),
+];
+
 /// Refusal 1.
-pub fn contradicts(state: &State) -> bool {
-    CLAUSES.iter().any(|(_, holds)| holds(state))
+pub fn contradicts(s: &State) -> bool {
+    let entry_faulty = |tag| ENTRY_CLAUSES.iter().any(|(_, holds)| holds(s, tag, s.entry(tag)));
+    CLAUSES.iter().any(|(_, holds)| holds(s)) || s.tags().any(entry_faulty)
 }
 
 /// The names of all clauses that hold.
-pub fn names(state: &State) -> Vec<&'static str> {
-    CLAUSES.iter().filter(|(_, holds)| holds(state)).map(|&(name, _)| name).collect()
+pub fn names(s: &State) -> Vec<&'static str> {
+    let of_state = CLAUSES.iter().filter(|(_, holds)| holds(s)).map(|&(name, _)| name);
+    let of_entries = ENTRY_CLAUSES
+        .iter()
+        .filter(|(_, holds)| s.tags().any(|tag| holds(s, tag, s.entry(tag))))
+        .map(|&(name, _)| name);
+    of_state.chain(of_entries).collect()
 }
 
 /// Depth 1 to 32, capacity 1 to 65,536, rows 0 and 9 always kept.
@@ -48,45 +60,38 @@ pub fn settings_out_of_bounds(s: &State) -> bool {
     !(depth && capacity && rows)
 }
 
-/// Some tag outstanding, with its entry, is like this.
-fn some_outstanding(s: &State, like: impl Fn(u32, &Entry) -> bool) -> bool {
-    s.tags().iter().any(|&tag| like(tag, s.entry(tag)))
+fn tag_above_depth(s: &State, tag: u32, _: &Entry) -> bool {
+    tag >= s.depth
 }
 
-fn tag_above_depth(s: &State) -> bool {
-    some_outstanding(s, |tag, _| tag >= s.depth)
+fn range_past_capacity(s: &State, _: u32, entry: &Entry) -> bool {
+    entry.end() > u64::from(s.capacity)
 }
 
-fn range_past_capacity(s: &State) -> bool {
-    some_outstanding(s, |_, entry| entry.end() > u64::from(s.capacity))
+fn count_zero(_: &State, _: u32, entry: &Entry) -> bool {
+    entry.count == 0
 }
 
-fn count_zero(s: &State) -> bool {
-    some_outstanding(s, |_, entry| entry.count == 0)
-}
-
-fn names_another_tag(s: &State) -> bool {
-    some_outstanding(s, |tag, entry| entry.echo.tag() != tag)
+fn names_another_tag(_: &State, tag: u32, entry: &Entry) -> bool {
+    entry.echo.tag() != tag
 }
 
 /// All 48 bits of the LBA count.
-fn names_another_first(s: &State) -> bool {
-    some_outstanding(s, |_, entry| entry.echo.lba() != u64::from(entry.first))
+fn names_another_first(_: &State, _: u32, entry: &Entry) -> bool {
+    entry.echo.lba() != u64::from(entry.first)
 }
 
-fn names_another_count(s: &State) -> bool {
-    some_outstanding(s, |_, entry| entry.named_sectors() != entry.count)
+fn names_another_count(_: &State, _: u32, entry: &Entry) -> bool {
+    entry.named_sectors() != entry.count
 }
 
-fn moved_above_count(s: &State) -> bool {
-    some_outstanding(s, |_, entry| entry.moved > entry.count)
+fn moved_above_count(_: &State, _: u32, entry: &Entry) -> bool {
+    entry.moved > entry.count
 }
 
-fn moved_between(s: &State) -> bool {
-    some_outstanding(s, |tag, entry| {
-        let between = entry.moved != 0 && entry.moved != entry.count;
-        between && s.open_tag() != Some(tag)
-    })
+fn moved_between(s: &State, tag: u32, entry: &Entry) -> bool {
+    let between = entry.moved != 0 && entry.moved != entry.count;
+    between && s.open_tag() != Some(tag)
 }
 
 fn open_not_outstanding(s: &State) -> bool {
@@ -94,7 +99,8 @@ fn open_not_outstanding(s: &State) -> bool {
 }
 
 fn open_all_moved(s: &State) -> bool {
-    some_outstanding(s, |tag, entry| s.open_tag() == Some(tag) && entry.moved == entry.count)
+    let all_moved = |entry: &Entry| entry.moved == entry.count;
+    s.open_tag().map_or(false, |tag| s.is_outstanding(tag) && all_moved(s.entry(tag)))
 }
 
 fn halted_outstanding(s: &State) -> bool {

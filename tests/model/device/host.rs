@@ -31,7 +31,12 @@ pub fn host_frame(state: &State, bytes: &[u8], medium: &mut [u8], reply: &mut [u
 }
 
 /// The frame, or the lowest refusal that is due.
-fn due_frame(state: &State, bytes: &[u8], medium: &[u8], reply: &[u8]) -> Result<Frame, u8> {
+fn due_frame<'a>(
+    state: &State,
+    bytes: &'a [u8],
+    medium: &[u8],
+    reply: &[u8],
+) -> Result<Frame<'a>, u8> {
     refusals::check_state(state)?;
     refusals::check_medium(state, medium)?;
     refusals::check_room(reply)?;
@@ -43,7 +48,7 @@ fn due_frame(state: &State, bytes: &[u8], medium: &[u8], reply: &[u8]) -> Result
 
 /// 4: 27h, 46h or 58h in its length; kinds that only a device sends do not
 /// count.
-fn host_kind(bytes: &[u8]) -> Option<Frame> {
+fn host_kind(bytes: &[u8]) -> Option<Frame<'_>> {
     let frame = frames::read(bytes).ok()?;
     Some(frame).filter(|f| [REGISTER, frames::DATA, BIST].contains(&f.kind))
 }
@@ -72,7 +77,7 @@ fn check_length(state: &State, frame: &Frame) -> Due {
 }
 
 /// What a frame that is not refused does.
-fn act(state: &mut State, frame: &Frame, medium: &mut [u8]) -> Vec<Frame> {
+fn act(state: &mut State, frame: &Frame, medium: &mut [u8]) -> Vec<Frame<'static>> {
     match frame.kind {
         frames::DATA => take_data(state, &frame.payload, medium),
         BIST => bist(state),
@@ -82,7 +87,7 @@ fn act(state: &mut State, frame: &Frame, medium: &mut [u8]) -> Vec<Frame> {
 }
 
 /// The sectors go to the medium; if more is left, an Activate follows.
-fn take_data(state: &mut State, payload: &[u8], medium: &mut [u8]) -> Vec<Frame> {
+fn take_data(state: &mut State, payload: &[u8], medium: &mut [u8]) -> Vec<Frame<'static>> {
     let tag = state.open_tag().expect("refusal 5 has seen a write phase");
     let at = SECTOR * (state.entry(tag).first + state.entry(tag).moved) as usize;
     medium[at..at + payload.len()].copy_from_slice(payload);
@@ -95,13 +100,13 @@ fn take_data(state: &mut State, payload: &[u8], medium: &mut [u8]) -> Vec<Frame>
 }
 
 /// BIST Activate zeroes the counters; no reply.
-fn bist(state: &mut State) -> Vec<Frame> {
+fn bist(state: &mut State) -> Vec<Frame<'static>> {
     state.counters = [0; 16];
     vec![]
 }
 
 /// A control frame (C 0).
-fn control(state: &mut State, srst: bool) -> Vec<Frame> {
+fn control(state: &mut State, srst: bool) -> Vec<Frame<'static>> {
     if srst {
         state.reset();
         state.held = true;
@@ -126,7 +131,7 @@ pub enum Verdict {
 
 /// Answers a command. One that halts leaves its bytes in the record: under NQ
 /// and with tag 0 unless it is queued.
-fn command(state: &mut State, command: &Command) -> Vec<Frame> {
+fn command(state: &mut State, command: &Command) -> Vec<Frame<'static>> {
     let (queued, echo) = (command.is_queued(), command.echo);
     let verdict = if queued { judge_queued(state, command) } else { judge_other(state, command) };
     match verdict {
@@ -157,7 +162,7 @@ pub fn judge_queued(state: &State, command: &Command) -> Verdict {
 }
 
 /// Rule 4: the tag is outstanding, nothing has moved.
-fn accept(state: &mut State, command: &Command) -> Vec<Frame> {
+fn accept(state: &mut State, command: &Command) -> Vec<Frame<'static>> {
     let echo = command.echo;
     state.outstanding |= 1 << echo.tag();
     state.entries[echo.tag() as usize] = Entry {
@@ -188,7 +193,7 @@ fn judge_other(state: &State, command: &Command) -> Verdict {
 
 /// A good READ LOG EXT: the sweep if halted, and the halt ends; PIO Setup; the
 /// page. The record stays. Zeroing comes after the page is made.
-fn read_log(state: &mut State, command: &Command) -> Vec<Frame> {
+fn read_log(state: &mut State, command: &Command) -> Vec<Frame<'static>> {
     let mut sent = if state.halted { vec![replies::sweep()] } else { vec![] };
     state.halted = false;
     sent.push(replies::pio_setup(&command.echo));

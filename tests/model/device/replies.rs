@@ -15,7 +15,7 @@ pub fn send(replies: &[Frame], reply: &mut [u8]) -> usize {
 }
 
 /// A frame of this kind that repeats a command's bytes, with more fields.
-fn repeating(kind: u8, echo: &Echo, fields: &[(&str, u64)]) -> Frame {
+fn repeating(kind: u8, echo: &Echo, fields: &[(&str, u64)]) -> Frame<'static> {
     let lba = echo.lba();
     let device = u64::from(echo.device());
     let count = u64::from(echo.count());
@@ -24,60 +24,60 @@ fn repeating(kind: u8, echo: &Echo, fields: &[(&str, u64)]) -> Frame {
 }
 
 /// Device register, good: status 40h, error 0, I 0.
-pub fn good(echo: &Echo) -> Frame {
+pub fn good(echo: &Echo) -> Frame<'static> {
     repeating(0x34, echo, &[("status", 0x40)])
 }
 
 /// Device register, bad: status 41h, I 1, the error named.
-pub fn bad(echo: &Echo, error: u8) -> Frame {
+pub fn bad(echo: &Echo, error: u8) -> Frame<'static> {
     repeating(0x34, echo, &[("I", 1), ("status", 0x41), ("error", u64::from(error))])
 }
 
 /// The signature: 34h, I 0, status 40h, error 01h, bytes 4 and 12 01h.
-pub fn signature() -> Frame {
+pub fn signature() -> Frame<'static> {
     let fields = [("status", 0x40), ("error", 1), ("lba", 1), ("count", 1)];
     Frame::with(0x34, &[], &fields)
 }
 
 /// The sweep: A1h, I 0, status 40h, error 0, every bit of SActive.
-pub fn sweep() -> Frame {
+pub fn sweep() -> Frame<'static> {
     Frame::with(0xA1, &[], &[("status", 0x40), ("sactive", 0xFFFF_FFFF)])
 }
 
 /// Finish: A1h, I 1, status 40h, error 0, SActive the set.
-pub fn finished(set: u32) -> Frame {
+pub fn finished(set: u32) -> Frame<'static> {
     Frame::with(0xA1, &[], &[("I", 1), ("status", 0x40), ("sactive", u64::from(set))])
 }
 
 /// Media error: A1h, I 1, status 41h, that error, SActive 0.
-pub fn media_error(error: u8) -> Frame {
+pub fn media_error(error: u8) -> Frame<'static> {
     Frame::with(0xA1, &[], &[("I", 1), ("status", 0x41), ("error", u64::from(error))])
 }
 
 /// DMA Setup: A 0, I 0, D 1 to the host, offset 0, the whole byte count.
-pub fn dma_setup(tag: u32, entry: &Entry) -> Frame {
+pub fn dma_setup(tag: u32, entry: &Entry) -> Frame<'static> {
     let to_host = u64::from(!entry.write);
     let bytes = u64::from(entry.count) * SECTOR as u64;
     Frame::with(0x41, &[], &[("D", to_host), ("tag", u64::from(tag)), ("byte_count", bytes)])
 }
 
-pub fn activate() -> Frame {
+pub fn activate() -> Frame<'static> {
     Frame::with(0x39, &[], &[])
 }
 
-pub fn data(payload: &[u8]) -> Frame {
+pub fn data(payload: &[u8]) -> Frame<'_> {
     Frame::with(frames::DATA, payload, &[])
 }
 
 /// PIO Setup before a page: I 1, D 1, status 48h, ending status 40h, 512 bytes.
-pub fn pio_setup(echo: &Echo) -> Frame {
+pub fn pio_setup(echo: &Echo) -> Frame<'static> {
     let fields =
         [("I", 1), ("D", 1), ("status", 0x48), ("ending_status", 0x40), ("pio_byte_count", 512)];
     repeating(0x5F, echo, &fields)
 }
 
 /// Page 10h in a data frame. A blank record: byte 0 is 80h, the rest 0.
-pub fn error_page(record: &Record) -> Frame {
+pub fn error_page(record: &Record) -> Frame<'static> {
     let echo = &record.echo;
     let values = if record.set {
         let (nq, tag, error) = (record.nq.into(), record.tag.into(), record.error.into());
@@ -87,12 +87,12 @@ pub fn error_page(record: &Record) -> Frame {
     };
     let mut page = [0; pages::PAGE];
     pages::write_10h(&values, &mut page).expect("a record that page 10h can hold");
-    data(&page)
+    data(&page).owned()
 }
 
 /// Page 11h in a data frame.
-pub fn counter_page(state: &State) -> Frame {
+pub fn counter_page(state: &State) -> Frame<'static> {
     let mut page = [0; pages::PAGE];
     pages::write_11h(state.mask, &state.counters, &mut page).expect("rows 0 and 9 are kept");
-    data(&page)
+    data(&page).owned()
 }

@@ -3,7 +3,7 @@
 //! each other; `clauses` lists them all.
 
 use crate::frames::{self, Frame};
-use crate::pages::{self, little_endian};
+use crate::pages;
 
 /// Fixed limits ("Numbers").
 pub const TAGS: u32 = 32;
@@ -36,7 +36,7 @@ impl Echo {
     /// Bytes 4-6 are LBA 0-23, bytes 8-10 LBA 24-47.
     pub fn lba(&self) -> u64 {
         let b = &self.0;
-        little_endian(&[b[0], b[1], b[2], b[4], b[5], b[6]])
+        u64::from_le_bytes([b[0], b[1], b[2], b[4], b[5], b[6], 0, 0])
     }
 
     pub fn device(&self) -> u8 {
@@ -45,7 +45,7 @@ impl Echo {
 
     /// Bytes 12-13.
     pub fn count(&self) -> u16 {
-        little_endian(&self.0[7..]) as u16
+        u16::from_le_bytes([self.0[7], self.0[8]])
     }
 
     /// A queued command's tag: bits 7:3 of byte 12.
@@ -62,7 +62,7 @@ impl Echo {
 }
 
 /// One queued command. An idle tag's entry is all zeros.
-#[derive(Clone, Debug, Default, PartialEq)]
+#[derive(Clone, Copy, Debug, Default, PartialEq)]
 pub struct Entry {
     pub write: bool,
     pub first: u32,
@@ -92,7 +92,7 @@ impl Entry {
 }
 
 /// What page 10h tells. Blank is all zeros in memory.
-#[derive(Clone, Debug, Default, PartialEq)]
+#[derive(Clone, Copy, Debug, Default, PartialEq)]
 pub struct Record {
     pub set: bool,
     pub nq: bool,
@@ -101,7 +101,7 @@ pub struct Record {
     pub echo: Echo,
 }
 
-#[derive(Clone, Debug, Default, PartialEq)]
+#[derive(Clone, Copy, Debug, Default, PartialEq)]
 pub struct State {
     pub depth: u32,
     pub capacity: u32,
@@ -125,8 +125,8 @@ impl State {
     }
 
     /// The tags outstanding, lowest first.
-    pub fn tags(&self) -> Vec<u32> {
-        (0..TAGS).filter(|&tag| self.is_outstanding(tag)).collect()
+    pub fn tags(&self) -> impl Iterator<Item = u32> + '_ {
+        (0..TAGS).filter(move |&tag| self.is_outstanding(tag))
     }
 
     pub fn entry(&self, tag: u32) -> &Entry {
