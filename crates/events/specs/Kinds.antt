@@ -1,5 +1,5 @@
 -- What the rest of the input begins with. Assumes nothing.
-use mathlib.Core.Bool.{Bool, not, _&&_}
+use mathlib.Core.Bool.{Bool, false, not}
 use mathlib.Core.List.{List}
 use Prim.Native.Nat.{ℕ, _+_}
 use lib.Dec.{eqb, leb}
@@ -42,7 +42,7 @@ nextOf first l =
 -- so many bytes as the kind's body has and one more
 unfoldable pub fitsLength : Length → ℕ → Bool
 fitsLength (Bytes n) have = eqb have (n + 1)
-fitsLength Unknown have = eqb 0 1
+fitsLength Unknown have = false
 
 -- an event is its kind and a body of the kind's length
 unfoldable pub isEvent : List ℕ → Bool

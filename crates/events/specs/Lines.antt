@@ -7,9 +7,13 @@ use Rattle.bits.specs.Pick.{pick}
 use Rattle.wire.specs.Cut.{cut}
 use Rattle.text.specs.Digits.{decimal, hex, upper8}
 
--- a blank, type:length of a reply; traced, also = and its bytes in lower-case hex
+-- traced: = and the bytes of a reply in lower-case hex
+unfoldable pub bytesOf : Bool → List ℕ → List ℕ
+bytesOf traced p = pick traced (61 ∷ hex false p) []
+
+-- a blank, and type:length of a reply
 unfoldable pub fieldOf : Bool → List ℕ → List ℕ
-fieldOf traced p = 32 ∷ hex true (getD p 0 0 ∷ []) ++ 58 ∷ decimal (length p) ++ pick traced (61 ∷ hex false p) []
+fieldOf traced p = 32 ∷ hex true (getD p 0 0 ∷ []) ++ 58 ∷ decimal (length p) ++ bytesOf traced p
 
 -- those of all replies, in their order
 unfoldable pub fieldsOf : Bool → List (List ℕ) → List ℕ

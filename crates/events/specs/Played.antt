@@ -23,6 +23,10 @@ linked d row = record { state = linkStep d row .state; refusal = linkStep d row 
 abbrev pub noEvent : Device → Step
 noEvent d = record { state = d; refusal = 24; frames = [] }
 
+-- a step without replies, as an outcome
+abbrev pub outcomeOf : Step → Outcome
+outcomeOf s = record { state = s .state; refusal = s .refusal; len = 0 }
+
 -- state, refusal and replies, by the call; e is the event, m the medium, `room` the length of the reply buffer
 unfoldable pub stepOf : Device → List ℕ → List ℕ → ℕ → Call → Step
 stepOf d e m room (Opening tag) = openStep d tag room

@@ -1,9 +1,11 @@
 // Host data of the length due, all of one byte.
 ghost use mathlib.Core.Path.{_≡_};
+ghost use Rattle.rules.specs.Facts.{dueOf};
 ghost use Rattle.device.specs.Calls.{openTag, Hosted};
 ghost use Rattle.events.specs.HostData.{Due, dataFrame, hostData};
 use device::Device;
 use device::Outcome;
+use states::Settings;
 
 // The tag of the open phase, or one that has no entry.
 fn open_tag(phase: u32) -> u32
@@ -15,15 +17,28 @@ fn open_tag(phase: u32) -> u32
     phase - 1
 }
 
+// min(16, what is left) sectors.
+fn due_sectors(count: u32, moved: u32) -> u32
+    ensures { λ r. ⌜ r ≡ dueOf count moved ⌝ }
+{
+    if count <= moved {
+        return 0;
+    }
+    if Settings::FRAME_SECTORS <= count - moved {
+        return Settings::FRAME_SECTORS;
+    }
+    count - moved
+}
+
 fn due_bytes(d: Device) -> usize
     ensures { λ r. ⌜ Due d r ⌝ }
 {
-    let flow = d.flow;
+    let phase = d.flow.phase;
     let entries = d.entries;
-    let entry = states::entry_of(entries, open_tag(flow.phase));
-    let next = rules::next_move(flow, entry);
-    if !(flow.phase == 0) & entry.write {
-        return next.size;
+    let entry = states::entry_of(entries, open_tag(phase));
+    let sectors = due_sectors(entry.count, entry.moved);
+    if !(phase == 0) & entry.write {
+        return Settings::SECTOR_SIZE * (sectors as usize);
     }
     4
 }

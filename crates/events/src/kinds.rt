@@ -40,7 +40,7 @@ fn is_misplaced(first: bool, kind: u8) -> bool
 }
 
 // What the rest of the input begins with; `first` says that nothing was before it.
-pub fn next(first: bool, rest: &[u8]) -> Next
+pub fn next_event(first: bool, rest: &[u8]) -> Next
     ensures { λ r. ⌜ r ≡ nextOf first (now (rest .entry)) ⌝ }
 {
     if rest.len() == 0 {

@@ -37,6 +37,16 @@ written-more (a ∷ s) t x = written-more s t (added a x)
 pub wrote-both : (s t : List ℕ) (a b c : Sheet) → b ≡ written s a → c ≡ written t b → c ≡ written (s ++ t) a
 wrote-both s t a b c p q = q ∙ ap (written t) p ∙ sym (written-more s t a)
 
+-- one byte, and a text behind it
+pub byte-then : (x : ℕ) (t : List ℕ) (a b c : Sheet) → b ≡ written (x ∷ []) a → c ≡ written t b → c ≡ written (x ∷ t) a
+byte-then x t a b c p q = wrote-both (x ∷ []) t a b c p q
+
+-- the buffer keeps its length
+length-written : (s : List ℕ) (x : Sheet) → length (written s x .bytes) ≡ length (x .bytes)
+unfolding written added
+length-written [] x = refl
+length-written (a ∷ s) x = length-written s (added a x) ∙ length-set (x .bytes) (x .at) a
+
 -- the place behind a text
 at-written : (s : List ℕ) (x : Sheet) → x .at ≤ length (x .bytes) + 1 → written s x .at ≡ min (x .at + length s) (length (x .bytes) + 1)
 unfolding written added
@@ -84,6 +94,8 @@ length-whole n b r e =
     (lt-or-le b n)
 
 -- a whole text in front of a buffer
-pub fronted : (s b : List ℕ) (r n : ℕ) (b′ : List ℕ) → sheet r b′ ≡ written s (sheet 0 b) → n ≡ pick (leb r (length b)) r 0 → Fronted s b n b′
+pub fronted : (s b : List ℕ) (r n : ℕ) (b′ : List ℕ) → sheet r b′ ≡ written s (sheet 0 b) → n ≡ pick (leb r (length b′)) r 0 → Fronted s b n b′
 fronted s b r n b′ p q =
-    record { len = q ∙ length-whole (length s) (length b) r (ap (λ (x : Sheet). x .at) p ∙ at-written s (sheet 0 b) (omega arith) ∙ omega arith); bytes = ap (λ (x : Sheet). x .bytes) p ∙ bytes-written s [] b ∙ front s b }
+    let same : length b′ ≡ length b = ap (λ (x : Sheet). length (x .bytes)) p ∙ length-written s (sheet 0 b) in
+    let place : r ≡ min (length s) (length b + 1) = ap (λ (x : Sheet). x .at) p ∙ at-written s (sheet 0 b) (omega arith) ∙ omega arith in
+    record { len = q ∙ ap (λ (k : ℕ). pick (leb r k) r 0) same ∙ length-whole (length s) (length b) r place; bytes = ap (λ (x : Sheet). x .bytes) p ∙ bytes-written s [] b ∙ front s b }

@@ -1,5 +1,6 @@
 // One event to its call.
-ghost use Rattle.events.specs.Played.{Called, Played};
+ghost use mathlib.Core.Path.{_≡_};
+ghost use Rattle.events.specs.Played.{noEvent, outcomeOf, Called, Played};
 use crate::calls::Call;
 use crate::calls::call_of;
 use crate::host_data::host_data;
@@ -7,7 +8,9 @@ use device::Device;
 use device::Outcome;
 
 // What is no event changes nothing.
-fn no_event(d: Device) -> Outcome {
+fn no_event(d: Device) -> Outcome
+    ensures { λ r. ⌜ r ≡ outcomeOf (noEvent d) ⌝ }
+{
     Outcome {
         state: d,
         refusal: 24,
