@@ -1,0 +1,28 @@
+use mathlib.Core.Path.{sym}
+use Prim.Native.Nat.{_-_}
+use lib.Dec.{eqb}
+use borrow.Author.Tests.{eq-eqb, ne-eqb}
+use Rattle.bits.proofs.Picks.{pick-yes, pick-no}
+use Rattle.device.specs.Calls.{openTag}
+use borrow.Author.Needs.{needs}
+use Rattle.events.proofs.host_data.open_tag.Statement.{statement}
+use Rattle.events.proofs.host_data.open_tag.Tie as tie
+use Rattle.events.proofs.host_data.open_tag.Reads as reads
+use Rattle.events.proofs.host_data.open_tag.Lts as lts
+
+-- src/host_data.rt:15:9
+returns : tie.Need-returns
+unfolding openTag
+returns c = let p = c .before .args .phase in sym (pick-yes (eqb p 0) 32 (p - 1) (eq-eqb p 0 (c .if1 .taken)))
+
+-- src/host_data.rt:17:5
+sub-result : tie.Need-sub-result
+sub-result c = search needs
+
+-- src/host_data.rt:11:1
+returns-2 : tie.Need-returns-2
+unfolding openTag
+returns-2 c = let p = c .before .args .phase in sym (pick-no (eqb p 0) 32 (p - 1) (ne-eqb p 0 (c .if1 .left)))
+
+pub open-tag-spec : {M : Type 1} → statement M
+open-tag-spec = tie.close (tie.spec returns sub-result returns-2)

@@ -1,0 +1,20 @@
+use Rattle.bits.specs.Pick.{pick}
+use Rattle.events.specs.Kinds.{misplaced}
+use borrow.Author.Needs.{needs}
+use Rattle.events.proofs.kinds.is_misplaced.Statement.{statement}
+use Rattle.events.proofs.kinds.is_misplaced.Tie as tie
+use Rattle.events.proofs.kinds.is_misplaced.Reads as reads
+use Rattle.events.proofs.kinds.is_misplaced.Lts as lts
+
+-- src/kinds.rt:36:1
+returns : tie.Need-returns
+unfolding misplaced pick
+returns c = rw (c .if1 .taken)
+
+-- src/kinds.rt:36:1
+returns-2 : tie.Need-returns-2
+unfolding misplaced pick
+returns-2 c = rw (c .if1 .left)
+
+pub is-misplaced-spec : {M : Type 1} → statement M
+is-misplaced-spec = tie.close (tie.spec returns returns-2)

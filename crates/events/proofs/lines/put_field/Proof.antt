@@ -1,0 +1,72 @@
+use mathlib.Core.List.{[], _∷_, _++_}
+use denote.Ref.{now}
+use lib.ListN.{length, getD}
+use mathlib.Core.Bool.{true, false}
+use Rattle.text.specs.Digits.{decimal, hex, upper8}
+use Rattle.text.proofs.Writing.{wrote-both, byte-then}
+use Rattle.events.specs.Lines.{fieldOf, bytesOf}
+use borrow.Author.Needs.{needs}
+use Rattle.events.proofs.lines.put_field.Statement.{statement}
+use Rattle.events.proofs.lines.put_field.Tie as tie
+use Rattle.events.proofs.lines.put_field.Reads as reads
+use Rattle.events.proofs.lines.put_field.Lts as lts
+use Rattle.events.proofs.lines.put_bytes.Reads as put-bytes-reads
+use Rattle.text.proofs.put_decimal.Reads as put-decimal-reads
+use Rattle.text.proofs.put_hex.Reads as put-hex-reads
+use Rattle.text.proofs.put_byte.Reads as put-byte-reads
+use Rattle.wire.proofs.byte_of.Reads as byte-of-reads
+
+-- src/lines.rt:33:17
+byte-of-requires : tie.Need-byte-of-requires
+byte-of-requires c κs = search needs
+
+-- src/lines.rt:34:9
+put-byte-requires : tie.Need-put-byte-requires
+put-byte-requires c κs = search needs
+
+-- src/lines.rt:35:29
+slice-aggregate-put-hex : tie.Need-slice-aggregate-put-hex
+slice-aggregate-put-hex c = search needs
+
+-- src/lines.rt:35:9
+put-hex-requires : tie.Need-put-hex-requires
+put-hex-requires c κs = search needs
+
+-- src/lines.rt:36:9
+put-byte-requires-2 : tie.Need-put-byte-requires-2
+put-byte-requires-2 c κs = search needs
+
+-- src/lines.rt:37:9
+put-decimal-requires : tie.Need-put-decimal-requires
+put-decimal-requires c κs = search needs
+
+-- src/lines.rt:38:5
+put-bytes-requires : tie.Need-put-bytes-requires
+put-bytes-requires c κs = search needs
+
+-- src/lines.rt:30:1
+same-length : tie.Need-same-length
+same-length c = search needs
+
+-- src/lines.rt:30:1
+returns : tie.Need-returns
+unfolding fieldOf
+returns c =
+    let p = now (c .before .before .before .before .before .before .before .before .before .before .before .before .before .before .before .before .before .before .before .before .before .before .before .before .args .piece) in
+    let k = hex true (getD p 0 0 ∷ []) in
+    let n = decimal (length p) in
+    wrote-both (32 ∷ k ++ 58 ∷ n) (bytesOf (c .before .before .before .before .before .before .before .before .before .before .before .before .before .before .before .before .before .before .before .before .before .before .before .before .args .traced) p) _ _ _ (wrote-both (32 ∷ k) (58 ∷ n) _ _ _ (byte-then 32 k _ _ _ (c .before .before .before .before .before .before .before .before .before .before .before .before .before .before .before .before .before .before .before .put-byte .ensures) (rw (c .before .before .before .before .before .before .before .before .before .before .before .before .before .before .before .before .before .before .before .before .before .byte-of .ensures) at (c .before .before .before .before .before .before .before .before .before .before .before .before .before .before .put-hex .ensures))) (byte-then 58 n _ _ _ (c .before .before .before .before .before .before .before .before .before .before .put-byte2 .ensures) (c .before .before .before .before .before .before .put-decimal .ensures))) (c .before .before .put-bytes .ensures)
+
+pub put-field-spec : {M : Type 1} → statement M
+put-field-spec =
+    tie.close
+    (tie.spec
+    byte-of-requires
+    put-byte-requires
+    slice-aggregate-put-hex
+    put-hex-requires
+    put-byte-requires-2
+    put-decimal-requires
+    put-bytes-requires
+    same-length
+    returns)

@@ -1,0 +1,6 @@
+pub mod Kinds
+pub mod Start
+pub mod HostData
+pub mod Calls
+pub mod Played
+pub mod Lines

@@ -1,0 +1,18 @@
+// One event to a call of the device and its line, over slices. Every public function is total and has no `requires`.
+mod calls;
+mod host_data;
+mod kinds;
+mod lines;
+mod plays;
+mod starts;
+
+pub use calls::Call;
+pub use calls::call_of;
+pub use kinds::Length;
+pub use kinds::Next;
+pub use kinds::body_length;
+pub use kinds::next_event;
+pub use lines::line;
+pub use lines::trace_line;
+pub use plays::play;
+pub use starts::start;

@@ -1,0 +1,92 @@
+// The line of an event.
+ghost use mathlib.Core.Bool.{true, false};
+ghost use Rattle.wire.specs.Cut.{cut};
+ghost use Rattle.text.specs.Sheet.{Wrote, Fronted};
+ghost use Rattle.events.specs.Lines.{bytesOf, fieldOf, fieldsOf, headOf, lineOf};
+use text::put_byte;
+use text::put_decimal;
+use text::put_hex;
+use text::put_upper8;
+
+fn put_head(out: &mut [u8], number: u64, refusal: u32, outstanding: u32) -> usize
+    ensures { λ r. ⌜ Wrote (headOf number refusal outstanding) 0 (now (out .entry)) r (now (out .exit)) ⌝ }
+{
+    let a = put_decimal(out, 0, number);
+    let b = put_byte(out, a, b' ');
+    let c = put_decimal(out, b, refusal as u64);
+    let e = put_byte(out, c, b' ');
+    put_upper8(out, e, outstanding)
+}
+
+fn put_bytes(out: &mut [u8], at: usize, piece: &[u8], traced: bool) -> usize
+    ensures { λ r. ⌜ Wrote (bytesOf traced (now (piece .entry))) at (now (out .entry)) r (now (out .exit)) ⌝ }
+{
+    if traced {
+        let a = put_byte(out, at, b'=');
+        return put_hex(out, a, piece, false);
+    }
+    at
+}
+
+// One reply.
+fn put_field(out: &mut [u8], at: usize, piece: &[u8], traced: bool) -> usize
+    ensures { λ r. ⌜ Wrote (fieldOf traced (now (piece .entry))) at (now (out .entry)) r (now (out .exit)) ⌝ }
+{
+    let kind = [wire::byte_of(piece, 0)];
+    let a = put_byte(out, at, b' ');
+    let b = put_hex(out, a, &kind, true);
+    let c = put_byte(out, b, b':');
+    let e = put_decimal(out, c, piece.len() as u64);
+    put_bytes(out, e, piece, traced)
+}
+
+// Each reply, cut off the front of what is left.
+fn put_fields(out: &mut [u8], at: usize, reply: &[u8], traced: bool) -> usize
+    ensures { λ r. ⌜ Wrote (fieldsOf traced (cut (now (reply .entry)))) at (now (out .entry)) r (now (out .exit)) ⌝ }
+{
+    let mut end = at;
+    let mut from: usize = 0;
+    while from < reply.len() {
+        let n = wire::cut_first(&reply[from..]);
+        let next = from + n;
+        end = put_field(out, end, &reply[from..next], traced);
+        from = next;
+    }
+    end
+}
+
+fn put_line(
+    out: &mut [u8],
+    number: u64,
+    refusal: u32,
+    outstanding: u32,
+    reply: &[u8],
+    traced: bool,
+) -> usize
+    ensures { λ r. ⌜ Fronted (lineOf traced number refusal outstanding (now (reply .entry))) (now (out .entry)) r (now (out .exit)) ⌝ }
+{
+    let a = put_head(out, number, refusal, outstanding);
+    let b = put_fields(out, a, reply, traced);
+    let c = put_byte(out, b, b'\n');
+    text::whole(c, out.len())
+}
+
+// The line in front of a buffer, and its length; 0 where it has no room for all of it, and then the line is cut.
+pub fn line(number: u64, refusal: u32, outstanding: u32, reply: &[u8], out: &mut [u8]) -> usize
+    ensures { λ r. ⌜ Fronted (lineOf false number refusal outstanding (now (reply .entry))) (now (out .entry)) r (now (out .exit)) ⌝ }
+{
+    put_line(out, number, refusal, outstanding, reply, false)
+}
+
+// The same with the bytes of each reply.
+pub fn trace_line(
+    number: u64,
+    refusal: u32,
+    outstanding: u32,
+    reply: &[u8],
+    out: &mut [u8],
+) -> usize
+    ensures { λ r. ⌜ Fronted (lineOf true number refusal outstanding (now (reply .entry))) (now (out .entry)) r (now (out .exit)) ⌝ }
+{
+    put_line(out, number, refusal, outstanding, reply, true)
+}

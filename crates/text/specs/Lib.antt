@@ -1,0 +1,2 @@
+pub mod Sheet
+pub mod Digits
