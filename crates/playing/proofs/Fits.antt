@@ -1,0 +1,70 @@
+-- What a line, an event and an answer take of their buffers. Assumes nothing.
+use mathlib.Core.Path.{_≡_, sym, ap, _∙_}
+use mathlib.Core.Bool.{Bool}
+use mathlib.Core.List.{List}
+use Prim.Native.Nat.{ℕ, _+_, _-_, _≤_}
+use native.Mathlib.Omega.{arith}
+use lib.Dec.{eqb, leb}
+use lib.ListN.{length, getD, take, drop, length-append, length-take, length-drop}
+use borrow.Author.Tests.{leb-true}
+use Rattle.bits.specs.Pick.{pick}
+use Rattle.bits.proofs.Picks.{by-test}
+use Rattle.replies.specs.Replies.{sentAll}
+use Rattle.device.specs.Device.{powerOn}
+use Rattle.device.specs.Step.{Step, Answered}
+use Rattle.device.specs.declared.state.Outcome.{Outcome}
+use Rattle.text.specs.Sheet.{Fronted}
+use Rattle.events.specs.Kinds.{nextOf, misplaced, wholeOf, bodyLength}
+use Rattle.events.specs.Start.{startOf}
+use Rattle.events.specs.declared.kinds.Length.{Length}
+use Rattle.events.specs.declared.kinds.Length.the-variants.{Bytes, Unknown}
+use Rattle.events.specs.declared.kinds.Next.{Next}
+use Rattle.events.specs.declared.kinds.Next.the-variants.{Event, Stop, End}
+
+-- a line ends within its buffer
+pub line-fits : (s b : List ℕ) (r : ℕ) (b′ : List ℕ) → Fronted s b r b′ → r ≤ length b
+line-fits s b r b′ p =
+    let most : pick (leb (length s) (length b)) (length s) 0 ≤ length b =
+    by-test (λ (n : ℕ). n ≤ length b) (leb (length s) (length b)) (length s) 0 (λ h. leb-true _ _ h) (λ h. omega arith) in
+    let e = p .len in omega arith
+
+-- replies end within their buffer
+pub reply-fits : (s : Step) (b : List ℕ) (r : Outcome) (b′ : List ℕ) → Answered s b r b′ → r .len ≤ length b′
+reply-fits s b r b′ p =
+    let f = sentAll (s .frames) in
+    let l : length b′ ≡ length f + length (drop (length f) b) = ap length (p .reply) ∙ length-append f (drop (length f) b) in
+    let k = p .len in
+    omega arith
+
+-- a start has no reply
+pub start-fits : (e : List ℕ) (r : Outcome) → r ≡ startOf e → r .len ≡ 0
+unfolding startOf powerOn
+start-fits e r p = ap (λ (o : Outcome). o .len) p
+
+-- an event that is ahead is there
+Ahead : ℕ → Next → Type 0
+Ahead n (Event k) = k ≤ n
+Ahead n Stop = Unit {0}
+Ahead n End = Unit {0}
+
+whole-ahead : (k : Length) (n : ℕ) → Ahead n (wholeOf k n)
+unfolding wholeOf Ahead
+whole-ahead (Bytes k) n = by-test (Ahead n) (leb (k + 1) n) (Event (k + 1)) Stop (λ h. leb-true _ _ h) (λ h. tt)
+whole-ahead Unknown n = tt
+
+next-ahead : (first : Bool) (l : List ℕ) → Ahead (length l) (nextOf first l)
+unfolding nextOf Ahead
+next-ahead first l =
+    by-test (Ahead (length l)) (eqb (length l) 0) (pick first Stop End) (pick (misplaced first (getD l 0 0)) Stop (wholeOf (bodyLength (getD l 0 0)) (length l)))
+    (λ h. by-test (Ahead (length l)) first Stop End (λ k. tt) (λ k. tt))
+    (λ h. by-test (Ahead (length l)) (misplaced first (getD l 0 0)) Stop (wholeOf (bodyLength (getD l 0 0)) (length l)) (λ k. tt) (λ k. whole-ahead (bodyLength (getD l 0 0)) (length l)))
+
+pub event-fits : (first : Bool) (l : List ℕ) (n : ℕ) (r : Next) → r ≡ nextOf first l → r ≡ Event n → n ≤ length l
+unfolding Ahead
+event-fits first l n r p q = rw (sym p ∙ q) at (next-ahead first l)
+
+-- an event that is ahead ends with what was read or before
+pub part-fits : (first : Bool) (l : List ℕ) (at end n : ℕ) (r : Next) → at ≤ end → end ≤ length l → r ≡ nextOf first (take (end - at) (drop at l)) → r ≡ Event n → at + n ≤ end
+part-fits first l at end n r h k p q =
+    let f = event-fits first (take (end - at) (drop at l)) n r p q in
+    omega (arith, length-take (end - at) (drop at l), length-drop at l)

@@ -1,0 +1,72 @@
+use mathlib.Core.Path.{_≡_}
+use lib.ListN.{length}
+use Rattle.playing.specs.Bounds.{Within}
+use borrow.Author.Needs.{needs}
+use Rattle.playing.proofs.input.read_event.Statement.{statement}
+use Rattle.playing.proofs.input.read_event.Tie as tie
+use Rattle.playing.proofs.input.read_event.Reads as reads
+use Rattle.playing.proofs.input.read_event.Lts as lts
+use Rattle.playing.proofs.input.read_more.Reads as read-more-reads
+
+abbrev Inv-loop : tie.InvT-loop
+Inv-loop fd input₀ kept window₀ turns₀ input window turns = (length input₀ ≡ length input) × Within window (length input)
+
+abbrev μ-loop : tie.MeasureT-loop
+μ-loop fd input₀ kept window₀ turns₀ input window turns = turns
+
+-- src/input.rt:60:9
+read-more-requires : tie.Need-read-more-requires Inv-loop μ-loop
+read-more-requires c κs = search needs
+
+-- src/input.rt:62:5
+loop-holds : tie.Need-loop-holds Inv-loop μ-loop
+loop-holds c = search needs
+
+-- src/input.rt:65:13
+same-length : tie.Need-same-length Inv-loop μ-loop
+same-length c = search needs
+
+-- src/input.rt:65:13
+returns : tie.Need-returns Inv-loop μ-loop
+returns c = search needs
+
+-- src/input.rt:67:13
+read-more-requires-2 : tie.Need-read-more-requires-2 Inv-loop μ-loop
+read-more-requires-2 c κs = search needs
+
+-- src/input.rt:69:9
+sub-turns : tie.Need-sub-turns Inv-loop μ-loop
+sub-turns c = search needs
+
+-- src/input.rt:62:5
+loop-less : tie.Need-loop-less Inv-loop μ-loop
+loop-less c = search needs
+
+-- src/input.rt:62:5
+loop-again : tie.Need-loop-again Inv-loop μ-loop
+loop-again c = search needs
+
+-- src/input.rt:56:1
+same-length-2 : tie.Need-same-length-2 Inv-loop μ-loop
+same-length-2 c = search needs
+
+-- src/input.rt:56:1
+returns-2 : tie.Need-returns-2 Inv-loop μ-loop
+returns-2 c = search needs
+
+pub read-event-spec : {M : Type 1} → statement M
+read-event-spec =
+    tie.close
+    (tie.spec
+    Inv-loop
+    μ-loop
+    read-more-requires
+    loop-holds
+    same-length
+    returns
+    read-more-requires-2
+    sub-turns
+    loop-less
+    loop-again
+    same-length-2
+    returns-2)

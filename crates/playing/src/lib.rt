@@ -1,0 +1,6 @@
+// The run of an event file, from a descriptor to standard output: read and written in large pieces, one event after the other.
+mod input;
+mod output;
+mod running;
+
+pub use running::run;

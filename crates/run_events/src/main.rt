@@ -1,0 +1,4 @@
+// Runs an event file: standard input to standard output, one line an event.
+fn main() {
+    playing::run(libc::STDIN_FILENO, false);
+}
