@@ -1,2 +1,4 @@
 pub mod Fields
 pub mod Frames
+pub mod Exactly
+pub mod Unique
