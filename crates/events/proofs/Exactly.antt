@@ -1,27 +1,61 @@
--- What is turned down here: each number exactly when its list says. Assumes nothing.
-use mathlib.Core.Path.{_≡_, refl}
-use mathlib.Core.Bool.{false}
+-- `stop` is printed exactly when the rules say, and a settings record refused exactly when they say. Assumes nothing.
+use mathlib.Core.Path.{_≡_, refl, ap, subst, sym, _∙_}
+use mathlib.Core.Bool.{Bool, true, false, not, _&&_, _||_}
 use mathlib.Core.List.{List}
-use Prim.Native.Nat.{ℕ}
+use Prim.Native.Nat.{ℕ, _+_}
+use lib.Dec.{eqb, leb}
+use lib.ListN.{length, getD}
 use Rattle.bits.specs.Pick.{pick}
 use Rattle.bits.specs.First.{FirstExactly}
-use Rattle.bits.proofs.Firsts as firsts
-use Rattle.bits.proofs.Picks.{pick-no}
 use Rattle.ladders.specs.Ladders.{powerLadder}
 use Rattle.states.specs.Clauses.{settingsOut}
-use Rattle.device.specs.Device.{powerOn}
-use Rattle.device.specs.declared.state.Device.{Device}
-use Rattle.events.specs.Kinds.{isEvent}
-use Rattle.events.specs.Calls.{callOf}
+use Rattle.states.specs.declared.shapes.Settings.{Settings}
+use Rattle.device.proofs.Exactly.{first-exactly-power}
+use Rattle.events.specs.Kinds.{bodyLength, misplaced, wholeOf, nextOf}
 use Rattle.events.specs.Start.{settingsOf, noSettings, inLimit, startOf}
-use Rattle.events.specs.Played.{stepOf, noEvent}
+use Rattle.events.specs.Stops.{isStop, notWhole, stopsAt, startOut}
+use Rattle.events.specs.declared.kinds.Length.{Length}
+use Rattle.events.specs.declared.kinds.Length.the-variants.{Bytes, Unknown}
+use Rattle.events.specs.declared.kinds.Next.{Next}
+use Rattle.events.specs.declared.kinds.Next.the-variants.{Event, Stop, End}
 
--- the settings record: 1 exactly when what it asks for is out of bounds; a capacity above 64 is
-pub first-exactly-start : (e : List ℕ) → FirstExactly (powerLadder (settingsOut (pick (inLimit e) (settingsOf e) noSettings))) (startOf e .refusal)
-unfolding startOf powerOn
-first-exactly-start e = firsts.first-exactly (powerLadder (settingsOut (pick (inLimit e) (settingsOf e) noSettings))) tt
+picked : (b : Bool) (n : ℕ) → isStop (pick b (Event n) Stop) ≡ not b
+unfolding pick isStop
+picked true n = refl
+picked false n = refl
 
--- what is no event comes to no call, and changes nothing
-pub no-event-keeps : (d : Device) (e m : List ℕ) (room : ℕ) → isEvent e ≡ false → stepOf d e m room (callOf e) ≡ noEvent d
-unfolding callOf stepOf pick
-no-event-keeps d e m room h = rw h
+whole-stop : (k : Length) (n : ℕ) → isStop (wholeOf k n) ≡ notWhole k n
+unfolding wholeOf notWhole isStop
+whole-stop (Bytes k) n = picked (leb (k + 1) n) (k + 1)
+whole-stop Unknown n = refl
+
+by-tests : (first empty zero : Bool) (w : Next) → isStop (pick empty (pick first Stop End) (pick (pick first (not zero) zero) Stop w))
+    ≡ (first && empty) || (not empty && ((first && not zero) || (not first && zero) || isStop w))
+unfolding pick isStop
+by-tests true true true w = refl
+by-tests true true false w = refl
+by-tests true false true w = refl
+by-tests true false false w = refl
+by-tests false true true w = refl
+by-tests false true false w = refl
+by-tests false false true w = refl
+by-tests false false false w = refl
+
+-- the run stops exactly then
+pub stop-exactly : (first : Bool) (l : List ℕ) → isStop (nextOf first l) ≡ stopsAt first l
+unfolding nextOf misplaced
+stop-exactly first l =
+    let k = getD l 0 0 in
+    by-tests first (eqb (length l) 0) (eqb k 0x00) (wholeOf (bodyLength k) (length l))
+    ∙ ap (λ (b : Bool). (first && eqb (length l) 0) || (not (eqb (length l) 0) && ((first && not (eqb k 0x00)) || (not first && eqb k 0x00) || b))) (whole-stop (bodyLength k) (length l))
+
+out-limit : (b : Bool) (s : Settings) → settingsOut (pick b s noSettings) ≡ not b || settingsOut s
+unfolding pick settingsOut
+out-limit true s = refl
+out-limit false s = refl
+
+-- settings: 1
+pub first-exactly-start : (e : List ℕ) → FirstExactly (powerLadder (startOut e)) (startOf e .refusal)
+unfolding startOf
+first-exactly-start e =
+    subst (λ (b : Bool). FirstExactly (powerLadder b) (startOf e .refusal)) (out-limit (inLimit e) (settingsOf e)) (first-exactly-power (pick (inLimit e) (settingsOf e) noSettings))

@@ -1,4 +1,4 @@
 pub mod Fields
 pub mod Frames
-pub mod Unique
 pub mod Exactly
+pub mod Unique

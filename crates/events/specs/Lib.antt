@@ -4,3 +4,4 @@ pub mod HostData
 pub mod Calls
 pub mod Played
 pub mod Lines
+pub mod Stops

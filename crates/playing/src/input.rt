@@ -15,6 +15,12 @@ pub struct Window {
     pub failed: bool,
 }
 
+pub fn least(a: usize, b: usize) -> usize
+    ensures { λ r. ⌜ (r ≤ a) × (r ≤ b) ⌝ }
+{
+    if a < b { a } else { b }
+}
+
 pub fn unread() -> Window
     ensures { λ r. ⌜ (r .at ≡ 0) × (r .end ≡ 0) ⌝ }
 {
@@ -72,11 +78,25 @@ fn read_event(fd: i32, input: &mut [u8], kept: usize) -> Window
     window
 }
 
+// Places that lie in a buffer of n bytes. Those of a run always do; so no caller is asked to see to it.
+fn within(window: Window, n: usize) -> Window
+    ensures { λ r. ⌜ Within r n ⌝ }
+{
+    let end = least(window.end, n);
+    let at = least(window.at, end);
+    Window {
+        at,
+        end,
+        ended: window.ended,
+        failed: window.failed,
+    }
+}
+
 // The same window where it has a whole event, or else another, with what was left and what is read behind it.
-pub fn refill(fd: i32, input: &mut [u8], window: Window) -> Window
-    requires { ⌜ Within window (length (now input)) ⌝ }
+pub fn refill(fd: i32, input: &mut [u8], last: Window) -> Window
     ensures { λ r. ⌜ Within r (length (now (input .exit))) ⌝ }
 {
+    let window = within(last, input.len());
     let at = window.at;
     let kept = window.end - at;
     if window.ended | (LONGEST <= kept) {

@@ -1,6 +1,7 @@
 // Output in large pieces: the buffer's first bytes are lines that are not yet written.
 ghost use Prim.Native.Nat.{_≤_};
 ghost use lib.ListN.{length};
+use crate::input::least;
 use libc::STDOUT_FILENO;
 
 // More than the longest line: a traced data frame has 8,196 bytes, two digits each.
@@ -8,13 +9,13 @@ const ROOM: usize = 32768;
 
 // Where the next line goes: behind the others, or in front again once these are written.
 fn next_place(output: &[u8], filled: usize) -> usize
-    requires { ⌜ filled ≤ length (now output) ⌝ }
     ensures { λ r. ⌜ r ≤ length (now (output .entry)) ⌝ }
 {
-    if ROOM <= output.len() - filled {
-        return filled;
+    let n = least(filled, output.len());
+    if ROOM <= output.len() - n {
+        return n;
     }
-    io::write_all(STDOUT_FILENO, &output[0..filled]);
+    io::write_all(STDOUT_FILENO, &output[0..n]);
     0
 }
 
@@ -44,7 +45,6 @@ pub fn say(
     outstanding: u32,
     reply: &[u8],
 ) -> usize
-    requires { ⌜ filled ≤ length (now output) ⌝ }
     ensures { λ r. ⌜ r ≤ length (now (output .exit)) ⌝ }
 {
     let from = next_place(output, filled);
@@ -63,10 +63,9 @@ pub fn say(
 }
 
 // What is left is written, and `stop` where the run ends so.
-pub fn close(output: &[u8], filled: usize, stop: bool)
-    requires { ⌜ filled ≤ length (now output) ⌝ }
-{
-    io::write_all(STDOUT_FILENO, &output[0..filled]);
+pub fn close(output: &[u8], filled: usize, stop: bool) {
+    let n = least(filled, output.len());
+    io::write_all(STDOUT_FILENO, &output[0..n]);
     if stop {
         io::write_all(STDOUT_FILENO, b"stop\n");
     }

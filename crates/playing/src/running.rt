@@ -1,7 +1,6 @@
 // The run: a settings record, and then one event after the other.
 ghost use Prim.Native.Nat.{_≤_};
 ghost use lib.ListN.{length};
-ghost use Rattle.playing.specs.Bounds.{Within};
 use crate::input::Window;
 use crate::input::refill;
 use crate::input::unread;
@@ -25,8 +24,7 @@ fn told(
     output: &mut [u8],
     filled: usize,
 ) -> Step
-    requires { ⌜ (filled ≤ length (now output)) × (out .len ≤ length (now reply)) ⌝ }
-    ensures { λ r. ⌜ r .filled ≤ length (now (output .exit)) ⌝ }
+    requires { ⌜ out .len ≤ length (now reply) ⌝ }
 {
     let len = out.len;
     let refusal = out.refusal as u32;
@@ -57,10 +55,7 @@ fn one(
     reply: &mut [u8],
     output: &mut [u8],
     filled: usize,
-) -> Step
-    requires { ⌜ filled ≤ length (now output) ⌝ }
-    ensures { λ r. ⌜ r .filled ≤ length (now (output .exit)) ⌝ }
-{
+) -> Step {
     let out = events::play(state, event, medium, reply);
     told(out, number, traced, reply, output, filled)
 }
@@ -75,9 +70,7 @@ fn play_on(
     medium: &mut [u8],
     reply: &mut [u8],
     output: &mut [u8],
-)
-    requires { ⌜ (Within rest (length (now input))) × (first .filled ≤ length (now output)) ⌝ }
-{
+) {
     let mut step = first;
     let mut window = rest;
     let mut number: u64 = 1;

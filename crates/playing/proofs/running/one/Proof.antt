@@ -13,7 +13,7 @@ play-requires c κs = search needs
 
 -- src/running.rt:57:5
 told-requires : tie.Need-told-requires
-told-requires c κs = (search needs, reply-fits _ _ _ _ (c .before .before .before .before .before .before .play .ensures .answered))
+told-requires c κs = reply-fits _ _ _ _ (c .before .before .before .before .before .before .play .ensures .answered)
 
 -- src/running.rt:43:1
 same-length : tie.Need-same-length

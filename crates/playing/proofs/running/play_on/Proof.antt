@@ -1,9 +1,8 @@
 use native.Mathlib.Omega.{arith}
 use Rattle.playing.proofs.Fits.{part-fits}
 use mathlib.Core.Path.{_≡_}
-use Prim.Native.Nat.{_-_, _≤_}
+use Prim.Native.Nat.{_-_}
 use lib.ListN.{length}
-use Rattle.playing.specs.Bounds.{Within}
 use borrow.Author.Needs.{needs}
 use Rattle.playing.proofs.running.play_on.Statement.{statement}
 use Rattle.playing.proofs.running.play_on.Tie as tie
@@ -16,7 +15,7 @@ use Rattle.playing.proofs.running.one.Reads as one-reads
 
 abbrev Inv-loop : tie.InvT-loop
 Inv-loop fd traced input₀ medium₀ reply₀ output₀ step₀ window₀ number₀ input medium reply output step window number =
-    (length input₀ ≡ length input) × (length medium₀ ≡ length medium) × (length reply₀ ≡ length reply) × (length output₀ ≡ length output) × Within window (length input) × (step .filled ≤ length output)
+    (length input₀ ≡ length input) × (length medium₀ ≡ length medium) × (length reply₀ ≡ length reply) × (length output₀ ≡ length output)
 
 abbrev μ-loop : tie.MeasureT-loop
 μ-loop fd traced input₀ medium₀ reply₀ output₀ step₀ window₀ number₀ input medium reply output step window number =
@@ -138,7 +137,7 @@ loop-less c = omega (arith, c .before .before .before .before .before .before .b
 loop-again : tie.Need-loop-again Inv-loop μ-loop
 loop-again c =
     let f = part-fits _ (c .before .before .before .before .before .before .before .before .before .before .before .before .before .before .before .before .before .before .before .before .before .refill .last .1 .0) (c .before .before .before .before .before .before .before .before .before .before .before .before .before .before .before .before .before .before .before .before .before .refill .result .at) (c .before .before .before .before .before .before .before .before .before .before .before .before .before .before .before .before .before .before .before .before .before .refill .result .end) (c .before .before .before .before .before .before .before .before .before .before .before .before .before .before .n .given .0 .0) _ (c .before .before .before .before .before .before .before .before .before .before .before .before .before .before .before .before .before .before .before .before .before .refill .ensures .order) (c .before .before .before .before .before .before .before .before .before .before .before .before .before .before .before .before .before .before .before .before .before .refill .ensures .bound) (c .before .before .before .before .before .before .before .before .before .before .before .before .before .before .before .before .next-event .ensures) (c .before .before .before .before .before .before .before .before .before .before .before .before .before .before .n .given .1) in
-    (omega (arith, c .before .before .before .before .before .before .before .before .before .before .before .before .before .before .before .before .before .before .before .before .before .before .before .before .loop .inv .0, c .before .before .before .before .before .before .before .before .before .before .before .before .before .before .before .before .before .before .before .before .before .refill .kept .1 .0), omega (arith, c .before .before .before .before .before .before .before .before .before .before .before .before .before .before .before .before .before .before .before .before .before .before .before .before .loop .inv .1, c .before .before .before .before .before .before .one .kept .1 .1 .1 .1 .0), omega (arith, c .before .before .before .before .before .before .before .before .before .before .before .before .before .before .before .before .before .before .before .before .before .before .before .before .loop .inv .2, c .before .before .before .before .before .before .one .kept .1 .1 .1 .1 .1 .0), omega (arith, c .before .before .before .before .before .before .before .before .before .before .before .before .before .before .before .before .before .before .before .before .before .before .before .before .loop .inv .3, c .before .before .before .before .before .before .one .kept .1 .1 .1 .1 .1 .1 .0), record { order = omega arith; bound = omega (arith, c .before .before .before .before .before .before .before .before .before .before .before .before .before .before .before .before .before .before .before .before .before .refill .ensures .bound) }, c .before .before .before .before .before .before .one .ensures)
+    (omega (arith, c .before .before .before .before .before .before .before .before .before .before .before .before .before .before .before .before .before .before .before .before .before .before .before .before .loop .inv .0, c .before .before .before .before .before .before .before .before .before .before .before .before .before .before .before .before .before .before .before .before .before .refill .kept .1 .0), omega (arith, c .before .before .before .before .before .before .before .before .before .before .before .before .before .before .before .before .before .before .before .before .before .before .before .before .loop .inv .1, c .before .before .before .before .before .before .one .kept .1 .1 .1 .1 .0), omega (arith, c .before .before .before .before .before .before .before .before .before .before .before .before .before .before .before .before .before .before .before .before .before .before .before .before .loop .inv .2, c .before .before .before .before .before .before .one .kept .1 .1 .1 .1 .1 .0), omega (arith, c .before .before .before .before .before .before .before .before .before .before .before .before .before .before .before .before .before .before .before .before .before .before .before .before .loop .inv .3, c .before .before .before .before .before .before .one .kept .1 .1 .1 .1 .1 .1 .0))
 
 -- src/running.rt:106:5
 close-requires-3 : tie.Need-close-requires-3 Inv-loop μ-loop

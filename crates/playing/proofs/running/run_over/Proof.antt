@@ -21,9 +21,8 @@ unread-requires c κs = search needs
 
 -- src/running.rt:117:9
 refill-requires : tie.Need-refill-requires
-refill-requires c κs = record { order = omega (arith, c .unread .ensures .0, c .unread .ensures .1); bound = omega (arith, c .unread .ensures .1) }
+refill-requires c κs = search needs
 
--- src/running.rt:120:51
 sub-next-event : tie.Need-sub-next-event
 sub-next-event c = search needs
 
@@ -81,7 +80,7 @@ start-requires c κs = search needs
 
 -- src/running.rt:127:9
 told-requires : tie.Need-told-requires
-told-requires c κs = (omega arith, let z = start-fits _ _ (c .before .before .start .ensures) in omega arith)
+told-requires c κs = let z = start-fits _ _ (c .before .before .start .ensures) in omega arith
 
 -- src/running.rt:130:9
 close-requires-2 : tie.Need-close-requires-2
@@ -145,9 +144,8 @@ part-play-on-end c = search needs
 
 -- src/running.rt:144:5
 play-on-requires : tie.Need-play-on-requires
-play-on-requires c κs = let f = part-fits _ (c .before .before .before .before .before .before .before .before .before .before .before .before .before .before .before .before .before .before .before .before .before .before .before .refill .last .1 .0) (c .before .before .before .before .before .before .before .before .before .before .before .before .before .before .before .before .before .before .before .before .before .before .before .refill .result .at) (c .before .before .before .before .before .before .before .before .before .before .before .before .before .before .before .before .before .before .before .before .before .before .before .refill .result .end) (c .before .before .before .before .before .before .before .before .before .before .before .before .before .before .before .before .n .given .0 .0) _ (c .before .before .before .before .before .before .before .before .before .before .before .before .before .before .before .before .before .before .before .before .before .before .before .refill .ensures .order) (c .before .before .before .before .before .before .before .before .before .before .before .before .before .before .before .before .before .before .before .before .before .before .before .refill .ensures .bound) (c .before .before .before .before .before .before .before .before .before .before .before .before .before .before .before .before .before .before .next-event .ensures) (c .before .before .before .before .before .before .before .before .before .before .before .before .before .before .before .before .n .given .1) in (record { order = omega arith; bound = c .before .before .before .before .before .before .before .before .before .before .before .before .before .before .before .before .before .before .before .before .before .before .before .refill .ensures .bound }, c .before .before .before .before .before .before .before .before .before .told .ensures)
+play-on-requires c κs = search needs
 
--- src/running.rt:109:1
 same-length-9 : tie.Need-same-length-9
 same-length-9 c = c .before .before .before .before .before .before .before .before .play-on .kept .1 .1 .1 .1 .0 ∙ c .before .before .before .before .before .before .before .before .before .before .before .before .before .before .before .before .before .before .before .before .before .before .before .before .before .before .before .before .before .before .before .before .refill .kept .1 .0
 
