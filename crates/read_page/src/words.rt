@@ -5,7 +5,7 @@ pub fn say(s: &[u8]) {
     io::write_all(STDOUT_FILENO, s);
 }
 
-// Whether the two are the same word: 16 bits are all that the pages' names have.
+// Whether two words of at most eight bytes are the same, as the names of the pages are.
 pub fn is_word(s: &[u8], w: &[u8]) -> bool {
     let same = bits::le(s, 0, 8) == bits::le(w, 0, 8);
     same & (s.len() == w.len())
@@ -18,7 +18,7 @@ pub fn say_number(name: &[u8], n: u64) {
     say(b"\n");
 }
 
-// The same with the bytes of a number in upper-case hex, of which the last `digits` are shown.
+// The last `digits` of the sixteen upper-case hex digits of a number.
 pub fn put_hex(n: u64, digits: usize) {
     let b = [
         bits::byte(n, 7),
