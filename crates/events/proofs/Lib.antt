@@ -1,4 +1,6 @@
 pub mod Fields
 pub mod Frames
+pub mod Telling
 pub mod Exactly
+pub mod Playable
 pub mod Unique

@@ -1,10 +1,11 @@
 -- What the rest of the input begins with. Assumes nothing.
 use mathlib.Core.Bool.{Bool, false, not}
 use mathlib.Core.List.{List}
-use Prim.Native.Nat.{ℕ, _+_}
+use Prim.Native.Nat.{ℕ, _+_, _-_}
 use lib.Dec.{eqb, leb}
 use lib.ListN.{length, getD}
 use Rattle.bits.specs.Pick.{pick}
+use Rattle.wire.specs.Size.{fixedSize}
 use Rattle.events.specs.declared.kinds.Length.{Length}
 use Rattle.events.specs.declared.kinds.Length.the-variants.{Bytes, Unknown}
 use Rattle.events.specs.declared.kinds.Next.{Next}
@@ -21,8 +22,8 @@ bodyLength k =
     (pick (eqb k 0x05) (Bytes 1)
     (pick (eqb k 0x06) (Bytes 0)
     (pick (eqb k 0x07) (Bytes 1)
-    (pick (eqb k 0x27) (Bytes 19)
-    (pick (eqb k 0x58) (Bytes 11) Unknown)))))))))
+    (pick (eqb k 0x27) (Bytes (fixedSize 0x27 - 1))
+    (pick (eqb k 0x58) (Bytes (fixedSize 0x58 - 1)) Unknown)))))))))
 
 -- 00h first, once
 unfoldable pub misplaced : Bool → ℕ → Bool

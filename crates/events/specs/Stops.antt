@@ -5,10 +5,12 @@ use Prim.Native.Nat.{ℕ, _+_}
 use lib.Dec.{eqb, leb}
 use lib.ListN.{length, getD}
 use Rattle.states.specs.Clauses.{settingsOut}
-use Rattle.events.specs.Kinds.{bodyLength}
+use Rattle.events.specs.Kinds.{bodyLength, isEvent}
 use Rattle.events.specs.Start.{inLimit, settingsOf}
 use Rattle.events.specs.declared.kinds.Length.{Length}
 use Rattle.events.specs.declared.kinds.Length.the-variants.{Bytes, Unknown}
+use Rattle.events.specs.declared.calls.Call.{Call}
+use Rattle.events.specs.declared.calls.Call.the-variants.{Opening, Sending, Finishing, Failing, Linking, Resetting, Hosting, Framing, Nothing}
 use Rattle.events.specs.declared.kinds.Next.{Next}
 use Rattle.events.specs.declared.kinds.Next.the-variants.{Event, Stop, End}
 
@@ -33,3 +35,19 @@ stopsAt first l =
 -- refusal 1: capacity above 64 here, or settings that power-on refuses
 abbrev pub startOut : List ℕ → Bool
 startOut e = not (inLimit e) || settingsOut (settingsOf e)
+
+-- no call at all
+unfoldable pub isNothing : Call → Bool
+isNothing (Opening tag) = false
+isNothing Sending = false
+isNothing (Finishing set) = false
+isNothing (Failing tag error sector) = false
+isNothing (Linking row) = false
+isNothing Resetting = false
+isNothing (Hosting b) = false
+isNothing Framing = false
+isNothing Nothing = true
+
+-- no event, so that 24 is given: kind unknown or length wrong; and settings, which have their own call
+abbrev pub noCall : List ℕ → Bool
+noCall e = not (isEvent e) || eqb (getD e 0 0) 0x00

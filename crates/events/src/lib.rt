@@ -5,6 +5,7 @@ mod kinds;
 mod lines;
 mod plays;
 mod starts;
+mod tells;
 
 pub use calls::Call;
 pub use calls::call_of;
@@ -12,7 +13,8 @@ pub use kinds::Length;
 pub use kinds::Next;
 pub use kinds::body_length;
 pub use kinds::next_event;
-pub use lines::line;
-pub use lines::trace_line;
 pub use plays::play;
 pub use starts::start;
+pub use tells::Told;
+pub use tells::play_line;
+pub use tells::start_line;

@@ -55,7 +55,8 @@ fn put_fields(out: &mut [u8], at: usize, reply: &[u8], traced: bool) -> usize
     end
 }
 
-fn put_line(
+// The line in front of a buffer, and its length; 0 where it has no room for all of it, and then the line is cut.
+pub fn put_line(
     out: &mut [u8],
     number: u64,
     refusal: u32,
@@ -69,24 +70,4 @@ fn put_line(
     let b = put_fields(out, a, reply, traced);
     let c = put_byte(out, b, b'\n');
     text::whole(c, out.len())
-}
-
-// The line in front of a buffer, and its length; 0 where it has no room for all of it, and then the line is cut.
-pub fn line(number: u64, refusal: u32, outstanding: u32, reply: &[u8], out: &mut [u8]) -> usize
-    ensures { λ r. ⌜ Fronted (lineOf false number refusal outstanding (now (reply .entry))) (now (out .entry)) r (now (out .exit)) ⌝ }
-{
-    put_line(out, number, refusal, outstanding, reply, false)
-}
-
-// The same with the bytes of each reply.
-pub fn trace_line(
-    number: u64,
-    refusal: u32,
-    outstanding: u32,
-    reply: &[u8],
-    out: &mut [u8],
-) -> usize
-    ensures { λ r. ⌜ Fronted (lineOf true number refusal outstanding (now (reply .entry))) (now (out .entry)) r (now (out .exit)) ⌝ }
-{
-    put_line(out, number, refusal, outstanding, reply, true)
 }

@@ -1,21 +1,16 @@
--- What a line, an event and an answer take of their buffers. Assumes nothing.
+-- What a line and an event take of their buffers. Assumes nothing.
 use mathlib.Core.Path.{_≡_, sym, ap, _∙_}
 use mathlib.Core.Bool.{Bool}
 use mathlib.Core.List.{List}
 use Prim.Native.Nat.{ℕ, _+_, _-_, _≤_}
 use native.Mathlib.Omega.{arith}
 use lib.Dec.{eqb, leb}
-use lib.ListN.{length, getD, take, drop, length-append, length-take, length-drop}
+use lib.ListN.{length, getD, take, drop, length-take, length-drop}
 use borrow.Author.Tests.{leb-true}
 use Rattle.bits.specs.Pick.{pick}
 use Rattle.bits.proofs.Picks.{by-test}
-use Rattle.replies.specs.Replies.{sentAll}
-use Rattle.device.specs.Device.{powerOn}
-use Rattle.device.specs.Step.{Step, Answered}
-use Rattle.device.specs.declared.state.Outcome.{Outcome}
 use Rattle.text.specs.Sheet.{Fronted}
 use Rattle.events.specs.Kinds.{nextOf, misplaced, wholeOf, bodyLength}
-use Rattle.events.specs.Start.{startOf}
 use Rattle.events.specs.declared.kinds.Length.{Length}
 use Rattle.events.specs.declared.kinds.Length.the-variants.{Bytes, Unknown}
 use Rattle.events.specs.declared.kinds.Next.{Next}
@@ -27,19 +22,6 @@ line-fits s b r b′ p =
     let most : pick (leb (length s) (length b)) (length s) 0 ≤ length b =
     by-test (λ (n : ℕ). n ≤ length b) (leb (length s) (length b)) (length s) 0 (λ h. leb-true _ _ h) (λ h. omega arith) in
     let e = p .len in omega arith
-
--- replies end within their buffer
-pub reply-fits : (s : Step) (b : List ℕ) (r : Outcome) (b′ : List ℕ) → Answered s b r b′ → r .len ≤ length b′
-reply-fits s b r b′ p =
-    let f = sentAll (s .frames) in
-    let l : length b′ ≡ length f + length (drop (length f) b) = ap length (p .reply) ∙ length-append f (drop (length f) b) in
-    let k = p .len in
-    omega arith
-
--- a start has no reply
-pub start-fits : (e : List ℕ) (r : Outcome) → r ≡ startOf e → r .len ≡ 0
-unfolding startOf powerOn
-start-fits e r p = ap (λ (o : Outcome). o .len) p
 
 -- an event that is ahead is there
 Ahead : ℕ → Next → Type 0

@@ -1,8 +1,26 @@
--- Where the places of a run lie in its buffers. Assumes nothing.
-use Prim.Native.Nat.{ℕ, _≤_}
+-- Where the places of a run lie in its buffers, and that no byte of input is lost or played twice. Assumes nothing.
+use mathlib.Core.Path.{_≡_}
+use mathlib.Core.List.{List}
+use Prim.Native.Nat.{ℕ, _-_, _≤_}
+use lib.ListN.{length, take, drop}
 use Rattle.playing.specs.declared.input.Window.{Window}
 
 -- what is not yet played lies within n bytes of input
 pub record Within (w : Window) (n : ℕ) : Type 0 where
   pub order : w .at ≤ w .end
   pub bound : w .end ≤ n
+
+-- a window at the front of the buffer l′, whose first k bytes are those of l
+pub record Behind (k : ℕ) (l : List ℕ) (w′ : Window) (l′ : List ℕ) : Type 0 where
+  pub within : Within w′ (length l′)
+  pub same : length l ≡ length l′
+  pub front : w′ .at ≡ 0
+  pub grown : k ≤ w′ .end
+  pub kept : take k l′ ≡ take k l
+
+-- the window w′ on the buffer l′ after w on l: what was read and not yet played stands in front of it as it was, and more may follow
+pub record Refilled (w : Window) (l : List ℕ) (w′ : Window) (l′ : List ℕ) : Type 0 where
+  pub within : Within w′ (length l′)
+  pub same : length l ≡ length l′
+  pub grown : w .end - w .at ≤ w′ .end - w′ .at
+  pub kept : take (w .end - w .at) (drop (w′ .at) l′) ≡ take (w .end - w .at) (drop (w .at) l)

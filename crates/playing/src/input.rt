@@ -1,8 +1,8 @@
 // Input in large pieces: of the buffer's bytes those from `at` to `end` were read and are not yet played.
 ghost use mathlib.Core.Path.{_≡_};
-ghost use Prim.Native.Nat.{_≤_};
-ghost use lib.ListN.{length};
-ghost use Rattle.playing.specs.Bounds.{Within};
+ghost use Prim.Native.Nat.{_-_, _≤_};
+ghost use lib.ListN.{length, take, drop};
+ghost use Rattle.playing.specs.Bounds.{Within, Behind, Refilled};
 
 // The most bytes that an event has: a frame of 27h.
 const LONGEST: usize = 20;
@@ -32,20 +32,23 @@ pub fn unread() -> Window
     }
 }
 
-// What is not yet played goes to the front of the buffer: it is shorter than an event.
-fn move_to_front(input: &mut [u8], at: usize, n: usize) {
-    let mut i: usize = 0;
-    while i < n {
-        let b = bits::byte_at(input, at, i);
-        text::put_byte(input, i, b);
-        i += 1;
-    }
+// What is not yet played goes to the front of the buffer, by way of a small one: it is shorter than an event.
+fn move_to_front(input: &mut [u8], at: usize, end: usize)
+    requires { ⌜ at ≤ end ⌝ }
+    requires { ⌜ end ≤ length (now input) ⌝ }
+    requires { ⌜ end - at ≤ 20 ⌝ }
+    ensures { λ _. ⌜ take (end - at) (now (input .exit)) ≡ take (end - at) (drop at (now (input .entry))) ⌝ }
+{
+    let mut small = [0u8; 20];
+    let n = end - at;
+    bits::lay(&mut small, &input[at..end]);
+    bits::lay(input, &small[..n]);
 }
 
 // One read behind what is there. A read that fails is told from an end, since it keeps bytes from us.
 fn read_more(fd: i32, input: &mut [u8], from: usize) -> Window
     requires { ⌜ from ≤ length (now input) ⌝ }
-    ensures { λ r. ⌜ Within r (length (now (input .exit))) ⌝ }
+    ensures { λ r. ⌜ Behind from (now (input .entry)) r (now (input .exit)) ⌝ }
 {
     let got = libc::read(fd, &mut input[from..]);
     let n = io::count(got, &input[from..]);
@@ -62,7 +65,7 @@ fn read_more(fd: i32, input: &mut [u8], from: usize) -> Window
 // that no more reads are needed than an event has bytes.
 fn read_event(fd: i32, input: &mut [u8], kept: usize) -> Window
     requires { ⌜ kept ≤ length (now input) ⌝ }
-    ensures { λ r. ⌜ Within r (length (now (input .exit))) ⌝ }
+    ensures { λ r. ⌜ Behind kept (now (input .entry)) r (now (input .exit)) ⌝ }
 {
     let mut window = read_more(fd, input, kept);
     let mut turns: usize = LONGEST;
@@ -78,30 +81,20 @@ fn read_event(fd: i32, input: &mut [u8], kept: usize) -> Window
     window
 }
 
-// Places that lie in a buffer of n bytes. Those of a run always do; so no caller is asked to see to it.
-fn within(window: Window, n: usize) -> Window
-    ensures { λ r. ⌜ Within r n ⌝ }
-{
-    let end = least(window.end, n);
-    let at = least(window.at, end);
-    Window {
-        at,
-        end,
-        ended: window.ended,
-        failed: window.failed,
-    }
-}
-
 // The same window where it has a whole event, or else another, with what was left and what is read behind it.
 pub fn refill(fd: i32, input: &mut [u8], last: Window) -> Window
-    ensures { λ r. ⌜ Within r (length (now (input .exit))) ⌝ }
+    requires { ⌜ Within last (length (now input)) ⌝ }
+    ensures { λ r. ⌜ Refilled last (now (input .entry)) r (now (input .exit)) ⌝ }
 {
-    let window = within(last, input.len());
-    let at = window.at;
-    let kept = window.end - at;
-    if window.ended | (LONGEST <= kept) {
-        return window;
+    let at = last.at;
+    let end = last.end;
+    let kept = end - at;
+    if last.ended {
+        return last;
     }
-    move_to_front(input, at, kept);
+    if LONGEST <= kept {
+        return last;
+    }
+    move_to_front(input, at, end);
     read_event(fd, input, kept)
 }

@@ -4,3 +4,4 @@ mod output;
 mod running;
 
 pub use running::run;
+pub use running::run_in_pieces;

@@ -1,63 +1,53 @@
 // The run: a settings record, and then one event after the other.
 ghost use Prim.Native.Nat.{_≤_};
 ghost use lib.ListN.{length};
+ghost use Rattle.playing.specs.Bounds.{Within};
 use crate::input::Window;
 use crate::input::refill;
 use crate::input::unread;
+use crate::output::behind;
 use crate::output::close;
-use crate::output::say;
+use crate::output::complain;
+use crate::output::next_place;
 use device::Device;
-use device::Outcome;
 use events::Next;
 
+// The device between two events, and how far the output buffer is filled.
 struct Step {
     state: Device,
     filled: usize,
 }
 
-// The line of an answer.
-fn told(
-    out: Outcome,
-    number: u64,
-    traced: bool,
-    reply: &[u8],
-    output: &mut [u8],
-    filled: usize,
-) -> Step
-    requires { ⌜ out .len ≤ length (now reply) ⌝ }
-{
-    let len = out.len;
-    let refusal = out.refusal as u32;
-    let state = out.state;
-    let tags = state.flow.outstanding;
-    let said = say(
-        output,
-        filled,
-        traced,
-        number,
-        refusal,
-        tags,
-        &reply[0..len],
-    );
-    Step {
-        state,
-        filled: said,
-    }
-}
-
-// One event and its line.
+// One event, its line put at a place of the output buffer.
 fn one(
     state: Device,
-    number: u64,
     traced: bool,
+    number: u64,
     event: &[u8],
     medium: &mut [u8],
     reply: &mut [u8],
     output: &mut [u8],
-    filled: usize,
-) -> Step {
-    let out = events::play(state, event, medium, reply);
-    told(out, number, traced, reply, output, filled)
+    from: usize,
+) -> Step
+    requires { ⌜ from ≤ length (now output) ⌝ }
+{
+    let size = output.len();
+    let told = events::play_line(
+        state,
+        traced,
+        number,
+        event,
+        medium,
+        reply,
+        &mut output[from..],
+    );
+    let len = told.len;
+    let after = told.state;
+    let filled = behind(from, len, size);
+    Step {
+        state: after,
+        filled,
+    }
 }
 
 // The events behind the settings record. A proved loop has to end: this one does at the last line number that 64 bits hold.
@@ -70,7 +60,9 @@ fn play_on(
     medium: &mut [u8],
     reply: &mut [u8],
     output: &mut [u8],
-) {
+)
+    requires { ⌜ Within rest (length (now input)) ⌝ }
+{
     let mut step = first;
     let mut window = rest;
     let mut number: u64 = 1;
@@ -81,17 +73,23 @@ fn play_on(
         let filled = step.filled;
         match events::next_event(false, &input[at..end]) {
             Next::Event(n) => {
+                let place = next_place(output, filled);
+                if place.lost {
+                    complain();
+                    return;
+                }
+                let from = place.at;
                 let to = at + n;
                 let state = step.state;
                 let next = one(
                     state,
-                    number,
                     traced,
+                    number,
                     &input[at..to],
                     medium,
                     reply,
                     output,
-                    filled,
+                    from,
                 );
                 step = next;
                 window = Window {
@@ -132,15 +130,15 @@ fn run_over(
         return;
     };
     let to = at + n;
-    let out = events::start(&input[at..to]);
-    let refusal = out.refusal;
-    let first = told(out, 0, traced, reply, output, 0);
-    let filled = first.filled;
+    let told = events::start_line(traced, &input[at..to], output);
+    let filled = told.len;
+    let refusal = told.refusal;
+    let state = told.state;
     if refusal != 0 {
         close(output, filled, false);
         return;
     }
-    let size = Device::SECTOR_SIZE * (first.state.settings.capacity as usize);
+    let size = Device::SECTOR_SIZE * (state.settings.capacity as usize);
     if medium.len() < size {
         close(output, filled, true);
         return;
@@ -151,6 +149,7 @@ fn run_over(
         ended: window.ended,
         failed: window.failed,
     };
+    let first = Step { state, filled };
     play_on(
         fd,
         traced,
@@ -163,12 +162,23 @@ fn run_over(
     );
 }
 
-// All events of a descriptor, each with its line on standard output.
-pub fn run(fd: i32, traced: bool) {
-    let mut input = io::large_buffer();
+// All events of a descriptor, each with its line on standard output, read by way of the buffer lent.
+fn run_by(fd: i32, traced: bool, input: &mut [u8]) {
     let mut output = io::large_buffer();
     // at most 64 sectors, zeros at the start
     let mut medium = [0u8; 32768];
     let mut reply = [0u8; 8196];
-    run_over(fd, traced, &mut input, &mut medium, &mut reply, &mut output);
+    run_over(fd, traced, input, &mut medium, &mut reply, &mut output);
+}
+
+// All events of a descriptor, each with its line on standard output.
+pub fn run(fd: i32, traced: bool) {
+    let mut input = io::large_buffer();
+    run_by(fd, traced, &mut input);
+}
+
+// The same by way of a buffer that hardly holds an event, so that most events are put together from two reads.
+pub fn run_in_pieces(fd: i32, traced: bool) {
+    let mut input = [0u8; 23];
+    run_by(fd, traced, &mut input);
 }

@@ -1,63 +1,79 @@
-use mathlib.Core.Path.{_≡_}
+use mathlib.Core.Path.{_≡_, sym, ap, _∙_}
+use denote.Ref.{now}
 use Prim.Native.Nat.{_-_}
-use lib.ListN.{length}
+use native.Mathlib.Omega.{arith}
+use lib.ListN.{length, take, drop, length-take, length-drop}
+use lib.Seq.{length-take-le}
+use Rattle.playing.proofs.Fronts.{laid-front}
 use borrow.Author.Needs.{needs}
 use Rattle.playing.proofs.input.move_to_front.Statement.{statement}
 use Rattle.playing.proofs.input.move_to_front.Tie as tie
 use Rattle.playing.proofs.input.move_to_front.Reads as reads
 use Rattle.playing.proofs.input.move_to_front.Lts as lts
-use Rattle.bits.proofs.byte_at.Reads as byte-at-reads
-use Rattle.text.proofs.put_byte.Reads as put-byte-reads
+use Rattle.bits.proofs.lay.Reads as lay-reads
 
-abbrev Inv-loop : tie.InvT-loop
-Inv-loop input₀ at n i₀ input i = length input₀ ≡ length input
+-- src/input.rt:43:13
+sub-n : tie.Need-sub-n
+sub-n c = search needs
 
-abbrev μ-loop : tie.MeasureT-loop
-μ-loop input₀ at n i₀ input i = n - i
+-- src/input.rt:44:15
+slice-aggregate-lay : tie.Need-slice-aggregate-lay
+slice-aggregate-lay c = search needs
 
--- src/input.rt:29:5
-loop-holds : tie.Need-loop-holds Inv-loop μ-loop
-loop-holds c = search needs
+-- src/input.rt:44:27
+sub-lay : tie.Need-sub-lay
+sub-lay c = search needs
 
--- src/input.rt:30:13
-byte-at-requires : tie.Need-byte-at-requires Inv-loop μ-loop
-byte-at-requires c κs = search needs
+-- src/input.rt:44:27
+part-lay-start : tie.Need-part-lay-start
+part-lay-start c = search needs
 
--- src/input.rt:31:9
-put-byte-requires : tie.Need-put-byte-requires Inv-loop μ-loop
-put-byte-requires c κs = search needs
+-- src/input.rt:44:27
+part-lay-end : tie.Need-part-lay-end
+part-lay-end c = search needs
 
--- src/input.rt:32:9
-add-i : tie.Need-add-i Inv-loop μ-loop
-add-i c = search needs
+-- src/input.rt:44:5
+lay-requires : tie.Need-lay-requires
+lay-requires c κs = search needs
 
--- src/input.rt:29:5
-loop-less : tie.Need-loop-less Inv-loop μ-loop
-loop-less c = search needs
+-- src/input.rt:45:22
+array-share-prefix-small : tie.Need-array-share-prefix-small
+array-share-prefix-small c = search needs
 
--- src/input.rt:29:5
-loop-again : tie.Need-loop-again Inv-loop μ-loop
-loop-again c = search needs
+-- src/input.rt:45:22
+slice-aggregate-lay-2 : tie.Need-slice-aggregate-lay-2
+slice-aggregate-lay-2 c = sym (length-take-le _ _ (omega (arith, length-take (c .before .before .before .before .before .before .before .before .args .end - c .before .before .before .before .before .before .before .before .args .at) (drop (c .before .before .before .before .before .before .before .before .args .at) (now (c .before .before .before .before .before .before .before .before .args .input))))))
 
--- src/input.rt:27:1
-same-length : tie.Need-same-length Inv-loop μ-loop
+-- src/input.rt:45:5
+lay-requires-2 : tie.Need-lay-requires-2
+lay-requires-2 c κs = search needs
+
+-- src/input.rt:36:1
+same-length : tie.Need-same-length
 same-length c = search needs
 
--- src/input.rt:27:1
-returns : tie.Need-returns Inv-loop μ-loop
-returns c = search needs
+-- src/input.rt:36:1
+returns : tie.Need-returns
+returns c =
+    let a = c .before .before .before .before .before .before .before .before .before .before .before .args in
+    let n = a .end - a .at in
+    let l = now (a .input) in
+    let p = take n (drop (a .at) l) in
+    let size : n ≡ length p = sym (length-take-le n (drop (a .at) l) (omega (arith, length-drop (a .at) l))) in
+    ap (take n) (c .before .before .lay2 .ensures .1) ∙ laid-front n (take n (c .before .before .before .before .before .before .lay .last .0)) l (sym (length-take-le _ _ (omega (arith, size)))) (omega arith) ∙ ap (take n) (c .before .before .before .before .before .before .lay .ensures .1) ∙ laid-front n p _ size (omega arith)
 
 pub move-to-front-spec : {M : Type 1} → statement M
 move-to-front-spec =
     tie.close
     (tie.spec
-    Inv-loop
-    μ-loop
-    loop-holds
-    byte-at-requires
-    put-byte-requires
-    add-i
-    loop-less
-    loop-again
+    sub-n
+    slice-aggregate-lay
+    sub-lay
+    part-lay-start
+    part-lay-end
+    lay-requires
+    array-share-prefix-small
+    slice-aggregate-lay-2
+    lay-requires-2
     same-length
     returns)

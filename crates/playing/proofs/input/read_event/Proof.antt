@@ -1,6 +1,5 @@
-use mathlib.Core.Path.{_≡_}
-use lib.ListN.{length}
-use Rattle.playing.specs.Bounds.{Within}
+use Rattle.playing.proofs.Fronts.{behind-more, behind-again}
+use Rattle.playing.specs.Bounds.{Behind}
 use borrow.Author.Needs.{needs}
 use Rattle.playing.proofs.input.read_event.Statement.{statement}
 use Rattle.playing.proofs.input.read_event.Tie as tie
@@ -9,50 +8,50 @@ use Rattle.playing.proofs.input.read_event.Lts as lts
 use Rattle.playing.proofs.input.read_more.Reads as read-more-reads
 
 abbrev Inv-loop : tie.InvT-loop
-Inv-loop fd input₀ kept window₀ turns₀ input window turns = (length input₀ ≡ length input) × Within window (length input)
+Inv-loop fd input₀ kept window₀ turns₀ input window turns = Behind kept input₀ window input
 
 abbrev μ-loop : tie.MeasureT-loop
 μ-loop fd input₀ kept window₀ turns₀ input window turns = turns
 
--- src/input.rt:60:9
+-- src/input.rt:70:9
 read-more-requires : tie.Need-read-more-requires Inv-loop μ-loop
 read-more-requires c κs = search needs
 
--- src/input.rt:62:5
+-- src/input.rt:72:5
 loop-holds : tie.Need-loop-holds Inv-loop μ-loop
 loop-holds c = search needs
 
--- src/input.rt:65:13
+-- src/input.rt:75:13
 same-length : tie.Need-same-length Inv-loop μ-loop
 same-length c = search needs
 
--- src/input.rt:65:13
+-- src/input.rt:75:13
 returns : tie.Need-returns Inv-loop μ-loop
-returns c = search needs
+returns c = behind-again _ _ _ _ _ _ (c .before .before .before .before .before .before .read-more .ensures) (c .before .before .before .loop .inv)
 
--- src/input.rt:67:13
+-- src/input.rt:77:13
 read-more-requires-2 : tie.Need-read-more-requires-2 Inv-loop μ-loop
 read-more-requires-2 c κs = search needs
 
--- src/input.rt:69:9
+-- src/input.rt:79:9
 sub-turns : tie.Need-sub-turns Inv-loop μ-loop
 sub-turns c = search needs
 
--- src/input.rt:62:5
+-- src/input.rt:72:5
 loop-less : tie.Need-loop-less Inv-loop μ-loop
 loop-less c = search needs
 
--- src/input.rt:62:5
+-- src/input.rt:72:5
 loop-again : tie.Need-loop-again Inv-loop μ-loop
-loop-again c = search needs
+loop-again c = behind-more _ _ _ _ _ _ (c .before .before .before .before .before .before .before .loop .inv) (c .before .before .read-more2 .ensures)
 
--- src/input.rt:56:1
+-- src/input.rt:66:1
 same-length-2 : tie.Need-same-length-2 Inv-loop μ-loop
 same-length-2 c = search needs
 
--- src/input.rt:56:1
+-- src/input.rt:66:1
 returns-2 : tie.Need-returns-2 Inv-loop μ-loop
-returns-2 c = search needs
+returns-2 c = behind-again _ _ _ _ _ _ (c .before .before .before .before .read-more .ensures) (c .before .loop .inv)
 
 pub read-event-spec : {M : Type 1} → statement M
 read-event-spec =

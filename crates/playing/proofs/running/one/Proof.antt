@@ -1,37 +1,67 @@
-use Rattle.playing.proofs.Fits.{reply-fits}
+use denote.Ref.{now}
+use Prim.Native.Nat.{_-_}
+use native.Mathlib.Omega.{arith}
+use lib.ListN.{length, drop, length-take, length-drop}
+use Rattle.playing.proofs.Fits.{line-fits}
 use borrow.Author.Needs.{needs}
 use Rattle.playing.proofs.running.one.Statement.{statement}
 use Rattle.playing.proofs.running.one.Tie as tie
 use Rattle.playing.proofs.running.one.Reads as reads
 use Rattle.playing.proofs.running.one.Lts as lts
-use Rattle.events.proofs.play.Reads as play-reads
-use Rattle.playing.proofs.running.told.Reads as told-reads
+use Rattle.events.proofs.play_line.Reads as play-line-reads
+use Rattle.playing.proofs.output.behind.Reads as behind-reads
 
--- src/running.rt:56:9
-play-requires : tie.Need-play-requires
-play-requires c κs = search needs
+-- src/running.rt:42:9
+sub-play-line : tie.Need-sub-play-line
+sub-play-line c = search needs
 
--- src/running.rt:57:5
-told-requires : tie.Need-told-requires
-told-requires c κs = reply-fits _ _ _ _ (c .before .before .before .before .before .before .play .ensures .answered)
+-- src/running.rt:42:9
+part-play-line-start : tie.Need-part-play-line-start
+part-play-line-start c = search needs
 
--- src/running.rt:43:1
+-- src/running.rt:42:9
+part-play-line-end : tie.Need-part-play-line-end
+part-play-line-end c = search needs
+
+-- src/running.rt:35:9
+play-line-requires : tie.Need-play-line-requires
+play-line-requires c κs = search needs
+
+-- src/running.rt:46:9
+behind-requires : tie.Need-behind-requires
+behind-requires c κs = (
+  search needs,
+  let l = now (c .before .before .before .before .before .before .before .before .before .before .before .before .before .before .before .args .output) in
+      let from = c .before .before .before .before .before .before .before .before .before .before .before .before .before .before .before .args .from in
+      omega (arith, line-fits _ _ _ _ (c .before .before .before .before .before .before .before .play-line .ensures .tells .line), length-take (length l - from) (drop from l), length-drop from l),
+)
+
+-- src/running.rt:22:1
 same-length : tie.Need-same-length
 same-length c = search needs
 
--- src/running.rt:43:1
+-- src/running.rt:22:1
 same-length-2 : tie.Need-same-length-2
 same-length-2 c = search needs
 
--- src/running.rt:43:1
+-- src/running.rt:22:1
 same-length-3 : tie.Need-same-length-3
 same-length-3 c = search needs
 
--- src/running.rt:43:1
+-- src/running.rt:22:1
 returns : tie.Need-returns
 returns c = search needs
 
 pub one-spec : {M : Type 1} → statement M
 one-spec =
     tie.close
-    (tie.spec play-requires told-requires same-length same-length-2 same-length-3 returns)
+    (tie.spec
+    sub-play-line
+    part-play-line-start
+    part-play-line-end
+    play-line-requires
+    behind-requires
+    same-length
+    same-length-2
+    same-length-3
+    returns)

@@ -1,8 +1,9 @@
-use native.Mathlib.Omega.{arith}
-use Rattle.playing.proofs.Fits.{part-fits}
-use mathlib.Core.Path.{_≡_}
+use mathlib.Core.Path.{_≡_, _∙_}
 use Prim.Native.Nat.{_-_}
+use native.Mathlib.Omega.{arith}
 use lib.ListN.{length}
+use Rattle.playing.specs.Bounds.{Within}
+use Rattle.playing.proofs.Fits.{part-fits}
 use borrow.Author.Needs.{needs}
 use Rattle.playing.proofs.running.play_on.Statement.{statement}
 use Rattle.playing.proofs.running.play_on.Tie as tie
@@ -11,157 +12,197 @@ use Rattle.playing.proofs.running.play_on.Lts as lts
 use Rattle.events.proofs.next_event.Reads as next-event-reads
 use Rattle.playing.proofs.input.refill.Reads as refill-reads
 use Rattle.playing.proofs.output.close.Reads as close-reads
+use Rattle.playing.proofs.output.complain.Reads as complain-reads
+use Rattle.playing.proofs.output.next_place.Reads as next-place-reads
 use Rattle.playing.proofs.running.one.Reads as one-reads
 
 abbrev Inv-loop : tie.InvT-loop
 Inv-loop fd traced input₀ medium₀ reply₀ output₀ step₀ window₀ number₀ input medium reply output step window number =
-    (length input₀ ≡ length input) × (length medium₀ ≡ length medium) × (length reply₀ ≡ length reply) × (length output₀ ≡ length output)
+    (length input₀ ≡ length input) × (length medium₀ ≡ length medium) × (length reply₀ ≡ length reply) × (length output₀ ≡ length output) × Within window (length input)
 
 abbrev μ-loop : tie.MeasureT-loop
 μ-loop fd traced input₀ medium₀ reply₀ output₀ step₀ window₀ number₀ input medium reply output step window number =
     18446744073709551615 - number
 
--- src/running.rt:76:5
+-- src/running.rt:69:5
 loop-holds : tie.Need-loop-holds Inv-loop μ-loop
 loop-holds c = search needs
 
--- src/running.rt:77:13
+-- src/running.rt:70:13
 refill-requires : tie.Need-refill-requires Inv-loop μ-loop
 refill-requires c κs = search needs
 
--- src/running.rt:81:41
+-- src/running.rt:74:41
 sub-next-event : tie.Need-sub-next-event Inv-loop μ-loop
 sub-next-event c = search needs
 
--- src/running.rt:81:41
+-- src/running.rt:74:41
 part-next-event-start : tie.Need-part-next-event-start Inv-loop μ-loop
 part-next-event-start c = search needs
 
--- src/running.rt:81:41
+-- src/running.rt:74:41
 part-next-event-end : tie.Need-part-next-event-end Inv-loop μ-loop
 part-next-event-end c = search needs
 
--- src/running.rt:81:15
+-- src/running.rt:74:15
 next-event-requires : tie.Need-next-event-requires Inv-loop μ-loop
 next-event-requires c κs = search needs
 
--- src/running.rt:82:25
+-- src/running.rt:75:25
 enum-known-n : tie.Need-enum-known-n Inv-loop μ-loop
 enum-known-n c = search needs
 
--- src/running.rt:83:26
-add-to : tie.Need-add-to Inv-loop μ-loop
-add-to c = let f = part-fits _ (c .before .before .before .before .before .before .before .before .refill .last .1 .0) (c .before .before .before .before .before .before .before .before .refill .result .at) (c .before .before .before .before .before .before .before .before .refill .result .end) (c .before .n .given .0 .0) _ (c .before .before .before .before .before .before .before .before .refill .ensures .order) (c .before .before .before .before .before .before .before .before .refill .ensures .bound) (c .before .before .before .next-event .ensures) (c .before .n .given .1) in omega arith
+-- src/running.rt:76:21
+next-place-requires : tie.Need-next-place-requires Inv-loop μ-loop
+next-place-requires c κs = search needs
 
--- src/running.rt:85:55
-sub-one : tie.Need-sub-one Inv-loop μ-loop
-sub-one c = omega arith
+-- src/running.rt:78:21
+complain-requires : tie.Need-complain-requires Inv-loop μ-loop
+complain-requires c κs = search needs
 
--- src/running.rt:85:55
-part-one-start : tie.Need-part-one-start Inv-loop μ-loop
-part-one-start c = omega arith
-
--- src/running.rt:85:55
-part-one-end : tie.Need-part-one-end Inv-loop μ-loop
-part-one-end c = let f = part-fits _ (c .before .before .before .before .before .before .before .before .before .before .refill .last .1 .0) (c .before .before .before .before .before .before .before .before .before .before .refill .result .at) (c .before .before .before .before .before .before .before .before .before .before .refill .result .end) (c .before .before .before .n .given .0 .0) _ (c .before .before .before .before .before .before .before .before .before .before .refill .ensures .order) (c .before .before .before .before .before .before .before .before .before .before .refill .ensures .bound) (c .before .before .before .before .before .next-event .ensures) (c .before .before .before .n .given .1) in omega (arith, c .before .before .before .before .before .before .before .before .before .before .refill .ensures .bound)
-
--- src/running.rt:85:21
-one-requires : tie.Need-one-requires Inv-loop μ-loop
-one-requires c κs = search needs
-
--- src/running.rt:95:23
-enum-told : tie.Need-enum-told Inv-loop μ-loop
-enum-told c = search needs
-
--- src/running.rt:95:17
-close-requires : tie.Need-close-requires Inv-loop μ-loop
-close-requires c κs = search needs
-
--- src/running.rt:96:17
+-- src/running.rt:79:21
 same-length : tie.Need-same-length Inv-loop μ-loop
 same-length c = search needs
 
--- src/running.rt:96:17
+-- src/running.rt:79:21
 same-length-2 : tie.Need-same-length-2 Inv-loop μ-loop
 same-length-2 c = search needs
 
--- src/running.rt:96:17
+-- src/running.rt:79:21
 same-length-3 : tie.Need-same-length-3 Inv-loop μ-loop
 same-length-3 c = search needs
 
--- src/running.rt:96:17
+-- src/running.rt:79:21
 same-length-4 : tie.Need-same-length-4 Inv-loop μ-loop
 same-length-4 c = search needs
 
--- src/running.rt:96:17
+-- src/running.rt:79:21
 returns : tie.Need-returns Inv-loop μ-loop
 returns c = search needs
 
--- src/running.rt:99:23
-enum-told-2 : tie.Need-enum-told-2 Inv-loop μ-loop
-enum-told-2 c = search needs
+-- src/running.rt:82:26
+add-to : tie.Need-add-to Inv-loop μ-loop
+add-to c = let f = part-fits _ (c .before .before .before .before .before .before .before .before .before .before .before .refill .last .1 .0) (c .before .before .before .before .before .before .before .before .before .before .before .refill .result .at) (c .before .before .before .before .before .before .before .before .before .before .before .refill .result .end) (c .before .before .before .before .n .given .0 .0) _ (c .before .before .before .before .before .before .before .before .before .before .before .refill .ensures .within .order) (c .before .before .before .before .before .before .before .before .before .before .before .refill .ensures .within .bound) (c .before .before .before .before .before .before .next-event .ensures) (c .before .before .before .before .n .given .1) in omega arith
 
--- src/running.rt:99:17
-close-requires-2 : tie.Need-close-requires-2 Inv-loop μ-loop
-close-requires-2 c κs = search needs
+-- src/running.rt:88:21
+sub-one : tie.Need-sub-one Inv-loop μ-loop
+sub-one c = search needs
 
--- src/running.rt:100:17
+-- src/running.rt:88:21
+part-one-start : tie.Need-part-one-start Inv-loop μ-loop
+part-one-start c = search needs
+
+-- src/running.rt:88:21
+part-one-end : tie.Need-part-one-end Inv-loop μ-loop
+part-one-end c =
+    let f = part-fits _ (c .before .before .before .before .before .before .before .before .before .before .before .before .before .refill .last .1 .0) (c .before .before .before .before .before .before .before .before .before .before .before .before .before .refill .result .at) (c .before .before .before .before .before .before .before .before .before .before .before .before .before .refill .result .end) (c .before .before .before .before .before .before .n .given .0 .0) _ (c .before .before .before .before .before .before .before .before .before .before .before .before .before .refill .ensures .within .order) (c .before .before .before .before .before .before .before .before .before .before .before .before .before .refill .ensures .within .bound) (c .before .before .before .before .before .before .before .before .next-event .ensures) (c .before .before .before .before .before .before .n .given .1) in
+    omega (arith, c .before .before .before .before .before .before .before .before .before .before .before .before .before .refill .ensures .within .bound)
+
+-- src/running.rt:84:21
+one-requires : tie.Need-one-requires Inv-loop μ-loop
+one-requires c κs = search needs
+
+-- src/running.rt:103:23
+enum-told : tie.Need-enum-told Inv-loop μ-loop
+enum-told c = search needs
+
+-- src/running.rt:103:17
+close-requires : tie.Need-close-requires Inv-loop μ-loop
+close-requires c κs = search needs
+
+-- src/running.rt:104:17
 same-length-5 : tie.Need-same-length-5 Inv-loop μ-loop
 same-length-5 c = search needs
 
--- src/running.rt:100:17
+-- src/running.rt:104:17
 same-length-6 : tie.Need-same-length-6 Inv-loop μ-loop
 same-length-6 c = search needs
 
--- src/running.rt:100:17
+-- src/running.rt:104:17
 same-length-7 : tie.Need-same-length-7 Inv-loop μ-loop
 same-length-7 c = search needs
 
--- src/running.rt:100:17
+-- src/running.rt:104:17
 same-length-8 : tie.Need-same-length-8 Inv-loop μ-loop
 same-length-8 c = search needs
 
--- src/running.rt:100:17
+-- src/running.rt:104:17
 returns-2 : tie.Need-returns-2 Inv-loop μ-loop
 returns-2 c = search needs
 
--- src/running.rt:103:9
-add-number : tie.Need-add-number Inv-loop μ-loop
-add-number c = omega (arith, c .before .before .before .before .before .before .before .before .before .before .before .before .before .before .before .before .before .before .before .before .before .before .before .loop-test .taken)
+-- src/running.rt:107:23
+enum-told-2 : tie.Need-enum-told-2 Inv-loop μ-loop
+enum-told-2 c = search needs
 
--- src/running.rt:76:5
-loop-less : tie.Need-loop-less Inv-loop μ-loop
-loop-less c = omega (arith, c .before .before .before .before .before .before .before .before .before .before .before .before .before .before .before .before .before .before .before .before .before .before .before .loop-test .taken)
+-- src/running.rt:107:17
+close-requires-2 : tie.Need-close-requires-2 Inv-loop μ-loop
+close-requires-2 c κs = search needs
 
--- src/running.rt:76:5
-loop-again : tie.Need-loop-again Inv-loop μ-loop
-loop-again c =
-    let f = part-fits _ (c .before .before .before .before .before .before .before .before .before .before .before .before .before .before .before .before .before .before .before .before .before .refill .last .1 .0) (c .before .before .before .before .before .before .before .before .before .before .before .before .before .before .before .before .before .before .before .before .before .refill .result .at) (c .before .before .before .before .before .before .before .before .before .before .before .before .before .before .before .before .before .before .before .before .before .refill .result .end) (c .before .before .before .before .before .before .before .before .before .before .before .before .before .before .n .given .0 .0) _ (c .before .before .before .before .before .before .before .before .before .before .before .before .before .before .before .before .before .before .before .before .before .refill .ensures .order) (c .before .before .before .before .before .before .before .before .before .before .before .before .before .before .before .before .before .before .before .before .before .refill .ensures .bound) (c .before .before .before .before .before .before .before .before .before .before .before .before .before .before .before .before .next-event .ensures) (c .before .before .before .before .before .before .before .before .before .before .before .before .before .before .n .given .1) in
-    (omega (arith, c .before .before .before .before .before .before .before .before .before .before .before .before .before .before .before .before .before .before .before .before .before .before .before .before .loop .inv .0, c .before .before .before .before .before .before .before .before .before .before .before .before .before .before .before .before .before .before .before .before .before .refill .kept .1 .0), omega (arith, c .before .before .before .before .before .before .before .before .before .before .before .before .before .before .before .before .before .before .before .before .before .before .before .before .loop .inv .1, c .before .before .before .before .before .before .one .kept .1 .1 .1 .1 .0), omega (arith, c .before .before .before .before .before .before .before .before .before .before .before .before .before .before .before .before .before .before .before .before .before .before .before .before .loop .inv .2, c .before .before .before .before .before .before .one .kept .1 .1 .1 .1 .1 .0), omega (arith, c .before .before .before .before .before .before .before .before .before .before .before .before .before .before .before .before .before .before .before .before .before .before .before .before .loop .inv .3, c .before .before .before .before .before .before .one .kept .1 .1 .1 .1 .1 .1 .0))
-
--- src/running.rt:106:5
-close-requires-3 : tie.Need-close-requires-3 Inv-loop μ-loop
-close-requires-3 c κs = search needs
-
--- src/running.rt:61:1
+-- src/running.rt:108:17
 same-length-9 : tie.Need-same-length-9 Inv-loop μ-loop
 same-length-9 c = search needs
 
--- src/running.rt:61:1
+-- src/running.rt:108:17
 same-length-10 : tie.Need-same-length-10 Inv-loop μ-loop
 same-length-10 c = search needs
 
--- src/running.rt:61:1
+-- src/running.rt:108:17
 same-length-11 : tie.Need-same-length-11 Inv-loop μ-loop
 same-length-11 c = search needs
 
--- src/running.rt:61:1
+-- src/running.rt:108:17
 same-length-12 : tie.Need-same-length-12 Inv-loop μ-loop
 same-length-12 c = search needs
 
--- src/running.rt:61:1
+-- src/running.rt:108:17
 returns-3 : tie.Need-returns-3 Inv-loop μ-loop
 returns-3 c = search needs
+
+-- src/running.rt:111:9
+add-number : tie.Need-add-number Inv-loop μ-loop
+add-number c = omega (arith, c .before .before .before .before .before .before .before .before .before .before .before .before .before .before .before .before .before .before .before .before .before .before .before .before .before .before .loop-test .taken)
+
+-- src/running.rt:69:5
+loop-less : tie.Need-loop-less Inv-loop μ-loop
+loop-less c = omega (arith, c .before .before .before .before .before .before .before .before .before .before .before .before .before .before .before .before .before .before .before .before .before .before .before .before .before .before .loop-test .taken)
+
+-- src/running.rt:69:5
+loop-again : tie.Need-loop-again Inv-loop μ-loop
+loop-again c =
+    let f = part-fits _ (c .before .before .before .before .before .before .before .before .before .before .before .before .before .before .before .before .before .before .before .before .before .before .before .before .refill .last .1 .0) (c .before .before .before .before .before .before .before .before .before .before .before .before .before .before .before .before .before .before .before .before .before .before .before .before .refill .result .at) (c .before .before .before .before .before .before .before .before .before .before .before .before .before .before .before .before .before .before .before .before .before .before .before .before .refill .result .end) (c .before .before .before .before .before .before .before .before .before .before .before .before .before .before .before .before .before .n .given .0 .0) _ (c .before .before .before .before .before .before .before .before .before .before .before .before .before .before .before .before .before .before .before .before .before .before .before .before .refill .ensures .within .order) (c .before .before .before .before .before .before .before .before .before .before .before .before .before .before .before .before .before .before .before .before .before .before .before .before .refill .ensures .within .bound) (c .before .before .before .before .before .before .before .before .before .before .before .before .before .before .before .before .before .before .before .next-event .ensures) (c .before .before .before .before .before .before .before .before .before .before .before .before .before .before .before .before .before .n .given .1) in
+    let w = c .before .before .before .before .before .before .before .before .before .before .before .before .before .before .before .before .before .before .before .before .before .before .before .before .refill .ensures in
+    let inv = c .before .before .before .before .before .before .before .before .before .before .before .before .before .before .before .before .before .before .before .before .before .before .before .before .before .before .before .loop .inv in
+    let kept = c .before .before .before .before .before .before .one .kept .1 .1 .1 .1 in (
+      inv .0 ∙ w .same,
+      omega (arith, inv .1, kept .0),
+      omega (arith, inv .2, kept .1 .0),
+      omega (arith, inv .3, kept .1 .1 .0),
+      record { order = f; bound = w .within .bound },
+    )
+
+-- src/running.rt:114:5
+close-requires-3 : tie.Need-close-requires-3 Inv-loop μ-loop
+close-requires-3 c κs = search needs
+
+-- src/running.rt:54:1
+same-length-13 : tie.Need-same-length-13 Inv-loop μ-loop
+same-length-13 c = search needs
+
+-- src/running.rt:54:1
+same-length-14 : tie.Need-same-length-14 Inv-loop μ-loop
+same-length-14 c = search needs
+
+-- src/running.rt:54:1
+same-length-15 : tie.Need-same-length-15 Inv-loop μ-loop
+same-length-15 c = search needs
+
+-- src/running.rt:54:1
+same-length-16 : tie.Need-same-length-16 Inv-loop μ-loop
+same-length-16 c = search needs
+
+-- src/running.rt:54:1
+returns-4 : tie.Need-returns-4 Inv-loop μ-loop
+returns-4 c = search needs
 
 pub play-on-spec : {M : Type 1} → statement M
 play-on-spec =
@@ -176,6 +217,13 @@ play-on-spec =
     part-next-event-end
     next-event-requires
     enum-known-n
+    next-place-requires
+    complain-requires
+    same-length
+    same-length-2
+    same-length-3
+    same-length-4
+    returns
     add-to
     sub-one
     part-one-start
@@ -183,24 +231,24 @@ play-on-spec =
     one-requires
     enum-told
     close-requires
-    same-length
-    same-length-2
-    same-length-3
-    same-length-4
-    returns
-    enum-told-2
-    close-requires-2
     same-length-5
     same-length-6
     same-length-7
     same-length-8
     returns-2
-    add-number
-    loop-less
-    loop-again
-    close-requires-3
+    enum-told-2
+    close-requires-2
     same-length-9
     same-length-10
     same-length-11
     same-length-12
-    returns-3)
+    returns-3
+    add-number
+    loop-less
+    loop-again
+    close-requires-3
+    same-length-13
+    same-length-14
+    same-length-15
+    same-length-16
+    returns-4)

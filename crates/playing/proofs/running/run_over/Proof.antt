@@ -1,167 +1,159 @@
-use Prim.Native.Nat.{_≤_}
 use mathlib.Core.Path.{_∙_}
 use native.Mathlib.Omega.{arith}
-use Rattle.playing.proofs.Fits.{part-fits, start-fits}
+use Rattle.playing.proofs.Fits.{part-fits}
 use borrow.Author.Needs.{needs}
 use Rattle.playing.proofs.running.run_over.Statement.{statement}
 use Rattle.playing.proofs.running.run_over.Tie as tie
 use Rattle.playing.proofs.running.run_over.Reads as reads
 use Rattle.playing.proofs.running.run_over.Lts as lts
 use Rattle.events.proofs.next_event.Reads as next-event-reads
-use Rattle.events.proofs.start.Reads as start-reads
+use Rattle.events.proofs.start_line.Reads as start-line-reads
 use Rattle.playing.proofs.input.refill.Reads as refill-reads
 use Rattle.playing.proofs.input.unread.Reads as unread-reads
 use Rattle.playing.proofs.output.close.Reads as close-reads
 use Rattle.playing.proofs.running.play_on.Reads as play-on-reads
-use Rattle.playing.proofs.running.told.Reads as told-reads
 
--- src/running.rt:117:36
+-- src/running.rt:125:36
 unread-requires : tie.Need-unread-requires
 unread-requires c κs = search needs
 
--- src/running.rt:117:9
+-- src/running.rt:125:9
 refill-requires : tie.Need-refill-requires
 refill-requires c κs = search needs
 
+-- src/running.rt:128:51
 sub-next-event : tie.Need-sub-next-event
 sub-next-event c = search needs
 
--- src/running.rt:120:51
+-- src/running.rt:128:51
 part-next-event-start : tie.Need-part-next-event-start
 part-next-event-start c = search needs
 
--- src/running.rt:120:51
+-- src/running.rt:128:51
 part-next-event-end : tie.Need-part-next-event-end
 part-next-event-end c = search needs
 
--- src/running.rt:120:26
+-- src/running.rt:128:26
 next-event-requires : tie.Need-next-event-requires
 next-event-requires c κs = search needs
 
--- src/running.rt:120:21
+-- src/running.rt:128:21
 enum-known-n : tie.Need-enum-known-n
 enum-known-n c = search needs
 
--- src/running.rt:121:9
+-- src/running.rt:129:9
 close-requires : tie.Need-close-requires
 close-requires c κs = search needs
 
--- src/running.rt:122:9
+-- src/running.rt:130:9
 same-length : tie.Need-same-length
 same-length c = search needs
 
--- src/running.rt:122:9
+-- src/running.rt:130:9
 same-length-2 : tie.Need-same-length-2
 same-length-2 c = search needs
 
--- src/running.rt:122:9
+-- src/running.rt:130:9
 returns : tie.Need-returns
 returns c = search needs
 
--- src/running.rt:124:14
+-- src/running.rt:132:14
 add-to : tie.Need-add-to
-add-to c = let f = part-fits _ (c .before .before .before .before .before .before .before .before .refill .last .1 .0) (c .before .before .before .before .before .before .before .before .refill .result .at) (c .before .before .before .before .before .before .before .before .refill .result .end) (c .before .n .given .0 .0) _ (c .before .before .before .before .before .before .before .before .refill .ensures .order) (c .before .before .before .before .before .before .before .before .refill .ensures .bound) (c .before .before .before .next-event .ensures) (c .before .n .given .1) in omega arith
+add-to c = let f = part-fits _ (c .before .before .before .before .before .before .before .before .refill .last .1 .0) (c .before .before .before .before .before .before .before .before .refill .result .at) (c .before .before .before .before .before .before .before .before .refill .result .end) (c .before .n .given .0 .0) _ (c .before .before .before .before .before .before .before .before .refill .ensures .within .order) (c .before .before .before .before .before .before .before .before .refill .ensures .within .bound) (c .before .before .before .next-event .ensures) (c .before .n .given .1) in omega arith
 
--- src/running.rt:125:29
-sub-start : tie.Need-sub-start
-sub-start c = search needs
+-- src/running.rt:133:43
+sub-start-line : tie.Need-sub-start-line
+sub-start-line c = search needs
 
--- src/running.rt:125:29
-part-start-start : tie.Need-part-start-start
-part-start-start c = search needs
+-- src/running.rt:133:43
+part-start-line-start : tie.Need-part-start-line-start
+part-start-line-start c = search needs
 
--- src/running.rt:125:29
-part-start-end : tie.Need-part-start-end
-part-start-end c = let f = part-fits _ (c .before .before .before .before .before .before .before .before .before .refill .last .1 .0) (c .before .before .before .before .before .before .before .before .before .refill .result .at) (c .before .before .before .before .before .before .before .before .before .refill .result .end) (c .before .before .n .given .0 .0) _ (c .before .before .before .before .before .before .before .before .before .refill .ensures .order) (c .before .before .before .before .before .before .before .before .before .refill .ensures .bound) (c .before .before .before .before .next-event .ensures) (c .before .before .n .given .1) in omega (arith, c .before .before .before .before .before .before .before .before .before .refill .ensures .bound)
+-- src/running.rt:133:43
+part-start-line-end : tie.Need-part-start-line-end
+part-start-line-end c =
+    let f = part-fits _ (c .before .before .before .before .before .before .before .before .before .refill .last .1 .0) (c .before .before .before .before .before .before .before .before .before .refill .result .at) (c .before .before .before .before .before .before .before .before .before .refill .result .end) (c .before .before .n .given .0 .0) _ (c .before .before .before .before .before .before .before .before .before .refill .ensures .within .order) (c .before .before .before .before .before .before .before .before .before .refill .ensures .within .bound) (c .before .before .before .before .next-event .ensures) (c .before .before .n .given .1) in
+    omega (arith, c .before .before .before .before .before .before .before .before .before .refill .ensures .within .bound)
 
--- src/running.rt:125:9
-start-requires : tie.Need-start-requires
-start-requires c κs = search needs
+-- src/running.rt:133:9
+start-line-requires : tie.Need-start-line-requires
+start-line-requires c κs = search needs
 
--- src/running.rt:127:9
-told-requires : tie.Need-told-requires
-told-requires c κs = let z = start-fits _ _ (c .before .before .start .ensures) in omega arith
-
--- src/running.rt:130:9
+-- src/running.rt:138:9
 close-requires-2 : tie.Need-close-requires-2
 close-requires-2 c κs = search needs
 
--- src/running.rt:131:9
+-- src/running.rt:139:9
 same-length-3 : tie.Need-same-length-3
-same-length-3 c = c .before .before .before .before .before .before .before .before .before .before .before .before .before .before .before .before .before .before .before .refill .kept .1 .0
+same-length-3 c = search needs
 
--- src/running.rt:131:9
+-- src/running.rt:139:9
 same-length-4 : tie.Need-same-length-4
 same-length-4 c = search needs
 
--- src/running.rt:131:9
-same-length-5 : tie.Need-same-length-5
-same-length-5 c = search needs
-
--- src/running.rt:131:9
+-- src/running.rt:139:9
 returns-2 : tie.Need-returns-2
 returns-2 c = search needs
 
--- src/running.rt:133:39
+-- src/running.rt:141:39
 cast-size : tie.Need-cast-size
 cast-size c = search needs
 
--- src/running.rt:133:16
+-- src/running.rt:141:16
 mul-size : tie.Need-mul-size
 mul-size c = search needs
 
--- src/running.rt:135:9
+-- src/running.rt:143:9
 close-requires-3 : tie.Need-close-requires-3
 close-requires-3 c κs = search needs
 
--- src/running.rt:136:9
+-- src/running.rt:144:9
+same-length-5 : tie.Need-same-length-5
+same-length-5 c = c .before .before .before .before .before .before .before .before .before .before .before .before .before .before .before .before .before .before .before .before .refill .kept .1 .0
+
+-- src/running.rt:144:9
 same-length-6 : tie.Need-same-length-6
-same-length-6 c = c .before .before .before .before .before .before .before .before .before .before .before .before .before .before .before .before .before .before .before .before .before .refill .kept .1 .0
+same-length-6 c = search needs
 
--- src/running.rt:136:9
-same-length-7 : tie.Need-same-length-7
-same-length-7 c = search needs
-
--- src/running.rt:136:9
-same-length-8 : tie.Need-same-length-8
-same-length-8 c = search needs
-
--- src/running.rt:136:9
+-- src/running.rt:144:9
 returns-3 : tie.Need-returns-3
 returns-3 c = search needs
 
--- src/running.rt:144:45
+-- src/running.rt:162:9
 sub-play-on : tie.Need-sub-play-on
 sub-play-on c = search needs
 
--- src/running.rt:144:45
+-- src/running.rt:162:9
 part-play-on-start : tie.Need-part-play-on-start
 part-play-on-start c = search needs
 
--- src/running.rt:144:45
+-- src/running.rt:162:9
 part-play-on-end : tie.Need-part-play-on-end
 part-play-on-end c = search needs
 
--- src/running.rt:144:5
+-- src/running.rt:156:5
 play-on-requires : tie.Need-play-on-requires
-play-on-requires c κs = search needs
+play-on-requires c κs =
+    let f = part-fits _ (c .before .before .before .before .before .before .before .before .before .before .before .before .before .before .before .before .before .before .before .before .before .before .refill .last .1 .0) (c .before .before .before .before .before .before .before .before .before .before .before .before .before .before .before .before .before .before .before .before .before .before .refill .result .at) (c .before .before .before .before .before .before .before .before .before .before .before .before .before .before .before .before .before .before .before .before .before .before .refill .result .end) (c .before .before .before .before .before .before .before .before .before .before .before .before .before .before .before .n .given .0 .0) _ (c .before .before .before .before .before .before .before .before .before .before .before .before .before .before .before .before .before .before .before .before .before .before .refill .ensures .within .order) (c .before .before .before .before .before .before .before .before .before .before .before .before .before .before .before .before .before .before .before .before .before .before .refill .ensures .within .bound) (c .before .before .before .before .before .before .before .before .before .before .before .before .before .before .before .before .before .next-event .ensures) (c .before .before .before .before .before .before .before .before .before .before .before .before .before .before .before .n .given .1) in
+    record { order = f; bound = c .before .before .before .before .before .before .before .before .before .before .before .before .before .before .before .before .before .before .before .before .before .before .refill .ensures .within .bound }
 
+-- src/running.rt:117:1
+same-length-7 : tie.Need-same-length-7
+same-length-7 c = c .before .before .before .before .before .before .before .before .play-on .kept .1 .1 .1 .1 .0 ∙ c .before .before .before .before .before .before .before .before .before .before .before .before .before .before .before .before .before .before .before .before .before .before .before .before .before .before .before .before .before .before .before .refill .kept .1 .0
+
+-- src/running.rt:117:1
+same-length-8 : tie.Need-same-length-8
+same-length-8 c = search needs
+
+-- src/running.rt:117:1
 same-length-9 : tie.Need-same-length-9
-same-length-9 c = c .before .before .before .before .before .before .before .before .play-on .kept .1 .1 .1 .1 .0 ∙ c .before .before .before .before .before .before .before .before .before .before .before .before .before .before .before .before .before .before .before .before .before .before .before .before .before .before .before .before .before .before .before .before .refill .kept .1 .0
+same-length-9 c = search needs
 
--- src/running.rt:109:1
+-- src/running.rt:117:1
 same-length-10 : tie.Need-same-length-10
 same-length-10 c = search needs
 
--- src/running.rt:109:1
-same-length-11 : tie.Need-same-length-11
-same-length-11 c = search needs
-
--- src/running.rt:109:1
-same-length-12 : tie.Need-same-length-12
-same-length-12 c = search needs
-
--- src/running.rt:109:1
+-- src/running.rt:117:1
 returns-4 : tie.Need-returns-4
 returns-4 c = search needs
 
@@ -181,29 +173,26 @@ run-over-spec =
     same-length-2
     returns
     add-to
-    sub-start
-    part-start-start
-    part-start-end
-    start-requires
-    told-requires
+    sub-start-line
+    part-start-line-start
+    part-start-line-end
+    start-line-requires
     close-requires-2
     same-length-3
     same-length-4
-    same-length-5
     returns-2
     cast-size
     mul-size
     close-requires-3
+    same-length-5
     same-length-6
-    same-length-7
-    same-length-8
     returns-3
     sub-play-on
     part-play-on-start
     part-play-on-end
     play-on-requires
+    same-length-7
+    same-length-8
     same-length-9
     same-length-10
-    same-length-11
-    same-length-12
     returns-4)
