@@ -1,74 +1,76 @@
 // The counters of page 11h, in the order of figure 24.
-ghost use Prim.Native.Nat.{_≤_};
+ghost use mathlib.Core.Path.{_≡_};
+ghost use Rattle.bits.specs.First.{firstOf};
+ghost use Rattle.pages.specs.Page11.{ladder11};
+ghost use Rattle.pages.specs.Rows.{ids};
+ghost use Rattle.read_page.specs.Asking.{refusalIn};
+use crate::tops::is_top;
 use crate::words::put_hex;
 use crate::words::say;
 use crate::words::say_refusal;
 use libc::STDOUT_FILENO;
 use pages::Counter;
 
-// How many bytes the value behind an identifier has: width bits 14:12 of 1 to 4 mean 2, 4, 6, 8.
-fn value_bytes(id: u64) -> usize
-    ensures { λ r. ⌜ r ≤ 14 ⌝ }
+// The refusal of one number, and 0 where it is answered.
+fn refusal_of(page: &[u8], number: u16) -> u8
+    ensures { λ r. ⌜ r ≡ firstOf (ladder11 (now (page .entry)) number) ⌝ }
 {
-    2 * (((id >> 12) & 7) as usize)
+    match pages::read_counter(page, number) {
+        Counter::Value(_) => 0,
+        Counter::Absent => 0,
+        Counter::Refused(n) => n,
+    }
 }
 
-// The length of the value of a number that the page has: the page has been read for it, so that every entry is whole.
-fn width_of(page: &[u8], number: u16) -> usize {
-    let mut at: usize = 4;
-    while at < 508 {
-        let id = bits::le(page, at, 2);
-        let n = value_bytes(id);
-        if id & 0x8fff == number as u64 {
+// The refusal of the first of the sixteen numbers that is refused, and 0 where each is answered.
+fn refusal(page: &[u8]) -> u8
+    ensures { λ r. ⌜ r ≡ refusalIn (now (page .entry)) ids ⌝ }
+{
+    let mut row: usize = 0;
+    while row < 16 {
+        let n = refusal_of(page, pages::id_of(row));
+        if n != 0 {
             return n;
         }
-        at = at + 2 + n;
+        row += 1;
     }
     0
 }
 
-// The largest value of so many bytes.
-fn top_of(bytes: usize) -> u64 {
-    match bytes {
-        2 => 0xffff,
-        4 => 0xffff_ffff,
-        6 => 0xffff_ffff_ffff,
-        _ => u64::MAX,
-    }
-}
-
 // A value that stands at the top of its width may have had more events.
-fn say_value(v: u64, top: u64) {
+fn say_value(v: u64, top: bool) {
     io::print_decimal(STDOUT_FILENO, v);
-    if v == top {
+    if top {
         say(b" top");
     }
+    say(b"\n");
 }
 
-// One counter, and whether the page was read.
-fn say_counter(page: &[u8], number: u16) -> bool {
-    let answer = pages::read_counter(page, number);
-    if let Counter::Refused(n) = answer {
-        say_refusal(n);
-        return false;
-    }
+// The line of one counter. None is refused here: all were asked before the first line.
+fn say_counter(page: &[u8], number: u16) {
     put_hex(number as u64, 3);
     say(b"h ");
-    match answer {
-        Counter::Value(v) => say_value(v, top_of(width_of(page, number))),
-        Counter::Absent => say(b"absent"),
-        Counter::Refused(_) => say(b""),
+    match pages::read_counter(page, number) {
+        Counter::Value(v) => say_value(v, is_top(page, number, v)),
+        Counter::Absent => say(b"absent\n"),
+        Counter::Refused(n) => say_refusal(n),
     }
-    say(b"\n");
-    true
 }
 
-pub fn say_counters(page: &[u8]) {
+fn say_all(page: &[u8]) {
     let mut row: usize = 0;
     while row < 16 {
-        if !say_counter(page, pages::id_of(row)) {
-            return;
-        }
+        say_counter(page, pages::id_of(row));
         row += 1;
     }
+}
+
+// A page on which one number is refused is an unread page: none of its values is said.
+pub fn say_counters(page: &[u8]) {
+    let n = refusal(page);
+    if n != 0 {
+        say_refusal(n);
+        return;
+    }
+    say_all(page);
 }

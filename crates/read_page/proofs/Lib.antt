@@ -1,0 +1,3 @@
+pub mod Asked
+pub mod Widths
+pub mod Largest

@@ -1,0 +1,40 @@
+use mathlib.Core.Path.{_≡_}
+use Prim.Native.Nat.{_*_, min}
+use native.Mathlib.Omega.{arith}
+use lib.Pow.{pow-pos}
+use Rattle.bits.proofs.Masks.{one-shl}
+use Rattle.read_page.specs.Top.{topOf}
+use borrow.Author.Needs.{needs}
+use Rattle.read_page.proofs.tops.top_of.Statement.{statement}
+use Rattle.read_page.proofs.tops.top_of.Tie as tie
+use Rattle.read_page.proofs.tops.top_of.Reads as reads
+use Rattle.read_page.proofs.tops.top_of.Lts as lts
+
+-- src/tops.rt:65:9
+returns : tie.Need-returns
+unfolding topOf
+returns c =
+    let e : min (c .before .args .bytes) 8 ≡ 8 = omega arith in
+    rw e
+
+-- src/tops.rt:67:15
+mul-result : tie.Need-mul-result
+mul-result c = search needs
+
+-- src/tops.rt:67:6
+shl-result : tie.Need-shl-result
+shl-result c = search needs
+
+-- src/tops.rt:67:5
+sub-result : tie.Need-sub-result
+sub-result c = rw (one-shl 64 (8 * c .before .args .bytes) (omega arith)) (pow-pos (8 * c .before .args .bytes))
+
+-- src/tops.rt:61:1
+returns-2 : tie.Need-returns-2
+unfolding topOf
+returns-2 c =
+    let e : min (c .before .args .bytes) 8 ≡ c .before .args .bytes = omega arith in
+    rw (one-shl 64 (8 * c .before .args .bytes) (omega arith), e)
+
+pub top-of-spec : {M : Type 1} → statement M
+top-of-spec = tie.close (tie.spec returns mul-result shl-result sub-result returns-2)

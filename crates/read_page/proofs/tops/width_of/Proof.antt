@@ -1,0 +1,13 @@
+use lib.Bits.{and-mask}
+use Prim.Native.Nat.{_/_}
+use Rattle.read_page.proofs.tops.width_of.Statement.{statement}
+use Rattle.read_page.proofs.tops.width_of.Tie as tie
+use Rattle.read_page.proofs.tops.width_of.Reads as reads
+use Rattle.read_page.proofs.tops.width_of.Lts as lts
+
+-- src/tops.rt:10:1
+returns : tie.Need-returns
+returns c = and-mask (c .args .id / 4096) 3
+
+pub width-of-spec : {M : Type 1} → statement M
+width-of-spec = tie.close (tie.spec returns)
