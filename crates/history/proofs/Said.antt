@@ -8,7 +8,7 @@ use borrow.Author.Tests.{not-false}
 use Rattle.bits.specs.Pick.{pick}
 use Rattle.bits.specs.Bit.{bitIn}
 use Rattle.bits.proofs.Picks.{by-test}
-use Rattle.frames.specs.Write.{Sent, host, device, setBits, setup, activate, payload, bist, pio}
+use Rattle.frames.specs.Write.{Sent, activate}
 use Rattle.frames.specs.Trip as trip
 use Rattle.frames.specs.declared.shapes.SetBits.{SetBits}
 use Rattle.frames.specs.declared.shapes.HostReg.{HostReg}
@@ -24,7 +24,6 @@ use Rattle.rules.proofs.Leaves.{control-all, queued-all}
 use Rattle.replies.specs.Replies.{repliesOf}
 use Rattle.history.specs.Logs.{frameReads}
 use Rattle.history.specs.Replied.{some, setBitsIn, collect}
-use Rattle.history.specs.Manners.{isRefused}
 use Rattle.history.proofs.Hearing.{pioIn, reads-page}
 
 -- the A1h frames of what is sent
@@ -34,19 +33,6 @@ bitsIn rs = collect setBitsIn (map trip.seen rs)
 -- some A1h
 abbrev pub someBits : List Sent → Bool
 someBits rs = some (λ f. true) (bitsIn rs)
-
--- no reply is one that the reader refuses
-pub none-refused : (rs : List Sent) → some isRefused (map trip.seen rs) ≡ false
-unfolding some
-none-refused [] = refl
-none-refused (host f ∷ rs) = none-refused rs
-none-refused (device f ∷ rs) = none-refused rs
-none-refused (setBits f ∷ rs) = none-refused rs
-none-refused (setup f ∷ rs) = none-refused rs
-none-refused (activate ∷ rs) = none-refused rs
-none-refused (payload p ∷ rs) = none-refused rs
-none-refused (bist ∷ rs) = none-refused rs
-none-refused (pio f ∷ rs) = none-refused rs
 
 -- of a host frame that is read as f, and its replies
 pub record Says (f : Frame) (rs : List Sent) : Type 0 where

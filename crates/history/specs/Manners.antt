@@ -1,31 +1,18 @@
 -- What an event may say at all: so that nothing is left unsaid, and nothing is said in passing. Assumes nothing.
 use mathlib.Core.Path.{_≡_}
-use mathlib.Core.Bool.{Bool, true, false, _&&_, _||_}
+use mathlib.Core.Bool.{true, false, _&&_, _||_}
 use mathlib.Core.List.{List, []}
 use Prim.Native.Nat.{ℕ, _+_, _<_}
 use lib.ListN.{length}
 use Rattle.bits.specs.Bit.{bitIn}
-use Rattle.frames.specs.declared.shapes.Frame.{Frame}
-use Rattle.frames.specs.declared.shapes.Frame.the-variants.{Host, Device, Bits, Setup, Activate, Data, Bist, Pio, Refused}
 use Rattle.history.specs.Calls.{Call, hostFrame, openPhase, sendData, finishTags, mediaError, linkEvent, comReset, Event, taken}
-use Rattle.history.specs.Asked.{brought}
+use Rattle.history.specs.Asked.{asks, brought}
 use Rattle.history.specs.Logs.{callReads}
-use Rattle.history.specs.Replied.{frames, some, paged}
+use Rattle.history.specs.Replied.{frames, some, errIn, registerIn, collect, paged}
+use Rattle.history.specs.Shapes.{kinds, OneOf, callReplies}
 use Rattle.history.specs.Seen.{Seen, seen, Flow, errs, accepts}
 use Rattle.history.specs.Fates.{ends, one, totalWith}
 use Rattle.history.specs.Waits.{waits}
-
--- a reply that the reader refuses
-abbrev pub isRefused : Frame → Bool
-isRefused (Host f) = false
-isRefused (Device f) = false
-isRefused (Bits f) = false
-isRefused (Setup f) = false
-isRefused Activate = false
-isRefused (Data n) = false
-isRefused Bist = false
-isRefused (Pio f) = false
-isRefused Refused = true
 
 -- nothing is finished
 abbrev pub FinishesNone : Event → Type 0
@@ -43,9 +30,11 @@ Spoken e comReset = FinishesNone e
 
 -- an event e after a history h
 pub record Mannered (e : Event) (h : List Seen) : Type 0 where
-  -- a refused call replies nothing, and every reply can be read
+  -- a refused call replies nothing; a taken one has one of the replies that it may have, so that each can be read
   pub silent : taken e ≡ false → e .reply ≡ []
-  pub readable : some isRefused (frames e) ≡ false
+  pub shaped : taken e ≡ true → OneOf (kinds e) (callReplies (e .call))
+  -- a 34h with ERR answers a command: the signature has none
+  pub blames : some (λ r. errIn (r .status)) (collect registerIn (frames e)) ≡ true → asks e .command ≡ true
   -- a taken queued command is answered, and good or bad, not both
   pub answered : seen e .asks .queued ≡ true → one (accepts (seen e)) + one (seen e .bad) ≡ 1
   -- what is named finished is outstanding: no dead command is called finished
