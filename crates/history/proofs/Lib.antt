@@ -37,7 +37,6 @@ pub mod Asked11
 pub mod Soundness
 pub mod Runs
 pub mod Told
-pub mod Brings
 pub mod Mannerly
 pub mod Manners
 pub mod Contracts

@@ -45,7 +45,6 @@ use Prim.Native.Nat.{_%_}
 use Rattle.frames.specs.declared.shapes.SetBits.{SetBits}
 use Rattle.rules.specs.declared.acts.Queued.{Queued}
 use Rattle.rules.specs.declared.acts.Move.{Move}
-use Rattle.history.proofs.Brings.{brings-counted}
 
 -- ---- replies without an A1h and without a page
 
@@ -163,5 +162,4 @@ mannered-step d s c m b left h w keep shape p spoken swept asked =
           (λ (t : eqb (s .refusal) 0 ≡ true). rw t (asked (sym pages ∙ y)))
           (λ (t : eqb (s .refusal) 0 ≡ false). absurd (false≢true (ap pioIn (sym (keep (eqb-false (s .refusal) 0 t))) ∙ sym pages ∙ y)))
           (tested (eqb (s .refusal) 0));
-      counted = brings-counted x;
     }

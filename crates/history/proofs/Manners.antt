@@ -43,7 +43,6 @@ use Rattle.history.proofs.Hearing.{pioIn}
 use Rattle.history.proofs.Said.{bitsIn, someBits, Says, host-said}
 use Rattle.history.proofs.Shaped.{erringIn, CallShaped, host-shaped, open-shaped, send-shaped, finish-shaped, media-shaped, reset-shaped}
 use Rattle.history.proofs.Polite.{Polite, polite}
-use Rattle.history.proofs.Brings.{brings-counted}
 use Rattle.history.proofs.Mannerly.{none-finished, decided-all, Meek, refused-meek, open-meek, send-meek, finish-pageless, media-pageless, reset-meek, no-sweep, host-finishes, mannered-step}
 
 -- a refused call finishes nothing
@@ -102,7 +101,6 @@ link-mannered d row m b h p =
       shut = p .shut;
       swept = λ y. absurd (false≢true (sym (no-sweep x refl) ∙ y));
       asked = λ y. absurd (false≢true (sym (ap (some isPio) none) ∙ y));
-      counted = brings-counted x;
     }
 
 -- every call

@@ -3,10 +3,9 @@ use mathlib.Core.Path.{_≡_}
 use mathlib.Core.Bool.{true, false, _&&_, _||_}
 use mathlib.Core.List.{List, []}
 use Prim.Native.Nat.{ℕ, _+_, _<_}
-use lib.ListN.{length}
 use Rattle.bits.specs.Bit.{bitIn}
 use Rattle.history.specs.Calls.{Call, hostFrame, openPhase, sendData, finishTags, mediaError, linkEvent, comReset, Event, taken}
-use Rattle.history.specs.Asked.{asks, brought}
+use Rattle.history.specs.Asked.{asks}
 use Rattle.history.specs.Logs.{callReads}
 use Rattle.history.specs.Replied.{frames, some, errIn, registerIn, collect, paged}
 use Rattle.history.specs.Shapes.{kinds, OneOf, callReplies}
@@ -49,5 +48,3 @@ pub record Mannered (e : Event) (h : List Seen) : Type 0 where
   pub swept : seen e .sweeps ≡ true → (waits h ≡ true) × (callReads 0x10 (e .call) && paged e ≡ true)
   -- a page answers a taken read of page 10h or 11h
   pub asked : paged e ≡ true → taken e && (callReads 0x10 (e .call) || callReads 0x11 (e .call)) ≡ true
-  -- the bytes that host data bring are as many as the reader says
-  pub counted : seen e .asks .brings ≡ length (brought e)
