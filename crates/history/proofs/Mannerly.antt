@@ -1,4 +1,4 @@
--- Every call says what it may, and leaves nothing unsaid. Assumes nothing.
+-- Every call says no more than it may, and what it must: step by step. Assumes nothing.
 use mathlib.Core.Path.{_≡_, refl, sym, ap, subst⁻¹, _∙_}
 use mathlib.Core.Bool.{Bool, true, false, not, _&&_, _||_, true≢false, false≢true}
 use mathlib.Core.List.{List, [], _∷_, map}

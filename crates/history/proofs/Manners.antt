@@ -1,4 +1,4 @@
--- Every call says what it may, call by call. Assumes nothing.
+-- Every call says no more than it may, and what it must: call by call. Assumes nothing.
 use mathlib.Core.Path.{_≡_, refl, sym, ap, subst, _∙_}
 use mathlib.Core.Bool.{true, false, false≢true}
 use mathlib.Core.List.{List, [], map}

@@ -124,6 +124,6 @@ module _ (s : Settings) (as′ : List Lent) (t : AllTyped as′) where
       one-most true = omega arith
       one-most false = omega arith
 
-  -- every event says what it may, and leaves nothing unsaid
+  -- every event says no more than it may after those before it, and what it must
   pub demand3-manners : Manners (history s as′)
   demand3-manners = held s as′ t .manners

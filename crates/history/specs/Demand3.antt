@@ -98,7 +98,7 @@ Depth depth h = total h ≤ depth
 abbrev pub Single : List Seen → Type 0
 Single h = (t : ℕ) → t < 32 → totalWith t h ≤ 1
 
--- every event says what it may, and leaves nothing unsaid
+-- every event says no more than it may after those before it, and what it must
 unfoldable pub Manners : List Event → Type 0
 Manners [] = Unit
 Manners (e ∷ h) = Mannered e (map seen h) × Manners h

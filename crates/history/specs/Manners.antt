@@ -1,4 +1,5 @@
--- What an event may say at all: so that nothing is left unsaid, and nothing is said in passing. Assumes nothing.
+-- What an event may say after those before it: which replies, in which order, and which tags, errors and pages they may tell of.
+-- Of what stands in a reply besides, such as an error byte or the command's bytes, nothing is said here: the calls' contracts do. Assumes nothing.
 use mathlib.Core.Path.{_≡_}
 use mathlib.Core.Bool.{true, false, _&&_, _||_}
 use mathlib.Core.List.{List, []}
