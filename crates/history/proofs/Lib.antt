@@ -27,6 +27,7 @@ pub mod Impact
 pub mod Hearing
 pub mod Counts
 pub mod Said
+pub mod Marked
 pub mod Shaped
 pub mod Pages
 pub mod Shown

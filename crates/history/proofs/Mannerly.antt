@@ -15,6 +15,7 @@ use Rattle.frames.specs.Write.{Sent, activate}
 use Rattle.frames.specs.Trip as trip
 use Rattle.frames.specs.declared.shapes.Frame.{Frame}
 use Rattle.frames.specs.declared.shapes.Frame.the-variants as fs
+use Rattle.pages.specs.Page10.{readLog}
 use Rattle.states.specs.declared.shapes.ErrorRecord.{ErrorRecord}
 use Rattle.rules.specs.Events.{decided}
 use Rattle.rules.specs.declared.acts.Fault.{Fault}
@@ -32,10 +33,10 @@ use Rattle.history.specs.Logs.{frameReads, callReads}
 use Rattle.history.specs.Replied.{frames, some, isPio, setBitsIn, collect, paged}
 use Rattle.history.specs.Seen.{Seen, seen}
 use Rattle.history.specs.Shapes.{kindOf, OneOf, callReplies}
-use Rattle.history.specs.Manners.{Mannered, Spoken}
+use Rattle.history.specs.Manners.{TellsError, Mannered, Spoken}
 use Rattle.history.specs.Run.{gives, done, event}
-use Rattle.history.proofs.Views.{view}
-use Rattle.history.proofs.Frames.{Read, read-frames, read-step}
+use Rattle.history.proofs.Views.{pageIn, view}
+use Rattle.history.proofs.Frames.{Read, read-frames, read-page, read-step}
 use Rattle.history.proofs.Steps.{lend}
 use Rattle.history.proofs.Hearing.{pioIn}
 use Rattle.history.proofs.Said.{bitsIn, someBits, Says}
@@ -136,7 +137,7 @@ host-finishes f rs y t =
 -- of a step
 pub mannered-step : (d : Device) (s : Step) (c : Call) (m b left : List ℕ) (h : List Seen) → Whole s → ((s .refusal ≡ 0 → ⊥) → s .frames ≡ [])
     → let x : Event = event (done (lend c m b) (gives s left b)) in
-    (s .refusal ≡ 0 → CallShaped c (s .frames)) → Polite (seen x) h → Spoken x c → (seen x .sweeps ≡ true → callReads 0x10 c && pioIn (s .frames) ≡ true) → (pioIn (s .frames) ≡ true → callReads 0x10 c || callReads 0x11 c ≡ true) → Mannered x h
+    (s .refusal ≡ 0 → CallShaped c (s .frames)) → Polite (seen x) h → Spoken x c → (seen x .sweeps ≡ true → (callReads 0x10 c && pioIn (s .frames) ≡ true) × TellsError (readLog (pageIn (s .frames)))) → (pioIn (s .frames) ≡ true → callReads 0x10 c || callReads 0x11 c ≡ true) → Mannered x h
 unfolding sentAll joined some collect pick
 mannered-step d s c m b left h w keep shape p spoken swept asked =
     let x : Event = event (done (lend c m b) (gives s left b)) in
@@ -156,7 +157,12 @@ mannered-step d s c m b left h w keep shape p spoken swept asked =
       spoken = spoken;
       alone = p .alone;
       shut = p .shut;
-      swept = λ y. (p .swept y, ap (λ (v : Bool). callReads 0x10 c && v) pages ∙ swept y);
+      swept = λ y. record {
+        waiting = p .swept y .0;
+        answers = ap (λ (v : Bool). callReads 0x10 c && v) pages ∙ swept y .0;
+        clean = p .swept y .1;
+        tells = subst⁻¹ (λ (l : List ℕ). TellsError (readLog l)) (read-page x (s .frames) r) (swept y .1);
+      };
       asked = λ y.
           ⊎-elim
           (λ (t : eqb (s .refusal) 0 ≡ true). rw t (asked (sym pages ∙ y)))

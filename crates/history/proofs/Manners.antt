@@ -4,14 +4,17 @@ use mathlib.Core.Bool.{true, false, false≢true}
 use mathlib.Core.List.{List, [], map}
 use mathlib.Core.Logic.{inl}
 use Prim.Native.Nat.{ℕ}
+use lib.Dec.{lit<}
 use lib.ListN.{length}
 use borrow.Author.Tests.{eqb-true}
 use Rattle.bits.specs.Bit.{bitIn}
 use Rattle.bits.specs.First.{firstOf}
+use Rattle.bits.proofs.Firsts as firsts
 use Rattle.bits.proofs.Picks.{and-right}
 use Rattle.frames.specs.Read.{readFrame}
 use Rattle.frames.specs.Write.{Sent}
 use Rattle.frames.specs.declared.shapes.Frame.{Frame}
+use Rattle.ladders.specs.Ladders.{lentLadder}
 use Rattle.rules.specs.Facts.{moveOf}
 use Rattle.rules.specs.Events.{decided, openTests, openAct, sendTests, sendAct, finishTests, finishAct, mediaTests, mediaAct, failing}
 use Rattle.rules.specs.Taking.{spanOf, keptIn}
@@ -42,6 +45,7 @@ use Rattle.history.proofs.Steps.{lend, by-view, link-read, link-seen, c
 use Rattle.history.proofs.Hearing.{pioIn}
 use Rattle.history.proofs.Said.{bitsIn, someBits, Says, host-said}
 use Rattle.history.proofs.Shaped.{erringIn, CallShaped, host-shaped, open-shaped, send-shaped, finish-shaped, media-shaped, reset-shaped}
+use Rattle.history.proofs.Marked.{Marked, halted-tells}
 use Rattle.history.proofs.Polite.{Polite, polite}
 use Rattle.history.proofs.Mannerly.{none-finished, decided-all, Meek, refused-meek, open-meek, send-meek, finish-pageless, media-pageless, reset-meek, no-sweep, host-finishes, mannered-step}
 
@@ -104,20 +108,22 @@ link-mannered d row m b h p =
     }
 
 -- every call
-pub mannered : (d : Device) (c : Call) (m b : List ℕ) (h : List Seen) → Typed c → SizedRecord d → Inv (d .flow .outstanding) (d .flow .halted) h
+pub mannered : (d : Device) (c : Call) (m b : List ℕ) (h : List Seen) → Typed c → SizedRecord d → Marked d → Inv (d .flow .outstanding) (d .flow .halted) h
     → Mannered (event (done (lend c m b) (resultFor d m b c))) h
 unfolding hostAct openOf openAct sendOf sendAct finishOf finishAct mediaOf mediaAct
-mannered d (hostFrame f) m b h t s i =
+mannered d (hostFrame f) m b h t s marked i =
     let k : Step = hostStep d f (length m) (length b) in
     let left = keptIn (hostAct d f (length m) (length b)) f m in
     let x : Event = event (done (lend (hostFrame f) m b) (gives k left b)) in
     let w = always-host d f (length m) (length b) t s in
     let keep : (k .refusal ≡ 0 → ⊥) → k .frames ≡ [] = λ n. refused-keeps d [] (hostAct d f (length m) (length b)) n .frames in
-    let y : Says (readFrame f) (k .frames) = host-said (d .errors) (d .settings .mask) (d .values) (factsOf d (openTag (d .flow .phase)) (mediumWrong (d .settings .capacity) (length m)) (length b)) (readFrame f) in
+    let v = factsOf d (openTag (d .flow .phase)) (mediumWrong (d .settings .capacity) (length m)) (length b) in
+    let y : Says (readFrame f) (k .frames) = host-said (d .errors) (d .settings .mask) (d .values) v (readFrame f)
+    (λ z. halted-tells d s (firsts.first-exactly (lentLadder (v .contradicts) (v .medium) (v .short)) tt .none .0 z 0 (lit< tt)) marked) in
     mannered-step d k (hostFrame f) m b left h w keep (host-shaped d f (length m) (length b)) (polite d _ (seen x) h i (comes d (hostFrame f) m b t s))
     (λ u. by-view (λ (e : Seen). e .finishes u ≡ false) k (hostFrame f) m b left w (λ _. host-finishes (readFrame f) (k .frames) y u) (λ n. (keep n, quiet-finishes u)))
-    (λ z. y .swept (swept-bits x (k .frames) (read-step k (hostFrame f) m b left w) z)) (y .paged)
-mannered d (openPhase tag) m b h t s i =
+    (λ z. let a = swept-bits x (k .frames) (read-step k (hostFrame f) m b left w) z in (y .swept a, y .tells a)) (y .paged)
+mannered d (openPhase tag) m b h t s marked i =
     let k : Step = openStep d tag (length b) in
     let v = factsOf d tag false (length b) in
     let w = always-open d tag (length b) in
@@ -126,7 +132,7 @@ mannered d (openPhase tag) m b h t s i =
     let meek = decided-all (Meek (d .errors) (d .settings .mask) (d .values) []) n (Open (record { tag = tag; entry = v .entry }))
     (refused-meek (d .errors) (d .settings .mask) (d .values) [] n) (open-meek (d .errors) (d .settings .mask) (d .values) (record { tag = tag; entry = v .entry })) in
     event-mannered d k (openPhase tag) m b h w keep refl (meek .1) (open-shaped d tag (length b)) (polite d _ _ h i (comes d (openPhase tag) m b t s)) (meek-finishes k (openPhase tag) m b m w keep (meek .0))
-mannered d sendData m b h t s i =
+mannered d sendData m b h t s marked i =
     let k : Step = sendStep d m (length b) in
     let v = factsOf d (openTag (d .flow .phase)) (mediumWrong (d .settings .capacity) (length m)) (length b) in
     let w = always-send d m (length b) in
@@ -135,7 +141,7 @@ mannered d sendData m b h t s i =
     let meek = decided-all (λ (a : Act). Meek (d .errors) (d .settings .mask) (d .values) (partOf (spanOf a) m) a) n (Send (moveOf (v .flow) (v .entry)))
     (refused-meek (d .errors) (d .settings .mask) (d .values) _ n) (send-meek (d .errors) (d .settings .mask) (d .values) _ (moveOf (v .flow) (v .entry))) in
     event-mannered d k sendData m b h w keep refl (meek .1) (send-shaped d m (length b)) (polite d _ _ h i (comes d sendData m b t s)) (meek-finishes k sendData m b m w keep (meek .0))
-mannered d (finishTags set) m b h t s i =
+mannered d (finishTags set) m b h t s marked i =
     let k : Step = finishStep d set (length b) in
     let n = firstOf (finishTests (factsOf d 32 false (length b)) (d .entries) set) in
     let w = always-finish d set (length b) t in
@@ -145,7 +151,7 @@ mannered d (finishTags set) m b h t s i =
     event-mannered d k (finishTags set) m b h w keep refl page (finish-shaped d set (length b)) (polite d _ _ h i (comes d (finishTags set) m b t s))
     (λ z u. by-view (λ (e : Seen). k .refusal ≡ 0 → e .finishes u ≡ bitIn 32 set u) k (finishTags set) m b m w (λ y _. finish-says d set n (not-refused n (Finish set) y) u) (λ y. (keep y, λ q. absurd (y q)))
     (eqb-true (k .refusal) 0 z))
-mannered d (mediaError tag e sector) m b h t s i =
+mannered d (mediaError tag e sector) m b h t s marked i =
     let k : Step = mediaStep d tag e sector (length b) in
     let v = factsOf d tag false (length b) in
     let n = firstOf (mediaTests v tag e sector) in
@@ -159,8 +165,8 @@ mannered d (mediaError tag e sector) m b h t s i =
           (eqb-true (k .refusal) 0 z),
       λ u. by-view (λ (y : Seen). y .finishes u ≡ false) k (mediaError tag e sector) m b m w (λ y. media-says d f n (not-refused n (Media f) y) .1 u) (λ y. (keep y, quiet-finishes u)),
     )
-mannered d (linkEvent row) m b h t s i = link-mannered d row m b h (polite d _ _ h i (comes d (linkEvent row) m b t s))
-mannered d comReset m b h t s i =
+mannered d (linkEvent row) m b h t s marked i = link-mannered d row m b h (polite d _ _ h i (comes d (linkEvent row) m b t s))
+mannered d comReset m b h t s marked i =
     let k : Step = comresetStep d (length b) in
     let w = always-comreset d (length b) in
     let keep : (k .refusal ≡ 0 → ⊥) → k .frames ≡ [] = λ n. refused-keeps-comreset d (length b) n .frames in

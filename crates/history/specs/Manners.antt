@@ -5,10 +5,13 @@ use mathlib.Core.Bool.{true, false, _&&_, _||_}
 use mathlib.Core.List.{List, []}
 use Prim.Native.Nat.{ℕ, _+_, _<_}
 use Rattle.bits.specs.Bit.{bitIn}
+use Rattle.pages.specs.Page10.{readLog}
+use Rattle.pages.specs.declared.page10.Page10.{Page10}
+use Rattle.pages.specs.declared.page10.Page10.the-variants.{Fields, Refused}
 use Rattle.history.specs.Calls.{Call, hostFrame, openPhase, sendData, finishTags, mediaError, linkEvent, comReset, Event, taken}
 use Rattle.history.specs.Asked.{asks}
 use Rattle.history.specs.Logs.{callReads}
-use Rattle.history.specs.Replied.{frames, some, errIn, registerIn, collect, paged}
+use Rattle.history.specs.Replied.{frames, some, errIn, registerIn, collect, paged, page}
 use Rattle.history.specs.Shapes.{kinds, OneOf, callReplies}
 use Rattle.history.specs.Seen.{Seen, seen, Flow, errs, accepts}
 use Rattle.history.specs.Fates.{ends, one, totalWith}
@@ -28,6 +31,18 @@ Spoken e (mediaError t x s) = (taken e ≡ true → seen e .fails ≡ true) × F
 Spoken e (linkEvent r) = FinishesNone e
 Spoken e comReset = FinishesNone e
 
+-- page 10h as its reader answers: it is not refused, and its status has ERR
+abbrev pub TellsError : Page10 → Type 0
+TellsError (Fields f) = errIn (f .status) ≡ true
+TellsError (Refused n) = ⊥
+
+-- the sweep in an event e after a history h: sent only while an error waits, to a read of page 10h and with the page; it has no ERR itself, and the page behind it has
+pub record Swept (e : Event) (h : List Seen) : Type 0 where
+  pub waiting : waits h ≡ true
+  pub answers : callReads 0x10 (e .call) && paged e ≡ true
+  pub clean : seen e .fails ≡ false
+  pub tells : TellsError (readLog (page e))
+
 -- an event e after a history h
 pub record Mannered (e : Event) (h : List Seen) : Type 0 where
   -- a refused call replies nothing; a taken one has one of the replies that it may have, so that each can be read
@@ -45,7 +60,7 @@ pub record Mannered (e : Event) (h : List Seen) : Type 0 where
   pub alone : 0 < seen e .sends + seen e .asks .brings → ((x : Flow) → seen e .begins x ≡ x) × ((t : ℕ) → ends t (seen e) ≡ false)
   -- with an error or a reset nothing begins
   pub shut : errs (seen e) || seen e .asks .resets ≡ true → (x : Flow) → seen e .begins x ≡ x
-  -- the sweep answers a read of page 10h, with the page, and only while an error waits
-  pub swept : seen e .sweeps ≡ true → (waits h ≡ true) × (callReads 0x10 (e .call) && paged e ≡ true)
+  -- the sweep is as it may be
+  pub swept : seen e .sweeps ≡ true → Swept e h
   -- a page answers a taken read of page 10h or 11h
   pub asked : paged e ≡ true → taken e && (callReads 0x10 (e .call) || callReads 0x11 (e .call)) ≡ true
