@@ -1,4 +1,4 @@
--- The data of one call: read, they are what the medium held at the command's place; written, the medium holds them there and is otherwise as it was. Assumes nothing.
+-- The data of one call: read, they are what the medium held at the command's place; written, the medium holds them there, whole, and is otherwise as it was. Assumes nothing.
 use mathlib.Core.Path.{_≡_, refl, sym, ap, subst, subst⁻¹, _∙_}
 use mathlib.Core.Bool.{true, not}
 use mathlib.Core.List.{List, []}
@@ -36,8 +36,8 @@ use Rattle.history.proofs.Moving.{entryAt}
 use Rattle.history.proofs.Table.{Standing, Following, Tracked}
 use Rattle.history.proofs.Strays.{due, flow-since}
 use Rattle.history.proofs.Owners.{owned}
-use Rattle.history.proofs.Placed.{SentFrom, Placed, sent-none, left-none, left-same, still-placed, pick-none, no-part, reset-none, no-frame, phaseEntry, send-sent}
-use Rattle.history.proofs.Kept.{host-left}
+use Rattle.history.proofs.Placed.{SentFrom, Placed, sent-none, left-none, ends-none, left-same, still-placed, pick-none, no-part, reset-none, no-frame, phaseEntry, send-sent}
+use Rattle.history.proofs.Kept.{host-left, host-within}
 
 -- the place of the open phase: that of its tag's entry
 phase-place : (d : Device) (t : ℕ) → d .flow .phase ≡ t + 1 → placeOf (phaseEntry d) ≡ placeOf (entryAt d t)
@@ -64,6 +64,7 @@ placed d (hostFrame f) m b t s =
       sends = sent-none (placeOf (phaseEntry d)) m (sent x) (read-sent x (k .frames) (read-step k (hostFrame f) m b left (always-host d f (length m) (length b) t s))
           ∙ no-part (d .errors) (d .settings .mask) (d .values) (hostAct d f (length m) (length b)));
       keeps = host-left d f m (length b);
+      within = host-within d f m (length b);
     }
 placed d (openPhase tag) m b t s =
     step-placed (openStep d tag (length b)) (openPhase tag) m b (placeOf (phaseEntry d)) (always-open d tag (length b))
@@ -74,6 +75,7 @@ placed d sendData m b t s =
     record {
       sends = subst⁻¹ (SentFrom (placeOf (phaseEntry d)) m) (read-sent x (k .frames) (read-step k sendData m b m (always-send d m (length b)))) (send-sent d m (length b));
       keeps = left-none (placeOf (phaseEntry d)) m m (brought x) (pick-none (taken x)) refl;
+      within = ends-none (placeOf (phaseEntry d)) m (brought x) (pick-none (taken x));
     }
 placed d (finishTags set) m b t s =
     step-placed (finishStep d set (length b)) (finishTags set) m b (placeOf (phaseEntry d)) (always-finish d set (length b) t)
@@ -93,7 +95,7 @@ command-moved d x t c p s b =
     let e : t ≡ ownTag c = eqb-true t (ownTag c) (and-left (eqb t (ownTag c)) (pick (c .accepted .asks .write) (not (not (entryAt d t .write))) (not (entryAt d t .write))) b) in
     let first : entryAt d t .first ≡ c .accepted .asks .first = ap (λ (u : ℕ). entryAt d u .first) e ∙ s .first in
     let at : base c + 512 * entryAt d t .moved ≡ placeOf (entryAt d t) = omega arith in
-    subst⁻¹ (Moved x (not (entryAt d t .write))) at (record { read = λ _. p .sends; written = λ _. p .keeps })
+    subst⁻¹ (Moved x (not (entryAt d t .write))) at (record { read = λ _. p .sends; written = λ _. p .keeps; within = λ _. p .within })
 
 -- the data of an event, for each outstanding command
 each-moved : (d : Device) (x : Event) (c : Command) → Placed x (placeOf (phaseEntry d)) → Following d c → outstanding c ≡ true → MovedOf x c (flow (c .after))

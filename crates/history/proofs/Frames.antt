@@ -27,10 +27,10 @@ use Rattle.device.proofs.Sending.{Whole, whole-frames, whole-host, whole-open, 
 use Rattle.device.proofs.Refusals.{refused-keeps, refused-keeps-comreset}
 use Rattle.history.specs.Calls.{Call, Event}
 use Rattle.history.specs.Asked.{Asked, asks}
-use Rattle.history.specs.Replied.{frames, pieces, some, isPio, payloads, sent}
+use Rattle.history.specs.Replied.{frames, pieces, some, isPio, payloads, page, sent}
 use Rattle.history.specs.Seen.{sight, seen}
 use Rattle.history.specs.Run.{gives, done, event}
-use Rattle.history.proofs.Views.{view, all-read, all-payloads, payloadsOf, sentIn}
+use Rattle.history.proofs.Views.{view, all-read, all-payloads, payloadsOf, pageIn, sentIn}
 
 -- the reply bytes of an event are those of the frames fs, each of which can be written
 pub record Read (x : Event) (fs : List Sent) : Type 0 where
@@ -49,6 +49,10 @@ module _ (x : Event) (fs : List Sent) (r : Read x fs) where
   -- what is sent that is no page
   pub read-sent : sent x ≡ sentIn fs
   read-sent = ap₂ (λ (l : List Frame) (p : List ℕ). pick (some isPio l) [] p) read-frames read-payloads
+
+  -- and what is sent that is one
+  pub read-page : page x ≡ pageIn fs
+  read-page = ap₂ (λ (l : List Frame) (p : List ℕ). pick (some isPio l) p []) read-frames read-payloads
 
   -- all that demand 3 reads
   pub read-seen : (a : Asked) → asks x ≡ a → seen x ≡ view a fs

@@ -1,20 +1,22 @@
--- What a host frame leaves in the medium: its data at the place of the open phase, and every other byte as it was. Assumes nothing.
+-- What a host frame leaves in the medium: its data at the place of the open phase, whole, and every other byte as it was. Assumes nothing.
 use mathlib.Core.Path.{_≡_, refl, sym, ap, subst, _∙_}
 use mathlib.Core.Bool.{true, false, not, _&&_, _||_}
 use mathlib.Core.List.{List, [], _++_}
 use Prim.Native.Nat.{ℕ, _+_, _-_}
-use lib.Dec.{eqb, ltb, leb}
+use native.Mathlib.Omega.{arith}
+use lib.Dec.{eqb, ltb, leb, lit<}
 use lib.ListN.{length, getD, take, drop}
 use borrow.Author.Tests.{eqb-true, eqb-false}
 use Rattle.bits.specs.Pick.{pick}
 use Rattle.bits.specs.Bit.{bitIn}
-use Rattle.bits.proofs.Picks.{by-test}
+use Rattle.bits.proofs.Picks.{by-test, or-left}
 use Rattle.wire.specs.Piece.{srstOf}
 use Rattle.wire.specs.Size.{readable}
 use Rattle.frames.specs.Read.{byKind, readFrame, hostOf, deviceOf, bitsOf, setupOf, pioOf}
 use Rattle.frames.specs.declared.shapes.HostReg.{HostReg}
 use Rattle.frames.specs.declared.shapes.Frame.{Frame}
 use Rattle.frames.specs.declared.shapes.Frame.the-variants as fs
+use Rattle.rules.specs.HostTests.{wrongTime}
 use Rattle.rules.specs.Facts.{placeOf, moveOf}
 use Rattle.rules.specs.Decide.{bad, fault, tagAsked, countAsked, entryFor, pageAsked, queuedAct, otherAct, controlAct, registerAct, bistAct, kindAct, decideOf, lentOf}
 use Rattle.rules.specs.Taking.{numberOf, keptIn}
@@ -24,9 +26,11 @@ use Rattle.rules.specs.declared.acts.Act.the-variants.{Refuse, Nothing, Accept,
 use Rattle.device.specs.Calls.{factsOf, openTag, mediumWrong, hostAct}
 use Rattle.device.specs.declared.state.Device.{Device}
 use Rattle.device.proofs.Refusals.{refused-keeps-medium}
+use Rattle.device.proofs.Exactly.{first-exactly-host}
+use Rattle.device.proofs.Rooms.{move-within}
 use Rattle.device.proofs.Storing.{data-stored}
 use Rattle.history.specs.Replied.{dataIn}
-use Rattle.history.proofs.Placed.{LeftAt, left-none, phaseEntry}
+use Rattle.history.proofs.Placed.{LeftAt, EndsIn, left-none, ends-none, phaseEntry}
 
 -- data is read of a 46h only
 abbrev Kinded : ℕ → Frame → Type 0
@@ -145,3 +149,26 @@ module _ (d : Device) (f m : List ℕ) (room : ℕ) where
       by-test (LeftAt place m (keptIn act f m)) (eqb (numberOf act) 0) (dataIn f (readFrame f)) []
       (λ t. taken-left (eqb-true (numberOf act) 0 t) (readFrame f) refl)
       (λ n. left-none place m (keptIn act f m) [] refl (refused-keeps-medium act f m (eqb-false (numberOf act) 0 n)))
+
+  -- what a taken host frame brought, as it was read, ends within the medium
+  taken-within : numberOf act ≡ 0 → (r : Frame) → readFrame f ≡ r → EndsIn place m (dataIn f r)
+  unfolding moveOf wrongTime
+  taken-within z (fs.Host h) e = ends-none place m [] refl
+  taken-within z (fs.Device x) e = ends-none place m [] refl
+  taken-within z (fs.Bits x) e = ends-none place m [] refl
+  taken-within z (fs.Setup x) e = ends-none place m [] refl
+  taken-within z fs.Activate e = ends-none place m [] refl
+  taken-within z (fs.Data n) e =
+      let none = first-exactly-host d f (length m) room .none .0 z in
+      let time : wrongTime v (fs.Data n) ≡ false = rw e at (none 4 (lit< tt)) in
+      let size = data-stored d f m room (subst (Kinded (getD f 0 0)) e (kinded f)) z .0 in
+      let ends = move-within d (none 0 (lit< tt)) (or-left (eqb (d .flow .phase) 0) (not (v .entry .write)) time) (length m) (none 1 (lit< tt)) in
+      λ _. omega (arith, size, ends)
+  taken-within z fs.Bist e = ends-none place m [] refl
+  taken-within z (fs.Pio x) e = ends-none place m [] refl
+  taken-within z fs.Refused e = ends-none place m [] refl
+
+  -- a host frame: what it brought ends within the medium
+  pub host-within : EndsIn place m (pick (eqb (numberOf act) 0) (dataIn f (readFrame f)) [])
+  host-within =
+      by-test (EndsIn place m) (eqb (numberOf act) 0) (dataIn f (readFrame f)) [] (λ t. taken-within (eqb-true (numberOf act) 0 t) (readFrame f) refl) (λ _. ends-none place m [] refl)

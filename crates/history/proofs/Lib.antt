@@ -27,6 +27,8 @@ pub mod Impact
 pub mod Hearing
 pub mod Counts
 pub mod Said
+pub mod Marked
+pub mod Shaped
 pub mod Pages
 pub mod Shown
 pub mod Widths
@@ -36,7 +38,6 @@ pub mod Asked11
 pub mod Soundness
 pub mod Runs
 pub mod Told
-pub mod Brings
 pub mod Mannerly
 pub mod Manners
 pub mod Contracts

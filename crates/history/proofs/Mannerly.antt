@@ -1,21 +1,21 @@
--- Every call says what it may, and leaves nothing unsaid. Assumes nothing.
-use mathlib.Core.Path.{_≡_, refl, sym, ap, _∙_}
+-- Every call says no more than it may, and what it must: step by step. Assumes nothing.
+use mathlib.Core.Path.{_≡_, refl, sym, ap, subst⁻¹, _∙_}
 use mathlib.Core.Bool.{Bool, true, false, not, _&&_, _||_, true≢false, false≢true}
-use mathlib.Core.List.{List, [], _∷_}
+use mathlib.Core.List.{List, [], _∷_, map}
 use mathlib.Core.Logic.{⊎-elim}
 use Prim.Native.Nat.{ℕ}
 use lib.Dec.{eqb}
 use lib.ListN.{length, take}
-use borrow.Author.Tests.{eqb-false}
+use borrow.Author.Tests.{eqb-true, eqb-false}
 use Rattle.bits.specs.Pick.{pick}
 use Rattle.bits.specs.Laid.{laid}
 use Rattle.bits.proofs.Picks.{by-test, tested, and-left}
 use Rattle.wire.specs.Cut.{joined}
-use Rattle.wire.specs.Size.{readable}
 use Rattle.frames.specs.Write.{Sent, activate}
 use Rattle.frames.specs.Trip as trip
 use Rattle.frames.specs.declared.shapes.Frame.{Frame}
 use Rattle.frames.specs.declared.shapes.Frame.the-variants as fs
+use Rattle.pages.specs.Page10.{readLog}
 use Rattle.states.specs.declared.shapes.ErrorRecord.{ErrorRecord}
 use Rattle.rules.specs.Events.{decided}
 use Rattle.rules.specs.declared.acts.Fault.{Fault}
@@ -32,19 +32,20 @@ use Rattle.history.specs.Asked.{Asked, quiet, frameAsks, callAsks}
 use Rattle.history.specs.Logs.{frameReads, callReads}
 use Rattle.history.specs.Replied.{frames, some, isPio, setBitsIn, collect, paged}
 use Rattle.history.specs.Seen.{Seen, seen}
-use Rattle.history.specs.Manners.{Mannered, Spoken, isRefused}
+use Rattle.history.specs.Shapes.{kindOf, OneOf, callReplies}
+use Rattle.history.specs.Manners.{TellsError, Mannered, Spoken}
 use Rattle.history.specs.Run.{gives, done, event}
-use Rattle.history.proofs.Views.{view}
-use Rattle.history.proofs.Frames.{Read, read-frames, read-step}
+use Rattle.history.proofs.Views.{pageIn, view}
+use Rattle.history.proofs.Frames.{Read, read-frames, read-page, read-step}
 use Rattle.history.proofs.Steps.{lend}
 use Rattle.history.proofs.Hearing.{pioIn}
-use Rattle.history.proofs.Said.{bitsIn, someBits, none-refused, Says}
+use Rattle.history.proofs.Said.{bitsIn, someBits, Says}
+use Rattle.history.proofs.Shaped.{erringIn, erring, CallShaped}
 use Rattle.history.proofs.Polite.{Polite}
 use Prim.Native.Nat.{_%_}
 use Rattle.frames.specs.declared.shapes.SetBits.{SetBits}
 use Rattle.rules.specs.declared.acts.Queued.{Queued}
 use Rattle.rules.specs.declared.acts.Move.{Move}
-use Rattle.history.proofs.Brings.{brings-counted}
 
 -- ---- replies without an A1h and without a page
 
@@ -136,25 +137,35 @@ host-finishes f rs y t =
 -- of a step
 pub mannered-step : (d : Device) (s : Step) (c : Call) (m b left : List ℕ) (h : List Seen) → Whole s → ((s .refusal ≡ 0 → ⊥) → s .frames ≡ [])
     → let x : Event = event (done (lend c m b) (gives s left b)) in
-    Polite (seen x) h → Spoken x c → (seen x .sweeps ≡ true → callReads 0x10 c && pioIn (s .frames) ≡ true) → (pioIn (s .frames) ≡ true → callReads 0x10 c || callReads 0x11 c ≡ true) → Mannered x h
-unfolding sentAll joined some
-mannered-step d s c m b left h w keep p spoken swept asked =
+    (s .refusal ≡ 0 → CallShaped c (s .frames)) → Polite (seen x) h → Spoken x c → (seen x .sweeps ≡ true → (callReads 0x10 c && pioIn (s .frames) ≡ true) × TellsError (readLog (pageIn (s .frames)))) → (pioIn (s .frames) ≡ true → callReads 0x10 c || callReads 0x11 c ≡ true) → Mannered x h
+unfolding sentAll joined some collect pick
+mannered-step d s c m b left h w keep shape p spoken swept asked =
     let x : Event = event (done (lend c m b) (gives s left b)) in
     let r : Read x (s .frames) = read-step s c m b left w in
-    let pages : paged x ≡ pioIn (s .frames) = ap (some isPio) (read-frames x (s .frames) r) in
+    let seen-as : frames x ≡ map trip.seen (s .frames) = read-frames x (s .frames) r in
+    let pages : paged x ≡ pioIn (s .frames) = ap (some isPio) seen-as in
     record {
       silent = λ z. ap (λ (l : List Sent). take (length (sentAll l)) (laid (sentAll l) b)) (keep (eqb-false (s .refusal) 0 z));
-      readable = ap (some isRefused) (read-frames x (s .frames) r) ∙ none-refused (s .frames);
+      shaped = λ t. subst⁻¹ (λ (l : List ℕ). OneOf l (callReplies c)) (ap (map kindOf) seen-as) (shape (eqb-true (s .refusal) 0 t) .shape);
+      blames = λ y.
+          ⊎-elim
+          (λ (t : eqb (s .refusal) 0 ≡ true). rw t (shape (eqb-true (s .refusal) 0 t) .blames (sym (ap erringIn seen-as) ∙ y)))
+          (λ (t : eqb (s .refusal) 0 ≡ false). absurd (false≢true (ap erring (sym (keep (eqb-false (s .refusal) 0 t))) ∙ sym (ap erringIn seen-as) ∙ y)))
+          (tested (eqb (s .refusal) 0));
       answered = p .answered;
       named = p .named;
       spoken = spoken;
       alone = p .alone;
       shut = p .shut;
-      swept = λ y. (p .swept y, ap (λ (v : Bool). callReads 0x10 c && v) pages ∙ swept y);
+      swept = λ y. record {
+        waiting = p .swept y .0;
+        answers = ap (λ (v : Bool). callReads 0x10 c && v) pages ∙ swept y .0;
+        clean = p .swept y .1;
+        tells = subst⁻¹ (λ (l : List ℕ). TellsError (readLog l)) (read-page x (s .frames) r) (swept y .1);
+      };
       asked = λ y.
           ⊎-elim
           (λ (t : eqb (s .refusal) 0 ≡ true). rw t (asked (sym pages ∙ y)))
           (λ (t : eqb (s .refusal) 0 ≡ false). absurd (false≢true (ap pioIn (sym (keep (eqb-false (s .refusal) 0 t))) ∙ sym pages ∙ y)))
           (tested (eqb (s .refusal) 0));
-      counted = brings-counted x;
     }

@@ -1,16 +1,20 @@
--- Every call says what it may, call by call. Assumes nothing.
+-- Every call says no more than it may, and what it must: call by call. Assumes nothing.
 use mathlib.Core.Path.{_≡_, refl, sym, ap, subst, _∙_}
 use mathlib.Core.Bool.{true, false, false≢true}
-use mathlib.Core.List.{List, []}
+use mathlib.Core.List.{List, [], map}
+use mathlib.Core.Logic.{inl}
 use Prim.Native.Nat.{ℕ}
+use lib.Dec.{lit<}
 use lib.ListN.{length}
 use borrow.Author.Tests.{eqb-true}
 use Rattle.bits.specs.Bit.{bitIn}
 use Rattle.bits.specs.First.{firstOf}
+use Rattle.bits.proofs.Firsts as firsts
 use Rattle.bits.proofs.Picks.{and-right}
 use Rattle.frames.specs.Read.{readFrame}
 use Rattle.frames.specs.Write.{Sent}
 use Rattle.frames.specs.declared.shapes.Frame.{Frame}
+use Rattle.ladders.specs.Ladders.{lentLadder}
 use Rattle.rules.specs.Facts.{moveOf}
 use Rattle.rules.specs.Events.{decided, openTests, openAct, sendTests, sendAct, finishTests, finishAct, mediaTests, mediaAct, failing}
 use Rattle.rules.specs.Taking.{spanOf, keptIn}
@@ -31,7 +35,8 @@ use Rattle.history.specs.Calls.{Call, hostFrame, openPhase, sendData, fi
 use Rattle.history.specs.Asked.{quiet, callAsks, asks}
 use Rattle.history.specs.Replied.{some, isPio, setBitsIn, collect, frames}
 use Rattle.history.specs.Seen.{Seen, seen}
-use Rattle.history.specs.Manners.{Mannered, Spoken, isRefused}
+use Rattle.history.specs.Shapes.{kindOf}
+use Rattle.history.specs.Manners.{Mannered, Spoken}
 use Rattle.history.specs.Run.{Typed, gives, resultFor, done, event}
 use Rattle.history.proofs.Core.{Inv}
 use Rattle.history.proofs.Views.{view, is-silent, is-finish, is-failed}
@@ -39,8 +44,9 @@ use Rattle.history.proofs.Frames.{Read, read-frames, read-step, always-
 use Rattle.history.proofs.Steps.{lend, by-view, link-read, link-seen, comes}
 use Rattle.history.proofs.Hearing.{pioIn}
 use Rattle.history.proofs.Said.{bitsIn, someBits, Says, host-said}
+use Rattle.history.proofs.Shaped.{erringIn, CallShaped, host-shaped, open-shaped, send-shaped, finish-shaped, media-shaped, reset-shaped}
+use Rattle.history.proofs.Marked.{Marked, halted-tells}
 use Rattle.history.proofs.Polite.{Polite, polite}
-use Rattle.history.proofs.Brings.{brings-counted}
 use Rattle.history.proofs.Mannerly.{none-finished, decided-all, Meek, refused-meek, open-meek, send-meek, finish-pageless, media-pageless, reset-meek, no-sweep, host-finishes, mannered-step}
 
 -- a refused call finishes nothing
@@ -54,9 +60,9 @@ meek-finishes s c m b left w keep e t = by-view (λ (x : Seen). x .finishes t �
 
 -- of a device event that sends no page: no sweep, no page
 module _ (d : Device) (s : Step) (c : Call) (m b : List ℕ) (h : List Seen) (w : Whole s) (keep : (s .refusal ≡ 0 → ⊥) → s .frames ≡ []) (ask : callAsks c .command ≡ false) (page : pioIn (s .frames) ≡ false) where
-  event-mannered : Polite (seen (event (done (lend c m b) (gives s m b)))) h → Spoken (event (done (lend c m b) (gives s m b))) c → Mannered (event (done (lend c m b) (gives s m b))) h
-  event-mannered p spoken =
-      mannered-step d s c m b m h w keep p spoken (λ y. absurd (false≢true (sym (no-sweep (event (done (lend c m b) (gives s m b))) ask) ∙ y))) (λ y. absurd (false≢true (sym page ∙ y)))
+  event-mannered : (s .refusal ≡ 0 → CallShaped c (s .frames)) → Polite (seen (event (done (lend c m b) (gives s m b)))) h → Spoken (event (done (lend c m b) (gives s m b))) c → Mannered (event (done (lend c m b) (gives s m b))) h
+  event-mannered shape p spoken =
+      mannered-step d s c m b m h w keep shape p spoken (λ y. absurd (false≢true (sym (no-sweep (event (done (lend c m b) (gives s m b))) ask) ∙ y))) (λ y. absurd (false≢true (sym page ∙ y)))
 
 -- an A1h that answers a command is among its replies
 swept-bits : (x : Event) (rs : List Sent) → Read x rs → seen x .sweeps ≡ true → someBits rs ≡ true
@@ -84,13 +90,14 @@ media-says d f n z =
 -- a link event says nothing
 link-mannered : (d : Device) (row : ℕ) (m b : List ℕ) (h : List Seen) → Polite (seen (event (done (lend (linkEvent row) m b) (resultFor d m b (linkEvent row))))) h
     → Mannered (event (done (lend (linkEvent row) m b) (resultFor d m b (linkEvent row)))) h
-unfolding linkStep some
+unfolding linkStep some collect
 link-mannered d row m b h p =
     let x : Event = event (done (lend (linkEvent row) m b) (resultFor d m b (linkEvent row))) in
     let none : frames x ≡ [] = read-frames x [] (link-read d row m b) in
     record {
       silent = λ _. refl;
-      readable = ap (some isRefused) none;
+      shaped = λ _. inl (ap (map kindOf) none);
+      blames = λ y. absurd (false≢true (sym (ap erringIn none) ∙ y));
       answered = p .answered;
       named = p .named;
       spoken = λ u. ap (λ (e : Seen). e .finishes u) (link-seen d row m b) ∙ quiet-finishes u;
@@ -98,24 +105,25 @@ link-mannered d row m b h p =
       shut = p .shut;
       swept = λ y. absurd (false≢true (sym (no-sweep x refl) ∙ y));
       asked = λ y. absurd (false≢true (sym (ap (some isPio) none) ∙ y));
-      counted = brings-counted x;
     }
 
 -- every call
-pub mannered : (d : Device) (c : Call) (m b : List ℕ) (h : List Seen) → Typed c → SizedRecord d → Inv (d .flow .outstanding) (d .flow .halted) h
+pub mannered : (d : Device) (c : Call) (m b : List ℕ) (h : List Seen) → Typed c → SizedRecord d → Marked d → Inv (d .flow .outstanding) (d .flow .halted) h
     → Mannered (event (done (lend c m b) (resultFor d m b c))) h
 unfolding hostAct openOf openAct sendOf sendAct finishOf finishAct mediaOf mediaAct
-mannered d (hostFrame f) m b h t s i =
+mannered d (hostFrame f) m b h t s marked i =
     let k : Step = hostStep d f (length m) (length b) in
     let left = keptIn (hostAct d f (length m) (length b)) f m in
     let x : Event = event (done (lend (hostFrame f) m b) (gives k left b)) in
     let w = always-host d f (length m) (length b) t s in
     let keep : (k .refusal ≡ 0 → ⊥) → k .frames ≡ [] = λ n. refused-keeps d [] (hostAct d f (length m) (length b)) n .frames in
-    let y : Says (readFrame f) (k .frames) = host-said (d .errors) (d .settings .mask) (d .values) (factsOf d (openTag (d .flow .phase)) (mediumWrong (d .settings .capacity) (length m)) (length b)) (readFrame f) in
-    mannered-step d k (hostFrame f) m b left h w keep (polite d _ (seen x) h i (comes d (hostFrame f) m b t s))
+    let v = factsOf d (openTag (d .flow .phase)) (mediumWrong (d .settings .capacity) (length m)) (length b) in
+    let y : Says (readFrame f) (k .frames) = host-said (d .errors) (d .settings .mask) (d .values) v (readFrame f)
+    (λ z. halted-tells d s (firsts.first-exactly (lentLadder (v .contradicts) (v .medium) (v .short)) tt .none .0 z 0 (lit< tt)) marked) in
+    mannered-step d k (hostFrame f) m b left h w keep (host-shaped d f (length m) (length b)) (polite d _ (seen x) h i (comes d (hostFrame f) m b t s))
     (λ u. by-view (λ (e : Seen). e .finishes u ≡ false) k (hostFrame f) m b left w (λ _. host-finishes (readFrame f) (k .frames) y u) (λ n. (keep n, quiet-finishes u)))
-    (λ z. y .swept (swept-bits x (k .frames) (read-step k (hostFrame f) m b left w) z)) (y .paged)
-mannered d (openPhase tag) m b h t s i =
+    (λ z. let a = swept-bits x (k .frames) (read-step k (hostFrame f) m b left w) z in (y .swept a, y .tells a)) (y .paged)
+mannered d (openPhase tag) m b h t s marked i =
     let k : Step = openStep d tag (length b) in
     let v = factsOf d tag false (length b) in
     let w = always-open d tag (length b) in
@@ -123,8 +131,8 @@ mannered d (openPhase tag) m b h t s i =
     let n = firstOf (openTests v tag) in
     let meek = decided-all (Meek (d .errors) (d .settings .mask) (d .values) []) n (Open (record { tag = tag; entry = v .entry }))
     (refused-meek (d .errors) (d .settings .mask) (d .values) [] n) (open-meek (d .errors) (d .settings .mask) (d .values) (record { tag = tag; entry = v .entry })) in
-    event-mannered d k (openPhase tag) m b h w keep refl (meek .1) (polite d _ _ h i (comes d (openPhase tag) m b t s)) (meek-finishes k (openPhase tag) m b m w keep (meek .0))
-mannered d sendData m b h t s i =
+    event-mannered d k (openPhase tag) m b h w keep refl (meek .1) (open-shaped d tag (length b)) (polite d _ _ h i (comes d (openPhase tag) m b t s)) (meek-finishes k (openPhase tag) m b m w keep (meek .0))
+mannered d sendData m b h t s marked i =
     let k : Step = sendStep d m (length b) in
     let v = factsOf d (openTag (d .flow .phase)) (mediumWrong (d .settings .capacity) (length m)) (length b) in
     let w = always-send d m (length b) in
@@ -132,18 +140,18 @@ mannered d sendData m b h t s i =
     let n = firstOf (sendTests v) in
     let meek = decided-all (λ (a : Act). Meek (d .errors) (d .settings .mask) (d .values) (partOf (spanOf a) m) a) n (Send (moveOf (v .flow) (v .entry)))
     (refused-meek (d .errors) (d .settings .mask) (d .values) _ n) (send-meek (d .errors) (d .settings .mask) (d .values) _ (moveOf (v .flow) (v .entry))) in
-    event-mannered d k sendData m b h w keep refl (meek .1) (polite d _ _ h i (comes d sendData m b t s)) (meek-finishes k sendData m b m w keep (meek .0))
-mannered d (finishTags set) m b h t s i =
+    event-mannered d k sendData m b h w keep refl (meek .1) (send-shaped d m (length b)) (polite d _ _ h i (comes d sendData m b t s)) (meek-finishes k sendData m b m w keep (meek .0))
+mannered d (finishTags set) m b h t s marked i =
     let k : Step = finishStep d set (length b) in
     let n = firstOf (finishTests (factsOf d 32 false (length b)) (d .entries) set) in
     let w = always-finish d set (length b) t in
     let keep : (k .refusal ≡ 0 → ⊥) → k .frames ≡ [] = λ z. refused-keeps d [] (finishOf d set (length b)) z .frames in
     let page = decided-all (λ (a : Act). pioIn (repliesOf (d .errors) (d .settings .mask) (d .values) [] a) ≡ false) n (Finish set)
     (refused-meek (d .errors) (d .settings .mask) (d .values) [] n .1) (finish-pageless (d .errors) (d .settings .mask) (d .values) set) in
-    event-mannered d k (finishTags set) m b h w keep refl page (polite d _ _ h i (comes d (finishTags set) m b t s))
+    event-mannered d k (finishTags set) m b h w keep refl page (finish-shaped d set (length b)) (polite d _ _ h i (comes d (finishTags set) m b t s))
     (λ z u. by-view (λ (e : Seen). k .refusal ≡ 0 → e .finishes u ≡ bitIn 32 set u) k (finishTags set) m b m w (λ y _. finish-says d set n (not-refused n (Finish set) y) u) (λ y. (keep y, λ q. absurd (y q)))
     (eqb-true (k .refusal) 0 z))
-mannered d (mediaError tag e sector) m b h t s i =
+mannered d (mediaError tag e sector) m b h t s marked i =
     let k : Step = mediaStep d tag e sector (length b) in
     let v = factsOf d tag false (length b) in
     let n = firstOf (mediaTests v tag e sector) in
@@ -152,15 +160,15 @@ mannered d (mediaError tag e sector) m b h t s i =
     let keep : (k .refusal ≡ 0 → ⊥) → k .frames ≡ [] = λ z. refused-keeps d [] (mediaOf d tag e sector (length b)) z .frames in
     let page = decided-all (λ (a : Act). pioIn (repliesOf (d .errors) (d .settings .mask) (d .values) [] a) ≡ false) n (Media f)
     (refused-meek (d .errors) (d .settings .mask) (d .values) [] n .1) (media-pageless (d .errors) (d .settings .mask) (d .values) f) in
-    event-mannered d k (mediaError tag e sector) m b h w keep refl page (polite d _ _ h i (comes d (mediaError tag e sector) m b t s)) (
+    event-mannered d k (mediaError tag e sector) m b h w keep refl page (media-shaped d tag e sector (length b)) (polite d _ _ h i (comes d (mediaError tag e sector) m b t s)) (
       λ z. by-view (λ (y : Seen). k .refusal ≡ 0 → y .fails ≡ true) k (mediaError tag e sector) m b m w (λ y _. media-says d f n (not-refused n (Media f) y) .0) (λ y. (keep y, λ q. absurd (y q)))
           (eqb-true (k .refusal) 0 z),
       λ u. by-view (λ (y : Seen). y .finishes u ≡ false) k (mediaError tag e sector) m b m w (λ y. media-says d f n (not-refused n (Media f) y) .1 u) (λ y. (keep y, quiet-finishes u)),
     )
-mannered d (linkEvent row) m b h t s i = link-mannered d row m b h (polite d _ _ h i (comes d (linkEvent row) m b t s))
-mannered d comReset m b h t s i =
+mannered d (linkEvent row) m b h t s marked i = link-mannered d row m b h (polite d _ _ h i (comes d (linkEvent row) m b t s))
+mannered d comReset m b h t s marked i =
     let k : Step = comresetStep d (length b) in
     let w = always-comreset d (length b) in
     let keep : (k .refusal ≡ 0 → ⊥) → k .frames ≡ [] = λ n. refused-keeps-comreset d (length b) n .frames in
     let meek = reset-meek d (length b) in
-    event-mannered d k comReset m b h w keep refl (meek .1) (polite d _ _ h i (comes d comReset m b t s)) (meek-finishes k comReset m b m w keep (meek .0))
+    event-mannered d k comReset m b h w keep refl (meek .1) (reset-shaped d (length b)) (polite d _ _ h i (comes d comReset m b t s)) (meek-finishes k comReset m b m w keep (meek .0))

@@ -2,8 +2,9 @@
 use mathlib.Core.Path.{_≡_, refl, sym, ap, _∙_}
 use mathlib.Core.Bool.{Bool, true, false, not}
 use mathlib.Core.List.{List, [], _∷_, _++_, append-nil}
-use Prim.Native.Nat.{ℕ, zero, suc, _+_}
+use Prim.Native.Nat.{ℕ, zero, suc, _+_, _≤_, _<_}
 use native.Mathlib.Nat.{add-zero}
+use native.Mathlib.Omega.{arith}
 use lib.Dec.{eqb}
 use lib.ListN.{length, take, drop, take-append-drop}
 use Rattle.bits.specs.Pick.{pick}
@@ -39,10 +40,15 @@ SentFrom at m l = l ≡ take (length l) (drop at m)
 abbrev pub LeftAt : ℕ → List ℕ → List ℕ → List ℕ → Type 0
 LeftAt at m left l = left ≡ take at m ++ (l ++ drop (at + length l) m)
 
--- an event's data, sent and brought, stand at a place
+-- if there are any, the bytes l end within the medium m from a place on
+abbrev pub EndsIn : ℕ → List ℕ → List ℕ → Type 0
+EndsIn at m l = 0 < length l → at + length l ≤ length m
+
+-- an event's data, sent and brought, stand at a place, and those brought end within the medium
 pub record Placed (x : Event) (at : ℕ) : Type 0 where
   pub sends : SentFrom at (x .medium) (sent x)
   pub keeps : LeftAt at (x .medium) (x .left) (brought x)
+  pub within : EndsIn at (x .medium) (brought x)
 
 -- ---- no data
 
@@ -54,13 +60,17 @@ sent-none at m l e = rw e
 pub left-none : (at : ℕ) (m left l : List ℕ) → l ≡ [] → left ≡ m → LeftAt at m left l
 left-none at m left l e k = k ∙ sym (ap (λ (y : List ℕ). take at m ++ (y ++ drop (at + length y) m)) e ∙ ap (λ (n : ℕ). take at m ++ drop n m) (add-zero at) ∙ take-append-drop at m)
 
+-- no data end nowhere
+pub ends-none : (at : ℕ) (m l : List ℕ) → l ≡ [] → EndsIn at m l
+ends-none at m l e p = absurd (omega (arith, p, ap length e))
+
 -- where no data came, the medium is as it was
 pub left-same : (at : ℕ) (m left l : List ℕ) → LeftAt at m left l → l ≡ [] → left ≡ m
 left-same at m left l k e = k ∙ sym (left-none at m m l e refl)
 
 -- an event without data, that leaves the medium
 pub still-placed : (x : Event) (at : ℕ) → sent x ≡ [] → brought x ≡ [] → x .left ≡ x .medium → Placed x at
-still-placed x at s b k = record { sends = sent-none at (x .medium) (sent x) s; keeps = left-none at (x .medium) (x .left) (brought x) b k }
+still-placed x at s b k = record { sends = sent-none at (x .medium) (sent x) s; keeps = left-none at (x .medium) (x .left) (brought x) b k; within = ends-none at (x .medium) (brought x) b }
 
 -- nothing either way
 pub pick-none : (b : Bool) → _≡_ {A = List ℕ} (pick b [] []) []

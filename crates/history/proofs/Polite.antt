@@ -19,7 +19,7 @@ pub record Polite (e : Seen) (h : List Seen) : Type 0 where
   pub named : (t : ℕ) → t < 32 → e .finishes t ≡ true → totalWith t h ≡ 1
   pub alone : 0 < e .sends + e .asks .brings → Unbegun e × ((t : ℕ) → ends t e ≡ false)
   pub shut : errs e || e .asks .resets ≡ true → Unbegun e
-  pub swept : e .sweeps ≡ true → waits h ≡ true
+  pub swept : e .sweeps ≡ true → (waits h ≡ true) × (e .fails ≡ false)
 
 -- an event that finishes and carries nothing, and begins nothing
 mute : {e : Seen} {h : List Seen} {q ac ba fa re : Bool} {cl : ℕ → Bool} → Is e q ac ba fa re false none cl 0 0 → Unbegun e → (q ≡ true → one ac + one ba ≡ 1) → Polite e h
@@ -51,7 +51,7 @@ polite d d′ e h v (K.sweeps cl all i u x z p s) = record {
   named = λ t l y. absurd (false≢true (sym (i .finishes t) ∙ y));
   alone = λ l. absurd (omega (arith, l, i .sends, i .brings));
   shut = λ _. u;
-  swept = λ _. inv-waits v ∙ x;
+  swept = λ _. (inv-waits v ∙ x, i .fails);
 }
 polite d d′ e h v (K.takes i u s) = mute i u (λ _. refl)
 polite d d′ e h v (K.opens tag i s) = record {

@@ -27,6 +27,7 @@ use Rattle.history.proofs.Core.{Inv, inv-start, keeps, inv-sactive, inv
 use Rattle.history.proofs.Table.{Tracked, tracked-start, tracked-step, ranges}
 use Rattle.history.proofs.Contents.{moves}
 use Rattle.history.proofs.Manners.{mannered}
+use Rattle.history.proofs.Marked.{Marked, marked-step, marked-start}
 use Rattle.history.proofs.Widths.{Wide}
 use Rattle.history.proofs.Widening.{wide-step, wide-start}
 use Rattle.history.proofs.Soundness.{Sound, sound-power, sound-step}
@@ -34,6 +35,7 @@ use Rattle.history.proofs.Soundness.{Sound, sound-power, sound-step}
 -- the state and the history, held together
 pub record Held (s : Settings) (d : Device) (h : List Event) : Type 0 where
   pub wide : Wide d
+  pub marked : Marked d
   pub sound : Sound s d
   pub inv : Inv (d .flow .outstanding) (d .flow .halted) (map seen h)
   pub lone : AllLone (map seen h)
@@ -50,12 +52,13 @@ held-step s d a h t i =
     let c : Class d (seen x) d′ = comes d (a .call) (a .medium) (a .buffer) t (i .wide .sized) in
     record {
       wide = wide-step d a t (i .wide);
+      marked = marked-step d a (i .marked);
       sound = sound-step s d (a .call) (a .medium) (a .buffer) t (i .sound);
       inv = keeps d d′ (seen x) (map seen h) (i .inv) c;
       lone = lone-step (seen x) (map seen h) (lone c) (i .lone);
       tracked = tracked-step d d′ (seen x) (map seen h) (i .tracked) c;
       contents = (moves d (a .call) (a .medium) (a .buffer) (map seen h) t (i .wide .sized) (i .tracked) (inv-number (i .inv)), i .contents);
-      manners = (mannered d (a .call) (a .medium) (a .buffer) (map seen h) t (i .wide .sized) (i .inv), i .manners);
+      manners = (mannered d (a .call) (a .medium) (a .buffer) (map seen h) t (i .wide .sized) (i .marked) (i .inv), i .manners);
     }
 
 -- power-on
@@ -63,6 +66,7 @@ pub held-power : (s : Settings) → Held s (powerOn s .state) []
 unfolding powerOn freshDevice Contents Manners
 held-power s = record {
   wide = wide-start s;
+  marked = marked-start s;
   sound = sound-power s;
   inv = by-test (λ (d : Device). Inv (d .flow .outstanding) (d .flow .halted) []) (eqb (powerNumber s) 0) (freshDevice s) zeroDevice (λ _. inv-start) (λ _. inv-start);
   lone = lone-none;
@@ -124,6 +128,6 @@ module _ (s : Settings) (as′ : List Lent) (t : AllTyped as′) where
       one-most true = omega arith
       one-most false = omega arith
 
-  -- every event says what it may, and leaves nothing unsaid
+  -- every event says no more than it may after those before it, and what it must
   pub demand3-manners : Manners (history s as′)
   demand3-manners = held s as′ t .manners

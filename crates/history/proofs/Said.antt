@@ -1,19 +1,20 @@
--- What the replies of each act may hold: an A1h answers a host frame only with page 10h, and a page only a read of 10h or 11h. Assumes nothing.
-use mathlib.Core.Path.{_≡_, refl, sym, _∙_}
+-- What the replies of each act may hold: an A1h answers a host frame only with page 10h, which tells an error, and a page only a read of 10h or 11h. Assumes nothing.
+use mathlib.Core.Path.{_≡_, refl, sym, subst⁻¹, _∙_}
 use mathlib.Core.Bool.{Bool, true, false, not, _&&_, _||_, false≢true}
-use mathlib.Core.List.{List, [], _∷_, map}
+use mathlib.Core.List.{List, [], _∷_, map, append-nil}
 use Prim.Native.Nat.{ℕ}
 use lib.Dec.{eqb}
-use borrow.Author.Tests.{not-false}
+use borrow.Author.Tests.{eqb-true, not-false}
 use Rattle.bits.specs.Pick.{pick}
 use Rattle.bits.specs.Bit.{bitIn}
 use Rattle.bits.proofs.Picks.{by-test}
-use Rattle.frames.specs.Write.{Sent, host, device, setBits, setup, activate, payload, bist, pio}
+use Rattle.frames.specs.Write.{Sent, activate}
 use Rattle.frames.specs.Trip as trip
 use Rattle.frames.specs.declared.shapes.SetBits.{SetBits}
 use Rattle.frames.specs.declared.shapes.HostReg.{HostReg}
 use Rattle.frames.specs.declared.shapes.Frame.{Frame}
 use Rattle.frames.specs.declared.shapes.Frame.the-variants as fs
+use Rattle.pages.specs.Page10.{readLog}
 use Rattle.states.specs.declared.shapes.ErrorRecord.{ErrorRecord}
 use Rattle.rules.specs.Facts.{moveOf}
 use Rattle.rules.specs.Decide.{bad, fault, pageAsked, queuedAct, otherAct, controlAct, registerAct, dataAct, bistAct, kindAct, decideOf, lentOf}
@@ -21,10 +22,11 @@ use Rattle.rules.specs.declared.facts.Facts.{Facts}
 use Rattle.rules.specs.declared.acts.Act.{Act}
 use Rattle.rules.specs.declared.acts.Act.the-variants.{Refuse, Log10, Log11, Zero, Keep}
 use Rattle.rules.proofs.Leaves.{control-all, queued-all}
-use Rattle.replies.specs.Replies.{repliesOf}
+use Rattle.replies.specs.Replies.{repliesOf, page10Of}
 use Rattle.history.specs.Logs.{frameReads}
 use Rattle.history.specs.Replied.{some, setBitsIn, collect}
-use Rattle.history.specs.Manners.{isRefused}
+use Rattle.history.specs.Manners.{TellsError}
+use Rattle.history.proofs.Views.{pageIn}
 use Rattle.history.proofs.Hearing.{pioIn, reads-page}
 
 -- the A1h frames of what is sent
@@ -35,22 +37,10 @@ bitsIn rs = collect setBitsIn (map trip.seen rs)
 abbrev pub someBits : List Sent → Bool
 someBits rs = some (λ f. true) (bitsIn rs)
 
--- no reply is one that the reader refuses
-pub none-refused : (rs : List Sent) → some isRefused (map trip.seen rs) ≡ false
-unfolding some
-none-refused [] = refl
-none-refused (host f ∷ rs) = none-refused rs
-none-refused (device f ∷ rs) = none-refused rs
-none-refused (setBits f ∷ rs) = none-refused rs
-none-refused (setup f ∷ rs) = none-refused rs
-none-refused (activate ∷ rs) = none-refused rs
-none-refused (payload p ∷ rs) = none-refused rs
-none-refused (bist ∷ rs) = none-refused rs
-none-refused (pio f ∷ rs) = none-refused rs
-
 -- of a host frame that is read as f, and its replies
 pub record Says (f : Frame) (rs : List Sent) : Type 0 where
   pub swept : someBits rs ≡ true → frameReads 0x10 f && pioIn rs ≡ true
+  pub tells : someBits rs ≡ true → TellsError (readLog (pageIn rs))
   pub paged : pioIn rs ≡ true → frameReads 0x10 f || frameReads 0x11 f ≡ true
 
 module _ (r : ErrorRecord) (mask : ℕ) (values : List ℕ) where
@@ -60,21 +50,25 @@ module _ (r : ErrorRecord) (mask : ℕ) (values : List ℕ) where
 
   -- no A1h and no page
   mild : (f : Frame) (rs : List Sent) → someBits rs ≡ false → pioIn rs ≡ false → Says f rs
-  mild f rs a b = record { swept = λ x. absurd (false≢true (sym a ∙ x)); paged = λ x. absurd (false≢true (sym b ∙ x)) }
+  mild f rs a b = record { swept = λ x. absurd (false≢true (sym a ∙ x)); tells = λ x. absurd (false≢true (sym a ∙ x)); paged = λ x. absurd (false≢true (sym b ∙ x)) }
 
   or-true : (a b : Bool) → b ≡ true → a || b ≡ true
   or-true true b e = refl
   or-true false b e = e
 
-  -- page 10h, with or without the sweep
-  ten-said : (v : Facts) (h : HostReg) → frameReads 0x10 (fs.Host h) ≡ true → (on : Bool) → Said (fs.Host h) (Log10 (record { also = on; task = h .task }))
-  unfolding repliesOf some collect pick
-  ten-said v h t true = record { swept = λ _. rw t; paged = λ _. rw t }
-  ten-said v h t false = record { swept = λ _. rw t; paged = λ _. rw t }
+  -- page 10h tells an error
+  abbrev pub Telling : Type 0
+  Telling = TellsError (readLog (page10Of r))
 
-  other-said : (v : Facts) (h : HostReg) → h .«command_bit» ≡ true → Said (fs.Host h) (otherAct v h)
+  -- page 10h, with or without the sweep
+  ten-said : (h : HostReg) → frameReads 0x10 (fs.Host h) ≡ true → (on : Bool) → (on ≡ true → Telling) → Said (fs.Host h) (Log10 (record { also = on; task = h .task }))
+  unfolding repliesOf some collect pick
+  ten-said h t true k = record { swept = λ _. rw t; tells = λ _. subst⁻¹ (λ (l : List ℕ). TellsError (readLog l)) (append-nil (page10Of r)) (k refl); paged = λ _. rw t }
+  ten-said h t false k = record { swept = λ _. rw t; tells = λ x. absurd (false≢true x); paged = λ _. rw t }
+
+  other-said : (v : Facts) (h : HostReg) → (v .flow .halted ≡ true → Telling) → h .«command_bit» ≡ true → Said (fs.Host h) (otherAct v h)
   unfolding otherAct repliesOf some collect pick
-  other-said v h c =
+  other-said v h k c =
       let P : Act → Type 0 = Said (fs.Host h) in
       let ten : Act = Log10 (record { also = v .flow .halted; task = h .task }) in
       let eleven : Act = Log11 (record { also = bitIn 8 (h .features) 0; task = h .task }) in
@@ -82,13 +76,13 @@ module _ (r : ErrorRecord) (mask : ℕ) (values : List ℕ) where
       let third : Act = pick (eqb (pageAsked h) 0x10) ten fourth in
       by-test P (v .flow .halted && not (eqb (pageAsked h) 0x10)) (bad h 0x04) (pick (not (eqb (v .flow .outstanding) 0)) (fault h true 0 0x04) third) (λ _. mild _ _ refl refl)
       (λ _. by-test P (not (eqb (v .flow .outstanding) 0)) (fault h true 0 0x04) third (λ _. mild _ _ refl refl)
-      (λ _. by-test P (eqb (pageAsked h) 0x10) ten fourth (λ t. ten-said v h (reads-page 0x10 h refl c t) (v .flow .halted))
+      (λ _. by-test P (eqb (pageAsked h) 0x10) ten fourth (λ t. ten-said h (reads-page 0x10 h refl c t) (v .flow .halted) k)
       (λ _. by-test P (eqb (pageAsked h) 0x11) eleven (bad h 0x04)
-      (λ t. record { swept = λ x. absurd (false≢true x); paged = λ _. or-true (frameReads 0x10 (fs.Host h)) (frameReads 0x11 (fs.Host h)) (reads-page 0x11 h refl c t) }) (λ _. mild _ _ refl refl))))
+      (λ t. record { swept = λ x. absurd (false≢true x); tells = λ x. absurd (false≢true x); paged = λ _. or-true (frameReads 0x10 (fs.Host h)) (frameReads 0x11 (fs.Host h)) (reads-page 0x11 h refl c t) }) (λ _. mild _ _ refl refl))))
 
-  register-said : (v : Facts) (h : HostReg) → Said (fs.Host h) (registerAct v h)
+  register-said : (v : Facts) (h : HostReg) → (v .flow .halted ≡ true → Telling) → Said (fs.Host h) (registerAct v h)
   unfolding registerAct repliesOf some collect
-  register-said v h =
+  register-said v h k =
       let P : Act → Type 0 = Said (fs.Host h) in
       let queued : Bool = eqb (h .command) 0x60 || eqb (h .command) 0x61 in
       let third : Act = pick queued (queuedAct v h) (otherAct v h) in
@@ -96,7 +90,7 @@ module _ (r : ErrorRecord) (mask : ℕ) (values : List ℕ) where
       by-test P (not (h .«command_bit»)) (controlAct v h) (pick wrong (Refuse 5) third) (λ _. control-all P v h (mild _ _ refl refl) (mild _ _ refl refl) (mild _ _ refl refl))
       (λ c. by-test P wrong (Refuse 5) third (λ _. mild _ _ refl refl)
       (λ _. by-test P queued (queuedAct v h) (otherAct v h)
-      (λ _. queued-all P v h (mild _ _ refl refl) (mild _ _ refl refl) (mild _ _ refl refl) (mild _ _ refl refl)) (λ _. other-said v h (not-false (h .«command_bit») c))))
+      (λ _. queued-all P v h (mild _ _ refl refl) (mild _ _ refl refl) (mild _ _ refl refl) (mild _ _ refl refl)) (λ _. other-said v h k (not-false (h .«command_bit») c))))
 
   -- an Activate or none
   kept-said : (f : Frame) (v : Facts) → Said f (Keep (moveOf (v .flow) (v .entry)))
@@ -120,19 +114,19 @@ module _ (r : ErrorRecord) (mask : ℕ) (values : List ℕ) where
   unfolding repliesOf some collect
   refused-said f n = mild _ _ refl refl
 
-  kind-said : (v : Facts) (f : Frame) → Said f (kindAct v f)
+  kind-said : (v : Facts) (f : Frame) → (v .flow .halted ≡ true → Telling) → Said f (kindAct v f)
   unfolding kindAct
-  kind-said v (fs.Host h) = register-said v h
-  kind-said v (fs.Device f) = refused-said _ 4
-  kind-said v (fs.Bits f) = refused-said _ 4
-  kind-said v (fs.Setup f) = refused-said _ 4
-  kind-said v fs.Activate = refused-said _ 4
-  kind-said v (fs.Data n) = data-said _ v n
-  kind-said v fs.Bist = bist-said _ v
-  kind-said v (fs.Pio f) = refused-said _ 4
-  kind-said v fs.Refused = refused-said _ 4
+  kind-said v (fs.Host h) k = register-said v h k
+  kind-said v (fs.Device f) k = refused-said _ 4
+  kind-said v (fs.Bits f) k = refused-said _ 4
+  kind-said v (fs.Setup f) k = refused-said _ 4
+  kind-said v fs.Activate k = refused-said _ 4
+  kind-said v (fs.Data n) k = data-said _ v n
+  kind-said v fs.Bist k = bist-said _ v
+  kind-said v (fs.Pio f) k = refused-said _ 4
+  kind-said v fs.Refused k = refused-said _ 4
 
-  -- every host frame
-  pub host-said : (v : Facts) (f : Frame) → Said f (decideOf v f)
+  -- every host frame, if page 10h tells an error while the device is halted
+  pub host-said : (v : Facts) (f : Frame) → (lentOf v ≡ 0 → v .flow .halted ≡ true → Telling) → Said f (decideOf v f)
   unfolding decideOf
-  host-said v f = by-test (Said f) (not (eqb (lentOf v) 0)) (Refuse (lentOf v)) (kindAct v f) (λ _. refused-said f (lentOf v)) (λ _. kind-said v f)
+  host-said v f k = by-test (Said f) (not (eqb (lentOf v) 0)) (Refuse (lentOf v)) (kindAct v f) (λ _. refused-said f (lentOf v)) (λ t. kind-said v f (k (eqb-true (lentOf v) 0 (not-false (eqb (lentOf v) 0) t))))

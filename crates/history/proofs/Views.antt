@@ -44,6 +44,10 @@ payloadsOf (f ∷ fs) = payloadOf f ++ payloadsOf fs
 abbrev pub sentIn : List Sent → List ℕ
 sentIn fs = pick (some isPio (map trip.seen fs)) [] (payloadsOf fs)
 
+-- the page that is sent
+abbrev pub pageIn : List Sent → List ℕ
+pageIn fs = pick (some isPio (map trip.seen fs)) (payloadsOf fs) []
+
 -- what demand 3 reads of frames that were sent
 unfoldable pub view : Asked → List Sent → Seen
 view a fs = sight a (map trip.seen fs) (length (sentIn fs))

@@ -45,10 +45,12 @@ pub record Beginning (a n : ℕ) (l : List ℕ) : Type 0 where
 abbrev pub Ranges : List Seen → Type 0
 Ranges h = All (λ c. (finished c ≡ true → carried c ≡ span (base c) (size c)) × Beginning (base c) (size c) (carried c)) (commands h)
 
--- data at a place: read, the payload is what the medium lent to that call held there; written, the medium that the call left holds the payload there and is otherwise as it was
+-- data at a place: read, the payload is what the medium lent to that call held there; written, the medium that the call left holds the payload there and is otherwise as it was,
+-- and none of it stands behind the medium's end
 pub record Moved (e : Event) (toHost : Bool) (at : ℕ) : Type 0 where
   pub read : toHost ≡ true → sent e ≡ take (length (sent e)) (drop at (e .medium))
   pub written : toHost ≡ false → e .left ≡ take at (e .medium) ++ (brought e ++ drop (at + length (brought e)) (e .medium))
+  pub within : toHost ≡ false → 0 < length (brought e) → at + length (brought e) ≤ length (e .medium)
 
 -- the data of an event that belongs to a command
 abbrev pub MovedOf : Event → Command → Flow → Type 0
@@ -96,7 +98,7 @@ Depth depth h = total h ≤ depth
 abbrev pub Single : List Seen → Type 0
 Single h = (t : ℕ) → t < 32 → totalWith t h ≤ 1
 
--- every event says what it may, and leaves nothing unsaid
+-- every event says no more than it may after those before it, and what it must
 unfoldable pub Manners : List Event → Type 0
 Manners [] = Unit
 Manners (e ∷ h) = Mannered e (map seen h) × Manners h

@@ -20,7 +20,7 @@ unfoldable pub commands : List Seen → List Command
 commands [] = []
 commands (e ∷ h) = pick (accepts e) (record { accepted = e; after = [] } ∷ map (later e) (commands h)) (map (later e) (commands h))
 
--- what a command asked for
+-- its tag
 abbrev pub ownTag : Command → ℕ
 ownTag c = c .accepted .asks .tag
 

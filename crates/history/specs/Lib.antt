@@ -2,6 +2,7 @@ pub mod Calls
 pub mod Replied
 pub mod Asked
 pub mod Logs
+pub mod Shapes
 pub mod Seen
 pub mod Fates
 pub mod Waits

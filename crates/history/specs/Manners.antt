@@ -1,31 +1,21 @@
--- What an event may say at all: so that nothing is left unsaid, and nothing is said in passing. Assumes nothing.
+-- What an event may say after those before it: which replies, in which order, and which tags, errors and pages they may tell of.
+-- Of what stands in a reply besides, such as an error byte or the command's bytes, nothing is said here: the calls' contracts do. Assumes nothing.
 use mathlib.Core.Path.{_≡_}
-use mathlib.Core.Bool.{Bool, true, false, _&&_, _||_}
+use mathlib.Core.Bool.{true, false, _&&_, _||_}
 use mathlib.Core.List.{List, []}
 use Prim.Native.Nat.{ℕ, _+_, _<_}
-use lib.ListN.{length}
 use Rattle.bits.specs.Bit.{bitIn}
-use Rattle.frames.specs.declared.shapes.Frame.{Frame}
-use Rattle.frames.specs.declared.shapes.Frame.the-variants.{Host, Device, Bits, Setup, Activate, Data, Bist, Pio, Refused}
+use Rattle.pages.specs.Page10.{readLog}
+use Rattle.pages.specs.declared.page10.Page10.{Page10}
+use Rattle.pages.specs.declared.page10.Page10.the-variants.{Fields, Refused}
 use Rattle.history.specs.Calls.{Call, hostFrame, openPhase, sendData, finishTags, mediaError, linkEvent, comReset, Event, taken}
-use Rattle.history.specs.Asked.{brought}
+use Rattle.history.specs.Asked.{asks}
 use Rattle.history.specs.Logs.{callReads}
-use Rattle.history.specs.Replied.{frames, some, paged}
+use Rattle.history.specs.Replied.{frames, some, errIn, registerIn, collect, paged, page}
+use Rattle.history.specs.Shapes.{kinds, OneOf, callReplies}
 use Rattle.history.specs.Seen.{Seen, seen, Flow, errs, accepts}
 use Rattle.history.specs.Fates.{ends, one, totalWith}
 use Rattle.history.specs.Waits.{waits}
-
--- a reply that the reader refuses
-abbrev pub isRefused : Frame → Bool
-isRefused (Host f) = false
-isRefused (Device f) = false
-isRefused (Bits f) = false
-isRefused (Setup f) = false
-isRefused Activate = false
-isRefused (Data n) = false
-isRefused Bist = false
-isRefused (Pio f) = false
-isRefused Refused = true
 
 -- nothing is finished
 abbrev pub FinishesNone : Event → Type 0
@@ -41,11 +31,25 @@ Spoken e (mediaError t x s) = (taken e ≡ true → seen e .fails ≡ true) × F
 Spoken e (linkEvent r) = FinishesNone e
 Spoken e comReset = FinishesNone e
 
+-- page 10h as its reader answers: it is not refused, and its status has ERR
+abbrev pub TellsError : Page10 → Type 0
+TellsError (Fields f) = errIn (f .status) ≡ true
+TellsError (Refused n) = ⊥
+
+-- the sweep in an event e after a history h: sent only while an error waits, to a read of page 10h and with the page; it has no ERR itself, and the page behind it has
+pub record Swept (e : Event) (h : List Seen) : Type 0 where
+  pub waiting : waits h ≡ true
+  pub answers : callReads 0x10 (e .call) && paged e ≡ true
+  pub clean : seen e .fails ≡ false
+  pub tells : TellsError (readLog (page e))
+
 -- an event e after a history h
 pub record Mannered (e : Event) (h : List Seen) : Type 0 where
-  -- a refused call replies nothing, and every reply can be read
+  -- a refused call replies nothing; a taken one has one of the replies that it may have, so that each can be read
   pub silent : taken e ≡ false → e .reply ≡ []
-  pub readable : some isRefused (frames e) ≡ false
+  pub shaped : taken e ≡ true → OneOf (kinds e) (callReplies (e .call))
+  -- a 34h with ERR answers a command: the signature has none
+  pub blames : some (λ r. errIn (r .status)) (collect registerIn (frames e)) ≡ true → asks e .command ≡ true
   -- a taken queued command is answered, and good or bad, not both
   pub answered : seen e .asks .queued ≡ true → one (accepts (seen e)) + one (seen e .bad) ≡ 1
   -- what is named finished is outstanding: no dead command is called finished
@@ -56,9 +60,7 @@ pub record Mannered (e : Event) (h : List Seen) : Type 0 where
   pub alone : 0 < seen e .sends + seen e .asks .brings → ((x : Flow) → seen e .begins x ≡ x) × ((t : ℕ) → ends t (seen e) ≡ false)
   -- with an error or a reset nothing begins
   pub shut : errs (seen e) || seen e .asks .resets ≡ true → (x : Flow) → seen e .begins x ≡ x
-  -- the sweep answers a read of page 10h, with the page, and only while an error waits
-  pub swept : seen e .sweeps ≡ true → (waits h ≡ true) × (callReads 0x10 (e .call) && paged e ≡ true)
+  -- the sweep is as it may be
+  pub swept : seen e .sweeps ≡ true → Swept e h
   -- a page answers a taken read of page 10h or 11h
   pub asked : paged e ≡ true → taken e && (callReads 0x10 (e .call) || callReads 0x11 (e .call)) ≡ true
-  -- the bytes that host data bring are as many as the reader says
-  pub counted : seen e .asks .brings ≡ length (brought e)

@@ -1,0 +1,64 @@
+-- Which replies a taken call may have at all, and in which order: by the kinds of their frames. Assumes nothing.
+use mathlib.Core.Path.{_≡_}
+use mathlib.Core.Bool.{Bool}
+use mathlib.Core.List.{List, [], _∷_, map}
+use mathlib.Core.Logic.{_⊎_}
+use Prim.Native.Nat.{ℕ}
+use Rattle.bits.specs.Pick.{pick}
+use Rattle.wire.specs.Piece.{srstOf}
+use Rattle.frames.specs.Read.{readFrame}
+use Rattle.frames.specs.declared.shapes.Frame.{Frame}
+use Rattle.frames.specs.declared.shapes.Frame.the-variants.{Host, Device, Bits, Setup, Activate, Data, Bist, Pio, Refused}
+use Rattle.history.specs.Calls.{Call, hostFrame, openPhase, sendData, finishTags, mediaError, linkEvent, comReset, Event}
+use Rattle.history.specs.Replied.{frames}
+
+-- the kind of a frame, as its type byte; 0 stands for one that the reader refuses
+abbrev pub kindOf : Frame → ℕ
+kindOf (Host f) = 0x27
+kindOf (Device f) = 0x34
+kindOf (Bits f) = 0xA1
+kindOf (Setup f) = 0x41
+kindOf Activate = 0x39
+kindOf (Data n) = 0x46
+kindOf Bist = 0x58
+kindOf (Pio f) = 0x5F
+kindOf Refused = 0
+
+-- the kinds of the replies, in their order
+abbrev pub kinds : Event → List ℕ
+kinds e = map kindOf (frames e)
+
+-- one of several
+abbrev pub OneOf : List ℕ → List (List ℕ) → Type 0
+OneOf l [] = ⊥
+OneOf l (x ∷ xs) = (l ≡ x) ⊎ OneOf l xs
+
+-- a command: a device register reply; or PIO Setup and the page; or the sweep before these
+abbrev pub commandReplies : List (List ℕ)
+commandReplies = (0x34 ∷ []) ∷ (0x5F ∷ 0x46 ∷ []) ∷ (0xA1 ∷ 0x5F ∷ 0x46 ∷ []) ∷ []
+
+-- a control frame: with SRST no reply; with SRST 0 none, or the signature
+abbrev pub controlReplies : Bool → List (List ℕ)
+controlReplies srst = pick srst ([] ∷ []) ([] ∷ (0x34 ∷ []) ∷ [])
+
+-- a host frame: 27h by its C; data none, or an Activate if more is left; BIST Activate none; a frame of any other kind is never taken, so that no reply will do
+abbrev pub frameReplies : Frame → List (List ℕ)
+frameReplies (Host h) = pick (h .«command_bit») commandReplies (controlReplies (srstOf (h .control)))
+frameReplies (Device f) = []
+frameReplies (Bits f) = []
+frameReplies (Setup f) = []
+frameReplies Activate = []
+frameReplies (Data n) = [] ∷ (0x39 ∷ []) ∷ []
+frameReplies Bist = [] ∷ []
+frameReplies (Pio f) = []
+frameReplies Refused = []
+
+-- open: DMA Setup, and for a write an Activate; send: one data frame; finish and media error: one A1h; link event: none; COMRESET: the signature
+abbrev pub callReplies : Call → List (List ℕ)
+callReplies (hostFrame f) = frameReplies (readFrame f)
+callReplies (openPhase t) = (0x41 ∷ []) ∷ (0x41 ∷ 0x39 ∷ []) ∷ []
+callReplies sendData = (0x46 ∷ []) ∷ []
+callReplies (finishTags s) = (0xA1 ∷ []) ∷ []
+callReplies (mediaError t e s) = (0xA1 ∷ []) ∷ []
+callReplies (linkEvent r) = [] ∷ []
+callReplies comReset = (0x34 ∷ []) ∷ []
