@@ -1,14 +1,29 @@
-// Runs each event file that an argument names, by the run of run_events and again by that of trace_events, under its name.
+// Runs each event file that an argument names under its name: by the run of run_events, by that of trace_events, and by the first again
+// with its input in pieces.
 use libc::STDOUT_FILENO;
 
-// A file that cannot be opened has no input: `stop`.
-fn run_file(path: &[u8], traced: bool) {
+enum Way {
+    Lines,
+    Traced,
+    Pieces,
+}
+
+fn run_by(fd: i32, way: Way) {
+    match way {
+        Way::Lines => playing::run(fd, false),
+        Way::Traced => playing::run(fd, true),
+        Way::Pieces => playing::run_in_pieces(fd, false),
+    }
+}
+
+// A file that cannot be opened is told from one whose run stops.
+fn run_file(path: &[u8], way: Way) {
     let fd = os::open_read(path);
     if fd < 0 {
-        io::write_all(STDOUT_FILENO, b"stop\n");
+        io::write_all(STDOUT_FILENO, b"cannot be opened\n");
         return;
     }
-    playing::run(fd, traced);
+    run_by(fd, way);
     libc::close(fd);
 }
 
@@ -21,8 +36,9 @@ fn run_argument(k: usize) -> bool {
     }
     io::write_all(STDOUT_FILENO, &path[0..n]);
     io::write_all(STDOUT_FILENO, b"\n");
-    run_file(&path[0..n], false);
-    run_file(&path[0..n], true);
+    run_file(&path[0..n], Way::Lines);
+    run_file(&path[0..n], Way::Traced);
+    run_file(&path[0..n], Way::Pieces);
     true
 }
 
