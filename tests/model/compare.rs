@@ -1,10 +1,13 @@
-//! Random event files through the program under test and through the model.
+//! Random event files through the program under test and through the model. A
+//! file of an odd seed comes by a pipe, in small pieces.
 
 use crate::program::{self, line::Style};
 use crate::random;
 use std::fs::{self, File};
+use std::io::{self, Write};
 use std::path::{Path, PathBuf};
-use std::process::{Command, Stdio};
+use std::process::{Command, Output, Stdio};
+use std::thread;
 
 /// A program under test: its command and the lines it should print.
 pub struct Tested {
@@ -19,18 +22,39 @@ impl Tested {
     }
 
     /// What it prints for the events of a file, or why nothing came of it.
-    fn lines(&self, events: &Path) -> Result<Vec<u8>, String> {
-        let input = File::open(events).map_err(|e| e.to_string())?;
-        let done = Command::new(&self.words[0])
-            .args(&self.words[1..])
-            .stdin(input)
-            .stderr(Stdio::inherit())
-            .output()
-            .map_err(|e| format!("{}: {}", self.words[0], e))?;
+    fn lines(&self, seed: u64, events: &Path) -> Result<Vec<u8>, String> {
+        let done = match seed % 2 {
+            0 => self.fed_by_file(events),
+            _ => self.fed_by_pipe(events, 1 + seed as usize % 61),
+        };
+        let done = done.map_err(|e| format!("{}: {}", self.words[0], e))?;
         match done.status.code() {
             Some(0) => Ok(done.stdout),
             _ => Err(format!("{}: {}", self.words[0], done.status)),
         }
+    }
+
+    fn command(&self) -> Command {
+        let mut command = Command::new(&self.words[0]);
+        command.args(&self.words[1..]).stderr(Stdio::inherit());
+        command
+    }
+
+    fn fed_by_file(&self, events: &Path) -> io::Result<Output> {
+        self.command().stdin(File::open(events)?).output()
+    }
+
+    /// In pieces of `size` bytes, so that events come torn apart.
+    fn fed_by_pipe(&self, events: &Path, size: usize) -> io::Result<Output> {
+        let bytes = fs::read(events)?;
+        let mut child = self.command().stdin(Stdio::piped()).stdout(Stdio::piped()).spawn()?;
+        let mut pipe = child.stdin.take().expect("a pipe");
+        // A program that has stopped reads no more: what is left then needs no reader.
+        let feeder =
+            thread::spawn(move || bytes.chunks(size).all(|piece| pipe.write_all(piece).is_ok()));
+        let done = child.wait_with_output();
+        feeder.join().expect("the feeder");
+        done
     }
 }
 
@@ -62,7 +86,7 @@ fn agrees(seed: u64, bytes: &[u8], tested: &[Tested], path: &PathBuf) -> Result<
     let mut good = true;
     for program in tested {
         let expected = program::text(bytes, program.style);
-        let fault = match program.lines(path) {
+        let fault = match program.lines(seed, path) {
             Ok(lines) => difference(&expected, &lines),
             Err(fault) => Some(fault),
         };

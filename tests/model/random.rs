@@ -53,13 +53,23 @@ pub struct File {
     pub taken: u64,
 }
 
+/// How many events a file has; some files are longer than a program's buffers.
+fn how_many(random: &mut Random, seed: u64) -> u32 {
+    const LONG: u32 = 10_000;
+    let most = random.one_of(&[10, 60, 120, 250]);
+    match seed % 50 {
+        0 | 25 => LONG,
+        _ => 1 + random.below(most),
+    }
+}
+
 /// The event file of a seed.
 pub fn file(seed: u64) -> File {
     let mut random = Random::seeded(seed);
     let mut file = File { bytes: first_record(&mut random), events: 0, taken: 0 };
-    let length = random.one_of(&[10, 60, 120, 250]);
+    let events = how_many(&mut random, seed);
     if let Some(mut machine) = powered(&file.bytes) {
-        for _ in 0..1 + random.below(length) {
+        for _ in 0..events {
             let bytes = next::event(&mut random, &machine.state);
             file.taken += u64::from(machine.take(&whole_event(&bytes)) == 0);
             file.events += 1;
