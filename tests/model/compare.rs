@@ -1,5 +1,5 @@
 //! Random event files through the program under test and through the model. A
-//! file of an odd seed comes by a pipe, in small pieces.
+//! file of an odd seed comes by a pipe, in small pieces, which the pipe may join.
 
 use crate::program::{self, line::Style};
 use crate::random;
@@ -44,7 +44,7 @@ impl Tested {
         self.command().stdin(File::open(events)?).output()
     }
 
-    /// In pieces of `size` bytes, so that events come torn apart.
+    /// In pieces of `size` bytes, so that many events come torn apart.
     fn fed_by_pipe(&self, events: &Path, size: usize) -> io::Result<Output> {
         let bytes = fs::read(events)?;
         let mut child = self.command().stdin(Stdio::piped()).stdout(Stdio::piped()).spawn()?;

@@ -32,7 +32,7 @@ stopsAt first l =
     || (not (eqb (length l) 0)
     && ((first && not (eqb (getD l 0 0) 0x00)) || (not first && eqb (getD l 0 0) 0x00) || notWhole (bodyLength (getD l 0 0)) (length l)))
 
--- refusal 1: capacity above 64 here, or settings that power-on refuses
+-- refusal 1: no settings record, capacity above 64 here, or settings that power-on refuses
 abbrev pub startOut : List ℕ → Bool
 startOut e = not (inLimit e) || settingsOut (settingsOf e)
 

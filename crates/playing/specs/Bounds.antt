@@ -1,4 +1,4 @@
--- Where the places of a run lie in its buffers, and that no byte of input is lost or played twice. Assumes nothing.
+-- Where the places of a run lie in its buffers, and that what was read and not yet played is kept. Assumes nothing.
 use mathlib.Core.Path.{_≡_}
 use mathlib.Core.List.{List}
 use Prim.Native.Nat.{ℕ, _-_, _≤_}
@@ -18,7 +18,7 @@ pub record Behind (k : ℕ) (l : List ℕ) (w′ : Window) (l′ : List ℕ) : T
   pub grown : k ≤ w′ .end
   pub kept : take k l′ ≡ take k l
 
--- the window w′ on the buffer l′ after w on l: what was read and not yet played stands in front of it as it was, and more may follow
+-- the window w′ on the buffer l′ after w on l: what was read and not yet played stands in front of it as it was; what follows is what was read since, of which no contract of a read says anything
 pub record Refilled (w : Window) (l : List ℕ) (w′ : Window) (l′ : List ℕ) : Type 0 where
   pub within : Within w′ (length l′)
   pub same : length l ≡ length l′

@@ -130,8 +130,10 @@ fn run_over(
         return;
     };
     let to = at + n;
+    let room = output.len();
     let told = events::start_line(traced, &input[at..to], output);
-    let filled = told.len;
+    let len = told.len;
+    let filled = behind(0, len, room);
     let refusal = told.refusal;
     let state = told.state;
     if refusal != 0 {

@@ -1,6 +1,6 @@
 use mathlib.Core.Path.{_∙_}
 use native.Mathlib.Omega.{arith}
-use Rattle.playing.proofs.Fits.{part-fits}
+use Rattle.playing.proofs.Fits.{line-fits, part-fits}
 use borrow.Author.Needs.{needs}
 use Rattle.playing.proofs.running.run_over.Statement.{statement}
 use Rattle.playing.proofs.running.run_over.Tie as tie
@@ -10,6 +10,7 @@ use Rattle.events.proofs.next_event.Reads as next-event-reads
 use Rattle.events.proofs.start_line.Reads as start-line-reads
 use Rattle.playing.proofs.input.refill.Reads as refill-reads
 use Rattle.playing.proofs.input.unread.Reads as unread-reads
+use Rattle.playing.proofs.output.behind.Reads as behind-reads
 use Rattle.playing.proofs.output.close.Reads as close-reads
 use Rattle.playing.proofs.running.play_on.Reads as play-on-reads
 
@@ -61,85 +62,87 @@ returns c = search needs
 add-to : tie.Need-add-to
 add-to c = let f = part-fits _ (c .before .before .before .before .before .before .before .before .refill .last .1 .0) (c .before .before .before .before .before .before .before .before .refill .result .at) (c .before .before .before .before .before .before .before .before .refill .result .end) (c .before .n .given .0 .0) _ (c .before .before .before .before .before .before .before .before .refill .ensures .within .order) (c .before .before .before .before .before .before .before .before .refill .ensures .within .bound) (c .before .before .before .next-event .ensures) (c .before .n .given .1) in omega arith
 
--- src/running.rt:133:43
+-- src/running.rt:134:43
 sub-start-line : tie.Need-sub-start-line
 sub-start-line c = search needs
 
--- src/running.rt:133:43
+-- src/running.rt:134:43
 part-start-line-start : tie.Need-part-start-line-start
 part-start-line-start c = search needs
 
--- src/running.rt:133:43
+-- src/running.rt:134:43
 part-start-line-end : tie.Need-part-start-line-end
 part-start-line-end c =
     let f = part-fits _ (c .before .before .before .before .before .before .before .before .before .refill .last .1 .0) (c .before .before .before .before .before .before .before .before .before .refill .result .at) (c .before .before .before .before .before .before .before .before .before .refill .result .end) (c .before .before .n .given .0 .0) _ (c .before .before .before .before .before .before .before .before .before .refill .ensures .within .order) (c .before .before .before .before .before .before .before .before .before .refill .ensures .within .bound) (c .before .before .before .before .next-event .ensures) (c .before .before .n .given .1) in
     omega (arith, c .before .before .before .before .before .before .before .before .before .refill .ensures .within .bound)
 
--- src/running.rt:133:9
+-- src/running.rt:134:9
 start-line-requires : tie.Need-start-line-requires
 start-line-requires c κs = search needs
 
--- src/running.rt:138:9
+-- src/running.rt:136:9
+behind-requires : tie.Need-behind-requires
+behind-requires c κs = (search needs, omega (arith, line-fits _ _ _ _ (c .before .before .start-line .ensures .line)))
+
+-- src/running.rt:140:9
 close-requires-2 : tie.Need-close-requires-2
 close-requires-2 c κs = search needs
 
--- src/running.rt:139:9
+-- src/running.rt:141:9
 same-length-3 : tie.Need-same-length-3
 same-length-3 c = search needs
 
--- src/running.rt:139:9
+-- src/running.rt:141:9
 same-length-4 : tie.Need-same-length-4
 same-length-4 c = search needs
 
--- src/running.rt:139:9
+-- src/running.rt:141:9
 returns-2 : tie.Need-returns-2
 returns-2 c = search needs
 
--- src/running.rt:141:39
+-- src/running.rt:143:39
 cast-size : tie.Need-cast-size
 cast-size c = search needs
 
--- src/running.rt:141:16
+-- src/running.rt:143:16
 mul-size : tie.Need-mul-size
 mul-size c = search needs
 
--- src/running.rt:143:9
+-- src/running.rt:145:9
 close-requires-3 : tie.Need-close-requires-3
 close-requires-3 c κs = search needs
 
--- src/running.rt:144:9
+-- src/running.rt:146:9
 same-length-5 : tie.Need-same-length-5
-same-length-5 c = c .before .before .before .before .before .before .before .before .before .before .before .before .before .before .before .before .before .before .before .before .refill .kept .1 .0
+same-length-5 c = c .before .before .before .before .before .before .before .before .before .before .before .before .before .before .before .before .before .before .before .before .before .refill .kept .1 .0
 
--- src/running.rt:144:9
+-- src/running.rt:146:9
 same-length-6 : tie.Need-same-length-6
 same-length-6 c = search needs
 
--- src/running.rt:144:9
+-- src/running.rt:146:9
 returns-3 : tie.Need-returns-3
 returns-3 c = search needs
 
--- src/running.rt:162:9
+-- src/running.rt:161:9
 sub-play-on : tie.Need-sub-play-on
 sub-play-on c = search needs
 
--- src/running.rt:162:9
+-- src/running.rt:161:9
 part-play-on-start : tie.Need-part-play-on-start
 part-play-on-start c = search needs
 
--- src/running.rt:162:9
+-- src/running.rt:161:9
 part-play-on-end : tie.Need-part-play-on-end
 part-play-on-end c = search needs
 
--- src/running.rt:156:5
+-- src/running.rt:155:5
 play-on-requires : tie.Need-play-on-requires
-play-on-requires c κs =
-    let f = part-fits _ (c .before .before .before .before .before .before .before .before .before .before .before .before .before .before .before .before .before .before .before .before .before .before .refill .last .1 .0) (c .before .before .before .before .before .before .before .before .before .before .before .before .before .before .before .before .before .before .before .before .before .before .refill .result .at) (c .before .before .before .before .before .before .before .before .before .before .before .before .before .before .before .before .before .before .before .before .before .before .refill .result .end) (c .before .before .before .before .before .before .before .before .before .before .before .before .before .before .before .n .given .0 .0) _ (c .before .before .before .before .before .before .before .before .before .before .before .before .before .before .before .before .before .before .before .before .before .before .refill .ensures .within .order) (c .before .before .before .before .before .before .before .before .before .before .before .before .before .before .before .before .before .before .before .before .before .before .refill .ensures .within .bound) (c .before .before .before .before .before .before .before .before .before .before .before .before .before .before .before .before .before .next-event .ensures) (c .before .before .before .before .before .before .before .before .before .before .before .before .before .before .before .n .given .1) in
-    record { order = f; bound = c .before .before .before .before .before .before .before .before .before .before .before .before .before .before .before .before .before .before .before .before .before .before .refill .ensures .within .bound }
+play-on-requires c κs = record { order = part-fits _ (c .before .before .before .before .before .before .before .before .before .before .before .before .before .before .before .before .before .before .before .before .before .before .before .refill .last .1 .0) (c .before .before .before .before .before .before .before .before .before .before .before .before .before .before .before .before .before .before .before .before .before .before .before .refill .result .at) (c .before .before .before .before .before .before .before .before .before .before .before .before .before .before .before .before .before .before .before .before .before .before .before .refill .result .end) (c .before .before .before .before .before .before .before .before .before .before .before .before .before .before .before .before .n .given .0 .0) _ (c .before .before .before .before .before .before .before .before .before .before .before .before .before .before .before .before .before .before .before .before .before .before .before .refill .ensures .within .order) (c .before .before .before .before .before .before .before .before .before .before .before .before .before .before .before .before .before .before .before .before .before .before .before .refill .ensures .within .bound) (c .before .before .before .before .before .before .before .before .before .before .before .before .before .before .before .before .before .before .next-event .ensures) (c .before .before .before .before .before .before .before .before .before .before .before .before .before .before .before .before .n .given .1); bound = c .before .before .before .before .before .before .before .before .before .before .before .before .before .before .before .before .before .before .before .before .before .before .before .refill .ensures .within .bound }
 
 -- src/running.rt:117:1
 same-length-7 : tie.Need-same-length-7
-same-length-7 c = c .before .before .before .before .before .before .before .before .play-on .kept .1 .1 .1 .1 .0 ∙ c .before .before .before .before .before .before .before .before .before .before .before .before .before .before .before .before .before .before .before .before .before .before .before .before .before .before .before .before .before .before .before .refill .kept .1 .0
+same-length-7 c = c .before .before .before .before .before .before .before .before .play-on .kept .1 .1 .1 .1 .0 ∙ c .before .before .before .before .before .before .before .before .before .before .before .before .before .before .before .before .before .before .before .before .before .before .before .before .before .before .before .before .before .before .before .before .refill .kept .1 .0
 
 -- src/running.rt:117:1
 same-length-8 : tie.Need-same-length-8
@@ -177,6 +180,7 @@ run-over-spec =
     part-start-line-start
     part-start-line-end
     start-line-requires
+    behind-requires
     close-requires-2
     same-length-3
     same-length-4
