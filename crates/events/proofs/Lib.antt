@@ -3,4 +3,5 @@ pub mod Frames
 pub mod Telling
 pub mod Exactly
 pub mod Playable
+pub mod Turned
 pub mod Unique

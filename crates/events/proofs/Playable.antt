@@ -1,6 +1,6 @@
 -- What is no event, and only that, has no call; and every event that a run comes to has one. Assumes nothing.
 use mathlib.Core.Path.{_≡_, refl, sym, ap, _∙_}
-use mathlib.Core.Bool.{Bool, true, false, not, _||_, false≢true}
+use mathlib.Core.Bool.{Bool, true, false, false≢true}
 use mathlib.Core.List.{List, [], _∷_}
 use Prim.Native.Nat.{ℕ, zero, suc, _+_, _-_, _≤_}
 use native.Mathlib.Omega.{arith}
@@ -20,7 +20,6 @@ use Rattle.events.specs.declared.kinds.Length.the-variants.{Bytes, Unkno
 use Rattle.events.specs.declared.kinds.Next.{Next}
 use Rattle.events.specs.declared.kinds.Next.the-variants.{Event, Stop, End}
 use Rattle.events.specs.declared.calls.Call.{Call}
-use Rattle.events.specs.declared.calls.Call.the-variants.{Opening, Sending, Finishing, Failing, Linking, Resetting, Hosting, Framing, Nothing}
 
 -- one kind more: its call is one, or the rest of the kinds decides
 kind : (b : Bool) (x y : Call) (u v : Length) (n : ℕ) → isNothing x ≡ false → (fitsLength v n ≡ true → isNothing y ≡ false) → fitsLength (pick b u v) n ≡ true → isNothing (pick b x y) ≡ false

@@ -6,3 +6,4 @@ pub mod Played
 pub mod Lines
 pub mod Stops
 pub mod Told
+pub mod Refusals

@@ -9,7 +9,6 @@ use Rattle.text.specs.Sheet.{Fronted}
 use Rattle.replies.specs.Replies.{sentAll}
 use Rattle.device.specs.Step.{Step}
 use Rattle.device.specs.declared.state.Device.{Device}
-use Rattle.device.specs.declared.state.Outcome.{Outcome}
 use Rattle.events.specs.Start.{startOf}
 use Rattle.events.specs.Calls.{callOf}
 use Rattle.events.specs.Played.{stepOf, mediumOf}

@@ -6,7 +6,6 @@ use native.Mathlib.Omega.{arith}
 use lib.ListN.{length, take, drop}
 use lib.Seq.{take-append-seam, take-take}
 use borrow.Author.Tests.{le-leb}
-use Rattle.bits.specs.Pick.{pick}
 use Rattle.bits.specs.Laid.{laid, over}
 use Rattle.bits.proofs.Picks.{pick-yes}
 use Rattle.playing.specs.Bounds.{Within, Behind, Refilled}
