@@ -28,9 +28,9 @@ use Rattle.device.specs.declared.state.Device.{Device}
 use Rattle.device.proofs.Never.{and-never}
 use Rattle.device.proofs.Sending.{Whole}
 use Rattle.history.specs.Calls.{Call, Event, taken}
-use Rattle.history.specs.Asked.{Asked, quiet, frameAsks, callAsks}
+use Rattle.history.specs.Asked.{Asked, quiet, frameAsks, callAsks, asks}
 use Rattle.history.specs.Logs.{frameReads, callReads}
-use Rattle.history.specs.Replied.{frames, some, isPio, setBitsIn, collect, paged}
+use Rattle.history.specs.Replied.{frames, some, isPio, setBitsIn, collect, faultyIn, paged}
 use Rattle.history.specs.Seen.{Seen, seen}
 use Rattle.history.specs.Shapes.{kindOf, OneOf, callReplies}
 use Rattle.history.specs.Manners.{TellsError, Mannered, Spoken}
@@ -40,7 +40,7 @@ use Rattle.history.proofs.Frames.{Read, read-frames, read-page, read-st
 use Rattle.history.proofs.Steps.{lend}
 use Rattle.history.proofs.Hearing.{pioIn}
 use Rattle.history.proofs.Said.{bitsIn, someBits, Says}
-use Rattle.history.proofs.Shaped.{erringIn, erring, CallShaped}
+use Rattle.history.proofs.Shaped.{erringIn, erring, grantingIn, granting, faulty, CallShaped}
 use Rattle.history.proofs.Polite.{Polite}
 use Prim.Native.Nat.{_%_}
 use Rattle.frames.specs.declared.shapes.SetBits.{SetBits}
@@ -134,11 +134,16 @@ host-finishes f rs y t =
 
 -- ---- all of it
 
+-- what a taken call asks for
+asked-as : (x : Event) → taken x ≡ true → asks x ≡ callAsks (x .call)
+unfolding pick
+asked-as x t = rw t
+
 -- of a step
 pub mannered-step : (d : Device) (s : Step) (c : Call) (m b left : List ℕ) (h : List Seen) → Whole s → ((s .refusal ≡ 0 → ⊥) → s .frames ≡ [])
     → let x : Event = event (done (lend c m b) (gives s left b)) in
     (s .refusal ≡ 0 → CallShaped c (s .frames)) → Polite (seen x) h → Spoken x c → (seen x .sweeps ≡ true → (callReads 0x10 c && pioIn (s .frames) ≡ true) × TellsError (readLog (pageIn (s .frames)))) → (pioIn (s .frames) ≡ true → callReads 0x10 c || callReads 0x11 c ≡ true) → Mannered x h
-unfolding sentAll joined some collect pick
+unfolding sentAll joined some collect pick seen
 mannered-step d s c m b left h w keep shape p spoken swept asked =
     let x : Event = event (done (lend c m b) (gives s left b)) in
     let r : Read x (s .frames) = read-step s c m b left w in
@@ -151,6 +156,15 @@ mannered-step d s c m b left h w keep shape p spoken swept asked =
           ⊎-elim
           (λ (t : eqb (s .refusal) 0 ≡ true). rw t (shape (eqb-true (s .refusal) 0 t) .blames (sym (ap erringIn seen-as) ∙ y)))
           (λ (t : eqb (s .refusal) 0 ≡ false). absurd (false≢true (ap erring (sym (keep (eqb-false (s .refusal) 0 t))) ∙ sym (ap erringIn seen-as) ∙ y)))
+          (tested (eqb (s .refusal) 0));
+      ungranted = λ y n.
+          ⊎-elim
+          (λ (t : eqb (s .refusal) 0 ≡ true). ap grantingIn seen-as ∙ shape (eqb-true (s .refusal) 0 t) .ungranted (ap (λ (k : Asked). k .command) (sym (asked-as x t)) ∙ y) (ap (λ (k : Asked). k .queued) (sym (asked-as x t)) ∙ n))
+          (λ (t : eqb (s .refusal) 0 ≡ false). ap grantingIn seen-as ∙ ap granting (keep (eqb-false (s .refusal) 0 t)))
+          (tested (eqb (s .refusal) 0));
+      faultless = ap faultyIn seen-as ∙ ⊎-elim
+          (λ (t : eqb (s .refusal) 0 ≡ true). shape (eqb-true (s .refusal) 0 t) .faultless)
+          (λ (t : eqb (s .refusal) 0 ≡ false). ap faulty (keep (eqb-false (s .refusal) 0 t)))
           (tested (eqb (s .refusal) 0));
       answered = p .answered;
       named = p .named;

@@ -33,7 +33,7 @@ use Rattle.device.proofs.Sending.{Whole}
 use Rattle.device.proofs.Refusals.{refused-keeps, refused-keeps-comreset}
 use Rattle.history.specs.Calls.{Call, hostFrame, openPhase, sendData, finishTags, mediaError, linkEvent, comReset, Event}
 use Rattle.history.specs.Asked.{quiet, callAsks, asks}
-use Rattle.history.specs.Replied.{some, isPio, setBitsIn, collect, frames}
+use Rattle.history.specs.Replied.{some, isPio, setBitsIn, collect, faultyIn, frames}
 use Rattle.history.specs.Seen.{Seen, seen}
 use Rattle.history.specs.Shapes.{kindOf}
 use Rattle.history.specs.Manners.{Mannered, Spoken}
@@ -69,11 +69,17 @@ swept-bits : (x : Event) (rs : List Sent) → Read x rs → seen x .sweeps ≡ t
 unfolding seen
 swept-bits x rs r y = ap (λ (l : List Frame). some (λ f. true) (collect setBitsIn l)) (sym (read-frames x rs r)) ∙ and-right (asks x .command) (some (λ f. true) (collect setBitsIn (frames x))) y
 
--- finish names its set
-finish-says : (d : Device) (set n : ℕ) → n ≡ 0 → (u : ℕ) → view quiet (repliesOf (d .errors) (d .settings .mask) (d .values) [] (decided n (Finish set))) .finishes u ≡ bitIn 32 set u
+-- finish names its set, and says no ERR
+finish-says : (d : Device) (set n : ℕ) → n ≡ 0
+    → let x : Seen = view quiet (repliesOf (d .errors) (d .settings .mask) (d .values) [] (decided n (Finish set))) in
+    (x .fails ≡ false) × ((u : ℕ) → x .finishes u ≡ bitIn 32 set u)
 unfolding repliesOf
-finish-says d set n z u =
-    subst (λ (a : Act). view quiet (repliesOf (d .errors) (d .settings .mask) (d .values) [] a) .finishes u ≡ bitIn 32 set u) (sym (decided-is n (Finish set) z)) (is-finish _ refl .finishes u)
+finish-says d set n z =
+    subst
+    (λ (a : Act).
+    let x : Seen = view quiet (repliesOf (d .errors) (d .settings .mask) (d .values) [] a) in
+    (x .fails ≡ false) × ((u : ℕ) → x .finishes u ≡ bitIn 32 set u))
+    (sym (decided-is n (Finish set) z)) (is-finish _ refl .fails, is-finish _ refl .finishes)
 
 -- a media error says ERR, and finishes nothing
 media-says : (d : Device) (f : Fault) (n : ℕ) → n ≡ 0
@@ -90,7 +96,7 @@ media-says d f n z =
 -- a link event says nothing
 link-mannered : (d : Device) (row : ℕ) (m b : List ℕ) (h : List Seen) → Polite (seen (event (done (lend (linkEvent row) m b) (resultFor d m b (linkEvent row))))) h
     → Mannered (event (done (lend (linkEvent row) m b) (resultFor d m b (linkEvent row)))) h
-unfolding linkStep some collect
+unfolding linkStep some collect view
 link-mannered d row m b h p =
     let x : Event = event (done (lend (linkEvent row) m b) (resultFor d m b (linkEvent row))) in
     let none : frames x ≡ [] = read-frames x [] (link-read d row m b) in
@@ -98,6 +104,8 @@ link-mannered d row m b h p =
       silent = λ _. refl;
       shaped = λ _. inl (ap (map kindOf) none);
       blames = λ y. absurd (false≢true (sym (ap erringIn none) ∙ y));
+      ungranted = λ _ _. ap (λ (e : Seen). e .good) (link-seen d row m b);
+      faultless = ap faultyIn none;
       answered = p .answered;
       named = p .named;
       spoken = λ u. ap (λ (e : Seen). e .finishes u) (link-seen d row m b) ∙ quiet-finishes u;
@@ -149,8 +157,8 @@ mannered d (finishTags set) m b h t s marked i =
     let page = decided-all (λ (a : Act). pioIn (repliesOf (d .errors) (d .settings .mask) (d .values) [] a) ≡ false) n (Finish set)
     (refused-meek (d .errors) (d .settings .mask) (d .values) [] n .1) (finish-pageless (d .errors) (d .settings .mask) (d .values) set) in
     event-mannered d k (finishTags set) m b h w keep refl page (finish-shaped d set (length b)) (polite d _ _ h i (comes d (finishTags set) m b t s))
-    (λ z u. by-view (λ (e : Seen). k .refusal ≡ 0 → e .finishes u ≡ bitIn 32 set u) k (finishTags set) m b m w (λ y _. finish-says d set n (not-refused n (Finish set) y) u) (λ y. (keep y, λ q. absurd (y q)))
-    (eqb-true (k .refusal) 0 z))
+    (λ z. by-view (λ (e : Seen). k .refusal ≡ 0 → (e .fails ≡ false) × ((u : ℕ) → e .finishes u ≡ bitIn 32 set u)) k (finishTags set) m b m w
+    (λ y _. finish-says d set n (not-refused n (Finish set) y)) (λ y. (keep y, λ q. absurd (y q))) (eqb-true (k .refusal) 0 z))
 mannered d (mediaError tag e sector) m b h t s marked i =
     let k : Step = mediaStep d tag e sector (length b) in
     let v = factsOf d tag false (length b) in

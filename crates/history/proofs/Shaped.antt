@@ -1,6 +1,6 @@
--- The replies of each taken call are one of those that it may have, and a 34h with ERR answers a command. Assumes nothing.
+-- The replies of each taken call are one of those that it may have; a 34h with ERR answers a command, one without it none but a queued one, and a 5Fh has no ERR. Assumes nothing.
 use mathlib.Core.Path.{_≡_, refl, sym, subst, _∙_}
-use mathlib.Core.Bool.{Bool, true, false, not, _||_, false≢true}
+use mathlib.Core.Bool.{Bool, true, false, not, _||_, false≢true, true≢false}
 use mathlib.Core.List.{List, [], _∷_, map}
 use mathlib.Core.Logic.{inl, inr}
 use Prim.Native.Nat.{ℕ}
@@ -34,8 +34,8 @@ use Rattle.device.specs.Reset.{comresetStep}
 use Rattle.device.specs.Calls.{factsOf, openTag, mediumWrong, hostAct, hostStep, openOf, openStep, partOf, sendOf, sendStep, finishOf, finishStep, mediaOf, mediaStep}
 use Rattle.device.specs.declared.state.Device.{Device}
 use Rattle.history.specs.Calls.{Call, hostFrame, openPhase, sendData, finishTags, mediaError, comReset}
-use Rattle.history.specs.Asked.{frameAsks, callAsks}
-use Rattle.history.specs.Replied.{some, errIn, registerIn, collect}
+use Rattle.history.specs.Asked.{Asked, dataAsks, frameAsks, callAsks}
+use Rattle.history.specs.Replied.{some, errIn, registerIn, collect, faultyIn}
 use Rattle.history.specs.Shapes.{kindOf, OneOf, commandReplies, frameReplies, callReplies}
 
 -- the kinds of what is sent
@@ -50,25 +50,39 @@ erringIn l = some (λ r. errIn (r .status)) (collect registerIn l)
 abbrev pub erring : List Sent → Bool
 erring rs = erringIn (map trip.seen rs)
 
--- what is sent is one of what may be, and a 34h with ERR answers a command
-pub record Shaped (may : List (List ℕ)) (command : Bool) (rs : List Sent) : Type 0 where
+-- a 34h without ERR stands among frames
+abbrev pub grantingIn : List Frame → Bool
+grantingIn l = some (λ r. not (errIn (r .status))) (collect registerIn l)
+
+-- and is sent
+abbrev pub granting : List Sent → Bool
+granting rs = grantingIn (map trip.seen rs)
+
+-- a 5Fh with ERR is sent
+abbrev pub faulty : List Sent → Bool
+faulty rs = faultyIn (map trip.seen rs)
+
+-- what is sent is one of what may be, and its ERR is where it may be
+pub record Shaped (may : List (List ℕ)) (k : Asked) (rs : List Sent) : Type 0 where
   pub shape : OneOf (kindsOf rs) may
-  pub blames : erring rs ≡ true → command ≡ true
+  pub blames : erring rs ≡ true → k .command ≡ true
+  pub ungranted : k .command ≡ true → k .queued ≡ false → granting rs ≡ false
+  pub faultless : faulty rs ≡ false
 
 -- of a call
 abbrev pub CallShaped : Call → List Sent → Type 0
-CallShaped c rs = Shaped (callReplies c) (callAsks c .command) rs
+CallShaped c rs = Shaped (callReplies c) (callAsks c) rs
 
--- without a 34h with ERR
-unblamed : {may : List (List ℕ)} {command : Bool} (rs : List Sent) → OneOf (kindsOf rs) may → erring rs ≡ false → Shaped may command rs
-unblamed rs o e = record { shape = o; blames = λ y. absurd (false≢true (sym e ∙ y)) }
+-- to what is no command: without a 34h with ERR, and without a 5Fh with ERR
+unblamed : {may : List (List ℕ)} {k : Asked} (rs : List Sent) → k .command ≡ false → OneOf (kindsOf rs) may → erring rs ≡ false → faulty rs ≡ false → Shaped may k rs
+unblamed rs c o e f = record { shape = o; blames = λ y. absurd (false≢true (sym e ∙ y)); ungranted = λ y _. absurd (false≢true (sym c ∙ y)); faultless = f }
 
 -- ---- a host frame
 
 module _ (r : ErrorRecord) (mask : ℕ) (values : List ℕ) where
   -- a taken act's replies to a host frame that is read as f
   abbrev Answers : Frame → Act → Type 0
-  Answers f a = numberOf a ≡ 0 → Shaped (frameReplies f) (frameAsks f .command) (repliesOf r mask values [] a)
+  Answers f a = numberOf a ≡ 0 → Shaped (frameReplies f) (frameAsks f) (repliesOf r mask values [] a)
 
   -- a refused one is not taken
   turned-down : (f : Frame) (n : ℕ) → (n ≡ 0 → ⊥) → Answers f (Refuse n)
@@ -76,26 +90,33 @@ module _ (r : ErrorRecord) (mask : ℕ) (values : List ℕ) where
   turned-down f n h z = absurd (h z)
 
   -- a command
-  to-command : (h : HostReg) → h .«command_bit» ≡ true → (rs : List Sent) → OneOf (kindsOf rs) commandReplies → Shaped (frameReplies (fs.Host h)) (h .«command_bit») rs
-  unfolding pick
-  to-command h c rs o = record { shape = rw c o; blames = λ _. c }
+  module _ (h : HostReg) (c : h .«command_bit» ≡ true) where
+    -- that is queued: one 34h
+    to-queued : eqb (h .command) 0x60 || eqb (h .command) 0x61 ≡ true → (rs : List Sent) → kindsOf rs ≡ 0x34 ∷ [] → faulty rs ≡ false → Shaped (frameReplies (fs.Host h)) (frameAsks (fs.Host h)) rs
+    unfolding pick
+    to-queued q rs o f = record { shape = rw c (inl o); blames = λ _. c; ungranted = λ _ n. absurd (true≢false (sym (rw (c, q)) ∙ n)); faultless = f }
 
-  -- a page, behind the sweep or not
-  log-shape : (on : Bool) (task : Task) (page : List ℕ) → OneOf (kindsOf (logReplies on task page)) commandReplies
-  unfolding pick
-  log-shape true task page = inr (inr (inl refl))
-  log-shape false task page = inr (inl refl)
+    -- that is not
+    to-other : (rs : List Sent) → OneOf (kindsOf rs) commandReplies → granting rs ≡ false → faulty rs ≡ false → Shaped (frameReplies (fs.Host h)) (frameAsks (fs.Host h)) rs
+    unfolding pick
+    to-other rs o g f = record { shape = rw c o; blames = λ _. c; ungranted = λ _ _. g; faultless = f }
+
+    -- by a page, behind the sweep or not
+    to-log : (on : Bool) (task : Task) (page : List ℕ) → Shaped (frameReplies (fs.Host h)) (frameAsks (fs.Host h)) (logReplies on task page)
+    unfolding pick some collect
+    to-log true task page = to-other _ (inr (inr (inl refl))) refl refl
+    to-log false task page = to-other _ (inr (inl refl)) refl refl
 
   -- a control frame
   control-shaped : (v : Facts) (h : HostReg) → h .«command_bit» ≡ false → Answers (fs.Host h) (controlAct v h)
   unfolding controlAct repliesOf some collect pick
   control-shaped v h c =
-      by-test (Answers (fs.Host h)) (srstOf (h .control)) Reset (pick (v .flow .held) Release Nothing) (λ s _. unblamed [] (rw (c, s) (inl refl)) refl)
-      (λ s. by-test (Answers (fs.Host h)) (v .flow .held) Release Nothing (λ _ _. unblamed (signature ∷ []) (rw (c, s) (inr (inl refl))) refl) (λ _ _. unblamed [] (rw (c, s) (inl refl)) refl))
+      by-test (Answers (fs.Host h)) (srstOf (h .control)) Reset (pick (v .flow .held) Release Nothing) (λ s _. unblamed [] c (rw (c, s) (inl refl)) refl refl)
+      (λ s. by-test (Answers (fs.Host h)) (v .flow .held) Release Nothing (λ _ _. unblamed (signature ∷ []) c (rw (c, s) (inr (inl refl))) refl refl) (λ _ _. unblamed [] c (rw (c, s) (inl refl)) refl refl))
 
   -- a register frame
   register-shaped : (v : Facts) (h : HostReg) → Answers (fs.Host h) (registerAct v h)
-  unfolding registerAct repliesOf
+  unfolding registerAct repliesOf some collect
   register-shaped v h =
       let P : Act → Type 0 = Answers (fs.Host h) in
       let queued : Bool = eqb (h .command) 0x60 || eqb (h .command) 0x61 in
@@ -106,8 +127,8 @@ module _ (r : ErrorRecord) (mask : ℕ) (values : List ℕ) where
       let k = not-false (h .«command_bit») c in
       by-test P wrong (Refuse 5) third (λ _. turned-down (fs.Host h) 5 (λ z. omega arith))
       (λ _. by-test P queued (queuedAct v h) (otherAct v h)
-      (λ _. queued-all P v h (λ _. to-command h k _ (inl refl)) (λ _. to-command h k _ (inl refl)) (λ _. to-command h k _ (inl refl)) (λ _. to-command h k _ (inl refl)))
-      (λ _. other-all P v h (λ _. to-command h k _ (inl refl)) (λ _. to-command h k _ (inl refl)) (λ _. to-command h k _ (log-shape (v .flow .halted) _ _)) (λ _. to-command h k _ (log-shape false _ _)))))
+      (λ q. queued-all P v h (λ _. to-queued h k q _ refl refl) (λ _. to-queued h k q _ refl refl) (λ _. to-queued h k q _ refl refl) (λ _. to-queued h k q _ refl refl))
+      (λ _. other-all P v h (λ _. to-other h k _ (inl refl) refl refl) (λ _. to-other h k _ (inl refl) refl refl) (λ _. to-log h k (v .flow .halted) _ _) (λ _. to-log h k false _ _))))
 
   -- host data: an Activate if more is left
   data-shaped : (v : Facts) (n : ℕ) → Answers (fs.Data n) (dataAct v n)
@@ -117,12 +138,12 @@ module _ (r : ErrorRecord) (mask : ℕ) (values : List ℕ) where
       let kept : Act = Keep (moveOf (v .flow) (v .entry)) in
       by-test (Answers (fs.Data n)) (eqb (v .flow .phase) 0 || not (v .entry .write)) (Refuse 5) (pick (not due) (Refuse 6) kept) (λ _. turned-down (fs.Data n) 5 (λ z. omega arith))
       (λ _. by-test (Answers (fs.Data n)) (not due) (Refuse 6) kept (λ _. turned-down (fs.Data n) 6 (λ z. omega arith))
-      (λ _ _. by-test (Shaped (frameReplies (fs.Data n)) false) (not (moveOf (v .flow) (v .entry) .last)) (activate ∷ []) [] (λ _. unblamed _ (inr (inl refl)) refl) (λ _. unblamed [] (inl refl) refl)))
+      (λ _ _. by-test (Shaped (frameReplies (fs.Data n)) (dataAsks n)) (not (moveOf (v .flow) (v .entry) .last)) (activate ∷ []) [] (λ _. unblamed _ refl (inr (inl refl)) refl refl) (λ _. unblamed [] refl (inl refl) refl refl)))
 
   -- BIST Activate
   bist-shaped : (v : Facts) → Answers fs.Bist (bistAct v)
   unfolding bistAct repliesOf some collect
-  bist-shaped v = by-test (Answers fs.Bist) (not (eqb (v .flow .phase) 0)) (Refuse 5) Zero (λ _. turned-down fs.Bist 5 (λ z. omega arith)) (λ _ _. unblamed [] (inl refl) refl)
+  bist-shaped v = by-test (Answers fs.Bist) (not (eqb (v .flow .phase) 0)) (Refuse 5) Zero (λ _. turned-down fs.Bist 5 (λ z. omega arith)) (λ _ _. unblamed [] refl (inl refl) refl refl)
 
   -- by its kind
   kind-shaped : (v : Facts) (f : Frame) → Answers f (kindAct v f)
@@ -164,7 +185,7 @@ module _ (d : Device) where
   setup-shaped : (tag : ℕ) (q : Queued) → CallShaped (openPhase tag) (sends [] (Open q))
   unfolding repliesOf some collect
   setup-shaped tag q =
-      by-test (λ (l : List Sent). CallShaped (openPhase tag) (setupReply q ∷ l)) (q .entry .write) (activate ∷ []) [] (λ _. unblamed _ (inr (inl refl)) refl) (λ _. unblamed _ (inl refl) refl)
+      by-test (λ (l : List Sent). CallShaped (openPhase tag) (setupReply q ∷ l)) (q .entry .write) (activate ∷ []) [] (λ _. unblamed _ refl (inr (inl refl)) refl refl) (λ _. unblamed _ refl (inl refl) refl refl)
 
   -- open
   pub open-shaped : (tag room : ℕ) → openStep d tag room .refusal ≡ 0 → CallShaped (openPhase tag) (openStep d tag room .frames)
@@ -174,19 +195,19 @@ module _ (d : Device) where
   -- send
   pub send-shaped : (m : List ℕ) (room : ℕ) → sendStep d m room .refusal ≡ 0 → CallShaped sendData (sendStep d m room .frames)
   unfolding sendOf sendAct repliesOf some collect
-  send-shaped m room = taken-is (λ (a : Act). CallShaped sendData (sends (partOf (spanOf a) m) a)) _ _ (unblamed _ (inl refl) refl)
+  send-shaped m room = taken-is (λ (a : Act). CallShaped sendData (sends (partOf (spanOf a) m) a)) _ _ (unblamed _ refl (inl refl) refl refl)
 
   -- finish
   pub finish-shaped : (set room : ℕ) → finishStep d set room .refusal ≡ 0 → CallShaped (finishTags set) (finishStep d set room .frames)
   unfolding finishOf finishAct repliesOf some collect
-  finish-shaped set room = taken-is (λ (a : Act). CallShaped (finishTags set) (sends [] a)) _ _ (unblamed _ (inl refl) refl)
+  finish-shaped set room = taken-is (λ (a : Act). CallShaped (finishTags set) (sends [] a)) _ _ (unblamed _ refl (inl refl) refl refl)
 
   -- media error
   pub media-shaped : (tag e sector room : ℕ) → mediaStep d tag e sector room .refusal ≡ 0 → CallShaped (mediaError tag e sector) (mediaStep d tag e sector room .frames)
   unfolding mediaOf mediaAct repliesOf some collect
-  media-shaped tag e sector room = taken-is (λ (a : Act). CallShaped (mediaError tag e sector) (sends [] a)) _ _ (unblamed _ (inl refl) refl)
+  media-shaped tag e sector room = taken-is (λ (a : Act). CallShaped (mediaError tag e sector) (sends [] a)) _ _ (unblamed _ refl (inl refl) refl refl)
 
   -- COMRESET
   pub reset-shaped : (room : ℕ) → comresetStep d room .refusal ≡ 0 → CallShaped comReset (comresetStep d room .frames)
   unfolding comresetStep some collect pick
-  reset-shaped room z = rw z (unblamed (signature ∷ []) (inl refl) refl)
+  reset-shaped room z = rw z (unblamed (signature ∷ []) refl (inl refl) refl refl)

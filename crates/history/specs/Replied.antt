@@ -10,6 +10,7 @@ use Rattle.frames.specs.Read.{readFrame}
 use Rattle.frames.specs.declared.shapes.DevReg.{DevReg}
 use Rattle.frames.specs.declared.shapes.SetBits.{SetBits}
 use Rattle.frames.specs.declared.shapes.DmaSetup.{DmaSetup}
+use Rattle.frames.specs.declared.shapes.PioSetup.{PioSetup}
 use Rattle.frames.specs.declared.shapes.Frame.{Frame}
 use Rattle.frames.specs.declared.shapes.Frame.the-variants.{Host, Device, Bits, Setup, Activate, Data, Bist, Pio, Refused}
 use Rattle.history.specs.Calls.{Event}
@@ -67,22 +68,30 @@ setupIn Bist = []
 setupIn (Pio f) = []
 setupIn Refused = []
 
+-- a 5Fh
+abbrev pub pioSetupIn : Frame → List PioSetup
+pioSetupIn (Host f) = []
+pioSetupIn (Device f) = []
+pioSetupIn (Bits f) = []
+pioSetupIn (Setup f) = []
+pioSetupIn Activate = []
+pioSetupIn (Data n) = []
+pioSetupIn Bist = []
+pioSetupIn (Pio f) = f ∷ []
+pioSetupIn Refused = []
+
+-- whether a frame is one
+abbrev pub isPio : Frame → Bool
+isPio f = some (λ s. true) (pioSetupIn f)
+
 -- all of a kind that stand in a reply
 unfoldable pub collect : {A : Type 0} → (Frame → List A) → List Frame → List A
 collect f [] = []
 collect f (x ∷ xs) = f x ++ collect f xs
 
--- a 5Fh
-abbrev pub isPio : Frame → Bool
-isPio (Host f) = false
-isPio (Device f) = false
-isPio (Bits f) = false
-isPio (Setup f) = false
-isPio Activate = false
-isPio (Data n) = false
-isPio Bist = false
-isPio (Pio f) = true
-isPio Refused = false
+-- some 5Fh has ERR, in its status or in its ending status
+abbrev pub faultyIn : List Frame → Bool
+faultyIn fs = some (λ p. errIn (p .status) || errIn (p .ending)) (collect pioSetupIn fs)
 
 -- the payload of a reply that is a data frame; of any other none
 abbrev pub dataIn : List ℕ → Frame → List ℕ
