@@ -1,3 +1,4 @@
 pub mod Asked
 pub mod Widths
 pub mod Largest
+pub mod Telling
