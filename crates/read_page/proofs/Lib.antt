@@ -2,3 +2,4 @@ pub mod Asked
 pub mod Widths
 pub mod Largest
 pub mod Telling
+pub mod Fits

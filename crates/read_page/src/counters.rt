@@ -1,11 +1,11 @@
 // The counters of page 11h, in the order of figure 24.
-ghost use Prim.Native.Nat.{_≤_};
 ghost use mathlib.Core.Path.{_≡_};
-ghost use lib.ListN.{length};
 ghost use Rattle.bits.specs.First.{firstOf};
-ghost use Rattle.pages.specs.Page11.{ladder11};
+ghost use Rattle.pages.specs.Page11.{ladder11, readCounter};
 ghost use Rattle.pages.specs.Rows.{ids};
+ghost use Rattle.text.specs.Sheet.{Wrote, Fronted};
 ghost use Rattle.read_page.specs.Asking.{refusalIn};
+ghost use Rattle.read_page.specs.Lines.{valueLine, answerLine, counterLine, counterLines, countersText};
 use crate::tops::is_top;
 use crate::words::put_refusal;
 use crate::words::put_upper;
@@ -41,7 +41,9 @@ fn refusal(page: &[u8]) -> u8
 }
 
 // A value that stands at the top of its width may have had more events.
-fn put_value(out: &mut [u8], at: usize, v: u64, top: bool) -> usize {
+fn put_value(out: &mut [u8], at: usize, v: u64, top: bool) -> usize
+    ensures { λ r. ⌜ Wrote (valueLine top v) at (now (out .entry)) r (now (out .exit)) ⌝ }
+{
     let a = put_decimal(out, at, v);
     if top {
         return put(out, a, b" top\n");
@@ -50,7 +52,9 @@ fn put_value(out: &mut [u8], at: usize, v: u64, top: bool) -> usize {
 }
 
 // What the page says of one counter. None is refused here: all were asked before the first line.
-fn put_answer(out: &mut [u8], at: usize, page: &[u8], number: u16) -> usize {
+fn put_answer(out: &mut [u8], at: usize, page: &[u8], number: u16) -> usize
+    ensures { λ r. ⌜ Wrote (answerLine (now (page .entry)) number (readCounter (now (page .entry)) number)) at (now (out .entry)) r (now (out .exit)) ⌝ }
+{
     match pages::read_counter(page, number) {
         Counter::Value(v) => put_value(out, at, v, is_top(page, number, v)),
         Counter::Absent => put(out, at, b"absent\n"),
@@ -59,13 +63,17 @@ fn put_answer(out: &mut [u8], at: usize, page: &[u8], number: u16) -> usize {
 }
 
 // The line of one counter.
-fn put_counter(out: &mut [u8], at: usize, page: &[u8], number: u16) -> usize {
+fn put_counter(out: &mut [u8], at: usize, page: &[u8], number: u16) -> usize
+    ensures { λ r. ⌜ Wrote (counterLine (now (page .entry)) number) at (now (out .entry)) r (now (out .exit)) ⌝ }
+{
     let a = put_upper(out, at, number as u64, 3);
     let b = put(out, a, b"h ");
     put_answer(out, b, page, number)
 }
 
-fn put_all(out: &mut [u8], page: &[u8]) -> usize {
+fn put_all(out: &mut [u8], page: &[u8]) -> usize
+    ensures { λ r. ⌜ Wrote (counterLines (now (page .entry)) ids) 0 (now (out .entry)) r (now (out .exit)) ⌝ }
+{
     let mut end: usize = 0;
     let mut row: usize = 0;
     while row < 16 {
@@ -76,7 +84,9 @@ fn put_all(out: &mut [u8], page: &[u8]) -> usize {
 }
 
 // A page on which one number is refused is an unread page: none of its values is told.
-fn put_read(out: &mut [u8], page: &[u8]) -> usize {
+fn put_read(out: &mut [u8], page: &[u8]) -> usize
+    ensures { λ r. ⌜ Wrote (countersText (now (page .entry))) 0 (now (out .entry)) r (now (out .exit)) ⌝ }
+{
     let n = refusal(page);
     if n != 0 {
         return put_refusal(out, 0, n);
@@ -86,7 +96,7 @@ fn put_read(out: &mut [u8], page: &[u8]) -> usize {
 
 // The whole text of a page 11h in front of a buffer, and its length; 0 where the buffer has no room for all of it.
 pub fn put_counters(out: &mut [u8], page: &[u8]) -> usize
-    ensures { λ r. ⌜ r ≤ length (now (out .exit)) ⌝ }
+    ensures { λ r. ⌜ Fronted (countersText (now (page .entry))) (now (out .entry)) r (now (out .exit)) ⌝ }
 {
     let end = put_read(out, page);
     text::whole(end, out.len())

@@ -3,6 +3,7 @@
 // All is written at once, and a write that fails is told on standard error.
 ghost use Prim.Native.Nat.{_≤_};
 ghost use lib.ListN.{length};
+ghost use Rattle.read_page.specs.Lines.{pageText, Held};
 
 mod counters;
 mod fields;
@@ -11,7 +12,6 @@ mod output;
 mod tops;
 mod words;
 
-use output::complain;
 use output::show;
 
 enum Page {
@@ -19,9 +19,10 @@ enum Page {
     Counters,
 }
 
-// The page's whole text in front of a buffer, and its length; 0 where the buffer has no room for all of it.
+// The page's whole text in front of a buffer, and its length. No text is longer: sixteen lines of at most 34 bytes.
 fn put_page(out: &mut [u8], which: Page, page: &[u8]) -> usize
-    ensures { λ r. ⌜ r ≤ length (now (out .exit)) ⌝ }
+    requires { ⌜ 1024 ≤ length (now out) ⌝ }
+    ensures { λ r. ⌜ Held (pageText which (now (page .entry))) r (now (out .exit)) ⌝ }
 {
     match which {
         Page::Errors => fields::put_fields(out, page),
@@ -29,14 +30,9 @@ fn put_page(out: &mut [u8], which: Page, page: &[u8]) -> usize
     }
 }
 
-// The longest text has sixteen lines of at most thirty bytes.
 fn show_page(which: Page, page: &[u8]) {
-    let mut out = [0u8; 512];
+    let mut out = [0u8; 1024];
     let n = put_page(&mut out, which, page);
-    if n == 0 {
-        complain();
-        return;
-    }
     show(&out[0..n]);
 }
 

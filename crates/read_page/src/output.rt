@@ -3,7 +3,7 @@ use libc::STDERR_FILENO;
 use libc::STDOUT_FILENO;
 
 // Lines that are missing are no good news: a run whose output fails says so where it still can.
-pub fn complain() {
+fn complain() {
     io::write_all(STDERR_FILENO, b"output failed: lines are missing\n");
 }
 

@@ -1,5 +1,7 @@
 // Words and numbers in a text. As with `text`, each writer is handed the place and answers the place behind.
 ghost use Prim.Native.Nat.{_≤_};
+ghost use Rattle.text.specs.Sheet.{Wrote};
+ghost use Rattle.read_page.specs.Lines.{upper, numberLine, hexLine, refusalLine};
 use text::put;
 use text::put_byte;
 use text::put_decimal;
@@ -11,7 +13,9 @@ pub fn is_word(s: &[u8], w: &[u8]) -> bool {
 }
 
 // A name, a number, and the line's end.
-pub fn put_number(out: &mut [u8], at: usize, name: &[u8], n: u64) -> usize {
+pub fn put_number(out: &mut [u8], at: usize, name: &[u8], n: u64) -> usize
+    ensures { λ r. ⌜ Wrote (numberLine (now (name .entry)) n) at (now (out .entry)) r (now (out .exit)) ⌝ }
+{
     let a = put(out, at, name);
     let b = put_decimal(out, a, n);
     put_byte(out, b, b'\n')
@@ -20,6 +24,7 @@ pub fn put_number(out: &mut [u8], at: usize, name: &[u8], n: u64) -> usize {
 // The last `digits` of the sixteen upper-case hex digits of a number.
 pub fn put_upper(out: &mut [u8], at: usize, n: u64, digits: usize) -> usize
     requires { ⌜ digits ≤ 16 ⌝ }
+    ensures { λ r. ⌜ Wrote (upper digits n) at (now (out .entry)) r (now (out .exit)) ⌝ }
 {
     let b = [
         bits::byte(n, 7),
@@ -40,12 +45,15 @@ pub fn put_upper(out: &mut [u8], at: usize, n: u64, digits: usize) -> usize
 // A name, a number in hex with its `h`, and the line's end.
 pub fn put_hex(out: &mut [u8], at: usize, name: &[u8], n: u64, digits: usize) -> usize
     requires { ⌜ digits ≤ 16 ⌝ }
+    ensures { λ r. ⌜ Wrote (hexLine (now (name .entry)) digits n) at (now (out .entry)) r (now (out .exit)) ⌝ }
 {
     let a = put(out, at, name);
     let b = put_upper(out, a, n, digits);
     put(out, b, b"h\n")
 }
 
-pub fn put_refusal(out: &mut [u8], at: usize, n: u8) -> usize {
+pub fn put_refusal(out: &mut [u8], at: usize, n: u8) -> usize
+    ensures { λ r. ⌜ Wrote (refusalLine n) at (now (out .entry)) r (now (out .exit)) ⌝ }
+{
     put_number(out, at, b"refused ", n as u64)
 }
