@@ -3,3 +3,4 @@ pub mod Widths
 pub mod Largest
 pub mod Telling
 pub mod Fits
+pub mod Answered

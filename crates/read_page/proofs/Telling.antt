@@ -5,14 +5,13 @@ use mathlib.Core.List.{List, [], _∷_, _++_, append-nil}
 use Prim.Native.Nat.{ℕ, _+_, _-_, _<_, _≤_}
 use native.Mathlib.Numerals.{add-one}
 use native.Mathlib.Omega.{arith}
-use lib.Dec.{leb, eqb}
+use lib.Dec.{eqb}
 use lib.ListN.{length, take, drop, length-drop, drop-of-length-le}
 use lib.Seq.{drop-cons, take-all}
-use borrow.Author.Tests.{leb-true, eq-eqb, ne-eqb}
-use Rattle.bits.specs.Pick.{pick}
+use borrow.Author.Tests.{eq-eqb, ne-eqb}
 use Rattle.bits.specs.Little.{byteOf}
-use Rattle.bits.proofs.Picks.{by-test, pick-yes, pick-no}
-use Rattle.text.specs.Sheet.{Sheet, sheet, written, Wrote}
+use Rattle.bits.proofs.Picks.{pick-yes, pick-no}
+use Rattle.text.specs.Sheet.{Sheet, written, Wrote}
 use Rattle.text.specs.Digits.{hex}
 use Rattle.text.proofs.Writing.{written-more, fronted}
 use Rattle.pages.specs.Rows.{ids, idOf}

@@ -51,7 +51,7 @@ fn put_value(out: &mut [u8], at: usize, v: u64, top: bool) -> usize
     put_byte(out, a, b'\n')
 }
 
-// What the page says of one counter. None is refused here: all were asked before the first line.
+// What the page says of one counter. None is refused here: all were asked before the first line (`Answered.never-refused`).
 fn put_answer(out: &mut [u8], at: usize, page: &[u8], number: u16) -> usize
     ensures { λ r. ⌜ Wrote (answerLine (now (page .entry)) number (readCounter (now (page .entry)) number)) at (now (out .entry)) r (now (out .exit)) ⌝ }
 {
@@ -87,9 +87,9 @@ fn put_all(out: &mut [u8], page: &[u8]) -> usize
 fn put_read(out: &mut [u8], page: &[u8]) -> usize
     ensures { λ r. ⌜ Wrote (countersText (now (page .entry))) 0 (now (out .entry)) r (now (out .exit)) ⌝ }
 {
-    let n = refusal(page);
-    if n != 0 {
-        return put_refusal(out, 0, n);
+    let first = refusal(page);
+    if first != 0 {
+        return put_refusal(out, 0, first);
     }
     put_all(out, page)
 }

@@ -1,6 +1,4 @@
-use mathlib.Core.Path.{_≡_, sym, _∙_}
-use denote.Ref.{now}
-use Rattle.pages.specs.Page11.{readCounter}
+use mathlib.Core.Path.{sym, _∙_}
 use Rattle.read_page.specs.Lines.{answerLine}
 use borrow.Author.Needs.{needs}
 use Rattle.read_page.proofs.counters.put_answer.Statement.{statement}

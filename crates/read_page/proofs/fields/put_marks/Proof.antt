@@ -1,4 +1,4 @@
-use mathlib.Core.List.{[], _∷_, _++_}
+use mathlib.Core.List.{_++_}
 use Rattle.bits.specs.Told.{bitNumber}
 use Rattle.text.proofs.Writing.{wrote-both}
 use Rattle.read_page.specs.Lines.{numberLine, hexLine, marksText}

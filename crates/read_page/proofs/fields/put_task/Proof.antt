@@ -1,4 +1,4 @@
-use mathlib.Core.List.{[], _∷_, _++_}
+use mathlib.Core.List.{_++_}
 use Rattle.text.proofs.Writing.{wrote-both}
 use Rattle.read_page.specs.Lines.{hexLine, taskText}
 use Rattle.read_page.specs.Words.{lbaWord, deviceWord, countWord}
