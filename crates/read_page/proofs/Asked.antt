@@ -14,7 +14,7 @@ use Rattle.pages.specs.Page11.{ladder11}
 use Rattle.pages.specs.Rows.{ids, idOf}
 use Rattle.read_page.specs.Asking.{refusalIn}
 
-length-ids : length ids ≡ 16
+pub length-ids : length ids ≡ 16
 unfolding ids
 length-ids = refl
 

@@ -1,2 +1,4 @@
 pub mod Asking
 pub mod Top
+pub mod Words
+pub mod Lines

@@ -1,15 +1,18 @@
 // The counters of page 11h, in the order of figure 24.
 ghost use mathlib.Core.Path.{_≡_};
 ghost use Rattle.bits.specs.First.{firstOf};
-ghost use Rattle.pages.specs.Page11.{ladder11};
+ghost use Rattle.pages.specs.Page11.{ladder11, readCounter};
 ghost use Rattle.pages.specs.Rows.{ids};
+ghost use Rattle.text.specs.Sheet.{Wrote, Fronted};
 ghost use Rattle.read_page.specs.Asking.{refusalIn};
+ghost use Rattle.read_page.specs.Lines.{valueLine, answerLine, counterLine, counterLines, countersText};
 use crate::tops::is_top;
-use crate::words::put_hex;
-use crate::words::say;
-use crate::words::say_refusal;
-use libc::STDOUT_FILENO;
+use crate::words::put_refusal;
+use crate::words::put_upper;
 use pages::Counter;
+use text::put;
+use text::put_byte;
+use text::put_decimal;
 
 // The refusal of one number, and 0 where it is answered.
 fn refusal_of(page: &[u8], number: u16) -> u8
@@ -38,39 +41,63 @@ fn refusal(page: &[u8]) -> u8
 }
 
 // A value that stands at the top of its width may have had more events.
-fn say_value(v: u64, top: bool) {
-    io::print_decimal(STDOUT_FILENO, v);
+fn put_value(out: &mut [u8], at: usize, v: u64, top: bool) -> usize
+    ensures { λ r. ⌜ Wrote (valueLine top v) at (now (out .entry)) r (now (out .exit)) ⌝ }
+{
+    let a = put_decimal(out, at, v);
     if top {
-        say(b" top");
+        return put(out, a, b" top\n");
     }
-    say(b"\n");
+    put_byte(out, a, b'\n')
 }
 
-// The line of one counter. None is refused here: all were asked before the first line.
-fn say_counter(page: &[u8], number: u16) {
-    put_hex(number as u64, 3);
-    say(b"h ");
+// What the page says of one counter. None is refused here: all were asked before the first line (`Answered.never-refused`).
+fn put_answer(out: &mut [u8], at: usize, page: &[u8], number: u16) -> usize
+    ensures { λ r. ⌜ Wrote (answerLine (now (page .entry)) number (readCounter (now (page .entry)) number)) at (now (out .entry)) r (now (out .exit)) ⌝ }
+{
     match pages::read_counter(page, number) {
-        Counter::Value(v) => say_value(v, is_top(page, number, v)),
-        Counter::Absent => say(b"absent\n"),
-        Counter::Refused(n) => say_refusal(n),
+        Counter::Value(v) => put_value(out, at, v, is_top(page, number, v)),
+        Counter::Absent => put(out, at, b"absent\n"),
+        Counter::Refused(n) => put_refusal(out, at, n),
     }
 }
 
-fn say_all(page: &[u8]) {
+// The line of one counter.
+fn put_counter(out: &mut [u8], at: usize, page: &[u8], number: u16) -> usize
+    ensures { λ r. ⌜ Wrote (counterLine (now (page .entry)) number) at (now (out .entry)) r (now (out .exit)) ⌝ }
+{
+    let a = put_upper(out, at, number as u64, 3);
+    let b = put(out, a, b"h ");
+    put_answer(out, b, page, number)
+}
+
+fn put_all(out: &mut [u8], page: &[u8]) -> usize
+    ensures { λ r. ⌜ Wrote (counterLines (now (page .entry)) ids) 0 (now (out .entry)) r (now (out .exit)) ⌝ }
+{
+    let mut end: usize = 0;
     let mut row: usize = 0;
     while row < 16 {
-        say_counter(page, pages::id_of(row));
+        end = put_counter(out, end, page, pages::id_of(row));
         row += 1;
     }
+    end
 }
 
-// A page on which one number is refused is an unread page: none of its values is said.
-pub fn say_counters(page: &[u8]) {
-    let n = refusal(page);
-    if n != 0 {
-        say_refusal(n);
-        return;
+// A page on which one number is refused is an unread page: none of its values is told.
+fn put_read(out: &mut [u8], page: &[u8]) -> usize
+    ensures { λ r. ⌜ Wrote (countersText (now (page .entry))) 0 (now (out .entry)) r (now (out .exit)) ⌝ }
+{
+    let first = refusal(page);
+    if first != 0 {
+        return put_refusal(out, 0, first);
     }
-    say_all(page);
+    put_all(out, page)
+}
+
+// The whole text of a page 11h in front of a buffer, and its length; 0 where the buffer has no room for all of it.
+pub fn put_counters(out: &mut [u8], page: &[u8]) -> usize
+    ensures { λ r. ⌜ Fronted (countersText (now (page .entry))) (now (out .entry)) r (now (out .exit)) ⌝ }
+{
+    let end = put_read(out, page);
+    text::whole(end, out.len())
 }

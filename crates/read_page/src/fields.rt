@@ -1,29 +1,52 @@
 // The fields of page 10h, each by its name.
-use crate::words::say;
-use crate::words::say_hex;
-use crate::words::say_number;
-use crate::words::say_refusal;
+ghost use mathlib.Core.List.{_++_};
+ghost use Rattle.text.specs.Sheet.{Wrote, Fronted};
+ghost use Rattle.read_page.specs.Lines.{marksText, taskText, fieldsText};
+use crate::words::put_hex;
+use crate::words::put_number;
+use crate::words::put_refusal;
 use pages::ErrorLog;
 use pages::Page10;
+use wire::Task;
 
-fn say_log(log: ErrorLog) {
-    let task = log.task;
-    if log.nq {
-        say(b"NQ 1\n");
-    } else {
-        say(b"NQ 0\n");
-    }
-    say_number(b"tag ", log.tag as u64);
-    say_hex(b"status ", log.status as u64, 2);
-    say_hex(b"error ", log.error as u64, 2);
-    say_hex(b"LBA ", task.lba, 12);
-    say_hex(b"device ", task.device as u64, 2);
-    say_hex(b"count ", task.count as u64, 4);
+fn put_marks(out: &mut [u8], log: ErrorLog) -> usize
+    ensures { λ r. ⌜ Wrote (marksText log) 0 (now (out .entry)) r (now (out .exit)) ⌝ }
+{
+    let a = put_number(out, 0, b"NQ ", log.nq as u64);
+    let b = put_number(out, a, b"tag ", log.tag as u64);
+    let c = put_hex(out, b, b"status ", log.status as u64, 2);
+    put_hex(out, c, b"error ", log.error as u64, 2)
 }
 
-pub fn say_fields(page: &[u8]) {
+fn put_task(out: &mut [u8], at: usize, task: Task) -> usize
+    ensures { λ r. ⌜ Wrote (taskText task) at (now (out .entry)) r (now (out .exit)) ⌝ }
+{
+    let a = put_hex(out, at, b"LBA ", task.lba, 12);
+    let b = put_hex(out, a, b"device ", task.device as u64, 2);
+    put_hex(out, b, b"count ", task.count as u64, 4)
+}
+
+fn put_log(out: &mut [u8], log: ErrorLog) -> usize
+    ensures { λ r. ⌜ Wrote (marksText log ++ taskText (log .task)) 0 (now (out .entry)) r (now (out .exit)) ⌝ }
+{
+    let a = put_marks(out, log);
+    put_task(out, a, log.task)
+}
+
+// The fields, or the refusal alone.
+fn put_read(out: &mut [u8], page: &[u8]) -> usize
+    ensures { λ r. ⌜ Wrote (fieldsText (now (page .entry))) 0 (now (out .entry)) r (now (out .exit)) ⌝ }
+{
     match pages::read_log(page) {
-        Page10::Fields(log) => say_log(log),
-        Page10::Refused(n) => say_refusal(n),
+        Page10::Fields(log) => put_log(out, log),
+        Page10::Refused(n) => put_refusal(out, 0, n),
     }
+}
+
+// The whole text of a page 10h in front of a buffer, and its length; 0 where the buffer has no room for all of it.
+pub fn put_fields(out: &mut [u8], page: &[u8]) -> usize
+    ensures { λ r. ⌜ Fronted (fieldsText (now (page .entry))) (now (out .entry)) r (now (out .exit)) ⌝ }
+{
+    let end = put_read(out, page);
+    text::whole(end, out.len())
 }

@@ -1,44 +1,64 @@
 // Reads a log page, 512 bytes on standard input: page 10h's fields by name, or of page 11h each counter of figure 24 with its value or `absent`.
 // The argument says which page: 10 or 11. A read that fails prints `stop`, and a page that is refused its refusal, and nothing else.
+// All is written at once, and a write that fails is told on standard error.
+ghost use Prim.Native.Nat.{_≤_};
+ghost use lib.ListN.{length};
+ghost use Rattle.read_page.specs.Lines.{pageText, Held};
+
 mod counters;
 mod fields;
 mod input;
+mod output;
 mod tops;
 mod words;
 
-use words::say;
+use output::show;
 
 enum Page {
     Errors,
     Counters,
 }
 
+// The page's whole text in front of a buffer, and its length. No text is longer: sixteen lines of at most 34 bytes.
+fn put_page(out: &mut [u8], which: Page, page: &[u8]) -> usize
+    requires { ⌜ 1024 ≤ length (now out) ⌝ }
+    ensures { λ r. ⌜ Held (pageText which (now (page .entry))) r (now (out .exit)) ⌝ }
+{
+    match which {
+        Page::Errors => fields::put_fields(out, page),
+        Page::Counters => counters::put_counters(out, page),
+    }
+}
+
+fn show_page(which: Page, page: &[u8]) {
+    let mut out = [0u8; 1024];
+    let n = put_page(&mut out, which, page);
+    show(&out[0..n]);
+}
+
 // Of a page that is not 512 bytes long one byte more shows that it is too long.
-fn say_page(which: Page) {
+fn answer_page(which: Page) {
     let mut page = [0u8; 513];
     let input = input::read_all(libc::STDIN_FILENO, &mut page);
     if input.failed {
-        say(b"stop\n");
+        show(b"stop\n");
         return;
     }
     let n = input.len;
-    match which {
-        Page::Errors => fields::say_fields(&page[0..n]),
-        Page::Counters => counters::say_counters(&page[0..n]),
-    }
+    show_page(which, &page[0..n]);
 }
 
 // The word is looked at before anything is read: without a page's name nobody waits for one.
 fn answer(word: &[u8]) {
     if words::is_word(word, b"10") {
-        say_page(Page::Errors);
+        answer_page(Page::Errors);
         return;
     }
     if words::is_word(word, b"11") {
-        say_page(Page::Counters);
+        answer_page(Page::Counters);
         return;
     }
-    say(b"page 10 or 11?\n");
+    show(b"page 10 or 11?\n");
 }
 
 fn main() {

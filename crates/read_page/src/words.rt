@@ -1,9 +1,10 @@
-// Words and numbers on standard output.
-use libc::STDOUT_FILENO;
-
-pub fn say(s: &[u8]) {
-    io::write_all(STDOUT_FILENO, s);
-}
+// Words and numbers in a text. As with `text`, each writer is handed the place and answers the place behind.
+ghost use Prim.Native.Nat.{_≤_};
+ghost use Rattle.text.specs.Sheet.{Wrote};
+ghost use Rattle.read_page.specs.Lines.{upper, numberLine, hexLine, refusalLine};
+use text::put;
+use text::put_byte;
+use text::put_decimal;
 
 // Whether two words of at most eight bytes are the same, as the names of the pages are.
 pub fn is_word(s: &[u8], w: &[u8]) -> bool {
@@ -12,14 +13,19 @@ pub fn is_word(s: &[u8], w: &[u8]) -> bool {
 }
 
 // A name, a number, and the line's end.
-pub fn say_number(name: &[u8], n: u64) {
-    say(name);
-    io::print_decimal(STDOUT_FILENO, n);
-    say(b"\n");
+pub fn put_number(out: &mut [u8], at: usize, name: &[u8], n: u64) -> usize
+    ensures { λ r. ⌜ Wrote (numberLine (now (name .entry)) n) at (now (out .entry)) r (now (out .exit)) ⌝ }
+{
+    let a = put(out, at, name);
+    let b = put_decimal(out, a, n);
+    put_byte(out, b, b'\n')
 }
 
 // The last `digits` of the sixteen upper-case hex digits of a number.
-pub fn put_hex(n: u64, digits: usize) {
+pub fn put_upper(out: &mut [u8], at: usize, n: u64, digits: usize) -> usize
+    requires { ⌜ digits ≤ 16 ⌝ }
+    ensures { λ r. ⌜ Wrote (upper digits n) at (now (out .entry)) r (now (out .exit)) ⌝ }
+{
     let b = [
         bits::byte(n, 7),
         bits::byte(n, 6),
@@ -30,20 +36,24 @@ pub fn put_hex(n: u64, digits: usize) {
         bits::byte(n, 1),
         bits::byte(n, 0),
     ];
-    let mut digit = [0u8; 16];
-    text::put_hex(&mut digit, 0, &b, true);
-    if digits <= 16 {
-        let from = 16 - digits;
-        say(&digit[from..16]);
-    }
+    let mut all = [0u8; 16];
+    text::put_hex(&mut all, 0, &b, true);
+    let from = 16 - digits;
+    put(out, at, &all[from..16])
 }
 
-pub fn say_hex(name: &[u8], n: u64, digits: usize) {
-    say(name);
-    put_hex(n, digits);
-    say(b"h\n");
+// A name, a number in hex with its `h`, and the line's end.
+pub fn put_hex(out: &mut [u8], at: usize, name: &[u8], n: u64, digits: usize) -> usize
+    requires { ⌜ digits ≤ 16 ⌝ }
+    ensures { λ r. ⌜ Wrote (hexLine (now (name .entry)) digits n) at (now (out .entry)) r (now (out .exit)) ⌝ }
+{
+    let a = put(out, at, name);
+    let b = put_upper(out, a, n, digits);
+    put(out, b, b"h\n")
 }
 
-pub fn say_refusal(n: u8) {
-    say_number(b"refused ", n as u64);
+pub fn put_refusal(out: &mut [u8], at: usize, n: u8) -> usize
+    ensures { λ r. ⌜ Wrote (refusalLine n) at (now (out .entry)) r (now (out .exit)) ⌝ }
+{
+    put_number(out, at, b"refused ", n as u64)
 }

@@ -1,0 +1,70 @@
+use mathlib.Core.Path.{_≡_, refl}
+use Prim.Native.Nat.{_-_, _≤_}
+use native.Mathlib.Omega.{arith}
+use lib.ListN.{length, drop}
+use denote.Ref.{now}
+use Rattle.text.specs.Sheet.{sheet, written}
+use Rattle.pages.specs.Rows.{ids}
+use Rattle.read_page.specs.Lines.{counterLines}
+use Rattle.read_page.proofs.Telling.{lines-turn, lines-end}
+use borrow.Author.Needs.{needs}
+use Rattle.read_page.proofs.counters.put_all.Statement.{statement}
+use Rattle.read_page.proofs.counters.put_all.Tie as tie
+use Rattle.read_page.proofs.counters.put_all.Reads as reads
+use Rattle.read_page.proofs.counters.put_all.Lts as lts
+use Rattle.pages.proofs.id_of.Reads as id-of-reads
+use Rattle.read_page.proofs.counters.put_counter.Reads as put-counter-reads
+
+abbrev Inv-loop : tie.InvT-loop
+Inv-loop out₀ page end₀ row₀ out end row =
+    (row ≤ 16) × (length out ≡ length out₀) × (written (counterLines page (drop row ids)) (sheet end out) ≡ written (counterLines page ids) (sheet 0 out₀))
+
+abbrev μ-loop : tie.MeasureT-loop
+μ-loop out₀ page end₀ row₀ out end row = 16 - row
+
+-- src/counters.rt:79:5
+loop-holds : tie.Need-loop-holds Inv-loop μ-loop
+loop-holds c = (omega arith, refl, refl)
+
+-- src/counters.rt:80:43
+id-of-requires : tie.Need-id-of-requires Inv-loop μ-loop
+id-of-requires c κs = search needs
+
+-- src/counters.rt:80:9
+put-counter-requires : tie.Need-put-counter-requires Inv-loop μ-loop
+put-counter-requires c κs = search needs
+
+-- src/counters.rt:81:9
+add-row : tie.Need-add-row Inv-loop μ-loop
+add-row c = search needs
+
+-- src/counters.rt:79:5
+loop-less : tie.Need-loop-less Inv-loop μ-loop
+loop-less c = search needs
+
+-- src/counters.rt:79:5
+loop-again : tie.Need-loop-again Inv-loop μ-loop
+loop-again c = (omega arith, search needs, lines-turn (now (c .before .before .before .before .before .before .before .before .before .args .page)) (c .before .before .before .before .before .before .loop .row) _ _ _ _ (c .before .before .before .before .before .loop-test .taken) (c .before .before .before .id-of .ensures) (c .before .before .before .before .before .before .loop .inv .2) (c .before .before .put-counter .ensures))
+
+-- src/counters.rt:74:1
+same-length : tie.Need-same-length Inv-loop μ-loop
+same-length c = search needs
+
+-- src/counters.rt:74:1
+returns : tie.Need-returns Inv-loop μ-loop
+returns c = lines-end (now (c .before .before .before .before .args .page)) (c .before .loop .row) _ _ (omega arith) (c .before .loop .inv .2)
+
+pub put-all-spec : {M : Type 1} → statement M
+put-all-spec =
+    tie.close
+    (tie.spec
+    Inv-loop
+    μ-loop
+    loop-holds
+    id-of-requires
+    put-counter-requires
+    add-row
+    loop-less
+    loop-again
+    same-length
+    returns)

@@ -1,0 +1,52 @@
+use mathlib.Core.List.{[], _∷_}
+use denote.Ref.{now}
+use Rattle.text.proofs.Writing.{wrote-both}
+use Rattle.pages.specs.Page11.{readCounter}
+use Rattle.read_page.specs.Lines.{upper, answerLine, counterLine}
+use borrow.Author.Needs.{needs}
+use Rattle.read_page.proofs.counters.put_counter.Statement.{statement}
+use Rattle.read_page.proofs.counters.put_counter.Tie as tie
+use Rattle.read_page.proofs.counters.put_counter.Reads as reads
+use Rattle.read_page.proofs.counters.put_counter.Lts as lts
+use Rattle.read_page.proofs.counters.put_answer.Reads as put-answer-reads
+use Rattle.read_page.proofs.words.put_upper.Reads as put-upper-reads
+use Rattle.text.proofs.put.Reads as put-reads
+
+-- src/counters.rt:69:9
+put-upper-requires : tie.Need-put-upper-requires
+put-upper-requires c κs = search needs
+
+-- src/counters.rt:70:25
+slice-aggregate-put : tie.Need-slice-aggregate-put
+slice-aggregate-put c = search needs
+
+-- src/counters.rt:70:9
+put-requires : tie.Need-put-requires
+put-requires c κs = search needs
+
+-- src/counters.rt:71:5
+put-answer-requires : tie.Need-put-answer-requires
+put-answer-requires c κs = search needs
+
+-- src/counters.rt:66:1
+same-length : tie.Need-same-length
+same-length c = search needs
+
+-- src/counters.rt:66:1
+returns : tie.Need-returns
+unfolding counterLine
+returns c =
+    let a = c .before .before .before .before .before .before .before .before .before .before .before .before .before .before .before .args in
+    let t = answerLine (now (a .page)) (a .number) (readCounter (now (a .page)) (a .number)) in
+    wrote-both (upper 3 (a .number)) (104 ∷ 32 ∷ t) _ _ _ (c .before .before .before .before .before .before .before .before .before .before .before .put-upper .ensures) (wrote-both (104 ∷ 32 ∷ []) t _ _ _ (c .before .before .before .before .before .before .put .ensures) (c .before .before .put-answer .ensures))
+
+pub put-counter-spec : {M : Type 1} → statement M
+put-counter-spec =
+    tie.close
+    (tie.spec
+    put-upper-requires
+    slice-aggregate-put
+    put-requires
+    put-answer-requires
+    same-length
+    returns)

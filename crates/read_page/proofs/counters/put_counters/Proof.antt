@@ -1,0 +1,29 @@
+use denote.Ref.{now}
+use Rattle.text.proofs.Writing.{fronted}
+use Rattle.read_page.specs.Lines.{countersText}
+use borrow.Author.Needs.{needs}
+use Rattle.read_page.proofs.counters.put_counters.Statement.{statement}
+use Rattle.read_page.proofs.counters.put_counters.Tie as tie
+use Rattle.read_page.proofs.counters.put_counters.Reads as reads
+use Rattle.read_page.proofs.counters.put_counters.Lts as lts
+use Rattle.read_page.proofs.counters.put_read.Reads as put-read-reads
+use Rattle.text.proofs.whole.Reads as whole-reads
+
+-- src/counters.rt:101:9
+put-read-requires : tie.Need-put-read-requires
+put-read-requires c κs = search needs
+
+-- src/counters.rt:102:5
+whole-requires : tie.Need-whole-requires
+whole-requires c κs = search needs
+
+-- src/counters.rt:98:1
+same-length : tie.Need-same-length
+same-length c = search needs
+
+-- src/counters.rt:98:1
+returns : tie.Need-returns
+returns c = fronted (countersText (now (c .before .before .before .before .before .before .before .args .page))) _ _ _ _ (c .before .before .before .put-read .ensures) (c .whole .ensures)
+
+pub put-counters-spec : {M : Type 1} → statement M
+put-counters-spec = tie.close (tie.spec put-read-requires whole-requires same-length returns)

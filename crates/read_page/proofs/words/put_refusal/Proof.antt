@@ -1,0 +1,28 @@
+use Rattle.read_page.specs.Lines.{refusalLine}
+use borrow.Author.Needs.{needs}
+use Rattle.read_page.proofs.words.put_refusal.Statement.{statement}
+use Rattle.read_page.proofs.words.put_refusal.Tie as tie
+use Rattle.read_page.proofs.words.put_refusal.Reads as reads
+use Rattle.read_page.proofs.words.put_refusal.Lts as lts
+use Rattle.read_page.proofs.words.put_number.Reads as put-number-reads
+
+-- src/words.rt:58:25
+slice-aggregate-put-number : tie.Need-slice-aggregate-put-number
+slice-aggregate-put-number c = search needs
+
+-- src/words.rt:58:5
+put-number-requires : tie.Need-put-number-requires
+put-number-requires c κs = search needs
+
+-- src/words.rt:55:1
+same-length : tie.Need-same-length
+same-length c = search needs
+
+-- src/words.rt:55:1
+returns : tie.Need-returns
+unfolding refusalLine
+returns c = c .before .before .put-number .ensures
+
+pub put-refusal-spec : {M : Type 1} → statement M
+put-refusal-spec =
+    tie.close (tie.spec slice-aggregate-put-number put-number-requires same-length returns)
