@@ -1,4 +1,4 @@
--- What a line and an event take of their buffers. Assumes nothing.
+-- What an event takes of its buffer. Assumes nothing.
 use mathlib.Core.Path.{_≡_, sym, _∙_}
 use mathlib.Core.Bool.{Bool}
 use mathlib.Core.List.{List}
@@ -9,19 +9,11 @@ use lib.ListN.{length, getD, take, drop, length-take, length-drop}
 use borrow.Author.Tests.{leb-true}
 use Rattle.bits.specs.Pick.{pick}
 use Rattle.bits.proofs.Picks.{by-test}
-use Rattle.text.specs.Sheet.{Fronted}
 use Rattle.events.specs.Kinds.{nextOf, misplaced, wholeOf, bodyLength}
 use Rattle.events.specs.declared.kinds.Length.{Length}
 use Rattle.events.specs.declared.kinds.Length.the-variants.{Bytes, Unknown}
 use Rattle.events.specs.declared.kinds.Next.{Next}
 use Rattle.events.specs.declared.kinds.Next.the-variants.{Event, Stop, End}
-
--- a line ends within its buffer
-pub line-fits : (s b : List ℕ) (r : ℕ) (b′ : List ℕ) → Fronted s b r b′ → r ≤ length b
-line-fits s b r b′ p =
-    let most : pick (leb (length s) (length b)) (length s) 0 ≤ length b =
-    by-test (λ (n : ℕ). n ≤ length b) (leb (length s) (length b)) (length s) 0 (λ h. leb-true _ _ h) (λ h. omega arith) in
-    let e = p .len in omega arith
 
 -- an event that is ahead is there
 Ahead : ℕ → Next → Type 0

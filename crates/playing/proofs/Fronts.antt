@@ -1,5 +1,5 @@
 -- What stands in front of a buffer after a copy or a read. Assumes nothing.
-use mathlib.Core.Path.{_≡_, refl, sym, ap, _∙_}
+use mathlib.Core.Path.{_≡_, refl, sym, ap, subst, _∙_}
 use mathlib.Core.List.{List}
 use Prim.Native.Nat.{ℕ, _-_, _≤_}
 use native.Mathlib.Omega.{arith}
@@ -8,7 +8,7 @@ use lib.Seq.{take-append-seam, take-take}
 use borrow.Author.Tests.{le-leb}
 use Rattle.bits.specs.Laid.{laid, over}
 use Rattle.bits.proofs.Picks.{pick-yes}
-use Rattle.playing.specs.Bounds.{Within, Behind, Refilled}
+use Rattle.playing.specs.Bounds.{Within, inside, Behind, Refilled}
 use Rattle.playing.specs.declared.input.Window.{Window}
 
 -- n bytes that were laid over the front of a buffer which has room for them
@@ -46,3 +46,11 @@ refilled w l m w′ l′ s f p = record {
 -- a window that stays as it is
 pub refilled-none : (w : Window) (l : List ℕ) → Within w (length l) → Refilled w l w l
 refilled-none w l p = record { within = p; same = refl; grown = omega arith; kept = refl }
+
+-- the places of a window within n bytes
+pub inside-within : (w : Window) (n : ℕ) (r : Window) → r ≡ inside w n → Within r n
+inside-within w n r e = subst (λ (x : Window). Within x n) (sym e) (record { order = omega arith; bound = omega arith })
+
+-- what holds of such a window
+pub refilled-inside : (w : Window) (n : ℕ) (r : Window) (l : List ℕ) (w′ : Window) (l′ : List ℕ) → r ≡ inside w n → Refilled r l w′ l′ → Refilled (inside w n) l w′ l′
+refilled-inside w n r l w′ l′ e p = subst (λ (x : Window). Refilled x l w′ l′) e p

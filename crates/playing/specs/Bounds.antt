@@ -1,7 +1,7 @@
 -- Where the places of a run lie in its buffers, and that what was read and not yet played is kept. Assumes nothing.
 use mathlib.Core.Path.{_≡_}
 use mathlib.Core.List.{List}
-use Prim.Native.Nat.{ℕ, _-_, _≤_}
+use Prim.Native.Nat.{ℕ, _-_, _≤_, min}
 use lib.ListN.{length, take, drop}
 use Rattle.playing.specs.declared.input.Window.{Window}
 
@@ -9,6 +9,10 @@ use Rattle.playing.specs.declared.input.Window.{Window}
 pub record Within (w : Window) (n : ℕ) : Type 0 where
   pub order : w .at ≤ w .end
   pub bound : w .end ≤ n
+
+-- a window's places within n bytes: as they are, if they lie there
+abbrev pub inside : Window → ℕ → Window
+inside w n = record { at = min (w .at) (min (w .end) n); end = min (w .end) n; ended = w .ended; failed = w .failed }
 
 -- a window at the front of the buffer l′, whose first k bytes are those of l
 pub record Behind (k : ℕ) (l : List ℕ) (w′ : Window) (l′ : List ℕ) : Type 0 where

@@ -1,8 +1,8 @@
 // Input in large pieces: of the buffer's bytes those from `at` to `end` were read and are not yet played.
 ghost use mathlib.Core.Path.{_≡_};
-ghost use Prim.Native.Nat.{_-_, _≤_};
+ghost use Prim.Native.Nat.{_-_, _≤_, min};
 ghost use lib.ListN.{length, take, drop};
-ghost use Rattle.playing.specs.Bounds.{Within, Behind, Refilled};
+ghost use Rattle.playing.specs.Bounds.{inside, Behind, Refilled};
 
 // The most bytes that an event has: a frame of 27h.
 const LONGEST: usize = 20;
@@ -16,7 +16,7 @@ pub struct Window {
 }
 
 pub fn least(a: usize, b: usize) -> usize
-    ensures { λ r. ⌜ (r ≤ a) × (r ≤ b) ⌝ }
+    ensures { λ r. ⌜ r ≡ min a b ⌝ }
 {
     if a < b { a } else { b }
 }
@@ -81,19 +81,33 @@ fn read_event(fd: i32, input: &mut [u8], kept: usize) -> Window
     window
 }
 
+// A window's places in a buffer of n bytes. Those of a run always lie there; so no caller is asked to see to it.
+fn inside_of(last: Window, n: usize) -> Window
+    ensures { λ r. ⌜ r ≡ inside last n ⌝ }
+{
+    let end = least(last.end, n);
+    let at = least(last.at, end);
+    Window {
+        at,
+        end,
+        ended: last.ended,
+        failed: last.failed,
+    }
+}
+
 // The same window where it has a whole event, or else another, with what was left and what is read behind it.
 pub fn refill(fd: i32, input: &mut [u8], last: Window) -> Window
-    requires { ⌜ Within last (length (now input)) ⌝ }
-    ensures { λ r. ⌜ Refilled last (now (input .entry)) r (now (input .exit)) ⌝ }
+    ensures { λ r. ⌜ Refilled (inside last (length (now (input .entry)))) (now (input .entry)) r (now (input .exit)) ⌝ }
 {
-    let at = last.at;
-    let end = last.end;
+    let window = inside_of(last, input.len());
+    let at = window.at;
+    let end = window.end;
     let kept = end - at;
-    if last.ended {
-        return last;
+    if window.ended {
+        return window;
     }
     if LONGEST <= kept {
-        return last;
+        return window;
     }
     move_to_front(input, at, end);
     read_event(fd, input, kept)

@@ -1,6 +1,9 @@
 // Output in large pieces: the buffer's first bytes are lines that are not yet written.
-ghost use Prim.Native.Nat.{_-_, _≤_};
+ghost use mathlib.Core.Path.{_≡_};
+ghost use Prim.Native.Nat.{_+_, _-_, _≤_, min};
+ghost use lib.Dec.{eqb};
 ghost use lib.ListN.{length};
+ghost use Rattle.bits.specs.Pick.{pick};
 use crate::input::least;
 use libc::STDERR_FILENO;
 use libc::STDOUT_FILENO;
@@ -31,13 +34,13 @@ pub fn next_place(output: &[u8], filled: usize) -> Place
 
 // The place behind a line of n bytes. One that no buffer holds is cut, and n is 0: its front is kept, so that it is not lost without a trace.
 pub fn behind(from: usize, n: usize, size: usize) -> usize
-    requires { ⌜ from ≤ size ⌝ }
-    requires { ⌜ n ≤ size - from ⌝ }
+    ensures { λ r. ⌜ r ≡ pick (eqb n 0) size (min from size + min n (size - min from size)) ⌝ }
 {
     if n == 0 {
         return size;
     }
-    from + n
+    let at = least(from, size);
+    at + least(n, size - at)
 }
 
 // Lines that are missing are no good news: a run whose output fails says so where it still can, and ends.

@@ -1,6 +1,8 @@
 // The run: a settings record, and then one event after the other.
+ghost use mathlib.Core.Path.{_≡_};
 ghost use Prim.Native.Nat.{_≤_};
 ghost use lib.ListN.{length};
+ghost use Rattle.events.specs.Told.{eventStep};
 ghost use Rattle.playing.specs.Bounds.{Within};
 use crate::input::Window;
 use crate::input::refill;
@@ -18,7 +20,7 @@ struct Step {
     filled: usize,
 }
 
-// One event, its line put at a place of the output buffer.
+// One event, its line put at a place of the output buffer: the state that goes on is the one that the event left.
 fn one(
     state: Device,
     traced: bool,
@@ -30,6 +32,7 @@ fn one(
     from: usize,
 ) -> Step
     requires { ⌜ from ≤ length (now output) ⌝ }
+    ensures { λ r. ⌜ r .state ≡ eventStep state (now (event .entry)) (now (medium .entry)) (length (now (reply .entry))) .state ⌝ }
 {
     let size = output.len();
     let told = events::play_line(

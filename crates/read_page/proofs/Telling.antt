@@ -2,7 +2,7 @@
 use mathlib.Core.Path.{_≡_, refl, sym, ap, _∙_}
 use mathlib.Core.Bool.{true}
 use mathlib.Core.List.{List, [], _∷_, _++_, append-nil}
-use Prim.Native.Nat.{ℕ, _+_, _-_, _<_, _≤_}
+use Prim.Native.Nat.{ℕ, _+_, _-_, _<_}
 use native.Mathlib.Numerals.{add-one}
 use native.Mathlib.Omega.{arith}
 use lib.Dec.{eqb}
@@ -30,9 +30,9 @@ abbrev sixteen : ℕ → List ℕ
 sixteen n = hex true (byteOf n 7 ∷ byteOf n 6 ∷ byteOf n 5 ∷ byteOf n 4 ∷ byteOf n 3 ∷ byteOf n 2 ∷ byteOf n 1 ∷ byteOf n 0 ∷ [])
 
 -- the last digits, cut out of a buffer of sixteen that all were written to
-pub last-digits : (digits n : ℕ) (b b′ : List ℕ) (r : ℕ) → digits ≤ 16 → length b ≡ 16 → Wrote (sixteen n) 0 b r b′ → take (16 - (16 - digits)) (drop (16 - digits) b′) ≡ upper digits n
+pub last-digits : (digits n : ℕ) (b b′ : List ℕ) (r : ℕ) → length b ≡ 16 → Wrote (sixteen n) 0 b r b′ → take (16 - (16 - digits)) (drop (16 - digits) b′) ≡ upper digits n
 unfolding upper hex
-last-digits digits n b b′ r h l p =
+last-digits digits n b b′ r l p =
     let e : b′ ≡ sixteen n = filled (sixteen n) b b′ r (sym l) p in
     take-all (16 - (16 - digits)) (drop (16 - digits) b′) (omega (arith, length-drop (16 - digits) b′, ap length e)) ∙ ap (drop (16 - digits)) e
 

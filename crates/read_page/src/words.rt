@@ -1,5 +1,6 @@
 // Words and numbers in a text. As with `text`, each writer is handed the place and answers the place behind.
-ghost use Prim.Native.Nat.{_≤_};
+ghost use mathlib.Core.Path.{_≡_};
+ghost use Prim.Native.Nat.{_-_};
 ghost use Rattle.text.specs.Sheet.{Wrote};
 ghost use Rattle.read_page.specs.Lines.{upper, numberLine, hexLine, refusalLine};
 use text::put;
@@ -21,9 +22,15 @@ pub fn put_number(out: &mut [u8], at: usize, name: &[u8], n: u64) -> usize
     put_byte(out, b, b'\n')
 }
 
+// How many of sixteen digits are left out where so many are to be seen; more than sixteen there are not.
+fn left_out(digits: usize) -> usize
+    ensures { λ r. ⌜ r ≡ 16 - digits ⌝ }
+{
+    if digits < 16 { 16 - digits } else { 0 }
+}
+
 // The last `digits` of the sixteen upper-case hex digits of a number.
 pub fn put_upper(out: &mut [u8], at: usize, n: u64, digits: usize) -> usize
-    requires { ⌜ digits ≤ 16 ⌝ }
     ensures { λ r. ⌜ Wrote (upper digits n) at (now (out .entry)) r (now (out .exit)) ⌝ }
 {
     let b = [
@@ -38,13 +45,12 @@ pub fn put_upper(out: &mut [u8], at: usize, n: u64, digits: usize) -> usize
     ];
     let mut all = [0u8; 16];
     text::put_hex(&mut all, 0, &b, true);
-    let from = 16 - digits;
+    let from = left_out(digits);
     put(out, at, &all[from..16])
 }
 
 // A name, a number in hex with its `h`, and the line's end.
 pub fn put_hex(out: &mut [u8], at: usize, name: &[u8], n: u64, digits: usize) -> usize
-    requires { ⌜ digits ≤ 16 ⌝ }
     ensures { λ r. ⌜ Wrote (hexLine (now (name .entry)) digits n) at (now (out .entry)) r (now (out .exit)) ⌝ }
 {
     let a = put(out, at, name);

@@ -1,46 +1,54 @@
 use mathlib.Core.Path.{sym}
 use native.Mathlib.Omega.{arith}
-use Rattle.playing.proofs.Fronts.{refilled}
+use Rattle.playing.proofs.Fronts.{inside-within, refilled, refilled-none, refilled-inside}
 use borrow.Author.Needs.{needs}
 use Rattle.playing.proofs.input.refill.Statement.{statement}
 use Rattle.playing.proofs.input.refill.Tie as tie
 use Rattle.playing.proofs.input.refill.Reads as reads
 use Rattle.playing.proofs.input.refill.Lts as lts
+use Rattle.playing.proofs.input.inside_of.Reads as inside-of-reads
 use Rattle.playing.proofs.input.move_to_front.Reads as move-to-front-reads
 use Rattle.playing.proofs.input.read_event.Reads as read-event-reads
 
--- src/input.rt:91:16
+-- src/input.rt:102:9
+inside-of-requires : tie.Need-inside-of-requires
+inside-of-requires c κs = search needs
+
+-- src/input.rt:105:16
 sub-kept : tie.Need-sub-kept
-sub-kept c = search needs
+sub-kept c = let w = inside-within (c .before .before .args .last) _ _ (c .inside-of .ensures) in omega (arith, w .order)
 
--- src/input.rt:93:9
+-- src/input.rt:107:9
 returns : tie.Need-returns
-returns c = search needs
+returns c = refilled-inside (c .before .before .before .args .last) _ _ _ _ _ (c .before .inside-of .ensures) (refilled-none (c .before .inside-of .result) _ (inside-within (c .before .before .before .args .last) _ _ (c .before .inside-of .ensures)))
 
--- src/input.rt:96:9
+-- src/input.rt:110:9
 returns-2 : tie.Need-returns-2
-returns-2 c = search needs
+returns-2 c = refilled-inside (c .before .before .before .before .args .last) _ _ _ _ _ (c .before .before .inside-of .ensures) (refilled-none (c .before .before .inside-of .result) _ (inside-within (c .before .before .before .before .args .last) _ _ (c .before .before .inside-of .ensures)))
 
--- src/input.rt:98:5
+-- src/input.rt:112:5
 move-to-front-requires : tie.Need-move-to-front-requires
-move-to-front-requires c κs = (search needs, (search needs, omega arith))
+move-to-front-requires c κs = let w = inside-within (c .before .before .before .before .before .args .last) _ _ (c .before .before .before .inside-of .ensures) in (w .order, (w .bound, omega arith))
 
--- src/input.rt:99:5
+-- src/input.rt:113:5
 read-event-requires : tie.Need-read-event-requires
-read-event-requires c κs = search needs
+read-event-requires c κs = let w = inside-within (c .before .before .before .before .before .before .before .before .before .args .last) _ _ (c .before .before .before .before .before .before .before .inside-of .ensures) in omega (arith, w .order, w .bound, c .before .before .before .move-to-front .kept .0)
 
--- src/input.rt:85:1
+-- src/input.rt:99:1
 same-length : tie.Need-same-length
 same-length c = search needs
 
--- src/input.rt:85:1
+-- src/input.rt:99:1
 returns-3 : tie.Need-returns-3
-returns-3 c = refilled (c .before .before .before .before .before .before .before .before .before .before .before .args .last) _ _ _ _ (sym (c .before .before .before .before .before .before .move-to-front .kept .0)) (c .before .before .before .before .before .before .move-to-front .ensures) (c .before .before .read-event .ensures)
+returns-3 c =
+    refilled-inside (c .before .before .before .before .before .before .before .before .before .before .before .before .args .last) _ _ _ _ _ (c .before .before .before .before .before .before .before .before .before .before .inside-of .ensures)
+    (refilled (c .before .before .before .before .before .before .before .before .before .before .inside-of .result) _ _ _ _ (sym (c .before .before .before .before .before .before .move-to-front .kept .0)) (c .before .before .before .before .before .before .move-to-front .ensures) (c .before .before .read-event .ensures))
 
 pub refill-spec : {M : Type 1} → statement M
 refill-spec =
     tie.close
     (tie.spec
+    inside-of-requires
     sub-kept
     returns
     returns-2

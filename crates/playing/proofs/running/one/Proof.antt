@@ -1,8 +1,3 @@
-use denote.Ref.{now}
-use Prim.Native.Nat.{_-_}
-use native.Mathlib.Omega.{arith}
-use lib.ListN.{length, drop, length-take, length-drop}
-use Rattle.playing.proofs.Fits.{line-fits}
 use borrow.Author.Needs.{needs}
 use Rattle.playing.proofs.running.one.Statement.{statement}
 use Rattle.playing.proofs.running.one.Tie as tie
@@ -29,12 +24,7 @@ play-line-requires c κs = search needs
 
 -- src/running.rt:46:9
 behind-requires : tie.Need-behind-requires
-behind-requires c κs = (
-  search needs,
-  let l = now (c .before .before .before .before .before .before .before .before .before .before .before .before .before .before .before .args .output) in
-      let from = c .before .before .before .before .before .before .before .before .before .before .before .before .before .before .before .args .from in
-      omega (arith, line-fits _ _ _ _ (c .before .before .before .before .before .before .before .play-line .ensures .tells .line), length-take (length l - from) (drop from l), length-drop from l),
-)
+behind-requires c κs = search needs
 
 -- src/running.rt:22:1
 same-length : tie.Need-same-length

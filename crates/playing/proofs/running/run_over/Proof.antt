@@ -1,6 +1,6 @@
 use mathlib.Core.Path.{_∙_}
 use native.Mathlib.Omega.{arith}
-use Rattle.playing.proofs.Fits.{line-fits, part-fits}
+use Rattle.playing.proofs.Fits.{part-fits}
 use borrow.Author.Needs.{needs}
 use Rattle.playing.proofs.running.run_over.Statement.{statement}
 use Rattle.playing.proofs.running.run_over.Tie as tie
@@ -82,7 +82,7 @@ start-line-requires c κs = search needs
 
 -- src/running.rt:136:9
 behind-requires : tie.Need-behind-requires
-behind-requires c κs = (search needs, omega (arith, line-fits _ _ _ _ (c .before .before .start-line .ensures .line)))
+behind-requires c κs = search needs
 
 -- src/running.rt:140:9
 close-requires-2 : tie.Need-close-requires-2

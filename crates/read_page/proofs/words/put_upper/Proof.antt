@@ -1,8 +1,7 @@
-use Prim.Native.Nat.{ℕ}
-use native.Mathlib.Omega.{arith}
 use mathlib.Core.Path.{ap, _∙_}
-use denote.Ref.{now}
 use mathlib.Core.List.{List}
+use Prim.Native.Nat.{ℕ}
+use denote.Ref.{now}
 use Rattle.text.specs.Sheet.{sheet, written}
 use Rattle.read_page.proofs.Telling.{last-digits}
 use borrow.Author.Needs.{needs}
@@ -11,83 +10,85 @@ use Rattle.read_page.proofs.words.put_upper.Tie as tie
 use Rattle.read_page.proofs.words.put_upper.Reads as reads
 use Rattle.read_page.proofs.words.put_upper.Lts as lts
 use Rattle.bits.proofs.byte.Reads as byte-reads
+use Rattle.read_page.proofs.words.left_out.Reads as left-out-reads
 use Rattle.text.proofs.put_hex.Reads as put-hex-reads
 use Rattle.text.proofs.put.Reads as put-reads
 
--- src/words.rt:30:9
+-- src/words.rt:37:9
 byte-requires : tie.Need-byte-requires
 byte-requires c κs = search needs
 
--- src/words.rt:31:9
+-- src/words.rt:38:9
 byte-requires-2 : tie.Need-byte-requires-2
 byte-requires-2 c κs = search needs
 
--- src/words.rt:32:9
+-- src/words.rt:39:9
 byte-requires-3 : tie.Need-byte-requires-3
 byte-requires-3 c κs = search needs
 
--- src/words.rt:33:9
+-- src/words.rt:40:9
 byte-requires-4 : tie.Need-byte-requires-4
 byte-requires-4 c κs = search needs
 
--- src/words.rt:34:9
+-- src/words.rt:41:9
 byte-requires-5 : tie.Need-byte-requires-5
 byte-requires-5 c κs = search needs
 
--- src/words.rt:35:9
+-- src/words.rt:42:9
 byte-requires-6 : tie.Need-byte-requires-6
 byte-requires-6 c κs = search needs
 
--- src/words.rt:36:9
+-- src/words.rt:43:9
 byte-requires-7 : tie.Need-byte-requires-7
 byte-requires-7 c κs = search needs
 
--- src/words.rt:37:9
+-- src/words.rt:44:9
 byte-requires-8 : tie.Need-byte-requires-8
 byte-requires-8 c κs = search needs
 
--- src/words.rt:40:19
+-- src/words.rt:47:19
 slice-aggregate-put-hex : tie.Need-slice-aggregate-put-hex
 slice-aggregate-put-hex c = search needs
 
--- src/words.rt:40:32
+-- src/words.rt:47:32
 slice-aggregate-put-hex-2 : tie.Need-slice-aggregate-put-hex-2
 slice-aggregate-put-hex-2 c = search needs
 
--- src/words.rt:40:5
+-- src/words.rt:47:5
 put-hex-requires : tie.Need-put-hex-requires
 put-hex-requires c κs = search needs
 
--- src/words.rt:41:16
-sub-from : tie.Need-sub-from
-sub-from c = search needs
+-- src/words.rt:48:9
+left-out-requires : tie.Need-left-out-requires
+left-out-requires c κs = search needs
 
--- src/words.rt:42:18
+-- src/words.rt:49:18
 sub-put : tie.Need-sub-put
 sub-put c = search needs
 
--- src/words.rt:42:18
+-- src/words.rt:49:18
 part-put-start : tie.Need-part-put-start
 part-put-start c = search needs
 
--- src/words.rt:42:18
+-- src/words.rt:49:18
 part-put-end : tie.Need-part-put-end
 part-put-end c = search needs
 
--- src/words.rt:42:5
+-- src/words.rt:49:5
 put-requires : tie.Need-put-requires
 put-requires c κs = search needs
 
--- src/words.rt:25:1
+-- src/words.rt:33:1
 same-length : tie.Need-same-length
 same-length c = search needs
 
--- src/words.rt:25:1
+-- src/words.rt:33:1
 returns : tie.Need-returns
 returns c =
-    let a = c .before .before .before .before .before .before .before .before .before .before .before .before .before .before .before .before .before .before .before .args in
-    let p = rw (c .before .before .before .before .before .before .before .before .before .before .before .before .before .before .before .before .before .byte .ensures, c .before .before .before .before .before .before .before .before .before .before .before .before .before .before .before .before .byte2 .ensures, c .before .before .before .before .before .before .before .before .before .before .before .before .before .before .before .byte3 .ensures, c .before .before .before .before .before .before .before .before .before .before .before .before .before .before .byte4 .ensures, c .before .before .before .before .before .before .before .before .before .before .before .before .before .byte5 .ensures, c .before .before .before .before .before .before .before .before .before .before .before .before .byte6 .ensures, c .before .before .before .before .before .before .before .before .before .before .before .byte7 .ensures, c .before .before .before .before .before .before .before .before .before .before .byte8 .ensures) at (c .before .before .before .before .before .before .before .put-hex .ensures) in
-    c .before .before .put .ensures ∙ ap (λ (t : List ℕ). written t (sheet (a .at) (now (a .out)))) (last-digits (a .digits) (a .n) _ _ _ (omega arith) (search needs) p)
+    let a = c .before .before .before .before .before .before .before .before .before .before .before .before .before .before .before .before .before .before .before .before .args in
+    let p = rw (c .before .before .before .before .before .before .before .before .before .before .before .before .before .before .before .before .before .before .byte .ensures, c .before .before .before .before .before .before .before .before .before .before .before .before .before .before .before .before .before .byte2 .ensures, c .before .before .before .before .before .before .before .before .before .before .before .before .before .before .before .before .byte3 .ensures, c .before .before .before .before .before .before .before .before .before .before .before .before .before .before .before .byte4 .ensures, c .before .before .before .before .before .before .before .before .before .before .before .before .before .before .byte5 .ensures, c .before .before .before .before .before .before .before .before .before .before .before .before .before .byte6 .ensures, c .before .before .before .before .before .before .before .before .before .before .before .before .byte7 .ensures, c .before .before .before .before .before .before .before .before .before .before .before .byte8 .ensures) at (c .before .before .before .before .before .before .before .before .put-hex .ensures) in
+    let f = c .before .before .before .before .before .before .left-out .ensures in
+    c .before .before .put .ensures ∙ ap (λ (t : List ℕ). written t (sheet (a .at) (now (a .out)))) (rw f (last-digits (a .digits) (a .n) _ _ _ (search needs) p))
 
 pub put-upper-spec : {M : Type 1} → statement M
 put-upper-spec =
@@ -104,7 +105,7 @@ put-upper-spec =
     slice-aggregate-put-hex
     slice-aggregate-put-hex-2
     put-hex-requires
-    sub-from
+    left-out-requires
     sub-put
     part-put-start
     part-put-end

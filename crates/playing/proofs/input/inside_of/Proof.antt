@@ -1,0 +1,25 @@
+use mathlib.Core.Path.{ap, ap₂, _∙_}
+use Prim.Native.Nat.{ℕ, min}
+use borrow.Author.Needs.{needs}
+use Rattle.playing.proofs.input.inside_of.Statement.{statement}
+use Rattle.playing.proofs.input.inside_of.Tie as tie
+use Rattle.playing.proofs.input.inside_of.Reads as reads
+use Rattle.playing.proofs.input.inside_of.Lts as lts
+use Rattle.playing.proofs.input.least.Reads as least-reads
+
+-- src/input.rt:88:9
+least-requires : tie.Need-least-requires
+least-requires c κs = search needs
+
+-- src/input.rt:89:9
+least-requires-2 : tie.Need-least-requires-2
+least-requires-2 c κs = search needs
+
+-- src/input.rt:85:1
+returns : tie.Need-returns
+returns c =
+    let w = c .before .before .args .last in
+    ap₂ (λ (a e : ℕ). record { at = a; end = e; ended = w .ended; failed = w .failed }) (c .least2 .ensures ∙ ap (min (w .at)) (c .before .least .ensures)) (c .before .least .ensures)
+
+pub inside-of-spec : {M : Type 1} → statement M
+inside-of-spec = tie.close (tie.spec least-requires least-requires-2 returns)
