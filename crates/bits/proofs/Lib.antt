@@ -4,4 +4,5 @@ pub mod Picks
 pub mod Firsts
 pub mod Littles
 pub mod Fronts
-pub mod Unique
+pub mod Tying
+pub mod Tied

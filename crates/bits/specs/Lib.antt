@@ -2,5 +2,6 @@ pub mod Pick
 pub mod First
 pub mod Told
 pub mod Bit
+pub mod Contract
 pub mod Little
 pub mod Laid

@@ -18,7 +18,7 @@ pub mod Doing
 pub mod Exactly
 pub mod Refusals
 pub mod Counting
-pub mod Unique
+pub mod Tied
 pub mod Examples
 pub mod Fitting
 pub mod Sending

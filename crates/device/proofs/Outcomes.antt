@@ -3,7 +3,10 @@ use mathlib.Core.Path.{_≡_}
 use mathlib.Core.Bool.{true, false, not}
 use Prim.Native.Nat.{ℕ}
 use lib.Dec.{eqb}
+use mathlib.Core.List.{List}
 use Rattle.bits.specs.Pick.{pick}
+use Rattle.bits.proofs.Tying.{same}
+use Rattle.device.specs.Step.{Step, Answered}
 use borrow.Author.Tests.{not-true, not-false}
 use Rattle.device.specs.declared.state.Device.{Device}
 use Rattle.device.specs.declared.state.Outcome.{Outcome}
@@ -19,3 +22,10 @@ refused n m r old new e s t = rw (← e, not-true (eqb n 0) t, s)
 pub taken : (n m : ℕ) (r old new : Device) → n ≡ m → r ≡ new → not (eqb n 0) ≡ false → _≡_ {A = Outcome} (record { state = r; refusal = n; len = 0 }) (outcome m old new)
 unfolding pick
 taken n m r old new e s t = rw (← e, not-false (eqb n 0) t, s)
+
+same-outcome : {d d′ : Device} {n n′ l l′ : ℕ} → d ≡ d′ → n ≡ n′ → l ≡ l′ → _≡_ {A = Outcome} (record { state = d; refusal = n; len = l }) (record { state = d′; refusal = n′; len = l′ })
+same-outcome p q r = cc
+
+-- a call has one answer, whatever its step
+pub answered-once : (s : Step) (b : List ℕ) (r r′ : Outcome) (x x′ : List ℕ) → Answered s b r x → Answered s b r′ x′ → (r ≡ r′) × (x ≡ x′)
+answered-once s b r r′ x x′ p q = (same-outcome (same (p .state) (q .state)) (same (p .refusal) (q .refusal)) (same (p .len) (q .len)), same (p .reply) (q .reply))

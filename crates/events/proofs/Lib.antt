@@ -4,4 +4,4 @@ pub mod Telling
 pub mod Exactly
 pub mod Playable
 pub mod Turned
-pub mod Unique
+pub mod Tied

@@ -7,7 +7,9 @@ use native.Mathlib.Omega.{arith}
 use lib.ListN.{length, take, drop, length-append}
 use lib.Seq.{take-append-seam}
 use Rattle.wire.specs.Cut.{joined}
+use Rattle.bits.proofs.Tying.{same}
 use Rattle.text.specs.Sheet.{Fronted}
+use Rattle.text.proofs.Writing.{fronted-once}
 use Rattle.replies.specs.Replies.{sentAll}
 use Rattle.device.specs.Device.{powerOn}
 use Rattle.device.specs.Step.{Step, Answered}
@@ -51,3 +53,12 @@ tells-step traced number s b out b′ p o r o′ t = record {
 pub start-answers : (e b : List ℕ) (r : Outcome) → r ≡ startOf e → Answered (startStep e) b r b
 unfolding startOf powerOn sentAll joined
 start-answers e b r p = record { state = ap (λ (o : Outcome). o .state) p; refusal = ap (λ (o : Outcome). o .refusal) p; len = ap (λ (o : Outcome). o .len) p; reply = refl }
+
+same-told : {d d′ : Device} {n n′ l l′ : ℕ} → d ≡ d′ → n ≡ n′ → l ≡ l′ → _≡_ {A = Told} (record { state = d; refusal = n; len = l }) (record { state = d′; refusal = n′; len = l′ })
+same-told p q r = cc
+
+-- one thing is told of a step
+pub tells-once : (traced : Bool) (number : ℕ) (s : Step) (o : List ℕ) (r r′ : Told) (z z′ : List ℕ) → Tells traced number s o r z → Tells traced number s o r′ z′ → (r ≡ r′) × (z ≡ z′)
+tells-once traced number s o r r′ z z′ p q =
+    let a = fronted-once (lineFor traced number s) o (r .len) (r′ .len) z z′ (p .line) (q .line) in
+    (same-told (same (p .state) (q .state)) (same (p .refusal) (q .refusal)) (a .0), a .1)

@@ -23,6 +23,10 @@ noSettings = record { depth = 0; capacity = 0; mask = 0 }
 abbrev pub inLimit : List ℕ → Bool
 inLimit e = isEvent e && eqb (getD e 0 0) 0x00 && leb (settingsOf e .capacity) 64
 
+-- what power-on is asked for: the record's settings, and nothing at all out of the limit
+abbrev pub askedOf : List ℕ → Settings
+askedOf e = pick (inLimit e) (settingsOf e) noSettings
+
 -- power-on with what the record says; out of the limit it is refusal 1, as power-on gives it
 unfoldable pub startOf : List ℕ → Outcome
-startOf e = powerOn (pick (inLimit e) (settingsOf e) noSettings)
+startOf e = powerOn (askedOf e)

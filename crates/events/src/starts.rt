@@ -1,7 +1,6 @@
 // The settings record, which starts a run.
 ghost use mathlib.Core.Path.{_≡_};
-ghost use Rattle.bits.specs.Pick.{pick};
-ghost use Rattle.events.specs.Start.{settingsOf, noSettings, inLimit, startOf};
+ghost use Rattle.events.specs.Start.{settingsOf, askedOf, startOf};
 use crate::kinds::is_event;
 use device::Device;
 use device::Outcome;
@@ -21,7 +20,7 @@ fn settings_of(event: &[u8]) -> Settings
 const CAPACITY_LIMIT: u32 = 64;
 
 fn asked(event: &[u8]) -> Settings
-    ensures { λ r. ⌜ r ≡ pick (inLimit (now (event .entry))) (settingsOf (now (event .entry))) noSettings ⌝ }
+    ensures { λ r. ⌜ r ≡ askedOf (now (event .entry)) ⌝ }
 {
     let settings = settings_of(event);
     let whole = is_event(event);

@@ -4,4 +4,4 @@ pub mod RoundTrip
 pub mod TripBack
 pub mod Exactly
 pub mod Cuts
-pub mod Unique
+pub mod Tied

@@ -26,10 +26,10 @@ use Rattle.history.specs.Seen.{Seen, seen}
 use Rattle.history.specs.Fates.{Command, commands, ownTag, outstanding, one, totalWith}
 use Rattle.history.specs.Carried.{flow, base}
 use Rattle.history.specs.Demand3.{Moved, MovedOf, Reaches, Moves}
-use Rattle.history.specs.Run.{Typed, gives, resultFor, done, event}
+use Rattle.history.specs.Run.{lend, Typed, gives, resultFor, done, event}
 use Rattle.history.proofs.Views.{sentIn}
 use Rattle.history.proofs.Frames.{read-step, read-sent, always-host, always-open, always-send, always-finish, always-media, always-comreset}
-use Rattle.history.proofs.Steps.{lend, link-read, comes}
+use Rattle.history.proofs.Steps.{link-read, comes}
 use Rattle.history.proofs.Alls.{all-imp}
 use Rattle.history.proofs.Flowing.{flowFor, flowOf, flow-shut, flow-open}
 use Rattle.history.proofs.Moving.{entryAt}

@@ -34,10 +34,9 @@ use Rattle.history.specs.Replied.{frames, some, isPio, setBitsIn, collec
 use Rattle.history.specs.Seen.{Seen, seen}
 use Rattle.history.specs.Shapes.{kindOf, OneOf, callReplies}
 use Rattle.history.specs.Manners.{TellsError, Mannered, Spoken}
-use Rattle.history.specs.Run.{gives, done, event}
+use Rattle.history.specs.Run.{lend, gives, done, event}
 use Rattle.history.proofs.Views.{pageIn, view}
 use Rattle.history.proofs.Frames.{Read, read-frames, read-page, read-step}
-use Rattle.history.proofs.Steps.{lend}
 use Rattle.history.proofs.Hearing.{pioIn}
 use Rattle.history.proofs.Said.{bitsIn, someBits, Says}
 use Rattle.history.proofs.Shaped.{erringIn, erring, grantingIn, granting, faulty, CallShaped}

@@ -37,11 +37,11 @@ use Rattle.history.specs.Replied.{some, isPio, setBitsIn, collect, fault
 use Rattle.history.specs.Seen.{Seen, seen}
 use Rattle.history.specs.Shapes.{kindOf}
 use Rattle.history.specs.Manners.{Mannered, Spoken}
-use Rattle.history.specs.Run.{Typed, gives, resultFor, done, event}
+use Rattle.history.specs.Run.{lend, Typed, gives, resultFor, done, event}
 use Rattle.history.proofs.Core.{Inv}
 use Rattle.history.proofs.Views.{view, is-silent, is-finish, is-failed}
 use Rattle.history.proofs.Frames.{Read, read-frames, read-step, always-host, always-open, always-send, always-finish, always-media, always-comreset}
-use Rattle.history.proofs.Steps.{lend, by-view, link-read, link-seen, comes}
+use Rattle.history.proofs.Steps.{by-view, link-read, link-seen, comes}
 use Rattle.history.proofs.Hearing.{pioIn}
 use Rattle.history.proofs.Said.{bitsIn, someBits, Says, host-said}
 use Rattle.history.proofs.Shaped.{erringIn, CallShaped, host-shaped, open-shaped, send-shaped, finish-shaped, media-shaped, reset-shaped}

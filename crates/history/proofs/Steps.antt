@@ -23,17 +23,13 @@ use Rattle.device.proofs.Refusals.{Keeps, refused-keeps, refused-keeps-comreset
 use Rattle.history.specs.Calls.{Call, hostFrame, openPhase, sendData, finishTags, mediaError, linkEvent, comReset, Event, taken}
 use Rattle.history.specs.Asked.{quiet, callAsks, asks}
 use Rattle.history.specs.Seen.{Seen, seen}
-use Rattle.history.specs.Run.{Lent, Typed, gives, resultFor, done, event}
+use Rattle.history.specs.Run.{lend, Lent, Typed, gives, resultFor, done, event}
 use Rattle.history.proofs.Class.{Class, plain}
 use Rattle.history.proofs.Views.{view, is-silent, silent-unbegun}
 use Rattle.history.proofs.Frames.{Read, read-seen, read-step, always-host, always-open, always-send, always-finish, always-media, always-comreset}
 use Rattle.history.proofs.Changes.{same}
 use Rattle.history.proofs.Hosts.{host-comes}
 use Rattle.history.proofs.Events.{open-comes, send-comes, finish-comes, media-comes, link-comes, comreset-comes}
-
--- a call with what is lent to it
-abbrev pub lend : Call → List ℕ → List ℕ → Lent
-lend c m b = record { call = c; medium = m; buffer = b }
 
 -- what is asked, taken and refused
 asks-taken : (x : Event) → x .refusal ≡ 0 → asks x ≡ callAsks (x .call)

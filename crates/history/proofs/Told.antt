@@ -29,9 +29,9 @@ module _ (s : Settings) (as′ : List Lent) (t : AllTyped as′) where
   pub told-counters : ToldCounters (runFrom s as′ .state) (history s as′)
   told-counters = counting-true s as′ t .value
 
-  -- and so is the answer of the call that gives a counter by its number
+  -- and so is the answer of `Device::counter`
   pub told-asked : ToldAsked (s .mask) (runFrom s as′ .state) (history s as′)
-  told-asked = counter-true s as′ t
+  told-asked number c p z = p .answer ∙ counter-true s as′ t number (sym (p .refusal) ∙ z)
 
   -- the ones of the mask are the commands outstanding, at most the depth
   pub told-depth : ToldDepth (s .depth) (runFrom s as′ .state) (history s as′)
@@ -39,12 +39,12 @@ module _ (s : Settings) (as′ : List Lent) (t : AllTyped as′) where
       let e = inv-total (held s as′ t .inv) in
       record { counted = sym e; most = subst (λ (n : ℕ). n ≤ s .depth) e (demand3-depth s as′ t) }
 
-  -- and so is the answer of the call that counts them
+  -- and so is the answer of `Device::outstanding_count`
   pub told-count : ToldCount s (runFrom s as′ .state) (history s as′)
   unfolding countOf
-  told-count z =
+  told-count z c p =
       let d : Device = runFrom s as′ .state in
-      pick-no (contradictoryDevice d) (Refused 1) (Value (ones (d .flow .outstanding))) (held s as′ t .sound .good z) ∙ ap Value (sym (inv-total (held s as′ t .inv)))
+      p .answer ∙ pick-no (contradictoryDevice d) (Refused 1) (Value (ones (d .flow .outstanding))) (held s as′ t .sound .good z) ∙ ap Value (sym (inv-total (held s as′ t .inv)))
 
   -- the state does not contradict itself
   pub told-consistent : ToldConsistent s (runFrom s as′ .state)

@@ -11,5 +11,6 @@ pub mod Manners
 pub mod Counted
 pub mod Demand3
 pub mod Run
+pub mod Allowed
 pub mod Told
 pub mod Example

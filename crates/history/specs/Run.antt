@@ -1,5 +1,4 @@
--- Sequences of calls of the device: each result as the public call's contract allows it, each call given the state that the last one returned. Assumes nothing.
-use mathlib.Core.Path.{_≡_}
+-- Runs of the definitions: any sequence of calls of the device, each given the state that the last one returned. Assumes nothing.
 use mathlib.Core.List.{List, [], _∷_, map}
 use Prim.Native.Nat.{ℕ, _^_, _<_}
 use lib.ListN.{length, take}
@@ -10,9 +9,9 @@ use Rattle.replies.specs.Replies.{sentAll}
 use Rattle.states.specs.declared.shapes.Settings.{Settings}
 use Rattle.device.specs.Device.{powerOn}
 use Rattle.device.specs.Events.{linkStep}
-use Rattle.device.specs.Step.{Step, Answered}
+use Rattle.device.specs.Step.{Step}
 use Rattle.device.specs.Reset.{comresetStep}
-use Rattle.device.specs.Calls.{Hosted, hostAct, hostStep, openStep, sendStep, finishStep, mediaStep}
+use Rattle.device.specs.Calls.{hostAct, hostStep, openStep, sendStep, finishStep, mediaStep}
 use Rattle.device.specs.declared.state.Device.{Device}
 use Rattle.device.specs.declared.state.Outcome.{Outcome}
 use Rattle.history.specs.Calls.{Call, hostFrame, openPhase, sendData, finishTags, mediaError, linkEvent, comReset, Event}
@@ -23,11 +22,19 @@ pub record Lent : Type 0 where
   pub medium : List ℕ
   pub buffer : List ℕ
 
+-- a call with the medium and the reply buffer lent to it
+abbrev pub lend : Call → List ℕ → List ℕ → Lent
+lend c m b = record { call = c; medium = m; buffer = b }
+
 -- what came back: the outcome, and what medium and reply buffer then hold
 pub record Gave : Type 0 where
   pub outcome : Outcome
   pub medium : List ℕ
   pub buffer : List ℕ
+
+-- an outcome with what medium and reply buffer then hold
+abbrev pub give : Outcome → List ℕ → List ℕ → Gave
+give r m b = record { outcome = r; medium = m; buffer = b }
 
 -- what the types of the arguments give: a frame is of bytes, an error is a byte, a set has 32 bits
 abbrev pub Typed : Call → Type 0
@@ -38,20 +45,6 @@ Typed (finishTags s) = s < 2 ^ 32
 Typed (mediaError t e s) = e < 256
 Typed (linkEvent r) = Unit
 Typed comReset = Unit
-
--- what each call's contract says: the very propositions of the `ensures`; a medium or buffer that is not lent to be changed stays
-abbrev pub AllowedFor : Device → List ℕ → List ℕ → Gave → Call → Type 0
-AllowedFor d m b g (hostFrame f) = Hosted d f m b (g .outcome) (g .medium) (g .buffer)
-AllowedFor d m b g (openPhase t) = Answered (openStep d t (length b)) b (g .outcome) (g .buffer) × (g .medium ≡ m)
-AllowedFor d m b g sendData = Answered (sendStep d m (length b)) b (g .outcome) (g .buffer) × (g .medium ≡ m)
-AllowedFor d m b g (finishTags s) = Answered (finishStep d s (length b)) b (g .outcome) (g .buffer) × (g .medium ≡ m)
-AllowedFor d m b g (mediaError t e s) = Answered (mediaStep d t e s (length b)) b (g .outcome) (g .buffer) × (g .medium ≡ m)
-AllowedFor d m b g (linkEvent r) = (g .outcome ≡ linkStep d r) × ((g .medium ≡ m) × (g .buffer ≡ b))
-AllowedFor d m b g comReset = Answered (comresetStep d (length b)) b (g .outcome) (g .buffer) × (g .medium ≡ m)
-
--- of a call with what was lent
-abbrev pub Allowed : Device → Lent → Gave → Type 0
-Allowed d a g = AllowedFor d (a .medium) (a .buffer) g (a .call)
 
 -- what a step gives: its frames in front of the reply buffer, and the rest as it was
 abbrev pub gives : Step → List ℕ → List ℕ → Gave
@@ -112,31 +105,3 @@ runFrom s as′ = run (powerOn s .state) [] as′
 -- its history
 abbrev pub history : Settings → List Lent → List Event
 history s as′ = map event (runFrom s as′ .calls)
-
--- a sequence of results, the oldest first, each allowed by its call's contract, each given the state that the last returned
-unfoldable pub Follows : Device → List Done → Type 0
-Follows d [] = Unit
-Follows d (x ∷ xs) = Allowed d (x .lent) (x .gave) × Follows (x .gave .outcome .state) xs
-
--- the same sequence with the newest first
-unfoldable pub newestFirst : List Done → List Done → List Done
-newestFirst h [] = h
-newestFirst h (x ∷ xs) = newestFirst (x ∷ h) xs
-
--- and the state that its last call returned
-unfoldable pub final : Device → List Done → Device
-final d [] = d
-final d (x ∷ xs) = final (x .gave .outcome .state) xs
-
--- what was lent, call by call
-abbrev pub lents : List Done → List Lent
-lents xs = map (λ x. x .lent) xs
-
--- its history
-abbrev pub historyOf : List Done → List Event
-historyOf xs = map event (newestFirst [] xs)
-
--- from power-on: its outcome as the contract allows it, and a sequence from the state that it returned
-pub record Began (s : Settings) (r : Outcome) (xs : List Done) : Type 0 where
-  pub power : r ≡ powerOn s
-  pub follows : Follows (r .state) xs

@@ -6,12 +6,14 @@ use Prim.Native.Nat.{ℕ, _≤_, _<_}
 use lib.Count.{ones}
 use lib.ListN.{getD}
 use Rattle.bits.specs.Bit.{bitIn}
-use Rattle.bits.specs.First.{firstOf}
+use Rattle.bits.specs.Contract.{Allows}
+use Rattle.pages.specs.Page11.{toldCounter}
+use Rattle.pages.specs.declared.page11.Counter.{Counter}
 use Rattle.pages.specs.declared.page11.Counter.the-variants.{Value}
 use Rattle.states.specs.declared.shapes.Settings.{Settings}
 use Rattle.device.specs.Device.{contradictoryDevice, powerOn, zeroDevice}
-use Rattle.device.specs.Counter.{counterTests, counterOf, countOf}
 use Rattle.device.specs.declared.state.Device.{Device}
+use Rattle.device.proofs.state.Device as calls
 use Rattle.history.specs.Calls.{Event}
 use Rattle.history.specs.Seen.{seen}
 use Rattle.history.specs.Fates.{one, total, totalWith}
@@ -30,18 +32,18 @@ ToldWaits d h = waits (map seen h) ≡ d .flow .halted
 abbrev pub ToldCounters : Device → List Event → Type 0
 ToldCounters d h = (row : ℕ) → row < 16 → getD (d .values) row 0 ≡ told row h
 
--- and so is the answer of the call that gives a counter by its number, where it is not refused
+-- and so is every answer that the contract of `Device::counter` allows for its number, where it is not refused
 abbrev pub ToldAsked : ℕ → Device → List Event → Type 0
-ToldAsked mask d h = (number : ℕ) → firstOf (counterTests d number) ≡ 0 → counterOf d number ≡ toldFor mask h number
+ToldAsked mask d h = (number : ℕ) (c : Counter) → Allows calls.counter.ended calls.counter.Reads.Post tt (d, (number, tt)) c (tt, (tt, tt)) → toldCounter c .number ≡ 0 → c ≡ toldFor mask h number
 
 -- the ones of the mask are the commands outstanding, at most the depth
 pub record ToldDepth (depth : ℕ) (d : Device) (h : List Event) : Type 0 where
   pub counted : ones (d .flow .outstanding) ≡ total (map seen h)
   pub most : ones (d .flow .outstanding) ≤ depth
 
--- and so is the answer of the call that counts them, after a power-on that was taken
+-- and so is every answer that the contract of `Device::outstanding_count` allows, after a power-on that was taken
 abbrev pub ToldCount : Settings → Device → List Event → Type 0
-ToldCount s d h = powerOn s .refusal ≡ 0 → countOf d ≡ Value (total (map seen h))
+ToldCount s d h = powerOn s .refusal ≡ 0 → (c : Counter) → Allows calls.outstanding_count.ended calls.outstanding_count.Reads.Post tt (d, tt) c (tt, tt) → c ≡ Value (total (map seen h))
 
 -- after a power-on that was taken the state does not contradict itself; after a refused one it is all zeros
 pub record ToldConsistent (s : Settings) (d : Device) : Type 0 where

@@ -12,4 +12,5 @@ pub mod Laws10
 pub mod Exactly10
 pub mod Trip10
 pub mod Written11
-pub mod Unique
+pub mod Tied
+pub mod TiedWalk

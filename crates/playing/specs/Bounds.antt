@@ -1,9 +1,14 @@
 -- Where the places of a run lie in its buffers, and that what was read and not yet played is kept. Assumes nothing.
 use mathlib.Core.Path.{_≡_}
+use mathlib.Core.Bool.{false}
 use mathlib.Core.List.{List}
 use Prim.Native.Nat.{ℕ, _-_, _≤_, min}
 use lib.ListN.{length, take, drop}
 use Rattle.playing.specs.declared.input.Window.{Window}
+
+-- nothing is read yet, and nothing has ended or failed
+abbrev pub nothingRead : Window
+nothingRead = record { at = 0; end = 0; ended = false; failed = false }
 
 -- what is not yet played lies within n bytes of input
 pub record Within (w : Window) (n : ℕ) : Type 0 where

@@ -2,7 +2,7 @@
 ghost use mathlib.Core.Path.{_≡_};
 ghost use Prim.Native.Nat.{_-_, _≤_, min};
 ghost use lib.ListN.{length, take, drop};
-ghost use Rattle.playing.specs.Bounds.{inside, Behind, Refilled};
+ghost use Rattle.playing.specs.Bounds.{nothingRead, inside, Behind, Refilled};
 
 // The most bytes that an event has: a frame of 27h.
 const LONGEST: usize = 20;
@@ -22,7 +22,7 @@ pub fn least(a: usize, b: usize) -> usize
 }
 
 pub fn unread() -> Window
-    ensures { λ r. ⌜ (r .at ≡ 0) × (r .end ≡ 0) ⌝ }
+    ensures { λ r. ⌜ r ≡ nothingRead ⌝ }
 {
     Window {
         at: 0,

@@ -4,3 +4,4 @@ pub mod Largest
 pub mod Telling
 pub mod Fits
 pub mod Answered
+pub mod Tied

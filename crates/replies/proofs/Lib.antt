@@ -1,6 +1,6 @@
 pub mod Sending
 pub mod Elses
-pub mod Unique
+pub mod Tied
 pub mod Small
 pub mod Fits
 pub mod Repeats

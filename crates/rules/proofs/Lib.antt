@@ -2,6 +2,6 @@ pub mod Elses
 pub mod ActElses
 pub mod StoreLaws
 pub mod DecideLaws
-pub mod Unique
+pub mod Tied
 pub mod Leaves
 pub mod Numbers

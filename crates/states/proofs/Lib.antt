@@ -1,3 +1,3 @@
 pub mod TableLaws
 pub mod EchoLaws
-pub mod Unique
+pub mod Tied

@@ -1,3 +1,3 @@
 pub mod Writing
 pub mod Turns
-pub mod Unique
+pub mod Tied

@@ -11,6 +11,7 @@ use Rattle.bits.specs.Pick.{pick}
 use Rattle.bits.specs.First.{firstOf}
 use Rattle.bits.specs.Laid.{laid}
 use Rattle.bits.proofs.Masks.{lt-or-le}
+use Rattle.bits.proofs.Tying.{same}
 use Rattle.wire.specs.Emit.{writeNumber, Emitted}
 use Rattle.wire.specs.declared.emitting.Written.{Written}
 
@@ -74,3 +75,10 @@ wrote-room fit s d r d′ w f h =
     let z : r .number ≡ 0 = w .number ∙ rw f (number-done (length s) (length d) h) in
     let a = wrote-all fit s d r d′ w z in
     (z, a .2, a .3)
+
+same-written : {n n′ l l′ : ℕ} → n ≡ n′ → l ≡ l′ → _≡_ {A = Written} (record { number = n; len = l }) (record { number = n′; len = l′ })
+same-written p q = cc
+
+-- a writer has one answer
+pub emitted-once : (fit : Bool) (s d : List ℕ) (r r′ : Written) (b b′ : List ℕ) → Emitted fit s d r b → Emitted fit s d r′ b′ → (r ≡ r′) × (b ≡ b′)
+emitted-once fit s d r r′ b b′ p q = (same-written (same (p .number) (q .number)) (same (p .len) (q .len)), same (p .bytes) (q .bytes))

@@ -5,4 +5,4 @@ pub mod QueuedLaws
 pub mod EmitLaws
 pub mod Pieced
 pub mod Exactly
-pub mod Unique
+pub mod Tied

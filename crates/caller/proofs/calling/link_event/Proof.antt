@@ -1,0 +1,19 @@
+use Rattle.history.specs.Allowed.{linked}
+use Rattle.caller.proofs.Continuing.{continues}
+use borrow.Author.Needs.{needs}
+use Rattle.caller.proofs.calling.link_event.Statement.{statement}
+use Rattle.caller.proofs.calling.link_event.Tie as tie
+use Rattle.caller.proofs.calling.link_event.Reads as reads
+use Rattle.caller.proofs.calling.link_event.Lts as lts
+use Rattle.device.proofs.state.Device.link_event.Reads as link-event-reads
+
+-- src/calling.rt:49:5
+link-event-requires : tie.Need-link-event-requires
+link-event-requires c κs = search needs
+
+-- src/calling.rt:46:1
+returns : tie.Need-returns
+returns c = λ m b. continues _ _ _ tt (linked _ _ m b (c .link-event .ensures))
+
+pub link-event-spec : {M : Type 1} → statement M
+link-event-spec = tie.close (tie.spec link-event-requires returns)

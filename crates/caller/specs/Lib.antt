@@ -1,0 +1,2 @@
+pub mod Continued
+pub mod Program
