@@ -94,7 +94,7 @@ command-moved : (d : Device) (x : Event) (t : ℕ) (c : Command) → Placed x (p
 command-moved d x t c p s b =
     let e : t ≡ ownTag c = eqb-true t (ownTag c) (and-left (eqb t (ownTag c)) (pick (c .accepted .asks .write) (not (not (entryAt d t .write))) (not (entryAt d t .write))) b) in
     let first : entryAt d t .first ≡ c .accepted .asks .first = ap (λ (u : ℕ). entryAt d u .first) e ∙ s .first in
-    let at : base c + 512 * entryAt d t .moved ≡ placeOf (entryAt d t) = omega arith in
+    let at : base c + entryAt d t .moved ≡ placeOf (entryAt d t) = omega arith in
     subst⁻¹ (Moved x (not (entryAt d t .write))) at (record { read = λ _. p .sends; written = λ _. p .keeps; within = λ _. p .within })
 
 -- the data of an event, for each outstanding command

@@ -147,6 +147,6 @@ send-sent d m room =
     let v : Facts = factsOf d (openTag (d .flow .phase)) (mediumWrong (d .settings .capacity) (length m)) room in
     let n : ℕ = firstOf (sendTests v) in
     by-test (λ (a : Act). SentFrom (placeOf (phaseEntry d)) m (sentIn (repliesOf (d .errors) (d .settings .mask) (d .values) (partOf (spanOf a) m) a)))
-    (not (eqb n 0)) (Refuse n) (Send (moveOf (d .flow) (phaseEntry d)))
+    (not (eqb n 0)) (Refuse n) (Send (moveOf (d .flow) (phaseEntry d) 8192))
     (λ _. sent-none (placeOf (phaseEntry d)) m _ (no-part (d .errors) (d .settings .mask) (d .values) (Refuse n)))
-    (λ _. part-sent (d .errors) (d .settings .mask) (d .values) m (moveOf (d .flow) (phaseEntry d)))
+    (λ _. part-sent (d .errors) (d .settings .mask) (d .values) m (moveOf (d .flow) (phaseEntry d) 8192))
