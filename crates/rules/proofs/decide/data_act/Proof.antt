@@ -1,3 +1,4 @@
+use native.Mathlib.Omega.{arith}
 use borrow.Author.Tests.{lt-ltb, le-ltb}
 use Rattle.bits.specs.Pick.{pick}
 use Rattle.rules.specs.Decide.{dataAct}
@@ -25,7 +26,7 @@ cast-if2 c = search needs
 -- src/decide.rt:158:9
 returns-2 : tie.Need-returns-2
 unfolding dataAct pick
-returns-2 c = rw (c .before .before .if1 .left, ← c .before .left-of .ensures, lt-ltb _ _ (c .if2 .taken))
+returns-2 c = rw (c .before .before .if1 .left, ← c .before .left-of .ensures, lt-ltb (c .before .left-of .result) (c .before .before .before .before .before .before .before .args .n) (omega (arith, c .if2 .taken)))
 
 -- src/decide.rt:160:15
 next-move-requires : tie.Need-next-move-requires
@@ -34,7 +35,7 @@ next-move-requires c κs = search needs
 -- src/decide.rt:149:1
 returns-3 : tie.Need-returns-3
 unfolding dataAct pick
-returns-3 c = rw (c .before .before .before .if1 .left, ← c .before .before .left-of .ensures, le-ltb _ _ (c .before .if2 .left), c .next-move .ensures)
+returns-3 c = rw (c .before .before .before .if1 .left, ← c .before .before .left-of .ensures, le-ltb (c .before .before .left-of .result) (c .before .before .before .before .before .before .before .before .args .n) (omega (arith, c .before .if2 .left)), c .next-move .ensures)
 
 pub data-act-spec : {M : Type 1} → statement M
 data-act-spec =
