@@ -1,4 +1,4 @@
--- A run of the event program, and the calls of the device that it makes. Assumes nothing.
+-- What the event program is told event by event, and the calls of the device that are made. Assumes nothing.
 use mathlib.Core.Path.{_≡_}
 use mathlib.Core.Bool.{Bool}
 use mathlib.Core.List.{List, [], _∷_, _++_, map}
@@ -8,9 +8,10 @@ use denote.Ref.{RefT, now}
 use Rattle.bits.specs.Contract.{Allows}
 use Rattle.bits.specs.Little.{Bytes}
 use Rattle.text.specs.Sheet.{Fronted}
-use Rattle.states.specs.declared.shapes.Settings.{Settings}
+use Rattle.device.specs.Device.{powerOn}
 use Rattle.device.specs.declared.state.Device.{Device}
 use Rattle.events.specs.HostData.{hostData}
+use Rattle.events.specs.Start.{askedOf}
 use Rattle.events.specs.Calls.{callOf}
 use Rattle.events.specs.Lines.{lineOf}
 use Rattle.events.specs.declared.calls.Call as event-calls
@@ -19,7 +20,8 @@ use Rattle.events.specs.declared.tells.Told as tells
 use Rattle.events.proofs.play_line
 use Rattle.events.proofs.start_line
 use Rattle.history.specs.Calls.{Call, hostFrame, openPhase, sendData, finishTags, mediaError, linkEvent, comReset}
-use Rattle.history.specs.Run.{Lent, lend, Done, done, result, event, runFrom, history}
+use Rattle.history.specs.Run.{lend, Done, done, result, event, Run, runFrom}
+use Rattle.history.specs.Allowed.{newestFirst, lents, historyOf}
 use Rattle.history.specs.Demand3.{Demand3}
 use Rattle.history.specs.Told.{Told}
 
@@ -34,23 +36,38 @@ pub record Play : Type 0 where
   pub after : List ℕ
   pub written : List ℕ
 
+-- of these
+abbrev pub play : List ℕ → List ℕ → List ℕ → List ℕ → tells.Told → List ℕ → List ℕ → List ℕ → Play
+play e m b o t m′ b′ o′ = record { event = e; medium = m; buffer = b; line = o; told = t; left = m′; after = b′; written = o′ }
+
 -- what the contract of `play_line` allows in the state d; an event is of bytes, as what stands in a slice of them always is
 pub data Played (traced : Bool) (number : ℕ) (d : Device) : Play → Type 0 where
   played : (κs : Lfts 4) (e m b o : RefT (List ℕ)) (t : tells.Told) (m′ b′ o′ : List ℕ) → Bytes (now e)
       → Allows play_line.ended play_line.Reads.Post κs (d, (traced, (number, (e, (m, (b, (o, tt))))))) t (tt, (tt, (tt, (tt, (m′, (b′, (o′, tt)))))))
-      → Played traced number d (record { event = now e; medium = now m; buffer = now b; line = now o; told = t; left = m′; after = b′; written = o′ })
+      → Played traced number d (play (now e) (now m) (now b) (now o) t m′ b′ o′)
 
--- what the contract of `start_line` allows for a settings record
-pub data Started (traced : Bool) : List ℕ → tells.Told → Type 0 where
+-- the settings record as it was taken: its bytes, the line buffer, what was answered, and what the buffer then held
+pub record Start : Type 0 where
+  pub event : List ℕ
+  pub line : List ℕ
+  pub told : tells.Told
+  pub written : List ℕ
+
+-- of these
+abbrev pub start : List ℕ → List ℕ → tells.Told → List ℕ → Start
+start e o t o′ = record { event = e; line = o; told = t; written = o′ }
+
+-- what the contract of `start_line` allows
+pub data Started (traced : Bool) : Start → Type 0 where
   started : (κs : Lfts 2) (e o : RefT (List ℕ)) (t : tells.Told) (o′ : List ℕ)
-      → Allows start_line.ended start_line.Reads.Post κs (traced, (e, (o, tt))) t (tt, (tt, (o′, tt))) → Started traced (now e) t
+      → Allows start_line.ended start_line.Reads.Post κs (traced, (e, (o, tt))) t (tt, (tt, (o′, tt))) → Started traced (start (now e) (now o) t o′)
 
--- a run: one event after the other, numbered on, each given the state that the last one left
+-- one event after the other, numbered on, each given the state that the last one left, and any medium and buffers
 unfoldable pub Plays : Bool → ℕ → Device → List Play → Type 0
 Plays traced n d [] = Unit
 Plays traced n d (p ∷ ps) = Played traced n d p × Plays traced (n + 1) (p .told .state) ps
 
--- the state that it ends with
+-- the state that they end with
 unfoldable pub ends : Device → List Play → Device
 ends d [] = d
 ends d (p ∷ ps) = ends (p .told .state) ps
@@ -67,36 +84,43 @@ callsOf d e (Hosting b) = hostFrame (hostData d b) ∷ []
 callsOf d e Framing = hostFrame e ∷ []
 callsOf d e Nothing = []
 
--- with what was lent to them
-abbrev pub lentBy : Device → Play → List Lent
-lentBy d p = map (λ c. lend c (p .medium) (p .buffer)) (callsOf d (p .event) (callOf (p .event)))
+-- as they went: lent what the event was lent, and what the device then gives
+abbrev pub donesBy : Device → Play → List Done
+donesBy d p = map (λ c. done (lend c (p .medium) (p .buffer)) (result d (lend c (p .medium) (p .buffer)))) (callsOf d (p .event) (callOf (p .event)))
 
--- all of a run
-unfoldable pub lentAll : Device → List Play → List Lent
-lentAll d [] = []
-lentAll d (p ∷ ps) = lentBy d p ++ lentAll (p .told .state) ps
+-- all of them, the oldest first
+unfoldable pub donesAll : Device → List Play → List Done
+donesAll d [] = []
+donesAll d (p ∷ ps) = donesBy d p ++ donesAll (p .told .state) ps
 
--- what was played shows the call x: the same refusal and state, the same medium and reply buffer behind it, and the line of what the outside saw
-pub record Shows (traced : Bool) (number : ℕ) (p : Play) (x : Done) : Type 0 where
-  pub state : p .told .state ≡ x .gave .outcome .state
-  pub refusal : p .told .refusal ≡ event x .refusal
-  pub left : p .left ≡ event x .left
-  pub after : p .after ≡ x .gave .buffer
-  pub line : Fronted (lineOf traced number (event x .refusal) (x .gave .outcome .state .flow .outstanding) (event x .reply)) (p .line) (p .told .len) (p .written)
+-- what was played shows this state, refusal, medium and reply buffer, and the line of it, in front of the line buffer
+pub record Shows (traced : Bool) (number : ℕ) (p : Play) (d : Device) (n : ℕ) (reply m b : List ℕ) : Type 0 where
+  pub state : p .told .state ≡ d
+  pub refusal : p .told .refusal ≡ n
+  pub left : p .left ≡ m
+  pub after : p .after ≡ b
+  pub line : Fronted (lineOf traced number n (d .flow .outstanding) reply) (p .line) (p .told .len) (p .written)
 
--- each of its calls, in the state d
-unfoldable pub ShowsAll : Bool → ℕ → Device → Play → List Lent → Type 0
-ShowsAll traced number d p [] = Unit
-ShowsAll traced number d p (a ∷ as′) = Shows traced number p (done a (result d a)) × ShowsAll traced number d p as′
+-- the one call that it made; where it made none, 24, and nothing has changed
+unfoldable pub ShowsCall : Bool → ℕ → Play → Device → List Done → Type 0
+ShowsCall traced number p d [] = Shows traced number p d 24 [] (p .medium) (p .buffer)
+ShowsCall traced number p d (x ∷ xs) = Shows traced number p (x .gave .outcome .state) (event x .refusal) (event x .reply) (event x .left) (x .gave .buffer) × (xs ≡ [])
 
--- every event of a run
+-- every event
 unfoldable pub Shown : Bool → ℕ → Device → List Play → Type 0
 Shown traced n d [] = Unit
-Shown traced n d (p ∷ ps) = ShowsAll traced n d p (lentBy d p) × Shown traced (n + 1) (p .told .state) ps
+Shown traced n d (p ∷ ps) = ShowsCall traced n p d (donesBy d p) × Shown traced (n + 1) (p .told .state) ps
 
--- a run is a history in the sense of demand 3: from power-on with the settings s, its calls are the device's, its lines and states are theirs, and demand 3 holds of them
-pub record IsHistory (traced : Bool) (s : Settings) (d : Device) (ps : List Play) : Type 0 where
-  pub state : runFrom s (lentAll d ps) .state ≡ ends d ps
-  pub shown : Shown traced 1 d ps
-  pub demand3 : Demand3 (s .depth) (s .mask) (history s (lentAll d ps))
-  pub told : Told s (ends d ps) (history s (lentAll d ps))
+-- power-on with the settings that the record asks for, and its line, the first
+pub record Begins (traced : Bool) (b : Start) : Type 0 where
+  pub state : b .told .state ≡ powerOn (askedOf (b .event)) .state
+  pub refusal : b .told .refusal ≡ powerOn (askedOf (b .event)) .refusal
+  pub line : Fronted (lineOf traced 0 (powerOn (askedOf (b .event)) .refusal) (powerOn (askedOf (b .event)) .state .flow .outstanding) []) (b .line) (b .told .len) (b .written)
+
+-- what was played is a history in the sense of demand 3: from power-on its calls are a run of the device, each event shows its own of them, and demand 3 holds of their history
+pub record IsHistory (traced : Bool) (b : Start) (ps : List Play) : Type 0 where
+  pub begins : Begins traced b
+  pub calls : runFrom (askedOf (b .event)) (lents (donesAll (b .told .state) ps)) ≡ record { state = ends (b .told .state) ps; calls = newestFirst [] (donesAll (b .told .state) ps) }
+  pub shown : Shown traced 1 (b .told .state) ps
+  pub demand3 : Demand3 (askedOf (b .event) .depth) (askedOf (b .event) .mask) (historyOf (donesAll (b .told .state) ps))
+  pub told : Told (askedOf (b .event)) (ends (b .told .state) ps) (historyOf (donesAll (b .told .state) ps))

@@ -1,5 +1,6 @@
-// A caller of the device, in code: each function is one call, and its contract is demand 3 of every history that the call continues. The event program's run, which is another caller, has its theorem in proofs/.
+// Callers of the device: a function for each call, whose contract is demand 3 of every history that the call continues; and the two functions of the event program, whose results, one after the other, are such a history (`program-history` in proofs/).
 mod calling;
+mod telling;
 
 pub use calling::begin;
 pub use calling::comreset;
@@ -10,3 +11,5 @@ pub use calling::link_event;
 pub use calling::media_error;
 pub use calling::open;
 pub use calling::send;
+pub use telling::play_line;
+pub use telling::start_line;

@@ -10,7 +10,7 @@ use denote.Ref.{now}
 use lib.ListN.{length}
 use mathlib.Core.Path.{_≡_, refl}
 use Rattle.bits.specs.Contract.{Tied}
-use Rattle.bits.proofs.Tying.{same, by, named}
+use Rattle.bits.proofs.Tying.{same, say, by, named}
 use Rattle.device.proofs.Outcomes.{answered-once}
 use Rattle.device.proofs.after
 use Rattle.device.proofs.calls
@@ -19,44 +19,44 @@ use Rattle.device.proofs.events
 use Rattle.device.proofs.resets
 use Rattle.device.proofs.state
 
-pub tied-after : Tied after.after.ended after.after.Reads.Post (λ κs a r ws. r ≡ afterOf (a .0) (a .1 .0))
-tied-after = named (λ κs a r ws p. p) (λ κs a ws ws′. refl)
+pub tied-after : Tied after.after.ended after.after.Reads.Asked after.after.Reads.Post (λ κs a r ws. r ≡ afterOf (a .0) (a .1 .0))
+tied-after = named (say (λ κs a. tt) (λ κs a r ws p. p)) (λ κs a ws ws′. refl)
 
-pub tied-host-frame : Tied state.Device.host_frame.ended state.Device.host_frame.Reads.Post (λ κs a r ws. Hosted (a .0) (now (a .1 .0)) (now (a .1 .1 .0)) (now (a .1 .1 .1 .0)) r (ws .1 .1 .0) (ws .1 .1 .1 .0))
-tied-host-frame = by (λ κs a r ws p. p) (λ κs a r r′ ws ws′ p q. let e = answered-once _ _ r r′ (ws .1 .1 .1 .0) (ws′ .1 .1 .1 .0) (p .answered) (q .answered) in (e .0, λ i. (tt, (tt, (same (p .medium) (q .medium) i, (e .1 i, tt))))))
+pub tied-host-frame : Tied state.Device.host_frame.ended state.Device.host_frame.Reads.Asked state.Device.host_frame.Reads.Post (λ κs a r ws. Hosted (a .0) (now (a .1 .0)) (now (a .1 .1 .0)) (now (a .1 .1 .1 .0)) r (ws .1 .1 .0) (ws .1 .1 .1 .0))
+tied-host-frame = by (say (λ κs a. tt) (λ κs a r ws p. p)) (λ κs a r r′ ws ws′ p q. let e = answered-once _ _ r r′ (ws .1 .1 .1 .0) (ws′ .1 .1 .1 .0) (p .answered) (q .answered) in (e .0, λ i. (tt, (tt, (same (p .medium) (q .medium) i, (e .1 i, tt))))))
 
-pub tied-open : Tied state.Device.open.ended state.Device.open.Reads.Post (λ κs a r ws. Answered (openStep (a .0) (a .1 .0) (length (now (a .1 .1 .0)))) (now (a .1 .1 .0)) r (ws .1 .1 .0))
-tied-open = by (λ κs a r ws p. p) (λ κs a r r′ ws ws′ p q. let e = answered-once _ _ r r′ (ws .1 .1 .0) (ws′ .1 .1 .0) p q in (e .0, λ i. (tt, (tt, (e .1 i, tt)))))
+pub tied-open : Tied state.Device.open.ended state.Device.open.Reads.Asked state.Device.open.Reads.Post (λ κs a r ws. Answered (openStep (a .0) (a .1 .0) (length (now (a .1 .1 .0)))) (now (a .1 .1 .0)) r (ws .1 .1 .0))
+tied-open = by (say (λ κs a. tt) (λ κs a r ws p. p)) (λ κs a r r′ ws ws′ p q. let e = answered-once _ _ r r′ (ws .1 .1 .0) (ws′ .1 .1 .0) p q in (e .0, λ i. (tt, (tt, (e .1 i, tt)))))
 
-pub tied-send : Tied state.Device.send.ended state.Device.send.Reads.Post (λ κs a r ws. Answered (sendStep (a .0) (now (a .1 .0)) (length (now (a .1 .1 .0)))) (now (a .1 .1 .0)) r (ws .1 .1 .0))
-tied-send = by (λ κs a r ws p. p) (λ κs a r r′ ws ws′ p q. let e = answered-once _ _ r r′ (ws .1 .1 .0) (ws′ .1 .1 .0) p q in (e .0, λ i. (tt, (tt, (e .1 i, tt)))))
+pub tied-send : Tied state.Device.send.ended state.Device.send.Reads.Asked state.Device.send.Reads.Post (λ κs a r ws. Answered (sendStep (a .0) (now (a .1 .0)) (length (now (a .1 .1 .0)))) (now (a .1 .1 .0)) r (ws .1 .1 .0))
+tied-send = by (say (λ κs a. tt) (λ κs a r ws p. p)) (λ κs a r r′ ws ws′ p q. let e = answered-once _ _ r r′ (ws .1 .1 .0) (ws′ .1 .1 .0) p q in (e .0, λ i. (tt, (tt, (e .1 i, tt)))))
 
-pub tied-finish : Tied state.Device.finish.ended state.Device.finish.Reads.Post (λ κs a r ws. Answered (finishStep (a .0) (a .1 .0) (length (now (a .1 .1 .0)))) (now (a .1 .1 .0)) r (ws .1 .1 .0))
-tied-finish = by (λ κs a r ws p. p) (λ κs a r r′ ws ws′ p q. let e = answered-once _ _ r r′ (ws .1 .1 .0) (ws′ .1 .1 .0) p q in (e .0, λ i. (tt, (tt, (e .1 i, tt)))))
+pub tied-finish : Tied state.Device.finish.ended state.Device.finish.Reads.Asked state.Device.finish.Reads.Post (λ κs a r ws. Answered (finishStep (a .0) (a .1 .0) (length (now (a .1 .1 .0)))) (now (a .1 .1 .0)) r (ws .1 .1 .0))
+tied-finish = by (say (λ κs a. tt) (λ κs a r ws p. p)) (λ κs a r r′ ws ws′ p q. let e = answered-once _ _ r r′ (ws .1 .1 .0) (ws′ .1 .1 .0) p q in (e .0, λ i. (tt, (tt, (e .1 i, tt)))))
 
-pub tied-media-error : Tied state.Device.media_error.ended state.Device.media_error.Reads.Post (λ κs a r ws. Answered (mediaStep (a .0) (a .1 .0) (a .1 .1 .0) (a .1 .1 .1 .0) (length (now (a .1 .1 .1 .1 .0)))) (now (a .1 .1 .1 .1 .0)) r (ws .1 .1 .1 .1 .0))
-tied-media-error = by (λ κs a r ws p. p) (λ κs a r r′ ws ws′ p q. let e = answered-once _ _ r r′ (ws .1 .1 .1 .1 .0) (ws′ .1 .1 .1 .1 .0) p q in (e .0, λ i. (tt, (tt, (tt, (tt, (e .1 i, tt)))))))
+pub tied-media-error : Tied state.Device.media_error.ended state.Device.media_error.Reads.Asked state.Device.media_error.Reads.Post (λ κs a r ws. Answered (mediaStep (a .0) (a .1 .0) (a .1 .1 .0) (a .1 .1 .1 .0) (length (now (a .1 .1 .1 .1 .0)))) (now (a .1 .1 .1 .1 .0)) r (ws .1 .1 .1 .1 .0))
+tied-media-error = by (say (λ κs a. tt) (λ κs a r ws p. p)) (λ κs a r r′ ws ws′ p q. let e = answered-once _ _ r r′ (ws .1 .1 .1 .1 .0) (ws′ .1 .1 .1 .1 .0) p q in (e .0, λ i. (tt, (tt, (tt, (tt, (e .1 i, tt)))))))
 
-pub tied-counter : Tied state.Device.counter.ended state.Device.counter.Reads.Post (λ κs a r ws. CounterGiven (a .0) (a .1 .0) r)
-tied-counter = by (λ κs a r ws p. p) (λ κs a r r′ ws ws′ p q. (same (p .answer) (q .answer), refl))
+pub tied-counter : Tied state.Device.counter.ended state.Device.counter.Reads.Asked state.Device.counter.Reads.Post (λ κs a r ws. CounterGiven (a .0) (a .1 .0) r)
+tied-counter = by (say (λ κs a. tt) (λ κs a r ws p. p)) (λ κs a r r′ ws ws′ p q. (same (p .answer) (q .answer), refl))
 
-pub tied-outstanding-count : Tied state.Device.outstanding_count.ended state.Device.outstanding_count.Reads.Post (λ κs a r ws. CountGiven (a .0) r)
-tied-outstanding-count = by (λ κs a r ws p. p) (λ κs a r r′ ws ws′ p q. (same (p .answer) (q .answer), refl))
+pub tied-outstanding-count : Tied state.Device.outstanding_count.ended state.Device.outstanding_count.Reads.Asked state.Device.outstanding_count.Reads.Post (λ κs a r ws. CountGiven (a .0) r)
+tied-outstanding-count = by (say (λ κs a. tt) (λ κs a r ws p. p)) (λ κs a r r′ ws ws′ p q. (same (p .answer) (q .answer), refl))
 
-pub tied-counted : Tied events.counted.ended events.counted.Reads.Post (λ κs a r ws. r ≡ withValue (a .0) (a .1 .0))
-tied-counted = named (λ κs a r ws p. p) (λ κs a ws ws′. refl)
+pub tied-counted : Tied events.counted.ended events.counted.Reads.Asked events.counted.Reads.Post (λ κs a r ws. r ≡ withValue (a .0) (a .1 .0))
+tied-counted = named (say (λ κs a. tt) (λ κs a r ws p. p)) (λ κs a ws ws′. refl)
 
-pub tied-link-event : Tied state.Device.link_event.ended state.Device.link_event.Reads.Post (λ κs a r ws. r ≡ linkStep (a .0) (a .1 .0))
-tied-link-event = named (λ κs a r ws p. p) (λ κs a ws ws′. refl)
+pub tied-link-event : Tied state.Device.link_event.ended state.Device.link_event.Reads.Asked state.Device.link_event.Reads.Post (λ κs a r ws. r ≡ linkStep (a .0) (a .1 .0))
+tied-link-event = named (say (λ κs a. tt) (λ κs a r ws p. p)) (λ κs a ws ws′. refl)
 
-pub tied-comreset : Tied state.Device.comreset.ended state.Device.comreset.Reads.Post (λ κs a r ws. Answered (comresetStep (a .0) (length (now (a .1 .0)))) (now (a .1 .0)) r (ws .1 .0))
-tied-comreset = by (λ κs a r ws p. p) (λ κs a r r′ ws ws′ p q. let e = answered-once _ _ r r′ (ws .1 .0) (ws′ .1 .0) p q in (e .0, λ i. (tt, (e .1 i, tt))))
+pub tied-comreset : Tied state.Device.comreset.ended state.Device.comreset.Reads.Asked state.Device.comreset.Reads.Post (λ κs a r ws. Answered (comresetStep (a .0) (length (now (a .1 .0)))) (now (a .1 .0)) r (ws .1 .0))
+tied-comreset = by (say (λ κs a. tt) (λ κs a r ws p. p)) (λ κs a r r′ ws ws′ p q. let e = answered-once _ _ r r′ (ws .1 .0) (ws′ .1 .0) p q in (e .0, λ i. (tt, (e .1 i, tt))))
 
-pub tied-fresh : Tied state.fresh.ended state.fresh.Reads.Post (λ κs a r ws. r ≡ freshDevice (a .0))
-tied-fresh = named (λ κs a r ws p. p) (λ κs a ws ws′. refl)
+pub tied-fresh : Tied state.fresh.ended state.fresh.Reads.Asked state.fresh.Reads.Post (λ κs a r ws. r ≡ freshDevice (a .0))
+tied-fresh = named (say (λ κs a. tt) (λ κs a r ws p. p)) (λ κs a ws ws′. refl)
 
-pub tied-power-on : Tied state.Device.power_on.ended state.Device.power_on.Reads.Post (λ κs a r ws. r ≡ powerOn (a .0))
-tied-power-on = named (λ κs a r ws p. p) (λ κs a ws ws′. refl)
+pub tied-power-on : Tied state.Device.power_on.ended state.Device.power_on.Reads.Asked state.Device.power_on.Reads.Post (λ κs a r ws. r ≡ powerOn (a .0))
+tied-power-on = named (say (λ κs a. tt) (λ κs a r ws p. p)) (λ κs a ws ws′. refl)
 
-pub tied-contradicts : Tied state.Device.contradicts.ended state.Device.contradicts.Reads.Post (λ κs a r ws. r ≡ contradictoryDevice (a .0))
-tied-contradicts = named (λ κs a r ws p. p) (λ κs a ws ws′. refl)
+pub tied-contradicts : Tied state.Device.contradicts.ended state.Device.contradicts.Reads.Asked state.Device.contradicts.Reads.Post (λ κs a r ws. r ≡ contradictoryDevice (a .0))
+tied-contradicts = named (say (λ κs a. tt) (λ κs a r ws p. p)) (λ κs a ws ws′. refl)

@@ -11,7 +11,7 @@ use Rattle.text.specs.Sheet.{Fronted}
 use denote.Ref.{now}
 use mathlib.Core.Path.{_≡_, refl}
 use Rattle.bits.specs.Contract.{Tied}
-use Rattle.bits.proofs.Tying.{same, by, named}
+use Rattle.bits.proofs.Tying.{same, say, by, named}
 use Rattle.device.proofs.Outcomes.{answered-once}
 use Rattle.events.proofs.Telling.{tells-once}
 use Rattle.events.proofs.calls
@@ -22,32 +22,32 @@ use Rattle.events.proofs.plays
 use Rattle.events.proofs.starts
 use Rattle.events.proofs.tells
 
-pub tied-call-of : Tied calls.call_of.ended calls.call_of.Reads.Post (λ κs a r ws. r ≡ callOf (now (a .0)))
-tied-call-of = named (λ κs a r ws p. p) (λ κs a ws ws′. refl)
+pub tied-call-of : Tied calls.call_of.ended calls.call_of.Reads.Asked calls.call_of.Reads.Post (λ κs a r ws. r ≡ callOf (now (a .0)))
+tied-call-of = named (say (λ κs a. tt) (λ κs a r ws p. p)) (λ κs a ws ws′. refl)
 
-pub tied-host-data : Tied host_data.host_data.ended host_data.host_data.Reads.Post (λ κs a r ws. Hosted (a .0) (hostData (a .0) (a .1 .0)) (now (a .1 .1 .0)) (now (a .1 .1 .1 .0)) r (ws .1 .1 .0) (ws .1 .1 .1 .0))
-tied-host-data = by (λ κs a r ws p. p) (λ κs a r r′ ws ws′ p q. let e = answered-once _ _ r r′ (ws .1 .1 .1 .0) (ws′ .1 .1 .1 .0) (p .answered) (q .answered) in (e .0, λ i. (tt, (tt, (same (p .medium) (q .medium) i, (e .1 i, tt))))))
+pub tied-host-data : Tied host_data.host_data.ended host_data.host_data.Reads.Asked host_data.host_data.Reads.Post (λ κs a r ws. Hosted (a .0) (hostData (a .0) (a .1 .0)) (now (a .1 .1 .0)) (now (a .1 .1 .1 .0)) r (ws .1 .1 .0) (ws .1 .1 .1 .0))
+tied-host-data = by (say (λ κs a. tt) (λ κs a r ws p. p)) (λ κs a r r′ ws ws′ p q. let e = answered-once _ _ r r′ (ws .1 .1 .1 .0) (ws′ .1 .1 .1 .0) (p .answered) (q .answered) in (e .0, λ i. (tt, (tt, (same (p .medium) (q .medium) i, (e .1 i, tt))))))
 
-pub tied-body-length : Tied kinds.body_length.ended kinds.body_length.Reads.Post (λ κs a r ws. r ≡ bodyLength (a .0))
-tied-body-length = named (λ κs a r ws p. p) (λ κs a ws ws′. refl)
+pub tied-body-length : Tied kinds.body_length.ended kinds.body_length.Reads.Asked kinds.body_length.Reads.Post (λ κs a r ws. r ≡ bodyLength (a .0))
+tied-body-length = named (say (λ κs a. tt) (λ κs a r ws p. p)) (λ κs a ws ws′. refl)
 
-pub tied-next-event : Tied kinds.next_event.ended kinds.next_event.Reads.Post (λ κs a r ws. r ≡ nextOf (a .0) (now (a .1 .0)))
-tied-next-event = named (λ κs a r ws p. p) (λ κs a ws ws′. refl)
+pub tied-next-event : Tied kinds.next_event.ended kinds.next_event.Reads.Asked kinds.next_event.Reads.Post (λ κs a r ws. r ≡ nextOf (a .0) (now (a .1 .0)))
+tied-next-event = named (say (λ κs a. tt) (λ κs a r ws p. p)) (λ κs a ws ws′. refl)
 
-pub tied-is-event : Tied kinds.is_event.ended kinds.is_event.Reads.Post (λ κs a r ws. r ≡ isEvent (now (a .0)))
-tied-is-event = named (λ κs a r ws p. p) (λ κs a ws ws′. refl)
+pub tied-is-event : Tied kinds.is_event.ended kinds.is_event.Reads.Asked kinds.is_event.Reads.Post (λ κs a r ws. r ≡ isEvent (now (a .0)))
+tied-is-event = named (say (λ κs a. tt) (λ κs a r ws p. p)) (λ κs a ws ws′. refl)
 
-pub tied-put-line : Tied lines.put_line.ended lines.put_line.Reads.Post (λ κs a r ws. Fronted (lineOf (a .1 .1 .1 .1 .1 .0) (a .1 .0) (a .1 .1 .0) (a .1 .1 .1 .0) (now (a .1 .1 .1 .1 .0))) (now (a .0)) r (ws .0))
-tied-put-line = by (λ κs a r ws p. p) (λ κs a r r′ ws ws′ p q. (same (p .len) (q .len), λ i. (same (p .bytes) (q .bytes) i, (tt, (tt, (tt, (tt, (tt, tt))))))))
+pub tied-put-line : Tied lines.put_line.ended lines.put_line.Reads.Asked lines.put_line.Reads.Post (λ κs a r ws. Fronted (lineOf (a .1 .1 .1 .1 .1 .0) (a .1 .0) (a .1 .1 .0) (a .1 .1 .1 .0) (now (a .1 .1 .1 .1 .0))) (now (a .0)) r (ws .0))
+tied-put-line = by (say (λ κs a. tt) (λ κs a r ws p. p)) (λ κs a r r′ ws ws′ p q. (same (p .len) (q .len), λ i. (same (p .bytes) (q .bytes) i, (tt, (tt, (tt, (tt, (tt, tt))))))))
 
-pub tied-play : Tied plays.play.ended plays.play.Reads.Post (λ κs a r ws. Played (a .0) (now (a .1 .0)) (now (a .1 .1 .0)) (now (a .1 .1 .1 .0)) r (ws .1 .1 .0) (ws .1 .1 .1 .0))
-tied-play = by (λ κs a r ws p. p) (λ κs a r r′ ws ws′ p q. let e = answered-once _ _ r r′ (ws .1 .1 .1 .0) (ws′ .1 .1 .1 .0) (p .answered) (q .answered) in (e .0, λ i. (tt, (tt, (same (p .medium) (q .medium) i, (e .1 i, tt))))))
+pub tied-play : Tied plays.play.ended plays.play.Reads.Asked plays.play.Reads.Post (λ κs a r ws. Played (a .0) (now (a .1 .0)) (now (a .1 .1 .0)) (now (a .1 .1 .1 .0)) r (ws .1 .1 .0) (ws .1 .1 .1 .0))
+tied-play = by (say (λ κs a. tt) (λ κs a r ws p. p)) (λ κs a r r′ ws ws′ p q. let e = answered-once _ _ r r′ (ws .1 .1 .1 .0) (ws′ .1 .1 .1 .0) (p .answered) (q .answered) in (e .0, λ i. (tt, (tt, (same (p .medium) (q .medium) i, (e .1 i, tt))))))
 
-pub tied-start : Tied starts.start.ended starts.start.Reads.Post (λ κs a r ws. r ≡ startOf (now (a .0)))
-tied-start = named (λ κs a r ws p. p) (λ κs a ws ws′. refl)
+pub tied-start : Tied starts.start.ended starts.start.Reads.Asked starts.start.Reads.Post (λ κs a r ws. r ≡ startOf (now (a .0)))
+tied-start = named (say (λ κs a. tt) (λ κs a r ws p. p)) (λ κs a ws ws′. refl)
 
-pub tied-play-line : Tied tells.play_line.ended tells.play_line.Reads.Post (λ κs a r ws. PlayTold (a .0) (a .1 .0) (a .1 .1 .0) (now (a .1 .1 .1 .0)) (now (a .1 .1 .1 .1 .0)) (now (a .1 .1 .1 .1 .1 .0)) (now (a .1 .1 .1 .1 .1 .1 .0)) r (ws .1 .1 .1 .1 .0) (ws .1 .1 .1 .1 .1 .0) (ws .1 .1 .1 .1 .1 .1 .0))
-tied-play-line = by (λ κs a r ws p. p) (λ κs a r r′ ws ws′ p q. let e = tells-once _ _ _ _ r r′ (ws .1 .1 .1 .1 .1 .1 .0) (ws′ .1 .1 .1 .1 .1 .1 .0) (p .tells) (q .tells) in (e .0, λ i. (tt, (tt, (tt, (tt, (same (p .medium) (q .medium) i, (same (p .reply) (q .reply) i, (e .1 i, tt)))))))))
+pub tied-play-line : Tied tells.play_line.ended tells.play_line.Reads.Asked tells.play_line.Reads.Post (λ κs a r ws. PlayTold (a .0) (a .1 .0) (a .1 .1 .0) (now (a .1 .1 .1 .0)) (now (a .1 .1 .1 .1 .0)) (now (a .1 .1 .1 .1 .1 .0)) (now (a .1 .1 .1 .1 .1 .1 .0)) r (ws .1 .1 .1 .1 .0) (ws .1 .1 .1 .1 .1 .0) (ws .1 .1 .1 .1 .1 .1 .0))
+tied-play-line = by (say (λ κs a. tt) (λ κs a r ws p. p)) (λ κs a r r′ ws ws′ p q. let e = tells-once _ _ _ _ r r′ (ws .1 .1 .1 .1 .1 .1 .0) (ws′ .1 .1 .1 .1 .1 .1 .0) (p .tells) (q .tells) in (e .0, λ i. (tt, (tt, (tt, (tt, (same (p .medium) (q .medium) i, (same (p .reply) (q .reply) i, (e .1 i, tt)))))))))
 
-pub tied-start-line : Tied tells.start_line.ended tells.start_line.Reads.Post (λ κs a r ws. Tells (a .0) 0 (startStep (now (a .1 .0))) (now (a .1 .1 .0)) r (ws .1 .1 .0))
-tied-start-line = by (λ κs a r ws p. p) (λ κs a r r′ ws ws′ p q. let e = tells-once _ _ _ _ r r′ (ws .1 .1 .0) (ws′ .1 .1 .0) p q in (e .0, λ i. (tt, (tt, (e .1 i, tt)))))
+pub tied-start-line : Tied tells.start_line.ended tells.start_line.Reads.Asked tells.start_line.Reads.Post (λ κs a r ws. Tells (a .0) 0 (startStep (now (a .1 .0))) (now (a .1 .1 .0)) r (ws .1 .1 .0))
+tied-start-line = by (say (λ κs a. tt) (λ κs a r ws p. p)) (λ κs a r r′ ws ws′ p q. let e = tells-once _ _ _ _ r r′ (ws .1 .1 .0) (ws′ .1 .1 .0) p q in (e .0, λ i. (tt, (tt, (e .1 i, tt)))))

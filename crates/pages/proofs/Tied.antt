@@ -10,7 +10,7 @@ use Rattle.wire.specs.Emit.{Emitted}
 use denote.Ref.{now}
 use mathlib.Core.Path.{_≡_, refl}
 use Rattle.bits.specs.Contract.{Tied}
-use Rattle.bits.proofs.Tying.{same, by, named}
+use Rattle.bits.proofs.Tying.{same, say, by, named}
 use Rattle.wire.proofs.EmitLaws.{emitted-once}
 use Rattle.pages.proofs.made11
 use Rattle.pages.proofs.page10
@@ -20,50 +20,50 @@ use Rattle.pages.proofs.sums
 use Rattle.pages.proofs.walk
 use Rattle.pages.proofs.writing
 
-pub tied-page11-bytes : Tied made11.page11_bytes.ended made11.page11_bytes.Reads.Post (λ κs a r ws. r ≡ page11 (a .0) (a .1 .0))
-tied-page11-bytes = named (λ κs a r ws p. p) (λ κs a ws ws′. refl)
+pub tied-page11-bytes : Tied made11.page11_bytes.ended made11.page11_bytes.Reads.Asked made11.page11_bytes.Reads.Post (λ κs a r ws. r ≡ page11 (a .0) (a .1 .0))
+tied-page11-bytes = named (say (λ κs a. tt) (λ κs a r ws p. p)) (λ κs a ws ws′. refl)
 
-pub tied-log-fits : Tied page10.log_fits.ended page10.log_fits.Reads.Post (λ κs a r ws. r ≡ fits10 (a .0))
-tied-log-fits = named (λ κs a r ws p. p) (λ κs a ws ws′. refl)
+pub tied-log-fits : Tied page10.log_fits.ended page10.log_fits.Reads.Asked page10.log_fits.Reads.Post (λ κs a r ws. r ≡ fits10 (a .0))
+tied-log-fits = named (say (λ κs a. tt) (λ κs a r ws p. p)) (λ κs a ws ws′. refl)
 
-pub tied-page10-bytes : Tied page10.page10_bytes.ended page10.page10_bytes.Reads.Post (λ κs a r ws. r ≡ page10 (a .0))
-tied-page10-bytes = named (λ κs a r ws p. p) (λ κs a ws ws′. refl)
+pub tied-page10-bytes : Tied page10.page10_bytes.ended page10.page10_bytes.Reads.Asked page10.page10_bytes.Reads.Post (λ κs a r ws. r ≡ page10 (a .0))
+tied-page10-bytes = named (say (λ κs a. tt) (λ κs a r ws p. p)) (λ κs a ws ws′. refl)
 
-pub tied-read-log : Tied page10.read_log.ended page10.read_log.Reads.Post (λ κs a r ws. LogRead (now (a .0)) r)
-tied-read-log = by (λ κs a r ws p. p) (λ κs a r r′ ws ws′ p q. (same (p .answer) (q .answer), refl))
+pub tied-read-log : Tied page10.read_log.ended page10.read_log.Reads.Asked page10.read_log.Reads.Post (λ κs a r ws. LogRead (now (a .0)) r)
+tied-read-log = by (say (λ κs a. tt) (λ κs a r ws p. p)) (λ κs a r r′ ws ws′ p q. (same (p .answer) (q .answer), refl))
 
-pub tied-read-counter : Tied page11.read_counter.ended page11.read_counter.Reads.Post (λ κs a r ws. CounterRead (now (a .0)) (a .1 .0) r)
-tied-read-counter = by (λ κs a r ws p. p) (λ κs a r r′ ws ws′ p q. (same (p .answer) (q .answer), refl))
+pub tied-read-counter : Tied page11.read_counter.ended page11.read_counter.Reads.Asked page11.read_counter.Reads.Post (λ κs a r ws. CounterRead (now (a .0)) (a .1 .0) r)
+tied-read-counter = by (say (λ κs a. tt) (λ κs a r ws p. p)) (λ κs a r r′ ws ws′ p q. (same (p .answer) (q .answer), refl))
 
-pub tied-id-of : Tied rows.id_of.ended rows.id_of.Reads.Post (λ κs a r ws. r ≡ idOf (a .0))
-tied-id-of = named (λ κs a r ws p. p) (λ κs a ws ws′. refl)
+pub tied-id-of : Tied rows.id_of.ended rows.id_of.Reads.Asked rows.id_of.Reads.Post (λ κs a r ws. r ≡ idOf (a .0))
+tied-id-of = named (say (λ κs a. tt) (λ κs a r ws p. p)) (λ κs a ws ws′. refl)
 
-pub tied-row-of : Tied rows.row_of.ended rows.row_of.Reads.Post (λ κs a r ws. r ≡ rowOf (a .0))
-tied-row-of = named (λ κs a r ws p. p) (λ κs a ws ws′. refl)
+pub tied-row-of : Tied rows.row_of.ended rows.row_of.Reads.Asked rows.row_of.Reads.Post (λ κs a r ws. r ≡ rowOf (a .0))
+tied-row-of = named (say (λ κs a. tt) (λ κs a r ws p. p)) (λ κs a ws ws′. refl)
 
-pub tied-is-kept : Tied rows.is_kept.ended rows.is_kept.Reads.Post (λ κs a r ws. r ≡ kept (a .0) (a .1 .0))
-tied-is-kept = named (λ κs a r ws p. p) (λ κs a ws ws′. refl)
+pub tied-is-kept : Tied rows.is_kept.ended rows.is_kept.Reads.Asked rows.is_kept.Reads.Post (λ κs a r ws. r ≡ kept (a .0) (a .1 .0))
+tied-is-kept = named (say (λ κs a. tt) (λ κs a r ws p. p)) (λ κs a ws ws′. refl)
 
-pub tied-byte-sum : Tied sums.byte_sum.ended sums.byte_sum.Reads.Post (λ κs a r ws. r ≡ sum256 (now (a .0)))
-tied-byte-sum = named (λ κs a r ws p. p) (λ κs a ws ws′. refl)
+pub tied-byte-sum : Tied sums.byte_sum.ended sums.byte_sum.Reads.Asked sums.byte_sum.Reads.Post (λ κs a r ws. r ≡ sum256 (now (a .0)))
+tied-byte-sum = named (say (λ κs a. tt) (λ κs a r ws p. p)) (λ κs a ws ws′. refl)
 
-pub tied-sum-byte : Tied sums.sum_byte.ended sums.sum_byte.Reads.Post (λ κs a r ws. r ≡ sumByte (now (a .0)))
-tied-sum-byte = named (λ κs a r ws p. p) (λ κs a ws ws′. refl)
+pub tied-sum-byte : Tied sums.sum_byte.ended sums.sum_byte.Reads.Asked sums.sum_byte.Reads.Post (λ κs a r ws. r ≡ sumByte (now (a .0)))
+tied-sum-byte = named (say (λ κs a. tt) (λ κs a r ws p. p)) (λ κs a ws ws′. refl)
 
-pub tied-number-of : Tied walk.number_of.ended walk.number_of.Reads.Post (λ κs a r ws. r ≡ numberOf (a .0))
-tied-number-of = named (λ κs a r ws p. p) (λ κs a ws ws′. refl)
+pub tied-number-of : Tied walk.number_of.ended walk.number_of.Reads.Asked walk.number_of.Reads.Post (λ κs a r ws. r ≡ numberOf (a .0))
+tied-number-of = named (say (λ κs a. tt) (λ κs a r ws p. p)) (λ κs a ws ws′. refl)
 
-pub tied-is-vendor : Tied walk.is_vendor.ended walk.is_vendor.Reads.Post (λ κs a r ws. r ≡ vendorOf (a .0))
-tied-is-vendor = named (λ κs a r ws p. p) (λ κs a ws ws′. refl)
+pub tied-is-vendor : Tied walk.is_vendor.ended walk.is_vendor.Reads.Asked walk.is_vendor.Reads.Post (λ κs a r ws. r ≡ vendorOf (a .0))
+tied-is-vendor = named (say (λ κs a. tt) (λ κs a r ws p. p)) (λ κs a ws ws′. refl)
 
-pub tied-entry-at : Tied walk.entry_at.ended walk.entry_at.Reads.Post (λ κs a r ws. r ≡ stepAt (now (a .0)) (a .1 .0))
-tied-entry-at = named (λ κs a r ws p. p) (λ κs a ws ws′. refl)
+pub tied-entry-at : Tied walk.entry_at.ended walk.entry_at.Reads.Asked walk.entry_at.Reads.Post (λ κs a r ws. r ≡ stepAt (now (a .0)) (a .1 .0))
+tied-entry-at = named (say (λ κs a. tt) (λ κs a r ws p. p)) (λ κs a ws ws′. refl)
 
-pub tied-walk-step : Tied walk.walk_step.ended walk.walk_step.Reads.Post (λ κs a r ws. r ≡ stepAt (now (a .0)) (a .1 .0))
-tied-walk-step = named (λ κs a r ws p. p) (λ κs a ws ws′. refl)
+pub tied-walk-step : Tied walk.walk_step.ended walk.walk_step.Reads.Asked walk.walk_step.Reads.Post (λ κs a r ws. r ≡ stepAt (now (a .0)) (a .1 .0))
+tied-walk-step = named (say (λ κs a. tt) (λ κs a r ws p. p)) (λ κs a ws ws′. refl)
 
-pub tied-write-log : Tied writing.write_log.ended writing.write_log.Reads.Post (λ κs a r ws. Emitted (fits10 (a .1 .0)) (page10 (a .1 .0)) (now (a .0)) r (ws .0))
-tied-write-log = by (λ κs a r ws p. p) (λ κs a r r′ ws ws′ p q. let e = emitted-once _ _ _ r r′ (ws .0) (ws′ .0) p q in (e .0, λ i. (e .1 i, (tt, tt))))
+pub tied-write-log : Tied writing.write_log.ended writing.write_log.Reads.Asked writing.write_log.Reads.Post (λ κs a r ws. Emitted (fits10 (a .1 .0)) (page10 (a .1 .0)) (now (a .0)) r (ws .0))
+tied-write-log = by (say (λ κs a. tt) (λ κs a r ws p. p)) (λ κs a r r′ ws ws′ p q. let e = emitted-once _ _ _ r r′ (ws .0) (ws′ .0) p q in (e .0, λ i. (e .1 i, (tt, tt))))
 
-pub tied-write-counters : Tied writing.write_counters.ended writing.write_counters.Reads.Post (λ κs a r ws. Emitted (keepsBoth (a .1 .0)) (page11 (a .1 .0) (a .1 .1 .0)) (now (a .0)) r (ws .0))
-tied-write-counters = by (λ κs a r ws p. p) (λ κs a r r′ ws ws′ p q. let e = emitted-once _ _ _ r r′ (ws .0) (ws′ .0) p q in (e .0, λ i. (e .1 i, (tt, (tt, tt)))))
+pub tied-write-counters : Tied writing.write_counters.ended writing.write_counters.Reads.Asked writing.write_counters.Reads.Post (λ κs a r ws. Emitted (keepsBoth (a .1 .0)) (page11 (a .1 .0) (a .1 .1 .0)) (now (a .0)) r (ws .0))
+tied-write-counters = by (say (λ κs a. tt) (λ κs a r ws p. p)) (λ κs a r r′ ws ws′ p q. let e = emitted-once _ _ _ r r′ (ws .0) (ws′ .0) p q in (e .0, λ i. (e .1 i, (tt, (tt, tt)))))

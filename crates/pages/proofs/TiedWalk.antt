@@ -36,3 +36,10 @@ module _ {M : Type 1} (𝓤 : URA M) (H : Heap 𝓤) (A : Atoms 𝓤) (mem : Mem
 
   pub tied-step : (w : Walk) (r : Step) (s : AtExit walk.Walk.step.ended κs) → walk.Walk.step.clauses 𝓤 H A mem run κs (w, tt) .ensures tt r s ≡ connectives 𝓤 .⌜_⌝ (r ≡ stepAt (now (w .page)) (w .at))
   tied-step w r s = refl
+
+  -- and they ask nothing of their caller
+  pub free-from : (p : RefT (List ℕ)) (at : ℕ) → walk.Walk.from.clauses 𝓤 H A mem run κs (p, (at, tt)) .requires tt ≡ connectives 𝓤 .⊤ₛ
+  free-from p at = refl
+
+  pub free-step : (w : Walk) → walk.Walk.step.clauses 𝓤 H A mem run κs (w, tt) .requires tt ≡ connectives 𝓤 .⊤ₛ
+  free-step w = refl

@@ -8,54 +8,54 @@ use denote.Ref.{now}
 use lib.ListN.{getD}
 use mathlib.Core.Path.{_≡_, refl}
 use Rattle.bits.specs.Contract.{Tied}
-use Rattle.bits.proofs.Tying.{same, by, named}
+use Rattle.bits.proofs.Tying.{same, say, by, named}
 use Rattle.wire.proofs.EmitLaws.{emitted-once}
 use Rattle.wire.proofs.cutting
 use Rattle.wire.proofs.emitting
 use Rattle.wire.proofs.pieces
 use Rattle.wire.proofs.sizes
 
-pub tied-cut-first : Tied cutting.cut_first.ended cutting.cut_first.Reads.Post (λ κs a r ws. r ≡ pieceOf (now (a .0)))
-tied-cut-first = named (λ κs a r ws p. p) (λ κs a ws ws′. refl)
+pub tied-cut-first : Tied cutting.cut_first.ended cutting.cut_first.Reads.Asked cutting.cut_first.Reads.Post (λ κs a r ws. r ≡ pieceOf (now (a .0)))
+tied-cut-first = named (say (λ κs a. tt) (λ κs a r ws p. p)) (λ κs a ws ws′. refl)
 
-pub tied-emit : Tied emitting.emit.ended emitting.emit.Reads.Post (λ κs a r ws. Emitted (a .1 .0) (now (a .1 .1 .0)) (now (a .0)) r (ws .0))
-tied-emit = by (λ κs a r ws p. p) (λ κs a r r′ ws ws′ p q. let e = emitted-once _ _ _ r r′ (ws .0) (ws′ .0) p q in (e .0, λ i. (e .1 i, (tt, (tt, tt)))))
+pub tied-emit : Tied emitting.emit.ended emitting.emit.Reads.Asked emitting.emit.Reads.Post (λ κs a r ws. Emitted (a .1 .0) (now (a .1 .1 .0)) (now (a .0)) r (ws .0))
+tied-emit = by (say (λ κs a. tt) (λ κs a r ws p. p)) (λ κs a r r′ ws ws′ p q. let e = emitted-once _ _ _ r r′ (ws .0) (ws′ .0) p q in (e .0, λ i. (e .1 i, (tt, (tt, tt)))))
 
-pub tied-byte-of : Tied pieces.byte_of.ended pieces.byte_of.Reads.Post (λ κs a r ws. r ≡ getD (now (a .0)) (a .1 .0) 0)
-tied-byte-of = named (λ κs a r ws p. p) (λ κs a ws ws′. refl)
+pub tied-byte-of : Tied pieces.byte_of.ended pieces.byte_of.Reads.Asked pieces.byte_of.Reads.Post (λ κs a r ws. r ≡ getD (now (a .0)) (a .1 .0) 0)
+tied-byte-of = named (say (λ κs a. tt) (λ κs a r ws p. p)) (λ κs a ws ws′. refl)
 
-pub tied-flag : Tied pieces.flag.ended pieces.flag.Reads.Post (λ κs a r ws. r ≡ bitIn 8 (a .0) (a .1 .0))
-tied-flag = named (λ κs a r ws p. p) (λ κs a ws ws′. refl)
+pub tied-flag : Tied pieces.flag.ended pieces.flag.Reads.Asked pieces.flag.Reads.Post (λ κs a r ws. r ≡ bitIn 8 (a .0) (a .1 .0))
+tied-flag = named (say (λ κs a. tt) (λ κs a r ws p. p)) (λ κs a ws ws′. refl)
 
-pub tied-srst : Tied pieces.srst.ended pieces.srst.Reads.Post (λ κs a r ws. r ≡ srstOf (a .0))
-tied-srst = named (λ κs a r ws p. p) (λ κs a ws ws′. refl)
+pub tied-srst : Tied pieces.srst.ended pieces.srst.Reads.Asked pieces.srst.Reads.Post (λ κs a r ws. r ≡ srstOf (a .0))
+tied-srst = named (say (λ κs a. tt) (λ κs a r ws p. p)) (λ κs a ws ws′. refl)
 
-pub tied-flags : Tied pieces.flags.ended pieces.flags.Reads.Post (λ κs a r ws. r ≡ flagsOf (a .0) (a .1 .0) (a .1 .1 .0))
-tied-flags = named (λ κs a r ws p. p) (λ κs a ws ws′. refl)
+pub tied-flags : Tied pieces.flags.ended pieces.flags.Reads.Asked pieces.flags.Reads.Post (λ κs a r ws. r ≡ flagsOf (a .0) (a .1 .0) (a .1 .1 .0))
+tied-flags = named (say (λ κs a. tt) (λ κs a r ws p. p)) (λ κs a ws ws′. refl)
 
-pub tied-halves : Tied pieces.halves.ended pieces.halves.Reads.Post (λ κs a r ws. r ≡ halvesOf (a .0))
-tied-halves = named (λ κs a r ws p. p) (λ κs a ws ws′. refl)
+pub tied-halves : Tied pieces.halves.ended pieces.halves.Reads.Asked pieces.halves.Reads.Post (λ κs a r ws. r ≡ halvesOf (a .0))
+tied-halves = named (say (λ κs a. tt) (λ κs a r ws p. p)) (λ κs a ws ws′. refl)
 
-pub tied-task-of : Tied pieces.task_of.ended pieces.task_of.Reads.Post (λ κs a r ws. r ≡ taskOf (now (a .0)))
-tied-task-of = named (λ κs a r ws p. p) (λ κs a ws ws′. refl)
+pub tied-task-of : Tied pieces.task_of.ended pieces.task_of.Reads.Asked pieces.task_of.Reads.Post (λ κs a r ws. r ≡ taskOf (now (a .0)))
+tied-task-of = named (say (λ κs a. tt) (λ κs a r ws p. p)) (λ κs a ws ws′. refl)
 
-pub tied-tag-of : Tied pieces.tag_of.ended pieces.tag_of.Reads.Post (λ κs a r ws. r ≡ tagOf (a .0))
-tied-tag-of = named (λ κs a r ws p. p) (λ κs a ws ws′. refl)
+pub tied-tag-of : Tied pieces.tag_of.ended pieces.tag_of.Reads.Asked pieces.tag_of.Reads.Post (λ κs a r ws. r ≡ tagOf (a .0))
+tied-tag-of = named (say (λ κs a. tt) (λ κs a r ws p. p)) (λ κs a ws ws′. refl)
 
-pub tied-sectors-of : Tied pieces.sectors_of.ended pieces.sectors_of.Reads.Post (λ κs a r ws. r ≡ sectorsOf (a .0) (a .1 .0))
-tied-sectors-of = named (λ κs a r ws p. p) (λ κs a ws ws′. refl)
+pub tied-sectors-of : Tied pieces.sectors_of.ended pieces.sectors_of.Reads.Asked pieces.sectors_of.Reads.Post (λ κs a r ws. r ≡ sectorsOf (a .0) (a .1 .0))
+tied-sectors-of = named (say (λ κs a. tt) (λ κs a r ws p. p)) (λ κs a ws ws′. refl)
 
-pub tied-register-bytes : Tied pieces.register_bytes.ended pieces.register_bytes.Reads.Post (λ κs a r ws. r ≡ registerBytes (a .0) (a .1 .0) (a .1 .1 .0) (a .1 .1 .1 .0) (a .1 .1 .1 .1 .0) (a .1 .1 .1 .1 .1 .0) (a .1 .1 .1 .1 .1 .1 .0) (a .1 .1 .1 .1 .1 .1 .1 .0))
-tied-register-bytes = named (λ κs a r ws p. p) (λ κs a ws ws′. refl)
+pub tied-register-bytes : Tied pieces.register_bytes.ended pieces.register_bytes.Reads.Asked pieces.register_bytes.Reads.Post (λ κs a r ws. r ≡ registerBytes (a .0) (a .1 .0) (a .1 .1 .0) (a .1 .1 .1 .0) (a .1 .1 .1 .1 .0) (a .1 .1 .1 .1 .1 .0) (a .1 .1 .1 .1 .1 .1 .0) (a .1 .1 .1 .1 .1 .1 .1 .0))
+tied-register-bytes = named (say (λ κs a. tt) (λ κs a r ws p. p)) (λ κs a ws ws′. refl)
 
-pub tied-task-fits : Tied pieces.task_fits.ended pieces.task_fits.Reads.Post (λ κs a r ws. r ≡ taskFits (a .0))
-tied-task-fits = named (λ κs a r ws p. p) (λ κs a ws ws′. refl)
+pub tied-task-fits : Tied pieces.task_fits.ended pieces.task_fits.Reads.Asked pieces.task_fits.Reads.Post (λ κs a r ws. r ≡ taskFits (a .0))
+tied-task-fits = named (say (λ κs a. tt) (λ κs a r ws p. p)) (λ κs a ws ws′. refl)
 
-pub tied-fixed-size : Tied sizes.fixed_size.ended sizes.fixed_size.Reads.Post (λ κs a r ws. r ≡ fixedSize (a .0))
-tied-fixed-size = named (λ κs a r ws p. p) (λ κs a ws ws′. refl)
+pub tied-fixed-size : Tied sizes.fixed_size.ended sizes.fixed_size.Reads.Asked sizes.fixed_size.Reads.Post (λ κs a r ws. r ≡ fixedSize (a .0))
+tied-fixed-size = named (say (λ κs a. tt) (λ κs a r ws p. p)) (λ κs a ws ws′. refl)
 
-pub tied-payload-size : Tied sizes.payload_size.ended sizes.payload_size.Reads.Post (λ κs a r ws. r ≡ payloadSize (a .0))
-tied-payload-size = named (λ κs a r ws p. p) (λ κs a ws ws′. refl)
+pub tied-payload-size : Tied sizes.payload_size.ended sizes.payload_size.Reads.Asked sizes.payload_size.Reads.Post (λ κs a r ws. r ≡ payloadSize (a .0))
+tied-payload-size = named (say (λ κs a. tt) (λ κs a r ws p. p)) (λ κs a ws ws′. refl)
 
-pub tied-is-readable : Tied sizes.is_readable.ended sizes.is_readable.Reads.Post (λ κs a r ws. r ≡ readable (a .0) (a .1 .0))
-tied-is-readable = named (λ κs a r ws p. p) (λ κs a ws ws′. refl)
+pub tied-is-readable : Tied sizes.is_readable.ended sizes.is_readable.Reads.Asked sizes.is_readable.Reads.Post (λ κs a r ws. r ≡ readable (a .0) (a .1 .0))
+tied-is-readable = named (say (λ κs a. tt) (λ κs a r ws p. p)) (λ κs a ws ws′. refl)
