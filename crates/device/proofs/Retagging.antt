@@ -13,12 +13,12 @@ use Rattle.bits.proofs.Picks.{tested, or-left, or-right}
 use Rattle.states.specs.State.{wholeOf}
 use Rattle.states.specs.Table.{entryOf, placed, cleared}
 use Rattle.rules.specs.Facts.{leftOf, advancedBy}
-use Rattle.states.specs.Clauses.{aboveDepth, pastCapacity, countZero, otherTag, otherRange, movedBad as movedWrong, busyBad, entryBad, tagBad}
+use Rattle.states.specs.Clauses.{aboveDepth, pastCapacity, countZero, otherTag, otherRange, movedBad, busyBad, entryBad, tagBad}
 use Rattle.states.specs.declared.shapes.Settings.{Settings}
 use Rattle.states.specs.declared.shapes.Entry.{Entry}
 use Rattle.states.proofs.TableLaws.{getD-placed, getD-cleared}
 use Rattle.device.proofs.Never.{idle-tag}
-use Rattle.device.proofs.Tags.{bit-with, bit-without, busy-below, movedBad, moved-opened, moved-on}
+use Rattle.device.proofs.Tags.{bit-with, bit-without, busy-below, wrongMove, moved-opened, moved-on}
 
 -- the clauses of an entry that do not ask what has moved
 abbrev pub nameBad : Settings → Entry → ℕ → Bool
@@ -26,18 +26,18 @@ nameBad s e t = (aboveDepth s t || pastCapacity s e) || (countZero e || (otherTa
 
 -- an outstanding tag's entry as its phase is opened
 busy-opened : (s : Settings) (e : Entry) (t : ℕ) → busyBad s e t false ≡ false → eqb (e .moved) (wholeOf (e .count)) ≡ false → busyBad s e t true ≡ false
-unfolding busyBad movedWrong
+unfolding busyBad movedBad
 busy-opened s e t h m =
     let name : Bool = nameBad s e t in
-    let old : Bool = movedBad (wholeOf (e .count)) (e .moved) false in
+    let old : Bool = wrongMove (wholeOf (e .count)) (e .moved) false in
     rw (or-left name old h) (moved-opened (wholeOf (e .count)) (e .moved) (or-right name old h) m)
 
 -- and as n bytes move, or what is left
 busy-on : (s : Settings) (e : Entry) (t n : ℕ) → busyBad s e t true ≡ false → min n (leftOf e) % 4 ≡ 0 → busyBad s (advancedBy e (min n (leftOf e))) t (not (leb (leftOf e) n)) ≡ false
-unfolding busyBad movedWrong advancedBy
+unfolding busyBad movedBad advancedBy
 busy-on s e t n h four =
     let name : Bool = nameBad s e t in
-    let old : Bool = movedBad (wholeOf (e .count)) (e .moved) true in
+    let old : Bool = wrongMove (wholeOf (e .count)) (e .moved) true in
     rw (or-left name old h) (moved-on (wholeOf (e .count)) (e .moved) n (or-right name old h) four)
 
 -- ---- whose phase is open

@@ -1,4 +1,4 @@
--- The data of a taken host data frame stands whole in the medium, at its place, and every other byte is as it was. Assumes nothing.
+-- Host data: what is known of a frame that was taken, where it goes, and when 6 is given, by what the rules go by. Assumes nothing.
 use mathlib.Core.Path.{_≡_, refl, sym, ap, _∙_}
 use mathlib.Core.Bool.{true, false, not, _&&_, true≢false}
 use mathlib.Core.List.{List, _++_}
@@ -58,36 +58,57 @@ stored-whole at size f m h e w =
     rw (le-leb 4 (length f) h, le-leb at (length m) (omega arith))
     (ap (λ (x : List ℕ). take at m ++ x) (over-yes (drop 4 f) (drop at m) (omega arith) ∙ ap (λ (x : List ℕ). drop 4 f ++ x) (ap (λ (k : ℕ). drop k (drop at m)) long ∙ drop-drop size at m)))
 
--- a taken host data frame: its payload, of any whole Dwords, is no longer than what is left of the command, it stands whole at the command's next place, and every other byte of the medium is as it was
-pub data-stored : (d : Device) (f m : List ℕ) (room : ℕ) → getD f 0 0 ≡ 0x46 → hostStep d f (length m) room .refusal ≡ 0
+-- what is known of a host data frame that was taken, with a medium of n bytes
+pub record Taken46 (d : Device) (f : List ℕ) (n room : ℕ) : Type 0 where
+  pub good : contradictoryDevice d ≡ false
+  pub medium : mediumWrong (d .settings .capacity) n ≡ false
+  pub phase : eqb (d .flow .phase) 0 ≡ false
+  pub some : 4 ≤ length f - 4
+  pub most : length f - 4 ≤ leftOf (entryOf (d .entries) (openTag (d .flow .phase)))
+  pub act : hostAct d f n room ≡ Keep (moveOf (d .flow) (entryOf (d .entries) (openTag (d .flow .phase))) (length f - 4))
+
+pub taken-46 : (d : Device) (f : List ℕ) (n room : ℕ) → getD f 0 0 ≡ 0x46 → hostStep d f n room .refusal ≡ 0 → Taken46 d f n room
+unfolding hostAct wrongKind wrongTime wrongSize kindAct
+taken-46 d f n room kind z =
+    let v = factsOf d (openTag (d .flow .phase)) (mediumWrong (d .settings .capacity) n) room in
+    let k = length f - 4 in
+    let none = first-exactly-host d f n room .none .0 z in
+    ⊎-elim
+    (λ (p : payloadSize k ≡ true).
+    let r = data-read f kind p in
+    let time : wrongTime v (fs.Data k) ≡ false = rw r at (none 4 (lit< tt)) in
+    let size : wrongSize v (fs.Data k) ≡ false = rw r at (none 5 (lit< tt)) in
+    record {
+      good = none 0 (lit< tt);
+      medium = none 1 (lit< tt);
+      phase = or-left (eqb (d .flow .phase) 0) (not (v .entry .write)) time;
+      some = leb-true 4 k (and-left (leb 4 k) (leb k 8192) (and-left (leb 4 k && leb k 8192) (eqb (k % 4) 0) p));
+      most = ltb-false (leftOf (v .entry)) k size;
+      act = lent-is v (readFrame f) (lent-none v (readFrame f) z) ∙ ap (kindAct v) r ∙ data-kept v k time size;
+    })
+    (λ (p : payloadSize k ≡ false). absurd (true≢false (sym (ap wrongKind (data-refused f kind p)) ∙ none 3 (lit< tt))))
+    (tested (payloadSize k))
+
+-- its payload stands whole at the command's next place, and every other byte of the medium is as it was
+pub data-kept-whole : (d : Device) (f m : List ℕ) (room : ℕ) → Taken46 d f (length m) room
     → let e : Entry = entryOf (d .entries) (openTag (d .flow .phase)) in
     (length (drop 4 f) ≤ leftOf e) × (keptIn (hostAct d f (length m) room) f m ≡ take (placeOf e) m ++ (drop 4 f ++ drop (placeOf e + length (drop 4 f)) m))
-unfolding hostAct wrongKind wrongTime wrongSize keptIn kindAct moveOf
-data-stored d f m room kind z =
-    let v = factsOf d (openTag (d .flow .phase)) (mediumWrong (d .settings .capacity) (length m)) room in
+unfolding keptIn moveOf
+data-kept-whole d f m room t =
     let n = length f - 4 in
-    let k : Move = moveOf (v .flow) (v .entry) n in
-    let none = first-exactly-host d f (length m) room .none .0 z in
-    ⊎-elim
-    (λ (p : payloadSize n ≡ true).
-    let r = data-read f kind p in
-    let time : wrongTime v (fs.Data n) ≡ false = rw r at (none 4 (lit< tt)) in
-    let size : wrongSize v (fs.Data n) ≡ false = rw r at (none 5 (lit< tt)) in
-    let most = ltb-false (leftOf (v .entry)) n size in
+    let k : Move = moveOf (d .flow) (entryOf (d .entries) (openTag (d .flow .phase))) n in
+    let most = t .most in
+    let some = t .some in
     let due : n ≡ k .size = omega arith in
-    let some = leb-true 4 n (and-left (leb 4 n) (leb n 8192) (and-left (leb 4 n && leb n 8192) (eqb (n % 4) 0) p)) in
-    let within = move-within d (none 0 (lit< tt)) (or-left (eqb (d .flow .phase) 0) (not (v .entry .write)) time) n (length m) (none 1 (lit< tt)) in
-    let act : decideOf v (readFrame f) ≡ Keep k = lent-is v (readFrame f) (lent-none v (readFrame f) z) ∙ ap (kindAct v) r ∙ data-kept v n time size in
+    let within = move-within d (t .good) (t .phase) n (length m) (t .medium) in
     let long = length-drop 4 f in
-    (omega arith, ap (λ (a : Act). keptIn a f m) act ∙ stored-whole (k .at) (k .size) f m (omega arith) due within ∙ ap (λ (s : ℕ). take (k .at) m ++ (drop 4 f ++ drop (k .at + s) m)) (sym (long ∙ due))))
-    (λ (p : payloadSize n ≡ false). absurd (true≢false (sym (ap wrongKind (data-refused f kind p)) ∙ none 3 (lit< tt))))
-    (tested (payloadSize n))
+    (omega arith, ap (λ (a : Act). keptIn a f m) (t .act) ∙ stored-whole (k .at) (k .size) f m (omega arith) due within ∙ ap (λ (s : ℕ). take (k .at) m ++ (drop 4 f ++ drop (k .at + s) m)) (sym (long ∙ due)))
 
--- 6: in a write phase, where nothing before it is wrong, a payload of 1 to 2,048 whole Dwords is turned down exactly when it is longer than what is left
-pub six-exactly : (d : Device) (f : List ℕ) (n room : ℕ) → getD f 0 0 ≡ 0x46 → payloadSize (length f - 4) ≡ true → contradictoryDevice d ≡ false → mediumWrong (d .settings .capacity) n ≡ false → ltb room 8196 ≡ false
+-- the number of a host data frame of a right size, in a write phase, where nothing before 6 is wrong
+pub six-by-left : (d : Device) (f : List ℕ) (n room : ℕ) → getD f 0 0 ≡ 0x46 → payloadSize (length f - 4) ≡ true → contradictoryDevice d ≡ false → mediumWrong (d .settings .capacity) n ≡ false → ltb room 8196 ≡ false
     → eqb (d .flow .phase) 0 ≡ false → entryOf (d .entries) (openTag (d .flow .phase)) .write ≡ true
     → hostStep d f n room .refusal ≡ pick (ltb (leftOf (entryOf (d .entries) (openTag (d .flow .phase)))) (length f - 4)) 6 0
 unfolding hostAct wrongKind wrongTime wrongSize firstOf pick
-six-exactly d f n room kind p c w s o u =
+six-by-left d f n room kind p c w s o u =
     let v = factsOf d (openTag (d .flow .phase)) (mediumWrong (d .settings .capacity) n) room in
     host-number v (readFrame f) ∙ ap (λ (r : Frame). firstOf (hostTests v r)) (data-read f kind p) ∙ rw (c, w, s, o, u) refl

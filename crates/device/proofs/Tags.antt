@@ -43,21 +43,21 @@ busy-below m t h = ltb-true t 32 (and-left (ltb t 32) (eqb (m / 2 ^ t % 2) 1) h)
 -- ---- what has moved of a command
 
 -- one of the four clauses of what has moved of a command of `whole` bytes
-abbrev pub movedBad : ℕ → ℕ → Bool → Bool
-movedBad whole moved phase =
+abbrev pub wrongMove : ℕ → ℕ → Bool → Bool
+wrongMove whole moved phase =
     (ltb whole moved || not (eqb (moved % 4) 0)) || ((not phase && (not (eqb moved 0) && not (eqb moved whole))) || (phase && eqb moved whole))
 
 -- nothing has moved, and no phase is open
-pub moved-none : (whole : ℕ) → movedBad whole 0 false ≡ false
+pub moved-none : (whole : ℕ) → wrongMove whole 0 false ≡ false
 moved-none whole = rw (le-ltb whole 0 (omega arith))
 
 -- a phase is opened while something is left
-pub moved-opened : (whole moved : ℕ) → movedBad whole moved false ≡ false → eqb moved whole ≡ false → movedBad whole moved true ≡ false
+pub moved-opened : (whole moved : ℕ) → wrongMove whole moved false ≡ false → eqb moved whole ≡ false → wrongMove whole moved true ≡ false
 moved-opened whole moved h e = rw (e, or-left (ltb whole moved || not (eqb (moved % 4) 0)) ((not (eqb moved 0) && not (eqb moved whole)) || false) h)
 
 -- n bytes more have moved, or what was left, and the phase stays open while something is left
-pub moved-on : (whole moved n : ℕ) → movedBad whole moved true ≡ false → min n (whole - moved) % 4 ≡ 0
-    → movedBad whole (moved + min n (whole - moved)) (not (leb (whole - moved) n)) ≡ false
+pub moved-on : (whole moved n : ℕ) → wrongMove whole moved true ≡ false → min n (whole - moved) % 4 ≡ 0
+    → wrongMove whole (moved + min n (whole - moved)) (not (leb (whole - moved) n)) ≡ false
 moved-on whole moved n h four =
     let first : Bool = ltb whole moved || not (eqb (moved % 4) 0) in
     let l = ltb-false whole moved (or-left (ltb whole moved) (not (eqb (moved % 4) 0)) (or-left first (eqb moved whole) h)) in

@@ -54,7 +54,7 @@ step-placed s c m b at w n k =
     let x : Event = event (done (lend c m b) (gives s m b)) in
     still-placed x at (read-sent x (s .frames) (read-step s c m b m w) ∙ n) k refl
 
--- every call's data stand at the next sector of the open phase's command
+-- every call's data stand at the next byte of the open phase's command
 pub placed : (d : Device) (c : Call) (m b : List ℕ) → Typed c → SizedRecord d → Placed (event (done (lend c m b) (resultFor d m b c))) (placeOf (phaseEntry d))
 placed d (hostFrame f) m b t s =
     let k : Step = hostStep d f (length m) (length b) in

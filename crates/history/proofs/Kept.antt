@@ -28,7 +28,7 @@ use Rattle.device.specs.declared.state.Device.{Device}
 use Rattle.device.proofs.Refusals.{refused-keeps-medium}
 use Rattle.device.proofs.Exactly.{first-exactly-host}
 use Rattle.device.proofs.Rooms.{move-within}
-use Rattle.device.proofs.Storing.{data-stored}
+use Rattle.device.proofs.Storing.{taken-46, data-kept-whole}
 use Rattle.history.specs.Replied.{dataIn}
 use Rattle.history.proofs.Placed.{LeftAt, EndsIn, left-none, ends-none, phaseEntry}
 
@@ -85,7 +85,7 @@ module _ (d : Device) (f m : List ℕ) (room : ℕ) where
   abbrev act : Act
   act = hostAct d f (length m) room
 
-  -- where the next sector of the open phase's command stands
+  -- where the next byte of the open phase's command stands
   abbrev place : ℕ
   place = placeOf (phaseEntry d)
 
@@ -107,12 +107,12 @@ module _ (d : Device) (f m : List ℕ) (room : ℕ) where
   taken-left z (fs.Setup x) e = unkept (fs.Setup x) e refl
   taken-left z fs.Activate e = unkept fs.Activate e refl
   taken-left z (fs.Data n) e =
-      data-stored d f m room (subst (DataRead (getD f 0 0) f) e (read-data f) .0) z .1
+      data-kept-whole d f m room (taken-46 d f (length m) room (subst (DataRead (getD f 0 0) f) e (read-data f) .0) z) .1
   taken-left z fs.Bist e = unkept fs.Bist e (bist-leaves v f m)
   taken-left z (fs.Pio x) e = unkept (fs.Pio x) e refl
   taken-left z fs.Refused e = unkept fs.Refused e refl
 
-  -- a host frame: what it brought stands at the next sector of the open phase's command, and the medium is otherwise as it was
+  -- a host frame: what it brought stands at the next byte of the open phase's command, and the medium is otherwise as it was
   pub host-left : LeftAt place m (keptIn act f m) (pick (eqb (numberOf act) 0) (dataIn f (readFrame f)) [])
   host-left =
       by-test (LeftAt place m (keptIn act f m)) (eqb (numberOf act) 0) (dataIn f (readFrame f)) []
@@ -130,7 +130,7 @@ module _ (d : Device) (f m : List ℕ) (room : ℕ) where
   taken-within z (fs.Data n) e =
       let none = first-exactly-host d f (length m) room .none .0 z in
       let time : wrongTime v (fs.Data n) ≡ false = rw e at (none 4 (lit< tt)) in
-      let size = data-stored d f m room (subst (DataRead (getD f 0 0) f) e (read-data f) .0) z .0 in
+      let size = data-kept-whole d f m room (taken-46 d f (length m) room (subst (DataRead (getD f 0 0) f) e (read-data f) .0) z) .0 in
       let ends = move-within d (none 0 (lit< tt)) (or-left (eqb (d .flow .phase) 0) (not (v .entry .write)) time) (length f - 4) (length m) (none 1 (lit< tt)) in
       let long = length-drop 4 f in
       λ _. omega (arith, size, ends, long)

@@ -140,7 +140,7 @@ part-sent e mask values m k = rw (append-nil (take (k .size) (drop (k .at) m))) 
 abbrev pub phaseEntry : Device → Entry
 phaseEntry d = entryAt d (openTag (d .flow .phase))
 
--- send: what the medium holds at the next sector of the open phase's command
+-- send: what the medium holds at the next byte of the open phase's command
 pub send-sent : (d : Device) (m : List ℕ) (room : ℕ) → SentFrom (placeOf (phaseEntry d)) m (sentIn (sendStep d m room .frames))
 unfolding sendOf sendAct decided moveOf spanOf
 send-sent d m room =

@@ -35,7 +35,7 @@ echoOf t = record {
   b13 = byteOf (t .count) 1;
 }
 
--- the bytes of a command of so many sectors; more than 65,536 no command has (`pastCapacity`), and then as many count, so that 32 bits hold them
+-- the bytes of a command of so many sectors; more than 65,536 no command has (`settingsOut`, `pastCapacity`), and then as many count, so that 32 bits hold them
 abbrev pub wholeOf : ℕ → ℕ
 wholeOf count = 512 * min count 65536
 
