@@ -5,8 +5,8 @@
 //! Records that print nothing:
 //!   N  state: depth 1-4, capacity 5-8, mask 9-10, outstanding 11-14, phase
 //!      15-18, halted 19, held 20; entries, record and counters all zero
-//!   E  entry: tag 1, write 2, first 3-6, count 7-10, moved 11-14, features 15,
-//!      features high 16, echo 17-25
+//!   E  entry: tag 1, write 2, first 3-6, count 7-10, moved 11-14 (bytes),
+//!      features 15, features high 16, echo 17-25
 //!   R  record: set 1, NQ 2, tag 3, error 4, echo 5-13
 //!   V  counter: row 1, value 2-5
 //!   M  fills the medium: byte i is seed + 7 i + 13 (i / 512), seed 1

@@ -1,6 +1,7 @@
 //! The list of calls for the device, each with a comment of its own and with
 //! what it should answer, as far as a hand can write it down: the start of the
-//! line, and the reply's bytes at its end.
+//! line, the reply's bytes at its end, and for some calls what they should leave
+//! behind.
 
 mod calls;
 mod clauses;
@@ -8,6 +9,7 @@ mod contradictions;
 mod control;
 mod counters;
 mod hex;
+mod left;
 mod moves;
 mod odd;
 mod other;
@@ -16,9 +18,12 @@ mod queued;
 mod refused_events;
 mod refused_host;
 mod runs;
+mod short_frames;
+mod short_states;
 mod states;
 
 use self::calls::Call;
+use self::left::Left;
 use crate::device::clauses::contradicts;
 use crate::device::State;
 use crate::device_answer::{Bench, Done, BEFORE, MEDIUM, RECORD};
@@ -32,6 +37,7 @@ pub struct Case {
     pub call: [u8; RECORD],
     pub starts: String,
     pub ends: String,
+    left: Left,
 }
 
 impl Case {
@@ -56,6 +62,8 @@ pub fn all() -> Vec<Case> {
         counters::all(),
         moves::all(),
         runs::all(),
+        short_frames::all(),
+        short_states::all(),
     ];
     parts.into_iter().flatten().collect()
 }
@@ -105,7 +113,14 @@ impl Script {
             call: call.record(lent as u32),
             starts: starts.to_string(),
             ends: ends.split_whitespace().collect(),
+            left: Left::default(),
         });
+        self
+    }
+
+    /// What the call just named should leave behind, beside its line.
+    fn leaving(&mut self, left: Left) -> &mut Script {
+        self.cases.last_mut().expect("a call").left = left;
         self
     }
 
@@ -143,6 +158,7 @@ fn run(bench: &mut Bench, case: &Case) -> (String, Option<String>) {
         Some("a taken call makes a contradiction").filter(|_| !sound)
     };
     let fault = fault.map(|f| f.to_string()).or_else(|| not_as_written(case, &done));
+    let fault = fault.or_else(|| case.left.fault(bench, &done));
     (done.line, fault)
 }
 

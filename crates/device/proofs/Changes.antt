@@ -1,13 +1,14 @@
 -- A command accepted, opened, moved on or finished leaves a state that does not contradict itself. Assumes nothing.
 use mathlib.Core.Path.{_≡_, refl}
 use mathlib.Core.Bool.{true, false}
-use Prim.Native.Nat.{ℕ, _+_, _-_, _^_, _<_}
+use Prim.Native.Nat.{ℕ, _+_, _-_, _%_, _^_, _<_, min}
 use lib.Dec.{leb, eqb}
 use borrow.Author.Tests.{eqb-true}
 use Rattle.bits.specs.Pick.{pick}
 use Rattle.bits.specs.Bit.{bitIn, withBitIn, clearIn}
+use Rattle.states.specs.State.{wholeOf}
 use Rattle.states.specs.Table.{entryOf, placed, cleared}
-use Rattle.rules.specs.Facts.{advancedOf, moveOf}
+use Rattle.rules.specs.Facts.{leftOf, advancedBy, moveOf}
 use Rattle.states.specs.Clauses.{busyBad}
 use Rattle.rules.specs.declared.acts.Queued.{Queued}
 use Rattle.device.specs.Device.{contradictoryDevice}
@@ -31,7 +32,7 @@ accepted-good d q h halted held phase l b =
 
 -- opened: the tag is outstanding and not all of it has moved, no other phase is open
 pub opened-good : (d : Device) (tag : ℕ) → contradictoryDevice d ≡ false → eqb (d .flow .phase) 0 ≡ true → bitIn 32 (d .flow .outstanding) tag ≡ true
-    → eqb (entryOf (d .entries) tag .moved) (entryOf (d .entries) tag .count) ≡ false → contradictoryDevice (openedFor d tag) ≡ false
+    → eqb (entryOf (d .entries) tag .moved) (wholeOf (entryOf (d .entries) tag .count)) ≡ false → contradictoryDevice (openedFor d tag) ≡ false
 unfolding openedFor
 opened-good d tag h phase b m =
     retagged-good d (flowWith (d .flow .outstanding) (tag + 1) (d .flow .halted) (d .flow .held)) (d .entries) h
@@ -39,16 +40,16 @@ opened-good d tag h phase b m =
     (kept-flow (d .flow .outstanding) (d .flow .outstanding) (d .flow .phase) (tag + 1) (d .flow .halted) (d .flow .held) (d .errors .set) (flow-good d h) (λ k. k)
     (opened-idle (d .flow .outstanding) tag (d .flow .halted) (d .flow .held) b))
 
--- moved: what is due in the open phase
-pub moved-good : (d : Device) → contradictoryDevice d ≡ false → eqb (d .flow .phase) 0 ≡ false
-    → contradictoryDevice (movedBy d (moveOf (d .flow) (entryOf (d .entries) (d .flow .phase - 1)))) ≡ false
+-- moved: n bytes in the open phase, or what is left, whole Dwords
+pub moved-good : (d : Device) (k : ℕ) → contradictoryDevice d ≡ false → eqb (d .flow .phase) 0 ≡ false → min k (leftOf (entryOf (d .entries) (d .flow .phase - 1))) % 4 ≡ 0
+    → contradictoryDevice (movedBy d (moveOf (d .flow) (entryOf (d .entries) (d .flow .phase - 1)) k)) ≡ false
 unfolding movedBy moveOf
-moved-good d h n =
+moved-good d k h n four =
     let e = entryOf (d .entries) (d .flow .phase - 1) in
-    let last = leb (e .count) (advancedOf e .moved) in
+    let last = leb (leftOf e) k in
     retagged-good d (flowWith (d .flow .outstanding) (pick last 0 (d .flow .phase)) (d .flow .halted) (d .flow .held))
-    (placed (d .entries) (d .flow .phase - 1) (advancedOf e)) h
-    (moved-tag (d .settings) (d .entries) (d .flow .outstanding) (d .flow .phase) last n (phase-busy (d .flow) (d .errors .set) (flow-good d h) n) refl (tag-good d h))
+    (placed (d .entries) (d .flow .phase - 1) (advancedBy e (min k (leftOf e)))) h
+    (moved-tag (d .settings) (d .entries) (d .flow .outstanding) (d .flow .phase) k n (phase-busy (d .flow) (d .errors .set) (flow-good d h) n) four (tag-good d h))
     (kept-flow (d .flow .outstanding) (d .flow .outstanding) (d .flow .phase) (pick last 0 (d .flow .phase)) (d .flow .halted) (d .flow .held) (d .errors .set)
     (flow-good d h) (λ k. k)
     (moved-idle last (d .flow .outstanding) (d .flow .phase) (d .flow .halted) (d .flow .held) (phase-good (d .flow) (d .errors .set) (flow-good d h))))

@@ -9,12 +9,12 @@ use Rattle.bits.proofs.Picks.{by-test, or-left, or-right}
 use Rattle.pages.specs.Rows.{keepsBoth}
 use Rattle.wire.specs.Piece.{tagOf, sectorsOf}
 use Rattle.frames.specs.declared.shapes.HostReg.{HostReg}
-use Rattle.states.specs.State.{taskIn, tagIn, echoOf}
+use Rattle.states.specs.State.{taskIn, tagIn, wholeOf, echoOf}
 use Rattle.states.proofs.EchoLaws.{echo-tag, echo-lba}
 use Rattle.rules.specs.Decide.{tagAsked, countAsked, entryFor}
-use Rattle.states.specs.Clauses.{settingsOut, busyBad}
+use Rattle.states.specs.Clauses.{settingsOut, movedBad, busyBad}
 use Rattle.states.specs.declared.shapes.Settings.{Settings}
-use Rattle.device.proofs.Tags.{movedBad, moved-none}
+use Rattle.device.proofs.Tags.{wrongMove, moved-none}
 
 -- a tag asked for is below 32
 pub tag-small : (count : ℕ) → tagOf count < 32
@@ -42,7 +42,7 @@ clauses above past zero tag first count moved a p z t f c m = rw (a, p, z, t, f,
 -- the entry of a command below the depth and within capacity
 pub entry-good : (s : Settings) (r : HostReg) → settingsOut s ≡ false → leb (s .depth) (tagAsked r) ≡ false
     → ltb (s .capacity) (r .task .lba + countAsked r) ≡ false → busyBad s (entryFor r) (tagAsked r) false ≡ false
-unfolding busyBad
+unfolding busyBad movedBad
 entry-good s r h above past =
     let small : r .task .lba < 2 ^ 48 =
     (let a = capacity-most s h in
@@ -50,6 +50,6 @@ entry-good s r h above past =
     let c : r .task .lba ≤ 65536 = omega arith in
     omega arith) in
     clauses (leb (s .depth) (tagAsked r)) (ltb (s .capacity) (r .task .lba + countAsked r)) (eqb (countAsked r) 0) (eqb (tagIn (echoOf (r .task))) (tagAsked r))
-    (eqb (taskIn (echoOf (r .task)) .lba) (r .task .lba)) (eqb (countAsked r) (countAsked r)) (movedBad (countAsked r) 0 false)
+    (eqb (taskIn (echoOf (r .task)) .lba) (r .task .lba)) (eqb (countAsked r) (countAsked r)) (wrongMove (wholeOf (countAsked r)) 0 false)
     above past (some-sectors (r .features) (r .«features_high»)) (eq-eqb (tagIn (echoOf (r .task))) (tagAsked r) (echo-tag (r .task)))
-    (eq-eqb (taskIn (echoOf (r .task)) .lba) (r .task .lba) (echo-lba (r .task) small)) (eq-eqb (countAsked r) (countAsked r) refl) (moved-none (countAsked r))
+    (eq-eqb (taskIn (echoOf (r .task)) .lba) (r .task .lba) (echo-lba (r .task) small)) (eq-eqb (countAsked r) (countAsked r) refl) (moved-none (wholeOf (countAsked r)))

@@ -63,7 +63,7 @@ pub first-exactly-send : (d : Device) (m : List ℕ) (room : ℕ) → FirstExact
 unfolding sendOf sendAct numberOf
 first-exactly-send d m room =
     let v = factsOf d (openTag (d .flow .phase)) (mediumWrong (d .settings .capacity) (length m)) room in
-    first-decided (sendTests v) (Send (moveOf (v .flow) (v .entry))) (firsts.first-exactly (sendTests v) tt) refl
+    first-decided (sendTests v) (Send (moveOf (v .flow) (v .entry) 8192)) (firsts.first-exactly (sendTests v) tt) refl
 
 -- finish: 1, 3, 8, 11
 pub first-exactly-finish : (d : Device) (set room : ℕ) → FirstExactly (finishTests (factsOf d 32 false room) (d .entries) set) (finishStep d set room .refusal)

@@ -15,8 +15,8 @@ use Rattle.pages.specs.Page11.{damaged, valueIn, readCounter, toldCounter}
 use Rattle.pages.specs.Made11.{rowBytes, rowsTo, openTo, page11}
 use Rattle.states.specs.State.{taskIn, echoOf}
 use Rattle.states.specs.Table.{someBelow, tab, placed, cleared}
-use Rattle.states.specs.Clauses.{settingsOut, busyBad, idleBad, entryBad, tableBad, flowBad, recordBad, rowsBad, contradictory}
-use Rattle.rules.specs.Facts.{advancedOf, moveOf}
+use Rattle.states.specs.Clauses.{movedBad, settingsOut, busyBad, idleBad, entryBad, tableBad, flowBad, recordBad, rowsBad, contradictory}
+use Rattle.rules.specs.Facts.{advancedBy, moveOf}
 use Rattle.rules.specs.Decide.{queuedAct, logPage, otherAct, controlAct, registerAct, dataAct, bistAct, kindAct, decideOf}
 use Rattle.rules.specs.Events.{decided, openAct, sendAct, someUnready, finishAct, failing, mediaAct}
 use Rattle.rules.specs.Taking.{numberOf, spanOf}
@@ -28,5 +28,5 @@ use Rattle.device.specs.Calls.{openTag, hostAct, openOf, sendOf, finishO
 use Rattle.device.specs.Example.{Hold, examples as all}
 
 pub examples : Hold all
-unfolding Hold all pick firstOf joined registerBytes fixedSize readable byKind readFrame bitsBytes setupBytes encode sumTo sum256 sealed ids idAt entriesFrom entries someOf howMany page10 fits10 damaged valueIn readCounter toldCounter rowBytes rowsTo openTo page11 taskIn echoOf someBelow tab placed cleared settingsOut busyBad idleBad entryBad tableBad flowBad recordBad rowsBad contradictory advancedOf moveOf queuedAct logPage otherAct controlAct registerAct dataAct bistAct kindAct decideOf decided openAct sendAct someUnready finishAct failing mediaAct numberOf spanOf repliesOf contradictoryDevice freshDevice withValue haltWith acceptedBy unhalted movedBy openedFor finishedBy failedBy afterOf openTag hostAct openOf sendOf finishOf mediaOf
+unfolding Hold all pick firstOf joined registerBytes fixedSize readable byKind readFrame bitsBytes setupBytes encode sumTo sum256 sealed ids idAt entriesFrom entries someOf howMany page10 fits10 damaged valueIn readCounter toldCounter rowBytes rowsTo openTo page11 taskIn echoOf someBelow tab placed cleared settingsOut busyBad idleBad entryBad tableBad flowBad recordBad rowsBad contradictory advancedBy moveOf queuedAct logPage otherAct controlAct registerAct dataAct bistAct kindAct decideOf decided openAct sendAct someUnready finishAct failing mediaAct numberOf spanOf repliesOf contradictoryDevice freshDevice withValue haltWith acceptedBy unhalted movedBy openedFor finishedBy failedBy afterOf openTag hostAct openOf sendOf finishOf mediaOf movedBad
 examples = (refl, (refl, (refl, (refl, (refl, (refl, (refl, (refl, (refl, (refl, (refl, (refl, (refl, (refl, (refl, tt)))))))))))))))

@@ -4,7 +4,7 @@ use mathlib.Core.Bool.{Bool, true, false, not, _&&_, _||_}
 use mathlib.Core.List.{List, [], _∷_}
 use Prim.Native.Nat.{ℕ, zero, suc, _-_, _<_}
 use native.Mathlib.Omega.{arith}
-use lib.Dec.{eqb, lit<}
+use lib.Dec.{ltb, eqb, lit<}
 use lib.ListN.{length, getD}
 use borrow.Author.Tests.{lt-ltb, ltb-true, ltb-false, not-false}
 use Rattle.bits.specs.Pick.{pick}
@@ -25,7 +25,7 @@ use Rattle.pages.specs.declared.page10.ErrorLog.{ErrorLog}
 use Rattle.states.specs.State.{placedBytes, taskIn, echoOf}
 use Rattle.states.specs.Clauses.{tagTooLarge, tagUnderNq, blankNotZero, recordBad}
 use Rattle.ladders.specs.Ladders.{lentLadder}
-use Rattle.rules.specs.Facts.{moveOf}
+use Rattle.rules.specs.Facts.{leftOf, moveOf}
 use Rattle.rules.specs.Decide.{queuedAct, otherAct, controlAct, registerAct, dataAct, bistAct, kindAct}
 use Rattle.rules.specs.declared.facts.Facts.{Facts}
 use Rattle.rules.specs.declared.acts.Act.{Act}
@@ -143,8 +143,8 @@ module _ (d : Device) (v : Facts) (log10 : fits10 (logOf (d .errors)) ≡ true) 
   data-fits : (n : ℕ) → Fits (dataAct v n)
   unfolding dataAct Fit
   data-fits n =
-      let wrong : Bool = not (eqb n (moveOf (v .flow) (v .entry) .size)) in
-      let kept : Act = Keep (moveOf (v .flow) (v .entry)) in
+      let wrong : Bool = ltb (leftOf (v .entry)) n in
+      let kept : Act = Keep (moveOf (v .flow) (v .entry) n) in
       by-test Fits (eqb (v .flow .phase) 0 || not (v .entry .write)) (Refuse 5) (pick wrong (Refuse 6) kept) (λ _. tt) (λ _. by-test Fits wrong (Refuse 6) kept (λ _. tt) (λ _. tt))
 
   bist-fits : Fits (bistAct v)

@@ -23,5 +23,6 @@ pub mod Examples
 pub mod Fitting
 pub mod Sending
 pub mod Storing
+pub mod Moves
 pub mod Effects
 pub mod Zeros

@@ -2,7 +2,7 @@
 use mathlib.Core.Path.{_≡_, refl, sym, subst}
 use mathlib.Core.Bool.{false, not}
 use mathlib.Core.List.{List}
-use Prim.Native.Nat.{ℕ, _-_, _^_, _<_}
+use Prim.Native.Nat.{ℕ, _-_, _%_, _^_, _<_, min}
 use native.Mathlib.Omega.{arith}
 use lib.Dec.{eqb, lit<}
 use lib.ListN.{length}
@@ -12,7 +12,7 @@ use Rattle.bits.specs.Bit.{bitIn}
 use Rattle.bits.proofs.Firsts as firsts
 use Rattle.bits.proofs.Picks.{by-test, pick-no, or-left}
 use Rattle.states.specs.Table.{entryOf}
-use Rattle.rules.specs.Facts.{moveOf}
+use Rattle.rules.specs.Facts.{leftOf, moveOf}
 use Rattle.rules.specs.Events.{decided, openTests, openAct, sendTests, sendAct, finishTests, finishAct, failing, mediaTests, mediaAct}
 use Rattle.rules.proofs.Numbers.{not-refused}
 use Rattle.rules.specs.declared.facts.Facts.{Facts}
@@ -26,6 +26,7 @@ use Rattle.device.specs.declared.state.Device.{Device}
 use Rattle.device.proofs.Acts.{failed-good}
 use Rattle.device.proofs.Tags.{busy-below}
 use Rattle.device.proofs.Changes.{opened-good, moved-good, finished-good}
+use Rattle.device.proofs.Busy.{part-fours}
 
 -- the state after an act does not contradict itself
 abbrev pub Good : Device → Act → Type 0
@@ -36,13 +37,13 @@ refused-or-good : (d : Device) (n : ℕ) (act : Act) → contradictoryDevice d �
 unfolding decided afterOf
 refused-or-good d n act h g = by-test (Good d) (not (eqb n 0)) (Refuse n) act (λ _. h) (λ _. g)
 
--- what is due in the open phase moves
-pub moving-good : (d : Device) → contradictoryDevice d ≡ false → eqb (d .flow .phase) 0 ≡ false
-    → contradictoryDevice (movedBy d (moveOf (d .flow) (entryOf (d .entries) (openTag (d .flow .phase))))) ≡ false
+-- bytes of the open phase move, whole Dwords
+pub moving-good : (d : Device) (k : ℕ) → contradictoryDevice d ≡ false → eqb (d .flow .phase) 0 ≡ false → k % 4 ≡ 0
+    → contradictoryDevice (movedBy d (moveOf (d .flow) (entryOf (d .entries) (openTag (d .flow .phase))) k)) ≡ false
 unfolding openTag
-moving-good d h n =
-    subst (λ (t : ℕ). contradictoryDevice (movedBy d (moveOf (d .flow) (entryOf (d .entries) t))) ≡ false)
-    (sym (pick-no (eqb (d .flow .phase) 0) 32 (d .flow .phase - 1) n)) (moved-good d h n)
+moving-good d k h n four =
+    subst (λ (t : ℕ). contradictoryDevice (movedBy d (moveOf (d .flow) (entryOf (d .entries) t) k)) ≡ false)
+    (sym (pick-no (eqb (d .flow .phase) 0) 32 (d .flow .phase - 1) n)) (moved-good d k h n (part-fours d k h n four))
 
 -- open
 pub never-contradicts-open : (d : Device) (tag room : ℕ) → openStep d tag room .refusal ≡ 0 → contradictoryDevice (openStep d tag room .state) ≡ false
@@ -60,10 +61,10 @@ pub never-contradicts-send : (d : Device) (m : List ℕ) (room : ℕ) → sendSt
 unfolding sendOf sendAct afterOf
 never-contradicts-send d m room z =
     let v : Facts = factsOf d (openTag (d .flow .phase)) (mediumWrong (d .settings .capacity) (length m)) room in
-    let act : Act = Send (moveOf (v .flow) (v .entry)) in
+    let act : Act = Send (moveOf (v .flow) (v .entry) 8192) in
     let none = firsts.first-exactly (sendTests v) tt .none .0 (not-refused (firstOf (sendTests v)) act z) in
     refused-or-good d (firstOf (sendTests v)) act (none 0 (lit< tt))
-    (moving-good d (none 0 (lit< tt)) (or-left (eqb (d .flow .phase) 0) (v .entry .write) (none 3 (lit< tt))))
+    (moving-good d 8192 (none 0 (lit< tt)) (or-left (eqb (d .flow .phase) 0) (v .entry .write) (none 3 (lit< tt))) refl)
 
 -- finish: a set of 32 bits
 pub never-contradicts-finish : (d : Device) (set room : ℕ) → set < 2 ^ 32 → finishStep d set room .refusal ≡ 0 → contradictoryDevice (finishStep d set room .state) ≡ false

@@ -2,21 +2,23 @@
 use mathlib.Core.Path.{_≡_, refl}
 use mathlib.Core.Bool.{Bool, true, false, not, _&&_, _||_}
 use mathlib.Core.List.{List}
-use Prim.Native.Nat.{ℕ, _+_}
+use Prim.Native.Nat.{ℕ, _+_, _%_}
 use native.Mathlib.Omega.{arith}
 use lib.Dec.{ltb, leb, eqb, lit<}
-use borrow.Author.Tests.{le-ltb, not-false}
+use borrow.Author.Tests.{le-ltb, not-false, eqb-true}
 use Rattle.bits.specs.Pick.{pick}
 use Rattle.bits.specs.Bit.{bitIn}
 use Rattle.bits.proofs.Firsts as firsts
-use Rattle.bits.proofs.Picks.{by-test, or-left, or-right}
+use Rattle.bits.proofs.Picks.{by-test, and-right, or-left, or-right}
 use Rattle.wire.specs.Piece.{srstOf}
+use Rattle.wire.specs.Size.{payloadSize}
 use Rattle.frames.specs.Read.{readFrame}
+use Rattle.frames.proofs.ReadLaws.{DataRead, read-data}
 use Rattle.frames.specs.declared.shapes.HostReg.{HostReg}
 use Rattle.frames.specs.declared.shapes.Frame.{Frame}
 use Rattle.frames.specs.declared.shapes.Frame.the-variants as fs
 use Rattle.states.specs.State.{echoOf}
-use Rattle.rules.specs.Facts.{moveOf}
+use Rattle.rules.specs.Facts.{leftOf, moveOf}
 use Rattle.ladders.specs.Ladders.{lentLadder}
 use Rattle.rules.specs.Decide.{bad, fault, tagAsked, countAsked, entryFor, queuedAct, pageAsked, otherAct, controlAct, registerAct, dataAct, bistAct, kindAct, lentOf, decideOf}
 use Rattle.rules.proofs.Numbers.{lent-none}
@@ -106,28 +108,29 @@ module _ (d : Device) (tag : ℕ) (medium : Bool) (room : ℕ) (h : contradictor
 
 module _ (d : Device) (medium : Bool) (room : ℕ) (h : contradictoryDevice d ≡ false) where
   -- host data
-  data-good : (n : ℕ) → Good d (dataAct (factsOf d (openTag (d .flow .phase)) medium room) n)
+  data-good : (n : ℕ) → payloadSize n ≡ true → Good d (dataAct (factsOf d (openTag (d .flow .phase)) medium room) n)
   unfolding dataAct afterOf
-  data-good n =
+  data-good n size =
       let v : Facts = factsOf d (openTag (d .flow .phase)) medium room in
       let closed : Bool = eqb (d .flow .phase) 0 in
-      let due : Bool = eqb n (moveOf (v .flow) (v .entry) .size) in
-      let kept : Act = Keep (moveOf (v .flow) (v .entry)) in
-      by-test (Good d) (closed || not (v .entry .write)) (Refuse 5) (pick (not due) (Refuse 6) kept) (λ _. h)
-      (λ x. by-test (Good d) (not due) (Refuse 6) kept (λ _. h) (λ _. moving-good d h (or-left closed (not (v .entry .write)) x)))
+      let long : Bool = ltb (leftOf (v .entry)) n in
+      let four : n % 4 ≡ 0 = eqb-true (n % 4) 0 (and-right (leb 4 n && leb n 8192) (eqb (n % 4) 0) size) in
+      let kept : Act = Keep (moveOf (v .flow) (v .entry) n) in
+      by-test (Good d) (closed || not (v .entry .write)) (Refuse 5) (pick long (Refuse 6) kept) (λ _. h)
+      (λ x. by-test (Good d) long (Refuse 6) kept (λ _. h) (λ _. moving-good d n h (or-left closed (not (v .entry .write)) x) four))
 
   -- any frame
-  kind-good : (f : Frame) → Good d (kindAct (factsOf d (openTag (d .flow .phase)) medium room) f)
+  kind-good : (k : ℕ) (l : List ℕ) (f : Frame) → DataRead k l f → Good d (kindAct (factsOf d (openTag (d .flow .phase)) medium room) f)
   unfolding kindAct afterOf
-  kind-good (fs.Host r) = register-good d (openTag (d .flow .phase)) medium room h r
-  kind-good (fs.Device f) = h
-  kind-good (fs.Bits f) = h
-  kind-good (fs.Setup f) = h
-  kind-good fs.Activate = h
-  kind-good (fs.Data n) = data-good n
-  kind-good fs.Bist = bist-good d (openTag (d .flow .phase)) medium room h
-  kind-good (fs.Pio f) = h
-  kind-good fs.Refused = h
+  kind-good k l (fs.Host r) s = register-good d (openTag (d .flow .phase)) medium room h r
+  kind-good k l (fs.Device f) s = h
+  kind-good k l (fs.Bits f) s = h
+  kind-good k l (fs.Setup f) s = h
+  kind-good k l fs.Activate s = h
+  kind-good k l (fs.Data n) s = data-good n (s .1 .1)
+  kind-good k l fs.Bist s = bist-good d (openTag (d .flow .phase)) medium room h
+  kind-good k l (fs.Pio f) s = h
+  kind-good k l fs.Refused s = h
 
 -- a host frame
 pub never-contradicts-host : (d : Device) (f : List ℕ) (n room : ℕ) → hostStep d f n room .refusal ≡ 0 → contradictoryDevice (hostStep d f n room .state) ≡ false
@@ -136,4 +139,4 @@ never-contradicts-host d f n room z =
     let v : Facts = factsOf d (openTag (d .flow .phase)) (mediumWrong (d .settings .capacity) n) room in
     let l = lent-none v (readFrame f) z in
     let g : contradictoryDevice d ≡ false = firsts.first-exactly (lentLadder (contradictoryDevice d) (mediumWrong (d .settings .capacity) n) (ltb room 8196)) tt .none .0 l 0 (lit< tt) in
-    by-test (Good d) (not (eqb (lentOf v) 0)) (Refuse (lentOf v)) (kindAct v (readFrame f)) (λ _. g) (λ _. kind-good d (mediumWrong (d .settings .capacity) n) room g (readFrame f))
+    by-test (Good d) (not (eqb (lentOf v) 0)) (Refuse (lentOf v)) (kindAct v (readFrame f)) (λ _. g) (λ _. kind-good d (mediumWrong (d .settings .capacity) n) room g _ f (readFrame f) (read-data f))

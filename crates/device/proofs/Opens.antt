@@ -17,7 +17,7 @@ use Rattle.bits.proofs.Picks.{tested, and-left, and-right, or-left, or-right}
 use Rattle.bits.proofs.Tables.{sumOf, ones-tied}
 use Rattle.states.specs.State.{zeroEntry}
 use Rattle.states.specs.Table.{entryOf}
-use Rattle.states.specs.Clauses.{aboveDepth, pastCapacity, countZero, otherTag, otherRange, echoSet, busyBad, idleBad, entryBad}
+use Rattle.states.specs.Clauses.{aboveDepth, pastCapacity, countZero, otherTag, otherRange, echoSet, movedBad, busyBad, idleBad, entryBad}
 use Rattle.states.specs.declared.shapes.Settings.{Settings}
 use Rattle.states.specs.declared.shapes.Entry.{Entry}
 use Rattle.device.specs.Device.{contradictoryDevice}
@@ -25,7 +25,6 @@ use Rattle.device.specs.Sized.{Sized}
 use Rattle.device.specs.Ones.{openEntry, openEntries}
 use Rattle.device.specs.declared.state.Device.{Device}
 use Rattle.device.proofs.Parts.{tag-good}
-use Rattle.device.proofs.Tags.{movedBad}
 use Rattle.device.proofs.Retagging.{nameBad}
 
 -- ---- what the test of an entry says of its count, and of its tag
@@ -33,7 +32,7 @@ use Rattle.device.proofs.Retagging.{nameBad}
 -- none of the clauses that do not ask what has moved
 name-good : (s : Settings) (e : Entry) (t : ℕ) (phase : Bool) → busyBad s e t phase ≡ false → nameBad s e t ≡ false
 unfolding busyBad
-name-good s e t phase h = or-left (nameBad s e t) (movedBad (e .count) (e .moved) phase) h
+name-good s e t phase h = or-left (nameBad s e t) (movedBad e phase) h
 
 -- an outstanding tag has a command
 busy-count : (s : Settings) (e : Entry) (t : ℕ) (phase : Bool) → busyBad s e t phase ≡ false → eqb (e .count) 0 ≡ false

@@ -3,41 +3,42 @@ use mathlib.Core.Path.{_≡_, refl}
 use mathlib.Core.Bool.{Bool, true, false, not, _||_}
 use mathlib.Core.List.{List}
 use mathlib.Core.Logic.{⊎-elim}
-use Prim.Native.Nat.{ℕ, _+_, _-_, _^_, _<_}
+use Prim.Native.Nat.{ℕ, _+_, _-_, _%_, _^_, _<_, min}
 use native.Mathlib.Omega.{arith}
 use lib.Dec.{leb, eqb}
 use borrow.Author.Tests.{eq-eqb, ne-eqb, eqb-true, eqb-false}
 use Rattle.bits.specs.Pick.{pick}
 use Rattle.bits.specs.Bit.{bitIn, withBitIn, clearIn}
 use Rattle.bits.proofs.Picks.{tested, or-left, or-right}
+use Rattle.states.specs.State.{wholeOf}
 use Rattle.states.specs.Table.{entryOf, placed, cleared}
-use Rattle.rules.specs.Facts.{advancedOf}
-use Rattle.states.specs.Clauses.{aboveDepth, pastCapacity, countZero, otherTag, otherRange, busyBad, entryBad, tagBad}
+use Rattle.rules.specs.Facts.{leftOf, advancedBy}
+use Rattle.states.specs.Clauses.{aboveDepth, pastCapacity, countZero, otherTag, otherRange, movedBad, busyBad, entryBad, tagBad}
 use Rattle.states.specs.declared.shapes.Settings.{Settings}
 use Rattle.states.specs.declared.shapes.Entry.{Entry}
 use Rattle.states.proofs.TableLaws.{getD-placed, getD-cleared}
 use Rattle.device.proofs.Never.{idle-tag}
-use Rattle.device.proofs.Tags.{bit-with, bit-without, busy-below, movedBad, moved-opened, moved-on}
+use Rattle.device.proofs.Tags.{bit-with, bit-without, busy-below, wrongMove, moved-opened, moved-on}
 
 -- the clauses of an entry that do not ask what has moved
 abbrev pub nameBad : Settings → Entry → ℕ → Bool
 nameBad s e t = (aboveDepth s t || pastCapacity s e) || (countZero e || (otherTag e t || otherRange e))
 
 -- an outstanding tag's entry as its phase is opened
-busy-opened : (s : Settings) (e : Entry) (t : ℕ) → busyBad s e t false ≡ false → eqb (e .moved) (e .count) ≡ false → busyBad s e t true ≡ false
-unfolding busyBad
+busy-opened : (s : Settings) (e : Entry) (t : ℕ) → busyBad s e t false ≡ false → eqb (e .moved) (wholeOf (e .count)) ≡ false → busyBad s e t true ≡ false
+unfolding busyBad movedBad
 busy-opened s e t h m =
     let name : Bool = nameBad s e t in
-    let old : Bool = movedBad (e .count) (e .moved) false in
-    rw (or-left name old h) (moved-opened (e .count) (e .moved) (or-right name old h) m)
+    let old : Bool = wrongMove (wholeOf (e .count)) (e .moved) false in
+    rw (or-left name old h) (moved-opened (wholeOf (e .count)) (e .moved) (or-right name old h) m)
 
--- and as what is due moves
-busy-on : (s : Settings) (e : Entry) (t : ℕ) → busyBad s e t true ≡ false → busyBad s (advancedOf e) t (not (leb (e .count) (advancedOf e .moved))) ≡ false
-unfolding busyBad advancedOf
-busy-on s e t h =
+-- and as n bytes move, or what is left
+busy-on : (s : Settings) (e : Entry) (t n : ℕ) → busyBad s e t true ≡ false → min n (leftOf e) % 4 ≡ 0 → busyBad s (advancedBy e (min n (leftOf e))) t (not (leb (leftOf e) n)) ≡ false
+unfolding busyBad movedBad advancedBy
+busy-on s e t n h four =
     let name : Bool = nameBad s e t in
-    let old : Bool = movedBad (e .count) (e .moved) true in
-    rw (or-left name old h) (moved-on (e .count) (e .moved) (or-right name old h))
+    let old : Bool = wrongMove (wholeOf (e .count)) (e .moved) true in
+    rw (or-left name old h) (moved-on (wholeOf (e .count)) (e .moved) n (or-right name old h) four)
 
 -- ---- whose phase is open
 
@@ -74,7 +75,7 @@ module _ (s : Settings) (es : List Entry) (o phase : ℕ) where
       (tested (eqb t tag)))
 
   -- the phase of a tag is opened
-  pub opened-tag : (tag : ℕ) → phase ≡ 0 → bitIn 32 o tag ≡ true → eqb (entryOf es tag .moved) (entryOf es tag .count) ≡ false
+  pub opened-tag : (tag : ℕ) → phase ≡ 0 → bitIn 32 o tag ≡ true → eqb (entryOf es tag .moved) (wholeOf (entryOf es tag .count)) ≡ false
       → ((t : ℕ) → t < 32 → tagBad s es o phase t ≡ false) → (t : ℕ) → t < 32 → tagBad s es o (tag + 1) t ≡ false
   unfolding entryBad pick
   opened-tag tag p b m old t h =
@@ -87,19 +88,19 @@ module _ (s : Settings) (es : List Entry) (o phase : ℕ) where
       rw (ne-eqb (tag + 1) (t + 1) (λ e. y (omega arith))) (rw (no-phase phase t p) at (old t h)))
       (tested (eqb t tag))
 
-  -- what is due moves in the open phase
-  pub moved-tag : (last : Bool) → eqb phase 0 ≡ false → bitIn 32 o (phase - 1) ≡ true
-      → last ≡ leb (entryOf es (phase - 1) .count) (advancedOf (entryOf es (phase - 1)) .moved)
+  -- n bytes move in the open phase, or what is left
+  pub moved-tag : (n : ℕ) → eqb phase 0 ≡ false → bitIn 32 o (phase - 1) ≡ true → min n (leftOf (entryOf es (phase - 1))) % 4 ≡ 0
       → ((t : ℕ) → t < 32 → tagBad s es o phase t ≡ false) → (t : ℕ) → t < 32
-      → tagBad s (placed es (phase - 1) (advancedOf (entryOf es (phase - 1)))) o (pick last 0 phase) t ≡ false
+      → tagBad s (placed es (phase - 1) (advancedBy (entryOf es (phase - 1)) (min n (leftOf (entryOf es (phase - 1)))))) o (pick (leb (leftOf (entryOf es (phase - 1))) n) 0 phase) t ≡ false
   unfolding entryBad pick
-  moved-tag last n b e old t h =
-      rw (getD-placed es (phase - 1) (advancedOf (entryOf es (phase - 1))) t h)
+  moved-tag n p b four old t h =
+      let last : Bool = leb (leftOf (entryOf es (phase - 1))) n in
+      rw (getD-placed es (phase - 1) (advancedBy (entryOf es (phase - 1)) (min n (leftOf (entryOf es (phase - 1))))) t h)
       (⊎-elim
       (λ (x : eqb t (phase - 1) ≡ true).
-      let was : busyBad s (entryOf es (phase - 1)) (phase - 1) true ≡ false = rw (b, phase-same false phase n) at (old (phase - 1) (busy-below o (phase - 1) b)) in
-      rw (x, eqb-true t (phase - 1) x, b, phase-same last phase n, e) (busy-on s (entryOf es (phase - 1)) (phase - 1) was))
-      (λ (x : eqb t (phase - 1) ≡ false). rw (x, phase-other last phase t n x) (rw (phase-other false phase t n x) at (old t h)))
+      let was : busyBad s (entryOf es (phase - 1)) (phase - 1) true ≡ false = rw (b, phase-same false phase p) at (old (phase - 1) (busy-below o (phase - 1) b)) in
+      rw (x, eqb-true t (phase - 1) x, b, phase-same last phase p) (busy-on s (entryOf es (phase - 1)) (phase - 1) n was four))
+      (λ (x : eqb t (phase - 1) ≡ false). rw (x, phase-other last phase t p x) (rw (phase-other false phase t p x) at (old t h)))
       (tested (eqb t (phase - 1))))
 
   -- a set of commands is finished

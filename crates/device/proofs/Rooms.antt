@@ -27,7 +27,7 @@ use Rattle.replies.proofs.Small.{kind-small}
 use Rattle.device.specs.Device.{contradictoryDevice}
 use Rattle.device.specs.Calls.{factsOf, openTag, mediumWrong, Roomy, hostAct, openOf, sendOf, finishOf, mediaOf}
 use Rattle.device.specs.declared.state.Device.{Device}
-use Rattle.device.proofs.Busy.{range-within, moved-within}
+use Rattle.device.proofs.Busy.{range-within, whole-is, moved-within}
 use Rattle.device.proofs.Entering.{capacity-most}
 use Rattle.device.proofs.Keeping.{settings-good}
 use Rattle.device.proofs.Parts.{flow-good}
@@ -66,7 +66,7 @@ pub roomy-send : (d : Device) (n room : ℕ) → Roomy (sendOf d n room) room
 unfolding sendOf sendAct sized
 roomy-send d n room =
     let v = factsOf d (openTag (d .flow .phase)) (mediumWrong (d .settings .capacity) n) room in
-    roomy-decided (firstOf (sendTests v)) room (Send (moveOf (v .flow) (v .entry))) (λ z. firsts.first-exactly (sendTests v) tt .none .0 z 2 (lit< tt)) (λ _. refl)
+    roomy-decided (firstOf (sendTests v)) room (Send (moveOf (v .flow) (v .entry) 8192)) (λ z. firsts.first-exactly (sendTests v) tt .none .0 z 2 (lit< tt)) (λ _. refl)
 
 pub roomy-finish : (d : Device) (set room : ℕ) → Roomy (finishOf d set room) room
 unfolding finishOf finishAct sized
@@ -81,21 +81,22 @@ roomy-media d tag error sector room =
     roomy-decided (firstOf (mediaTests v tag error sector)) room (Media (record { nq = false; tag = tag; error = error; echo = failing (v .entry .echo) sector }))
     (λ z. firsts.first-exactly (mediaTests v tag error sector) tt .none .0 z 1 (lit< tt)) (λ _. refl)
 
--- the sectors that are due lie within the command's range, and that within the medium
+-- what moves lies within the command's range, and that within the medium
 module _ (d : Device) (h : contradictoryDevice d ≡ false) (p : eqb (d .flow .phase) 0 ≡ false) where
   pub open-tag-is : openTag (d .flow .phase) ≡ d .flow .phase - 1
   unfolding openTag
   open-tag-is = pick-no (eqb (d .flow .phase) 0) 32 (d .flow .phase - 1) p
 
-  pub move-within : (n : ℕ) → mediumWrong (d .settings .capacity) n ≡ false
-      → moveOf (d .flow) (entryOf (d .entries) (openTag (d .flow .phase))) .at + moveOf (d .flow) (entryOf (d .entries) (openTag (d .flow .phase))) .size ≤ n
+  pub move-within : (k n : ℕ) → mediumWrong (d .settings .capacity) n ≡ false
+      → moveOf (d .flow) (entryOf (d .entries) (openTag (d .flow .phase))) k .at + moveOf (d .flow) (entryOf (d .entries) (openTag (d .flow .phase))) k .size ≤ n
   unfolding moveOf
-  move-within n w =
+  move-within k n w =
       let t = openTag (d .flow .phase) in
       let busy : bitIn 32 (d .flow .outstanding) t ≡ true = rw open-tag-is (phase-busy (d .flow) (d .errors .set) (flow-good d h) p) in
       let range = range-within d t h busy in
       let moved = moved-within d t h busy in
-      let whole : n ≡ 512 * d .settings .capacity = eqb-true n (512 * d .settings .capacity) (not-false (eqb n (512 * d .settings .capacity)) w) in
+      let whole = whole-is d t h busy in
+      let all : n ≡ 512 * d .settings .capacity = eqb-true n (512 * d .settings .capacity) (not-false (eqb n (512 * d .settings .capacity)) w) in
       omega arith
 
 -- what is sent lies within the medium; a refusal sends nothing of it
@@ -105,7 +106,7 @@ span-within d n room =
     let v = factsOf d (openTag (d .flow .phase)) (mediumWrong (d .settings .capacity) n) room in
     let k = firstOf (sendTests v) in
     let none = firsts.first-exactly (sendTests v) tt .none .0 in
-    by-test (λ (x : Act). spanOf x .at + spanOf x .size ≤ n) (not (eqb k 0)) (Refuse k) (Send (moveOf (v .flow) (v .entry))) (λ _. omega arith)
+    by-test (λ (x : Act). spanOf x .at + spanOf x .size ≤ n) (not (eqb k 0)) (Refuse k) (Send (moveOf (v .flow) (v .entry) 8192)) (λ _. omega arith)
     (λ f.
     let z = eqb-true k 0 (not-false (eqb k 0) f) in
-    move-within d (none z 0 (lit< tt)) (or-left (eqb (d .flow .phase) 0) (v .entry .write) (none z 3 (lit< tt))) n (none z 1 (lit< tt)))
+    move-within d (none z 0 (lit< tt)) (or-left (eqb (d .flow .phase) 0) (v .entry .write) (none z 3 (lit< tt))) 8192 n (none z 1 (lit< tt)))

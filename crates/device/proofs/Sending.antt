@@ -1,5 +1,5 @@
 -- What a taken call replies stands in the buffer whole, frame by frame. Assumes nothing.
-use mathlib.Core.Path.{_≡_}
+use mathlib.Core.Path.{_≡_, refl, sym, subst}
 use mathlib.Core.Bool.{true, false}
 use mathlib.Core.List.{List, [], map}
 use Prim.Native.Nat.{ℕ, _+_, _-_, _*_, _%_, _^_, _≤_, _<_, min}
@@ -16,7 +16,8 @@ use Rattle.wire.specs.Cut.{cut, joined}
 use Rattle.wire.specs.Size.{payloadSize}
 use Rattle.frames.specs.Write.{encode}
 use Rattle.frames.specs.declared.shapes.Frame.the-variants as fs
-use Rattle.rules.specs.Facts.{moveOf}
+use Rattle.states.specs.Table.{entryOf}
+use Rattle.rules.specs.Facts.{leftOf, moveOf}
 use Rattle.rules.specs.Events.{openTests, openAct, sendTests, sendAct, finishTests, finishAct, mediaTests, mediaAct, failing}
 use Rattle.rules.specs.Taking.{spanOf}
 use Rattle.rules.specs.declared.acts.Act.{Act}
@@ -33,11 +34,11 @@ use Rattle.device.specs.Step.{Step, Answered}
 use Rattle.device.specs.Calls.{factsOf, openTag, mediumWrong, stepBy, hostAct, hostStep, openOf, openStep, partOf, sendOf, sendStep, finishOf, finishStep, mediaOf, mediaStep}
 use Rattle.device.specs.declared.state.Device.{Device}
 use Rattle.device.specs.declared.state.Outcome.{Outcome}
-use Rattle.device.proofs.Busy.{range-within, moves-on}
+use Rattle.device.proofs.Busy.{range-within, moves-on, part-fours}
 use Rattle.device.proofs.Entering.{capacity-most}
 use Rattle.device.proofs.Keeping.{settings-good}
 use Rattle.device.proofs.Tags.{busy-below}
-use Rattle.device.proofs.Rooms.{move-within}
+use Rattle.device.proofs.Rooms.{open-tag-is, move-within}
 use Rattle.device.proofs.Fitting.{host-fits}
 
 -- every reply of a step can be written; the reply bytes are those of its frames, one behind the other, and cut by kind and length they are its frames again
@@ -88,11 +89,9 @@ whole-media d tag error sector room l z =
     let a : Act = Media (record { nq = false; tag = tag; error = error; echo = failing (v .entry .echo) sector }) in
     rw (decided-is n a (not-refused n a z)) (whole d [] a l)
 
--- a data frame's payload: 1 to 16 sectors
-sectors : (k : ℕ) → 1 ≤ k → k ≤ 16 → payloadSize (512 * k) ≡ true
-sectors k a b =
-    let z : 512 * k % 4 ≡ 0 = omega arith in
-    rw (le-leb 4 (512 * k) (omega arith), le-leb (512 * k) 8192 (omega arith), eq-eqb (512 * k % 4) 0 z)
+-- a data frame's payload: up to 8,192 bytes in whole Dwords
+sized : (k : ℕ) → 1 ≤ k → k ≤ 8192 → k % 4 ≡ 0 → payloadSize k ≡ true
+sized k a b z = rw (le-leb 4 k (omega arith), le-leb k 8192 b, eq-eqb (k % 4) 0 z)
 
 -- send
 pub whole-send : (d : Device) (m : List ℕ) (room : ℕ) → sendStep d m room .refusal ≡ 0 → Whole (sendStep d m room)
@@ -101,17 +100,18 @@ whole-send d m room z =
     let t = openTag (d .flow .phase) in
     let v = factsOf d t (mediumWrong (d .settings .capacity) (length m)) room in
     let e = v .entry in
-    let a : Act = Send (moveOf (v .flow) e) in
+    let a : Act = Send (moveOf (v .flow) e 8192) in
     let n = firstOf (sendTests v) in
     let k = not-refused n a z in
     let none = firsts.first-exactly (sendTests v) tt .none .0 k in
     let good = none 0 (lit< tt) in
     let phase = or-left (eqb (d .flow .phase) 0) (e .write) (none 3 (lit< tt)) in
-    let within = move-within d good phase (length m) (none 1 (lit< tt)) in
+    let within = move-within d good phase 8192 (length m) (none 1 (lit< tt)) in
     let more = moves-on d good phase in
-    let due = min 16 (e .count - e .moved) in
-    let long : length (partOf (record { at = 512 * (e .first + e .moved); size = 512 * due }) m) ≡ 512 * due = simp (length-take, length-drop) (omega arith) in
-    rw (decided-is n a k) (whole d (partOf (spanOf a) m) a (rw long (sectors due (omega arith) (omega arith))))
+    let due = min 8192 (leftOf e) in
+    let four : due % 4 ≡ 0 = subst (λ (u : ℕ). min 8192 (leftOf (entryOf (d .entries) u)) % 4 ≡ 0) (sym (open-tag-is d good phase)) (part-fours d 8192 good phase refl) in
+    let long : length (partOf (record { at = 512 * e .first + e .moved; size = due }) m) ≡ due = simp (length-take, length-drop) (omega arith) in
+    rw (decided-is n a k) (whole d (partOf (spanOf a) m) a (rw long (sized due (omega arith) (omega arith) four)))
 
 -- COMRESET
 pub whole-comreset : (d : Device) (room : ℕ) → comresetStep d room .refusal ≡ 0 → Whole (comresetStep d room)

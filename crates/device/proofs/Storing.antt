@@ -1,30 +1,34 @@
--- The data of a taken host data frame stands whole in the medium, at its place, and every other byte is as it was. Assumes nothing.
-use mathlib.Core.Path.{_≡_, sym, ap, _∙_}
+-- Host data: what is known of a frame that was taken, where it goes, and when 6 is given, by what the rules go by. Assumes nothing.
+use mathlib.Core.Path.{_≡_, refl, sym, ap, _∙_}
 use mathlib.Core.Bool.{true, false, not, _&&_, true≢false}
 use mathlib.Core.List.{List, _++_}
 use mathlib.Core.Logic.{⊎-elim}
-use Prim.Native.Nat.{ℕ, _+_, _-_, _%_, _≤_}
+use Prim.Native.Nat.{ℕ, _+_, _-_, _%_, _≤_, min}
 use native.Mathlib.Omega.{arith}
-use lib.Dec.{leb, eqb, lit<}
+use lib.Dec.{ltb, leb, eqb, lit<}
 use lib.ListN.{length, getD, take, drop, length-drop}
 use lib.Seq.{drop-drop}
-use borrow.Author.Tests.{le-leb, leb-true, eqb-true, not-false}
+use borrow.Author.Tests.{le-leb, leb-true, ltb-false}
 use Rattle.bits.specs.Pick.{pick}
+use Rattle.bits.specs.First.{firstOf}
 use Rattle.bits.proofs.Fronts.{over-yes}
 use Rattle.bits.proofs.Picks.{tested, and-left, or-left}
 use Rattle.wire.specs.Size.{readable, payloadSize}
 use Rattle.frames.specs.Read.{byKind, readFrame}
+use Rattle.frames.specs.declared.shapes.Frame.{Frame}
 use Rattle.frames.specs.declared.shapes.Frame.the-variants as fs
 use Rattle.states.specs.Table.{entryOf}
-use Rattle.rules.specs.Facts.{moveOf}
-use Rattle.rules.specs.HostTests.{wrongKind, wrongTime, wrongSize}
+use Rattle.states.specs.declared.shapes.Entry.{Entry}
+use Rattle.rules.specs.Facts.{leftOf, placeOf, moveOf}
+use Rattle.rules.specs.HostTests.{wrongKind, wrongTime, wrongSize, hostTests}
 use Rattle.rules.specs.Decide.{dataAct, kindAct, decideOf}
 use Rattle.rules.specs.Taking.{stored, keptIn}
 use Rattle.rules.specs.declared.facts.Facts.{Facts}
 use Rattle.rules.specs.declared.acts.Move.{Move}
 use Rattle.rules.specs.declared.acts.Act.{Act}
 use Rattle.rules.specs.declared.acts.Act.the-variants.{Keep}
-use Rattle.rules.proofs.Numbers.{lent-none, lent-is}
+use Rattle.rules.proofs.Numbers.{lent-none, lent-is, host-number}
+use Rattle.device.specs.Device.{contradictoryDevice}
 use Rattle.device.specs.Calls.{factsOf, openTag, mediumWrong, hostAct, hostStep}
 use Rattle.device.specs.declared.state.Device.{Device}
 use Rattle.device.proofs.Rooms.{move-within}
@@ -40,7 +44,7 @@ unfolding readFrame readable byKind pick
 data-refused f k p = rw (k, p)
 
 -- data that is not refused is kept
-data-kept : (v : Facts) (n : ℕ) → wrongTime v (fs.Data n) ≡ false → wrongSize v (fs.Data n) ≡ false → dataAct v n ≡ Keep (moveOf (v .flow) (v .entry))
+data-kept : (v : Facts) (n : ℕ) → wrongTime v (fs.Data n) ≡ false → wrongSize v (fs.Data n) ≡ false → dataAct v n ≡ Keep (moveOf (v .flow) (v .entry) n)
 unfolding dataAct wrongTime wrongSize pick
 data-kept v n t s = rw (t, s)
 
@@ -54,25 +58,57 @@ stored-whole at size f m h e w =
     rw (le-leb 4 (length f) h, le-leb at (length m) (omega arith))
     (ap (λ (x : List ℕ). take at m ++ x) (over-yes (drop 4 f) (drop at m) (omega arith) ∙ ap (λ (x : List ℕ). drop 4 f ++ x) (ap (λ (k : ℕ). drop k (drop at m)) long ∙ drop-drop size at m)))
 
--- a host data frame: exactly the sectors that are due go to the medium
-pub data-stored : (d : Device) (f m : List ℕ) (room : ℕ) → getD f 0 0 ≡ 0x46 → hostStep d f (length m) room .refusal ≡ 0
-    → let k : Move = moveOf (d .flow) (entryOf (d .entries) (openTag (d .flow .phase))) in
-    (length (drop 4 f) ≡ k .size) × (keptIn (hostAct d f (length m) room) f m ≡ take (k .at) m ++ (drop 4 f ++ drop (k .at + k .size) m))
-unfolding hostAct wrongKind wrongTime wrongSize keptIn kindAct
-data-stored d f m room kind z =
-    let v = factsOf d (openTag (d .flow .phase)) (mediumWrong (d .settings .capacity) (length m)) room in
-    let k : Move = moveOf (v .flow) (v .entry) in
-    let n = length f - 4 in
-    let none = first-exactly-host d f (length m) room .none .0 z in
+-- what is known of a host data frame that was taken, with a medium of n bytes
+pub record Taken46 (d : Device) (f : List ℕ) (n room : ℕ) : Type 0 where
+  pub good : contradictoryDevice d ≡ false
+  pub medium : mediumWrong (d .settings .capacity) n ≡ false
+  pub phase : eqb (d .flow .phase) 0 ≡ false
+  pub some : 4 ≤ length f - 4
+  pub most : length f - 4 ≤ leftOf (entryOf (d .entries) (openTag (d .flow .phase)))
+  pub act : hostAct d f n room ≡ Keep (moveOf (d .flow) (entryOf (d .entries) (openTag (d .flow .phase))) (length f - 4))
+
+pub taken-46 : (d : Device) (f : List ℕ) (n room : ℕ) → getD f 0 0 ≡ 0x46 → hostStep d f n room .refusal ≡ 0 → Taken46 d f n room
+unfolding hostAct wrongKind wrongTime wrongSize kindAct
+taken-46 d f n room kind z =
+    let v = factsOf d (openTag (d .flow .phase)) (mediumWrong (d .settings .capacity) n) room in
+    let k = length f - 4 in
+    let none = first-exactly-host d f n room .none .0 z in
     ⊎-elim
-    (λ (p : payloadSize n ≡ true).
+    (λ (p : payloadSize k ≡ true).
     let r = data-read f kind p in
-    let time : wrongTime v (fs.Data n) ≡ false = rw r at (none 4 (lit< tt)) in
-    let size : wrongSize v (fs.Data n) ≡ false = rw r at (none 5 (lit< tt)) in
-    let due : n ≡ k .size = eqb-true n (k .size) (not-false (eqb n (k .size)) size) in
-    let some = leb-true 4 n (and-left (leb 4 n) (leb n 8192) (and-left (leb 4 n && leb n 8192) (eqb (n % 4) 0) p)) in
-    let within = move-within d (none 0 (lit< tt)) (or-left (eqb (d .flow .phase) 0) (not (v .entry .write)) time) (length m) (none 1 (lit< tt)) in
-    let act : decideOf v (readFrame f) ≡ Keep k = lent-is v (readFrame f) (lent-none v (readFrame f) z) ∙ ap (kindAct v) r ∙ data-kept v n time size in
-    (length-drop 4 f ∙ due, ap (λ (a : Act). keptIn a f m) act ∙ stored-whole (k .at) (k .size) f m (omega arith) due within))
-    (λ (p : payloadSize n ≡ false). absurd (true≢false (sym (ap wrongKind (data-refused f kind p)) ∙ none 3 (lit< tt))))
-    (tested (payloadSize n))
+    let time : wrongTime v (fs.Data k) ≡ false = rw r at (none 4 (lit< tt)) in
+    let size : wrongSize v (fs.Data k) ≡ false = rw r at (none 5 (lit< tt)) in
+    record {
+      good = none 0 (lit< tt);
+      medium = none 1 (lit< tt);
+      phase = or-left (eqb (d .flow .phase) 0) (not (v .entry .write)) time;
+      some = leb-true 4 k (and-left (leb 4 k) (leb k 8192) (and-left (leb 4 k && leb k 8192) (eqb (k % 4) 0) p));
+      most = ltb-false (leftOf (v .entry)) k size;
+      act = lent-is v (readFrame f) (lent-none v (readFrame f) z) ∙ ap (kindAct v) r ∙ data-kept v k time size;
+    })
+    (λ (p : payloadSize k ≡ false). absurd (true≢false (sym (ap wrongKind (data-refused f kind p)) ∙ none 3 (lit< tt))))
+    (tested (payloadSize k))
+
+-- its payload stands whole at the command's next place, and every other byte of the medium is as it was
+pub data-kept-whole : (d : Device) (f m : List ℕ) (room : ℕ) → Taken46 d f (length m) room
+    → let e : Entry = entryOf (d .entries) (openTag (d .flow .phase)) in
+    (length (drop 4 f) ≤ leftOf e) × (keptIn (hostAct d f (length m) room) f m ≡ take (placeOf e) m ++ (drop 4 f ++ drop (placeOf e + length (drop 4 f)) m))
+unfolding keptIn moveOf
+data-kept-whole d f m room t =
+    let n = length f - 4 in
+    let k : Move = moveOf (d .flow) (entryOf (d .entries) (openTag (d .flow .phase))) n in
+    let most = t .most in
+    let some = t .some in
+    let due : n ≡ k .size = omega arith in
+    let within = move-within d (t .good) (t .phase) n (length m) (t .medium) in
+    let long = length-drop 4 f in
+    (omega arith, ap (λ (a : Act). keptIn a f m) (t .act) ∙ stored-whole (k .at) (k .size) f m (omega arith) due within ∙ ap (λ (s : ℕ). take (k .at) m ++ (drop 4 f ++ drop (k .at + s) m)) (sym (long ∙ due)))
+
+-- the number of a host data frame of a right size, in a write phase, where nothing before 6 is wrong
+pub six-by-left : (d : Device) (f : List ℕ) (n room : ℕ) → getD f 0 0 ≡ 0x46 → payloadSize (length f - 4) ≡ true → contradictoryDevice d ≡ false → mediumWrong (d .settings .capacity) n ≡ false → ltb room 8196 ≡ false
+    → eqb (d .flow .phase) 0 ≡ false → entryOf (d .entries) (openTag (d .flow .phase)) .write ≡ true
+    → hostStep d f n room .refusal ≡ pick (ltb (leftOf (entryOf (d .entries) (openTag (d .flow .phase)))) (length f - 4)) 6 0
+unfolding hostAct wrongKind wrongTime wrongSize firstOf pick
+six-by-left d f n room kind p c w s o u =
+    let v = factsOf d (openTag (d .flow .phase)) (mediumWrong (d .settings .capacity) n) room in
+    host-number v (readFrame f) ∙ ap (λ (r : Frame). firstOf (hostTests v r)) (data-read f kind p) ∙ rw (c, w, s, o, u) refl

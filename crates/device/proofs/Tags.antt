@@ -1,11 +1,11 @@
 -- Tests of single tags: bits of the set outstanding, and entries as they are accepted, move and are opened. Assumes nothing.
-use mathlib.Core.Path.{_≡_, refl}
+use mathlib.Core.Path.{_≡_, refl, sym, ap, _∙_}
 use mathlib.Core.Bool.{Bool, true, false, not, _&&_, _||_}
 use mathlib.Core.Logic.{⊎-elim}
 use Prim.Native.Nat.{ℕ, _+_, _-_, _/_, _%_, _^_, _<_, min}
 use native.Mathlib.Omega.{arith}
 use lib.Dec.{ltb, leb, eqb}
-use borrow.Author.Tests.{lt-ltb, le-ltb, eq-eqb, ne-eqb, eqb-true, eqb-false, ltb-true, ltb-false, leb-true, leb-false}
+use borrow.Author.Tests.{lt-ltb, le-ltb, eq-eqb, ne-eqb, eqb-true, eqb-false, ltb-true, ltb-false, leb-true, leb-false, not-false}
 use Rattle.bits.specs.Pick.{pick}
 use Rattle.bits.specs.Bit.{bitIn, withBitIn, clearIn}
 use Rattle.bits.proofs.Masks.{bit-lt, bit-set-same, bit-set-other, bit-clear}
@@ -42,35 +42,38 @@ busy-below m t h = ltb-true t 32 (and-left (ltb t 32) (eqb (m / 2 ^ t % 2) 1) h)
 
 -- ---- what has moved of a command
 
--- one of the three clauses of what has moved
-abbrev pub movedBad : ℕ → ℕ → Bool → Bool
-movedBad count moved phase =
-    ltb count moved || ((not phase && (not (eqb moved 0) && not (eqb moved count))) || (phase && eqb moved count))
+-- one of the four clauses of what has moved of a command of `whole` bytes
+abbrev pub wrongMove : ℕ → ℕ → Bool → Bool
+wrongMove whole moved phase =
+    (ltb whole moved || not (eqb (moved % 4) 0)) || ((not phase && (not (eqb moved 0) && not (eqb moved whole))) || (phase && eqb moved whole))
 
 -- nothing has moved, and no phase is open
-pub moved-none : (count : ℕ) → movedBad count 0 false ≡ false
-moved-none count = rw (le-ltb count 0 (omega arith))
+pub moved-none : (whole : ℕ) → wrongMove whole 0 false ≡ false
+moved-none whole = rw (le-ltb whole 0 (omega arith))
 
 -- a phase is opened while something is left
-pub moved-opened : (count moved : ℕ) → movedBad count moved false ≡ false → eqb moved count ≡ false → movedBad count moved true ≡ false
-moved-opened count moved h e = rw (e, or-left (ltb count moved) ((not (eqb moved 0) && not (eqb moved count)) || false) h)
+pub moved-opened : (whole moved : ℕ) → wrongMove whole moved false ≡ false → eqb moved whole ≡ false → wrongMove whole moved true ≡ false
+moved-opened whole moved h e = rw (e, or-left (ltb whole moved || not (eqb (moved % 4) 0)) ((not (eqb moved 0) && not (eqb moved whole)) || false) h)
 
--- what is due has moved, and the phase stays open while something is left
-pub moved-on : (count moved : ℕ) → movedBad count moved true ≡ false
-    → movedBad count (moved + min 16 (count - moved)) (not (leb count (moved + min 16 (count - moved)))) ≡ false
-moved-on count moved h =
-    let l = ltb-false count moved (or-left (ltb count moved) (eqb moved count) h) in
-    let n = eqb-false moved count (or-right (ltb count moved) (eqb moved count) h) in
+-- n bytes more have moved, or what was left, and the phase stays open while something is left
+pub moved-on : (whole moved n : ℕ) → wrongMove whole moved true ≡ false → min n (whole - moved) % 4 ≡ 0
+    → wrongMove whole (moved + min n (whole - moved)) (not (leb (whole - moved) n)) ≡ false
+moved-on whole moved n h four =
+    let first : Bool = ltb whole moved || not (eqb (moved % 4) 0) in
+    let l = ltb-false whole moved (or-left (ltb whole moved) (not (eqb (moved % 4) 0)) (or-left first (eqb moved whole) h)) in
+    let old = eqb-true (moved % 4) 0 (not-false (eqb (moved % 4) 0) (or-right (ltb whole moved) (not (eqb (moved % 4) 0)) (or-left first (eqb moved whole) h))) in
+    let more = eqb-false moved whole (or-right first (eqb moved whole) h) in
+    let new : (moved + min n (whole - moved)) % 4 ≡ 0 = omega arith in
     ⊎-elim
-    (λ (x : leb count (moved + min 16 (count - moved)) ≡ true).
-    let k = leb-true count (moved + min 16 (count - moved)) x in
-    let e : moved + min 16 (count - moved) ≡ count = omega arith in
-    rw (x, e, le-ltb count count (omega arith), eq-eqb count count refl) (whole (eqb count 0)))
-    (λ (x : leb count (moved + min 16 (count - moved)) ≡ false).
-    let k = leb-false count (moved + min 16 (count - moved)) x in
-    rw (x, le-ltb count (moved + min 16 (count - moved)) (omega arith), ne-eqb (moved + min 16 (count - moved)) count (λ e. omega arith)))
-    (tested (leb count (moved + min 16 (count - moved))))
+    (λ (x : leb (whole - moved) n ≡ true).
+    let k = leb-true (whole - moved) n x in
+    let e : moved + min n (whole - moved) ≡ whole = omega arith in
+    rw (x, e, le-ltb whole whole (omega arith), eq-eqb whole whole refl, eq-eqb (whole % 4) 0 (ap (λ (y : ℕ). y % 4) (sym e) ∙ new)) (ended (eqb whole 0)))
+    (λ (x : leb (whole - moved) n ≡ false).
+    let k = leb-false (whole - moved) n x in
+    rw (x, le-ltb whole (moved + min n (whole - moved)) (omega arith), eq-eqb ((moved + min n (whole - moved)) % 4) 0 new, ne-eqb (moved + min n (whole - moved)) whole (λ e. omega arith)))
+    (tested (leb (whole - moved) n))
   where
-    whole : (p : Bool) → (not p && not true) || false ≡ false
-    whole true = refl
-    whole false = refl
+    ended : (p : Bool) → (not p && not true) || false ≡ false
+    ended true = refl
+    ended false = refl

@@ -38,7 +38,7 @@ pub zeros-send : (m : List ℕ) (room : ℕ) → sendStep zeroDevice m room .ref
 unfolding sendOf sendAct numberOf
 zeros-send m room =
     let v = factsOf zeroDevice (openTag (zeroDevice .flow .phase)) (mediumWrong (zeroDevice .settings .capacity) (length m)) room in
-    decided-number (firstOf (sendTests v)) (Send (moveOf (v .flow) (v .entry))) refl ∙ first-holds _ _ zeros-contradict
+    decided-number (firstOf (sendTests v)) (Send (moveOf (v .flow) (v .entry) 8192)) refl ∙ first-holds _ _ zeros-contradict
 
 pub zeros-finish : (set room : ℕ) → finishStep zeroDevice set room .refusal ≡ 1
 unfolding finishOf finishAct numberOf

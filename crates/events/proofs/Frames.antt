@@ -1,7 +1,7 @@
 -- The frame of host data, and steps without replies. Assumes nothing.
 use mathlib.Core.Path.{_≡_, refl, ap, subst, _∙_}
 use mathlib.Core.List.{List, [], _∷_}
-use Prim.Native.Nat.{ℕ, zero, suc, _+_, _-_, _≤_}
+use Prim.Native.Nat.{ℕ, zero, suc, _+_, _-_, _≤_, min}
 use native.Mathlib.Omega.{arith}
 use lib.ListN.{length, take, replicate}
 use Rattle.wire.specs.Cut.{joined}
@@ -10,8 +10,15 @@ use Rattle.device.specs.Step.{Step, Answered}
 use Rattle.device.specs.Calls.{Hosted}
 use Rattle.device.specs.declared.state.Device.{Device}
 use Rattle.device.specs.declared.state.Outcome.{Outcome}
-use Rattle.events.specs.HostData.{Due, dataFrame, hostData}
+use Rattle.events.specs.HostData.{Due, dataFrame, hostData, openEntry, writing, dueBytes}
 use Rattle.events.specs.Played.{outcomeOf}
+use mathlib.Core.Bool.{true, false, not}
+use lib.Dec.{eqb}
+use borrow.Author.Tests.{not-true}
+use Rattle.bits.proofs.Picks.{and-left, pick-yes}
+use Rattle.rules.specs.Facts.{leftOf}
+use Rattle.device.specs.Device.{contradictoryDevice}
+use Rattle.device.proofs.Moves.{left, left-is}
 
 take-replicate : (n m b : ℕ) → n ≤ m → take n (replicate m b) ≡ replicate n b
 take-replicate zero m b h = refl
@@ -48,3 +55,10 @@ hosted-front d byte due frame m b r m′ b′ u e h =
     let same : take (4 + due - 0) frame ≡ hostData d byte =
     ap (λ (n : ℕ). take n frame) k ∙ ap (λ (f : List ℕ). take (4 + due) f) e ∙ front-due due 8192 byte (u .bound) ∙ ap (λ (n : ℕ). dataFrame n byte) (u .value) in
     subst (λ (f : List ℕ). Hosted d f m b r m′ b′) same h
+
+-- 07h: in the write phase of a state that does not contradict itself, the length due is min(8,192, what is left of the command)
+pub due-is : (d : Device) → contradictoryDevice d ≡ false → writing d ≡ true → dueBytes d ≡ min 8192 (left d)
+unfolding dueBytes
+due-is d h w =
+    let phase = not-true (eqb (d .flow .phase) 0) (and-left (not (eqb (d .flow .phase) 0)) (openEntry d .write) w) in
+    pick-yes (writing d) (min 8192 (leftOf (openEntry d))) 4 w ∙ ap (λ (n : ℕ). min 8192 n) (left-is d h phase)

@@ -2,13 +2,13 @@
 use mathlib.Core.Path.{_≡_}
 use mathlib.Core.Bool.{Bool, not, _&&_}
 use mathlib.Core.List.{List, _∷_}
-use Prim.Native.Nat.{ℕ, _*_, _≤_}
+use Prim.Native.Nat.{ℕ, _≤_, min}
 use lib.Dec.{eqb}
 use lib.ListN.{replicate}
 use Rattle.bits.specs.Pick.{pick}
 use Rattle.states.specs.Table.{entryOf}
 use Rattle.states.specs.declared.shapes.Entry.{Entry}
-use Rattle.rules.specs.Facts.{dueOf}
+use Rattle.rules.specs.Facts.{leftOf}
 use Rattle.device.specs.Calls.{openTag}
 use Rattle.device.specs.declared.state.Device.{Device}
 
@@ -20,9 +20,9 @@ openEntry d = entryOf (d .entries) (openTag (d .flow .phase))
 abbrev pub writing : Device → Bool
 writing d = not (eqb (d .flow .phase) 0) && openEntry d .write
 
--- the length due: 512 × min(16, what is left) of the open write phase; 4 payload bytes if no write phase
+-- the length due: min(8,192, what is left) of the open write phase; 4 payload bytes if no write phase
 unfoldable pub dueBytes : Device → ℕ
-dueBytes d = pick (writing d) (512 * dueOf (openEntry d .count) (openEntry d .moved)) 4
+dueBytes d = pick (writing d) (min 8192 (leftOf (openEntry d))) 4
 
 -- what the code that works it out answers: no more than a data frame holds
 pub record Due (d : Device) (r : ℕ) : Type 0 where

@@ -1,11 +1,12 @@
 // Host data of the length due, all of one byte.
 ghost use mathlib.Core.Path.{_≡_};
-ghost use Rattle.rules.specs.Facts.{dueOf};
+ghost use Prim.Native.Nat.{min};
+ghost use Rattle.rules.specs.Facts.{leftOf};
 ghost use Rattle.device.specs.Calls.{openTag, Hosted};
 ghost use Rattle.events.specs.HostData.{Due, dataFrame, hostData};
 use device::Device;
 use device::Outcome;
-use states::Settings;
+use states::Entry;
 
 // The tag of the open phase, or one that has no entry.
 fn open_tag(phase: u32) -> u32
@@ -17,17 +18,15 @@ fn open_tag(phase: u32) -> u32
     phase - 1
 }
 
-// min(16, what is left) sectors.
-fn due_sectors(count: u32, moved: u32) -> u32
-    ensures { λ r. ⌜ r ≡ dueOf count moved ⌝ }
+// min(8,192, what is left) bytes.
+fn due_of(e: Entry) -> usize
+    ensures { λ r. ⌜ r ≡ min 8192 (leftOf e) ⌝ }
 {
-    if count <= moved {
-        return 0;
+    let left = rules::left_of(e) as usize;
+    if Device::FRAME_SIZE <= left {
+        return Device::FRAME_SIZE;
     }
-    if Settings::FRAME_SECTORS <= count - moved {
-        return Settings::FRAME_SECTORS;
-    }
-    count - moved
+    left
 }
 
 fn due_bytes(d: Device) -> usize
@@ -36,9 +35,9 @@ fn due_bytes(d: Device) -> usize
     let phase = d.flow.phase;
     let entries = d.entries;
     let entry = states::entry_of(entries, open_tag(phase));
-    let sectors = due_sectors(entry.count, entry.moved);
+    let due = due_of(entry);
     if !(phase == 0) & entry.write {
-        return Settings::SECTOR_SIZE * (sectors as usize);
+        return due;
     }
     4
 }

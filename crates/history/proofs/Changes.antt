@@ -2,26 +2,28 @@
 use mathlib.Core.Path.{_≡_, refl, sym, ap, _∙_}
 use mathlib.Core.Bool.{Bool, true, false, not, _&&_, _||_}
 use mathlib.Core.List.{List}
-use Prim.Native.Nat.{ℕ, _+_, _-_, _<_}
+use Prim.Native.Nat.{ℕ, _+_, _-_, _*_, _≤_, _<_, min}
 use native.Mathlib.Omega.{arith}
-use lib.Dec.{eqb}
-use borrow.Author.Tests.{eqb-true, eqb-false, eq-eqb, ne-eqb, not-false}
+use lib.Dec.{eqb, leb}
+use mathlib.Core.Logic.{⊎-elim}
+use borrow.Author.Tests.{eqb-true, eqb-false, eq-eqb, ne-eqb, not-false, leb-true, leb-false, le-leb, lt-leb}
 use Rattle.bits.specs.Pick.{pick}
 use Rattle.bits.specs.Bit.{bitIn}
-use Rattle.bits.proofs.Picks.{or-left, or-right}
+use Rattle.bits.proofs.Picks.{tested, or-left, or-right}
+use Rattle.states.specs.State.{wholeOf}
 use Rattle.states.specs.Table.{entryOf, placed, cleared}
-use Rattle.states.specs.Clauses.{flowBad, busyBad, aboveDepth, pastCapacity, countZero, otherTag, otherRange, movedAbove, movedBetween, phaseDone, stoppedBusy, haltedHeld, heldRecord, phaseIdle}
+use Rattle.states.specs.Clauses.{flowBad, busyBad, aboveDepth, pastCapacity, countZero, otherTag, otherRange, movedAbove, movedOdd, movedBetween, phaseDone, movedBad, stoppedBusy, haltedHeld, heldRecord, phaseIdle}
 use Rattle.states.specs.declared.shapes.Entry.{Entry}
 use Rattle.states.proofs.TableLaws.{getD-placed, getD-cleared}
 use Rattle.frames.specs.declared.shapes.HostReg.{HostReg}
-use Rattle.rules.specs.Facts.{dueOf, moveOf, advancedOf}
+use Rattle.rules.specs.Facts.{leftOf, moveOf, advancedBy}
 use Rattle.rules.specs.Decide.{tagAsked, entryFor}
 use Rattle.device.specs.Device.{contradictoryDevice}
 use Rattle.device.specs.After.{acceptedBy, movedBy}
 use Rattle.device.specs.declared.state.Device.{Device}
 use Rattle.device.proofs.Parts.{flow-good}
 use Rattle.device.proofs.Flows.{phase-busy}
-use Rattle.device.proofs.Busy.{phaseOf, busy-good, phase-more}
+use Rattle.device.proofs.Busy.{phaseOf, busy-good, phase-more, whole-is}
 use Rattle.device.proofs.Tags.{busy-below}
 use Rattle.device.proofs.Entering.{tag-small}
 use Rattle.history.specs.Asked.{registerAsks}
@@ -47,6 +49,14 @@ placed-other es t e i l n = getD-placed es t e i l ∙ rw (ne-eqb i t n)
 pub cleared-other : (es : List Entry) (set i : ℕ) → i < 32 → bitIn 32 set i ≡ false → entryOf (cleared es set) i ≡ entryOf es i
 unfolding pick
 cleared-other es set i l n = getD-cleared es set i l ∙ rw n
+
+-- nothing is left exactly if all has moved then
+last-is : (w c m k : ℕ) → w ≡ c → m < w → leb (w - m) k ≡ leb c (m + min k (w - m))
+last-is w c m k e l =
+    ⊎-elim
+    (λ (x : leb (w - m) k ≡ true). let y = leb-true (w - m) k x in x ∙ sym (le-leb c (m + min k (w - m)) (omega arith)))
+    (λ (x : leb (w - m) k ≡ false). let y = leb-false (w - m) k x in x ∙ sym (lt-leb c (m + min k (w - m)) (omega arith)))
+    (tested (leb (w - m) k))
 
 module _ (d : Device) (g : contradictoryDevice d ≡ false) where
   -- a halted state has nothing outstanding
@@ -89,12 +99,12 @@ module _ (d : Device) (g : contradictoryDevice d ≡ false) where
         others = λ i k n. placed-other (d .entries) t (entryFor h) i k n;
       })
 
-  -- what is due moves, in the open phase
-  pub carried-by : (n : eqb (d .flow .phase) 0 ≡ false)
+  -- bytes move in the open phase: some, and no more than are left
+  pub carried-by : (n : eqb (d .flow .phase) 0 ≡ false) (k : ℕ) → 0 < k
       → let e : Entry = entryOf (d .entries) (d .flow .phase - 1) in
-      Carried (d .flow .phase - 1) (dueOf (e .count) (e .moved)) d (movedBy d (moveOf (d .flow) e))
-  unfolding movedBy moveOf advancedOf
-  carried-by n =
+      Carried (d .flow .phase - 1) (min k (leftOf e)) d (movedBy d (moveOf (d .flow) e k))
+  unfolding movedBy moveOf advancedBy
+  carried-by n k pos =
       let t : ℕ = d .flow .phase - 1 in
       let e : Entry = entryOf (d .entries) t in
       let some = eqb-false (d .flow .phase) 0 n in
@@ -102,34 +112,36 @@ module _ (d : Device) (g : contradictoryDevice d ≡ false) where
       let busy = phase-busy (d .flow) (d .errors .set) (flow-good d g) n in
       let l = busy-below (d .flow .outstanding) t busy in
       let more = phase-more d t g busy (eq-eqb (d .flow .phase) (t + 1) back) in
-      let p = placed-same (d .entries) t (advancedOf e) l in
+      let whole = whole-is d t g busy in
+      let p = placed-same (d .entries) t (advancedBy e (min k (leftOf e))) l in
+      let last : leb (leftOf e) k ≡ leb (512 * e .count) (e .moved + min k (leftOf e)) = last-is (wholeOf (e .count)) (512 * e .count) (e .moved) k whole more in
       record {
         phased = back;
         busy = busy;
         some = omega (arith, more);
-        within = omega (arith, more);
+        within = omega (arith, more, whole);
         settings = refl;
         outstanding = refl;
-        phase = refl;
+        phase = ap (λ (b : Bool). pick b 0 (d .flow .phase)) last;
         halted = refl;
         write = ap (λ (x : Entry). x .write) p;
         first = ap (λ (x : Entry). x .first) p;
         count = ap (λ (x : Entry). x .count) p;
         moved = ap (λ (x : Entry). x .moved) p;
-        others = λ i k m. placed-other (d .entries) t (advancedOf e) i k m;
+        others = λ i j m. placed-other (d .entries) t (advancedBy e (min k (leftOf e))) i j m;
       }
 
   -- a command whose phase is closed and that is not wholly moved has not moved at all
-  pub unmoved : (t : ℕ) → bitIn 32 (d .flow .outstanding) t ≡ true → d .flow .phase ≡ 0 → eqb (entryOf (d .entries) t .moved) (entryOf (d .entries) t .count) ≡ false
+  pub unmoved : (t : ℕ) → bitIn 32 (d .flow .outstanding) t ≡ true → d .flow .phase ≡ 0 → eqb (entryOf (d .entries) t .moved) (wholeOf (entryOf (d .entries) t .count)) ≡ false
       → entryOf (d .entries) t .moved ≡ 0
-  unfolding busyBad
+  unfolding busyBad movedBad
   unmoved t b p n =
       let e : Entry = entryOf (d .entries) t in
       let low = (aboveDepth (d .settings) t || pastCapacity (d .settings) e) || (countZero e || (otherTag e t || otherRange e)) in
       let shut : phaseOf d t ≡ false = ne-eqb (d .flow .phase) (t + 1) (λ z. omega arith) in
-      let high = movedAbove e || (movedBetween e (phaseOf d t) || phaseDone e (phaseOf d t)) in
+      let high = (movedAbove e || movedOdd e) || (movedBetween e (phaseOf d t) || phaseDone e (phaseOf d t)) in
       let between = or-left (movedBetween e (phaseOf d t)) (phaseDone e (phaseOf d t))
-      (or-right (movedAbove e) (movedBetween e (phaseOf d t) || phaseDone e (phaseOf d t)) (or-right low high (busy-good d t g b))) in
+      (or-right (movedAbove e || movedOdd e) (movedBetween e (phaseOf d t) || phaseDone e (phaseOf d t)) (or-right low high (busy-good d t g b))) in
       eqb-true (e .moved) 0 (moved-none (eqb (e .moved) 0) (rw (shut, n) at between))
     where
       moved-none : (x : Bool) → not x && true ≡ false → x ≡ true

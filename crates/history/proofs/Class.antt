@@ -74,15 +74,15 @@ pub record Opened (tag : ℕ) (d : Device) (e : Seen) (d′ : Device) : Type 0 w
   pub halted : d′ .flow .halted ≡ d .flow .halted
   pub entries : d′ .entries ≡ d .entries
 
--- n sectors that moved in the open phase of a tag, which closes at nothing left; n is not 0, and no more than is left
+-- n bytes that moved in the open phase of a tag, which closes at nothing left; n is not 0, and no more than is left
 pub record Carried (tag n : ℕ) (d d′ : Device) : Type 0 where
   pub phased : d .flow .phase ≡ tag + 1
   pub busy : bitIn 32 (d .flow .outstanding) tag ≡ true
   pub some : 0 < n
-  pub within : entryOf (d .entries) tag .moved + n ≤ entryOf (d .entries) tag .count
+  pub within : entryOf (d .entries) tag .moved + n ≤ 512 * entryOf (d .entries) tag .count
   pub settings : d′ .settings ≡ d .settings
   pub outstanding : d′ .flow .outstanding ≡ d .flow .outstanding
-  pub phase : d′ .flow .phase ≡ pick (leb (entryOf (d .entries) tag .count) (entryOf (d .entries) tag .moved + n)) 0 (d .flow .phase)
+  pub phase : d′ .flow .phase ≡ pick (leb (512 * entryOf (d .entries) tag .count) (entryOf (d .entries) tag .moved + n)) 0 (d .flow .phase)
   pub halted : d′ .flow .halted ≡ d .flow .halted
   pub write : entryOf (d′ .entries) tag .write ≡ entryOf (d .entries) tag .write
   pub first : entryOf (d′ .entries) tag .first ≡ entryOf (d .entries) tag .first
@@ -95,7 +95,7 @@ pub record Ended (set : ℕ) (d d′ : Device) : Type 0 where
   pub calm : d .flow .halted ≡ false
   pub shut : d .flow .phase ≡ 0
   pub width : set < 2 ^ 32
-  pub ready : (t : ℕ) → t < 32 → bitIn 32 set t ≡ true → (bitIn 32 (d .flow .outstanding) t ≡ true) × (entryOf (d .entries) t .moved ≡ entryOf (d .entries) t .count)
+  pub ready : (t : ℕ) → t < 32 → bitIn 32 set t ≡ true → (bitIn 32 (d .flow .outstanding) t ≡ true) × (entryOf (d .entries) t .moved ≡ 512 * entryOf (d .entries) t .count)
   pub settings : d′ .settings ≡ d .settings
   pub outstanding : d′ .flow .outstanding ≡ clearIn 32 (d .flow .outstanding) set
   pub phase : d′ .flow .phase ≡ d .flow .phase
@@ -122,6 +122,6 @@ pub data Class (d : Device) (e : Seen) (d′ : Device) : Type 0 where
   opens : (tag : ℕ) → Is e false false false false false false none none 0 0 → Opened tag d e d′ → Class d e d′
   -- a read sends, a write brings
   carries : (tag n : ℕ)
-      → Is e false false false false false false none none (pick (entryOf (d .entries) tag .write) 0 (512 * n)) (pick (entryOf (d .entries) tag .write) (512 * n) 0)
+      → Is e false false false false false false none none (pick (entryOf (d .entries) tag .write) 0 n) (pick (entryOf (d .entries) tag .write) n 0)
       → Unbegun e → Carried tag n d d′ → Class d e d′
   ends : (set : ℕ) → Is e false false false false false false (bitIn 32 set) (bitIn 32 set) 0 0 → Unbegun e → Ended set d d′ → Class d e d′

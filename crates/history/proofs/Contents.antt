@@ -54,7 +54,7 @@ step-placed s c m b at w n k =
     let x : Event = event (done (lend c m b) (gives s m b)) in
     still-placed x at (read-sent x (s .frames) (read-step s c m b m w) ∙ n) k refl
 
--- every call's data stand at the next sector of the open phase's command
+-- every call's data stand at the next byte of the open phase's command
 pub placed : (d : Device) (c : Call) (m b : List ℕ) → Typed c → SizedRecord d → Placed (event (done (lend c m b) (resultFor d m b c))) (placeOf (phaseEntry d))
 placed d (hostFrame f) m b t s =
     let k : Step = hostStep d f (length m) (length b) in
@@ -94,7 +94,7 @@ command-moved : (d : Device) (x : Event) (t : ℕ) (c : Command) → Placed x (p
 command-moved d x t c p s b =
     let e : t ≡ ownTag c = eqb-true t (ownTag c) (and-left (eqb t (ownTag c)) (pick (c .accepted .asks .write) (not (not (entryAt d t .write))) (not (entryAt d t .write))) b) in
     let first : entryAt d t .first ≡ c .accepted .asks .first = ap (λ (u : ℕ). entryAt d u .first) e ∙ s .first in
-    let at : base c + 512 * entryAt d t .moved ≡ placeOf (entryAt d t) = omega arith in
+    let at : base c + entryAt d t .moved ≡ placeOf (entryAt d t) = omega arith in
     subst⁻¹ (Moved x (not (entryAt d t .write))) at (record { read = λ _. p .sends; written = λ _. p .keeps; within = λ _. p .within })
 
 -- the data of an event, for each outstanding command

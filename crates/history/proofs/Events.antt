@@ -2,7 +2,7 @@
 use mathlib.Core.Path.{_≡_, refl, sym, ap, subst, _∙_}
 use mathlib.Core.Bool.{Bool, true, false, not, _||_, true≢false}
 use mathlib.Core.List.{List, []}
-use Prim.Native.Nat.{ℕ, _+_, _-_, _*_, _^_, _≤_, _<_}
+use Prim.Native.Nat.{ℕ, _+_, _-_, _*_, _^_, _≤_, _<_, min}
 use native.Mathlib.Omega.{arith}
 use native.Mathlib.Nat.{zero-add}
 use lib.Dec.{eqb, leb, lit<}
@@ -14,10 +14,11 @@ use Rattle.bits.specs.First.{firstOf}
 use Rattle.bits.proofs.Firsts as firsts
 use Rattle.bits.proofs.Picks.{by-test, pick-no, or-left, or-right}
 use Rattle.frames.specs.declared.shapes.DmaSetup.{DmaSetup}
+use Rattle.states.specs.State.{wholeOf}
 use Rattle.states.specs.Table.{entryOf}
 use Rattle.states.specs.declared.shapes.Entry.{Entry}
 use Rattle.states.proofs.TableLaws.{some-absent}
-use Rattle.rules.specs.Facts.{moveOf, dueOf}
+use Rattle.rules.specs.Facts.{leftOf, moveOf}
 use Rattle.rules.specs.Events.{openTests, openAct, sendTests, sendAct, finishTests, finishAct, mediaTests, mediaAct, failing, someUnready, unreadyAt, allMoved}
 use Rattle.rules.specs.Taking.{spanOf}
 use Rattle.rules.specs.declared.acts.Fault.{Fault}
@@ -32,6 +33,7 @@ use Rattle.device.specs.Reset.{comresetStep, renewed}
 use Rattle.device.specs.Calls.{factsOf, openTag, mediumWrong, openOf, openStep, partOf, sendOf, sendStep, finishOf, finishStep, mediaOf, mediaStep}
 use Rattle.device.specs.declared.state.Device.{Device}
 use Rattle.device.proofs.Rooms.{move-within}
+use Rattle.device.proofs.Busy.{whole-is}
 use Rattle.history.specs.Asked.{quiet, resetAsks}
 use Rattle.history.specs.Seen.{flows}
 use Rattle.history.proofs.Class.{none, Class, Same, plain, halts, resets, opens, carries, ends}
@@ -54,7 +56,7 @@ opened-comes d tag g busy shut left =
       shut = shut;
       busy = busy;
       moved = none;
-      some = omega (arith, none, eqb-false (e .moved) (e .count) left);
+      some = omega (arith, none, eqb-false (e .moved) (wholeOf (e .count)) left);
       begins = λ x. setup-begins f (e .write) x ∙ ap (flows (not (e .write)) tag 0) (zero-add (512 * e .count));
       settings = refl;
       outstanding = refl;
@@ -79,12 +81,12 @@ open-comes d tag room z =
 -- what is due is sent, in a read phase
 sent-comes : (d : Device) (part : List ℕ) → contradictoryDevice d ≡ false → (p : eqb (d .flow .phase) 0 ≡ false)
     → let e : Entry = entryOf (d .entries) (d .flow .phase - 1) in
-    e .write ≡ false → length part ≡ 512 * dueOf (e .count) (e .moved) → Happens d part (Send (moveOf (d .flow) e))
+    e .write ≡ false → length part ≡ min 8192 (leftOf e) → Happens d part (Send (moveOf (d .flow) e 8192))
 unfolding repliesOf afterOf pick
 sent-comes d part g p w l =
     let t : ℕ = d .flow .phase - 1 in
     let e : Entry = entryOf (d .entries) t in
-    carries t (dueOf (e .count) (e .moved)) (rw (w, ← l) (is-sent part)) (sent-unbegun quiet part) (carried-by d g p)
+    carries t (min 8192 (leftOf e)) (rw (w, ← l) (is-sent part)) (sent-unbegun quiet part) (carried-by d g p 8192 (lit< tt))
 
 -- the part of the medium that is sent is as long as it should be
 part-long : (m : List ℕ) (at size : ℕ) → at + size ≤ length m → length (partOf (record { at = at; size = size }) m) ≡ size
@@ -92,18 +94,18 @@ part-long m at size h = simp (length-take, length-drop) (omega arith)
 
 -- the entry of the open phase is that of its tag
 at-tag : (d : Device) (m : List ℕ) → contradictoryDevice d ≡ false → (p : eqb (d .flow .phase) 0 ≡ false)
-    → let x : Entry → Act = λ e. Send (moveOf (d .flow) e) in
+    → let x : Entry → Act = λ e. Send (moveOf (d .flow) e 8192) in
     let e : Entry = entryOf (d .entries) (openTag (d .flow .phase)) in
-    e .write ≡ false → length (partOf (spanOf (x e)) m) ≡ moveOf (d .flow) e .size → Happens d (partOf (spanOf (x e)) m) (x e)
+    e .write ≡ false → length (partOf (spanOf (x e)) m) ≡ moveOf (d .flow) e 8192 .size → Happens d (partOf (spanOf (x e)) m) (x e)
 unfolding openTag moveOf
 at-tag d m g p =
     let t : ℕ = d .flow .phase - 1 in
     subst
     (λ (u : ℕ).
     let e : Entry = entryOf (d .entries) u in
-    e .write ≡ false → length (partOf (spanOf (Send (moveOf (d .flow) e))) m) ≡ moveOf (d .flow) e .size → Happens d (partOf (spanOf (Send (moveOf (d .flow) e))) m) (Send (moveOf (d .flow) e)))
+    e .write ≡ false → length (partOf (spanOf (Send (moveOf (d .flow) e 8192))) m) ≡ moveOf (d .flow) e 8192 .size → Happens d (partOf (spanOf (Send (moveOf (d .flow) e 8192))) m) (Send (moveOf (d .flow) e 8192)))
     (sym (pick-no (eqb (d .flow .phase) 0) 32 t p))
-    (λ w l. sent-comes d (partOf (spanOf (Send (moveOf (d .flow) (entryOf (d .entries) t)))) m) g p w l)
+    (λ w l. sent-comes d (partOf (spanOf (Send (moveOf (d .flow) (entryOf (d .entries) t) 8192))) m) g p w l)
 
 -- send
 pub send-comes : (d : Device) (m : List ℕ) (room : ℕ) → sendStep d m room .refusal ≡ 0 → Class d (view quiet (sendStep d m room .frames)) (sendStep d m room .state)
@@ -111,19 +113,19 @@ unfolding sendOf sendAct spanOf
 send-comes d m room z =
     let t = openTag (d .flow .phase) in
     let v = factsOf d t (mediumWrong (d .settings .capacity) (length m)) room in
-    let a : Act = Send (moveOf (v .flow) (v .entry)) in
+    let a : Act = Send (moveOf (v .flow) (v .entry) 8192) in
     let n = firstOf (sendTests v) in
     let k = not-refused n a z in
     let none = firsts.first-exactly (sendTests v) tt .none .0 k in
     let g = none 0 (lit< tt) in
     let p = or-left (eqb (d .flow .phase) 0) (v .entry .write) (none 3 (lit< tt)) in
     let w = or-right (eqb (d .flow .phase) 0) (v .entry .write) (none 3 (lit< tt)) in
-    let within = move-within d g p (length m) (none 1 (lit< tt)) in
-    subst (λ (x : Act). Happens d (partOf (spanOf x) m) x) (sym (decided-is n a k)) (at-tag d m g p w (part-long m (moveOf (v .flow) (v .entry) .at) (moveOf (v .flow) (v .entry) .size) within))
+    let within = move-within d g p 8192 (length m) (none 1 (lit< tt)) in
+    subst (λ (x : Act). Happens d (partOf (spanOf x) m) x) (sym (decided-is n a k)) (at-tag d m g p w (part-long m (moveOf (v .flow) (v .entry) 8192 .at) (moveOf (v .flow) (v .entry) 8192 .size) within))
 
 -- a tag that is not unready
-ready-at : (busy : Bool) (e : Entry) → not busy || not (allMoved e) ≡ false → (busy ≡ true) × (e .moved ≡ e .count)
-ready-at busy e h = (not-false busy (or-left (not busy) (not (allMoved e)) h), eqb-true (e .moved) (e .count) (not-false (allMoved e) (or-right (not busy) (not (allMoved e)) h)))
+ready-at : (busy : Bool) (e : Entry) → not busy || not (allMoved e) ≡ false → (busy ≡ true) × (e .moved ≡ wholeOf (e .count))
+ready-at busy e h = (not-false busy (or-left (not busy) (not (allMoved e)) h), eqb-true (e .moved) (wholeOf (e .count)) (not-false (allMoved e) (or-right (not busy) (not (allMoved e)) h)))
 
 -- a set that is not empty, all of it outstanding: the device is not halted
 some-busy : (d : Device) → contradictoryDevice d ≡ false → (set : ℕ) → set < 2 ^ 32 → eqb set 0 ≡ false → ((t : ℕ) → t < 32 → bitIn 32 set t ≡ true → bitIn 32 (d .flow .outstanding) t ≡ true)
@@ -143,8 +145,10 @@ finished-comes : (d : Device) (set : ℕ) → contradictoryDevice d ≡ false �
     → someUnready (d .entries) (d .flow .outstanding) set ≡ false → Happens d [] (Finish set)
 unfolding repliesOf afterOf finishedBy someUnready
 finished-comes d set g l shut some ready =
-    let at : (t : ℕ) → t < 32 → bitIn 32 set t ≡ true → (bitIn 32 (d .flow .outstanding) t ≡ true) × (entryOf (d .entries) t .moved ≡ entryOf (d .entries) t .count) =
-    λ t u b. ready-at (bitIn 32 (d .flow .outstanding) t) (entryOf (d .entries) t) (rw b at (some-absent (unreadyAt (d .entries) (d .flow .outstanding) set) 32 t ready u)) in
+    let at : (t : ℕ) → t < 32 → bitIn 32 set t ≡ true → (bitIn 32 (d .flow .outstanding) t ≡ true) × (entryOf (d .entries) t .moved ≡ 512 * entryOf (d .entries) t .count) =
+    λ t u b.
+    let r = ready-at (bitIn 32 (d .flow .outstanding) t) (entryOf (d .entries) t) (rw b at (some-absent (unreadyAt (d .entries) (d .flow .outstanding) set) 32 t ready u)) in
+    (r .0, r .1 ∙ whole-is d t g (r .0)) in
     ends set (is-finish _ refl) (bits-unbegun quiet _) (record {
       calm = some-busy d g set l some (λ t u b. at t u b .0);
       shut = shut;

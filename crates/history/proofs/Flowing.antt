@@ -21,7 +21,7 @@ use Rattle.history.proofs.Sets.{no-busy}
 
 -- what an entry's open phase stands for: a read's data go to the host; the next byte is behind those moved
 abbrev pub flowFor : Entry → ℕ → Flow
-flowFor x t = flows (not (x .write)) t (512 * x .moved) (512 * x .count)
+flowFor x t = flows (not (x .write)) t (x .moved) (512 * x .count)
 
 -- of a table and a phase: none is open, or that of a tag
 abbrev pub flowAt : List Entry → ℕ → Flow
@@ -84,7 +84,7 @@ phased-step d d′ e i (resets s u k) = phased-shut d′ (k .phase)
 phased-step d d′ e i (sweeps cl a s u ha o p k) = phased-shut d′ (k .phase)
 phased-step d d′ e i (takes s u k) = phased-shut d′ (k .phase ∙ k .shut)
 phased-step d d′ e i (opens tag s k) = record { busy = λ t x. ap₂ (bitIn 32) (k .outstanding) (opened-tag t tag (d′ .flow .phase) x (k .phase)) ∙ k .busy }
-phased-step d d′ e i (carries tag n s u k) = phased-on d d′ (leb (entryOf (d .entries) tag .count) (entryOf (d .entries) tag .moved + n)) i (k .phase) (k .outstanding)
+phased-step d d′ e i (carries tag n s u k) = phased-on d d′ (leb (512 * entryOf (d .entries) tag .count) (entryOf (d .entries) tag .moved + n)) i (k .phase) (k .outstanding)
 phased-step d d′ e i (ends set s u k) = phased-shut d′ (k .phase ∙ k .shut)
 
 -- ---- what is under way after one event more
@@ -124,27 +124,26 @@ load-own true e k s b = b
 load-own false e k s b = s
 
 -- a phase at its end: used up, or further on
-on-flow : (b : Bool) (d′ : Device) (x : Entry) (tag p n : ℕ) → b ≡ leb (x .count) (x .moved + n) → p ≡ tag + 1 → d′ .flow .phase ≡ pick b 0 p
+on-flow : (b : Bool) (d′ : Device) (x : Entry) (tag p n : ℕ) → b ≡ leb (512 * x .count) (x .moved + n) → p ≡ tag + 1 → d′ .flow .phase ≡ pick b 0 p
     → entryOf (d′ .entries) tag .write ≡ x .write → entryOf (d′ .entries) tag .count ≡ x .count → entryOf (d′ .entries) tag .moved ≡ x .moved + n
-    → flowOf d′ ≡ pick (ltb (512 * x .moved + 512 * n) (512 * x .count)) (flows (not (x .write)) tag (512 * x .moved + 512 * n) (512 * x .count)) still
+    → flowOf d′ ≡ pick (ltb (x .moved + n) (512 * x .count)) (flows (not (x .write)) tag (x .moved + n) (512 * x .count)) still
 unfolding pick
 on-flow true d′ x tag p n b y z w c m =
-    let l = leb-true (x .count) (x .moved + n) (sym b) in
-    rw (le-ltb (512 * x .moved + 512 * n) (512 * x .count) (omega arith)) (flow-shut d′ z)
+    let l = leb-true (512 * x .count) (x .moved + n) (sym b) in
+    rw (le-ltb (x .moved + n) (512 * x .count) l) (flow-shut d′ z)
 on-flow false d′ x tag p n b y z w c m =
-    let l = leb-false (x .count) (x .moved + n) (sym b) in
-    let a : 512 * (x .moved + n) ≡ 512 * x .moved + 512 * n = omega arith in
-    rw (lt-ltb (512 * x .moved + 512 * n) (512 * x .count) (omega arith)) (flow-open d′ tag (z ∙ y) ∙ rw (w, c, m, a))
+    let l = leb-false (512 * x .count) (x .moved + n) (sym b) in
+    rw (lt-ltb (x .moved + n) (512 * x .count) l) (flow-open d′ tag (z ∙ y) ∙ rw (w, c, m))
 
 -- data moved: the history's and the state's go on alike
 pub flow-carries : (d d′ : Device) (e : Seen) (n : List Seen) (tag k : ℕ) → flow n ≡ flowOf d → errs e || e .asks .resets ≡ false → Unbegun e
-    → load (not (entryOf (d .entries) tag .write)) e ≡ 512 * k → Carried tag k d d′ → flow (e ∷ n) ≡ flowOf d′
+    → load (not (entryOf (d .entries) tag .write)) e ≡ k → Carried tag k d d′ → flow (e ∷ n) ≡ flowOf d′
 flow-carries d d′ e n tag k f x u l c =
     let r = entryOf (d .entries) tag in
     flow-on e n x ∙ u (advanced e (flow n)) ∙ ap (advanced e) (f ∙ flow-open d tag (c .phased))
     ∙ ap (λ (y : ℕ). onward y (flowFor r tag)) l
-    ∙ onward-some (512 * k) (not (r .write)) tag (512 * r .moved) (512 * r .count) (omega arith)
-    ∙ sym (on-flow (leb (r .count) (r .moved + k)) d′ r tag (d .flow .phase) k refl (c .phased) (c .phase) (c .write) (c .count) (c .moved))
+    ∙ onward-some k (not (r .write)) tag (r .moved) (512 * r .count) (c .some)
+    ∙ sym (on-flow (leb (512 * r .count) (r .moved + k)) d′ r tag (d .flow .phase) k refl (c .phased) (c .phase) (c .write) (c .count) (c .moved))
 
 -- a command of which nothing has moved
 flow-whole : (x : Entry) (t : ℕ) → x .moved ≡ 0 → flowFor x t ≡ flows (not (x .write)) t 0 (512 * x .count)
@@ -164,7 +163,7 @@ whole-flow-step d d′ e n i f (opens tag s k) =
     flow-on e n (closing s) ∙ k .begins (advanced e (flow n)) ∙ sym (flow-whole (entryOf (d .entries) tag) tag (k .moved))
     ∙ sym (flow-open d′ tag (k .phase) ∙ ap (λ (es : List Entry). flowFor (entryOf es tag) tag) (k .entries))
 whole-flow-step d d′ e n i f (carries tag k s u c) =
-    flow-carries d d′ e n tag k f (closing s) u (load-own (entryOf (d .entries) tag .write) e (512 * k) (s .sends) (s .brings)) c
+    flow-carries d d′ e n tag k f (closing s) u (load-own (entryOf (d .entries) tag .write) e k (s .sends) (s .brings)) c
 whole-flow-step d d′ e n i f (ends set s u k) = flow-stays e n (closing s) u (empty-of s) ∙ f ∙ flow-shut d (k .shut) ∙ sym (flow-shut d′ (k .phase ∙ k .shut))
 
 -- before any call, with no phase open

@@ -4,7 +4,7 @@ use mathlib.Core.Bool.{Bool, true, false, not, _&&_, _||_, false≢true, true≢
 use mathlib.Core.List.{List, [], map}
 use Prim.Native.Nat.{ℕ, _%_}
 use native.Mathlib.Omega.{arith}
-use lib.Dec.{eqb}
+use lib.Dec.{ltb, eqb}
 use borrow.Author.Tests.{eqb-true, not-false, not-true}
 use Rattle.bits.specs.Pick.{pick}
 use Rattle.bits.specs.Bit.{bitIn}
@@ -18,7 +18,7 @@ use Rattle.frames.specs.declared.shapes.Frame.the-variants as fs
 use Rattle.states.specs.State.{echoOf}
 use Rattle.states.specs.declared.shapes.Echo.{Echo}
 use Rattle.states.specs.declared.shapes.ErrorRecord.{ErrorRecord}
-use Rattle.rules.specs.Facts.{moveOf}
+use Rattle.rules.specs.Facts.{leftOf, moveOf}
 use Rattle.rules.specs.Decide.{bad, fault, queuedAct, logPage, pageAsked, otherAct, controlAct, registerAct, dataAct, bistAct, kindAct, lentOf, decideOf}
 use Rattle.rules.specs.Taking.{numberOf}
 use Rattle.rules.specs.declared.facts.Facts.{Facts}
@@ -170,11 +170,11 @@ module _ (r : ErrorRecord) (mask : ℕ) (values : List ℕ) where
   unfolding dataAct numberOf
   data-heard v n =
       let P : Act → Type 0 = Heard (fs.Data n) in
-      let kept : Act = Keep (moveOf (v .flow) (v .entry)) in
-      let due : Bool = eqb n (moveOf (v .flow) (v .entry) .size) in
-      by-test P (eqb (v .flow .phase) 0 || not (v .entry .write)) (Refuse 5) (pick (not due) (Refuse 6) kept) (λ _. record { zeroed = refl; rowless = λ k. refl; shown = λ _ q. absurd (false≢true q) })
+      let kept : Act = Keep (moveOf (v .flow) (v .entry) n) in
+      let long : Bool = ltb (leftOf (v .entry)) n in
+      by-test P (eqb (v .flow .phase) 0 || not (v .entry .write)) (Refuse 5) (pick long (Refuse 6) kept) (λ _. record { zeroed = refl; rowless = λ k. refl; shown = λ _ q. absurd (false≢true q) })
       (λ _.
-      by-test P (not due) (Refuse 6) kept (λ _. record { zeroed = refl; rowless = λ k. refl; shown = λ _ q. absurd (false≢true q) })
+      by-test P long (Refuse 6) kept (λ _. record { zeroed = refl; rowless = λ k. refl; shown = λ _ q. absurd (false≢true q) })
       (λ _. record { zeroed = refl; rowless = λ k. refl; shown = λ _ q. absurd (false≢true q) }))
 
   -- BIST Activate

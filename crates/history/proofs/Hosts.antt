@@ -2,24 +2,26 @@
 use mathlib.Core.Path.{_≡_, refl, sym, ap, subst, _∙_}
 use mathlib.Core.Bool.{Bool, true, false, not, _&&_, _||_}
 use mathlib.Core.List.{List, []}
-use Prim.Native.Nat.{ℕ, _+_, _-_, _/_, _%_, _^_, _<_}
+use Prim.Native.Nat.{ℕ, _+_, _-_, _/_, _%_, _^_, _<_, min}
 use native.Mathlib.Nat.{zero-div}
 use native.Mathlib.Omega.{arith}
 use lib.Dec.{eqb, ltb, leb, lit<}
-use borrow.Author.Tests.{eqb-true, eqb-false, not-false, not-true, lt-ltb}
+use borrow.Author.Tests.{eqb-true, eqb-false, not-false, not-true, lt-ltb, ltb-false, leb-true}
 use Rattle.bits.specs.Pick.{pick}
 use Rattle.bits.specs.Bit.{bitIn}
 use Rattle.bits.proofs.Firsts as firsts
 use Rattle.bits.proofs.Masks.{bit-not}
 use Rattle.bits.proofs.Picks.{by-test, pick-no, and-left, or-left, or-right}
 use Rattle.wire.specs.Piece.{srstOf}
+use Rattle.wire.specs.Size.{payloadSize}
 use Rattle.frames.specs.Read.{readFrame}
+use Rattle.frames.proofs.ReadLaws.{DataRead, read-data}
 use Rattle.frames.specs.declared.shapes.HostReg.{HostReg}
 use Rattle.frames.specs.declared.shapes.Frame.{Frame}
 use Rattle.frames.specs.declared.shapes.Frame.the-variants as fs
 use Rattle.states.specs.Table.{entryOf}
 use Rattle.ladders.specs.Ladders.{lentLadder}
-use Rattle.rules.specs.Facts.{moveOf, dueOf}
+use Rattle.rules.specs.Facts.{leftOf, moveOf}
 use Rattle.rules.specs.Decide.{bad, fault, tagAsked, countAsked, entryFor, pageAsked, queuedAct, otherAct, controlAct, registerAct, dataAct, bistAct, kindAct, decideOf, lentOf}
 use Rattle.rules.specs.Taking.{numberOf}
 use Rattle.rules.specs.declared.facts.Facts.{Facts}
@@ -187,30 +189,32 @@ module _ (d : Device) (medium : Bool) (room : ℕ) (g : contradictoryDevice d �
   abbrev t : ℕ
   t = d .flow .phase - 1
 
-  -- host data: what is due has come, in a write phase
-  kept-comes : (n : ℕ) → eqb (d .flow .phase) 0 ≡ false → entryOf (d .entries) t .write ≡ true → n ≡ moveOf (d .flow) (entryOf (d .entries) t) .size
-      → Comes d (dataAsks n) (Keep (moveOf (d .flow) (entryOf (d .entries) t)))
+  -- host data: some bytes of what is left have come, in a write phase
+  kept-comes : (n : ℕ) → eqb (d .flow .phase) 0 ≡ false → entryOf (d .entries) t .write ≡ true → 0 < n → n ≡ min n (leftOf (entryOf (d .entries) t))
+      → Comes d (dataAsks n) (Keep (moveOf (d .flow) (entryOf (d .entries) t) n))
   unfolding repliesOf afterOf moveOf pick
-  kept-comes n p w e _ =
-      let i = is-brought n (not (moveOf (d .flow) (entryOf (d .entries) t) .last)) in
-      carries t (dueOf (entryOf (d .entries) t .count) (entryOf (d .entries) t .moved)) (rw (w, ← e) i) (active-unbegun (dataAsks n) (not (moveOf (d .flow) (entryOf (d .entries) t) .last))) (carried-by d g p)
+  kept-comes n p w pos e _ =
+      let i = is-brought n (not (moveOf (d .flow) (entryOf (d .entries) t) n .last)) in
+      carries t (min n (leftOf (entryOf (d .entries) t))) (rw (w, ← e) i) (active-unbegun (dataAsks n) (not (moveOf (d .flow) (entryOf (d .entries) t) n .last))) (carried-by d g p n pos)
 
-  data-comes : (n : ℕ) → Comes d (dataAsks n) (dataAct (factsOf d (openTag (d .flow .phase)) medium room) n)
+  data-comes : (n : ℕ) → payloadSize n ≡ true → Comes d (dataAsks n) (dataAct (factsOf d (openTag (d .flow .phase)) medium room) n)
   unfolding dataAct openTag
-  data-comes n =
+  data-comes n size =
       let v : Facts = factsOf d (openTag (d .flow .phase)) medium room in
       let closed : Bool = eqb (d .flow .phase) 0 in
-      let due : Bool = eqb n (moveOf (v .flow) (v .entry) .size) in
-      let kept : Act = Keep (moveOf (v .flow) (v .entry)) in
-      by-test (Comes d (dataAsks n)) (closed || not (v .entry .write)) (Refuse 5) (pick (not due) (Refuse 6) kept) (λ _. not-taken d _ 5 (λ z. omega arith))
-      (λ x. by-test (Comes d (dataAsks n)) (not due) (Refuse 6) kept (λ _. not-taken d _ 6 (λ z. omega arith))
+      let long : Bool = ltb (leftOf (v .entry)) n in
+      let some = leb-true 4 n (and-left (leb 4 n) (leb n 8192) (and-left (leb 4 n && leb n 8192) (eqb (n % 4) 0) size)) in
+      let kept : Act = Keep (moveOf (v .flow) (v .entry) n) in
+      by-test (Comes d (dataAsks n)) (closed || not (v .entry .write)) (Refuse 5) (pick long (Refuse 6) kept) (λ _. not-taken d _ 5 (λ z. omega arith))
+      (λ x. by-test (Comes d (dataAsks n)) long (Refuse 6) kept (λ _. not-taken d _ 6 (λ z. omega arith))
       (λ y.
       let p = or-left closed (not (v .entry .write)) x in
       let w = not-false (v .entry .write) (or-right closed (not (v .entry .write)) x) in
-      let s = eqb-true n (moveOf (v .flow) (v .entry) .size) (not-false due y) in
+      let most = ltb-false (leftOf (v .entry)) n y in
+      let s : n ≡ min n (leftOf (v .entry)) = omega arith in
       let e : openTag (d .flow .phase) ≡ t = pick-no closed 32 t p in
-      subst (λ (u : ℕ). Comes d (dataAsks n) (Keep (moveOf (d .flow) (entryOf (d .entries) u)))) (sym e)
-      (kept-comes n p (subst (λ (u : ℕ). entryOf (d .entries) u .write ≡ true) e w) (subst (λ (u : ℕ). n ≡ moveOf (d .flow) (entryOf (d .entries) u) .size) e s))))
+      subst (λ (u : ℕ). Comes d (dataAsks n) (Keep (moveOf (d .flow) (entryOf (d .entries) u) n))) (sym e)
+      (kept-comes n p (subst (λ (u : ℕ). entryOf (d .entries) u .write ≡ true) e w) (omega arith) (subst (λ (u : ℕ). n ≡ min n (leftOf (entryOf (d .entries) u))) e s))))
 
   bist-comes : Comes d (frameAsks fs.Bist) (bistAct (factsOf d (openTag (d .flow .phase)) medium room))
   unfolding bistAct repliesOf afterOf zeroedIf pick
@@ -218,17 +222,17 @@ module _ (d : Device) (medium : Bool) (room : ℕ) (g : contradictoryDevice d �
       by-test (Comes d (frameAsks fs.Bist)) (not (eqb (d .flow .phase) 0)) (Refuse 5) Zero (λ _. not-taken d _ 5 (λ z. omega arith))
       (λ _ _. plain (is-silent (frameAsks fs.Bist) refl) (silent-unbegun (frameAsks fs.Bist)) (record { settings = refl; outstanding = refl; phase = refl; halted = refl; entries = refl }))
 
-  kind-comes : (f : Frame) → Comes d (frameAsks f) (kindAct (factsOf d (openTag (d .flow .phase)) medium room) f)
+  kind-comes : (j : ℕ) (l : List ℕ) (f : Frame) → DataRead j l f → Comes d (frameAsks f) (kindAct (factsOf d (openTag (d .flow .phase)) medium room) f)
   unfolding kindAct
-  kind-comes (fs.Host h) = register-comes d (openTag (d .flow .phase)) medium room g h
-  kind-comes (fs.Device f) = not-taken d _ 4 (λ z. omega arith)
-  kind-comes (fs.Bits f) = not-taken d _ 4 (λ z. omega arith)
-  kind-comes (fs.Setup f) = not-taken d _ 4 (λ z. omega arith)
-  kind-comes fs.Activate = not-taken d _ 4 (λ z. omega arith)
-  kind-comes (fs.Data n) = data-comes n
-  kind-comes fs.Bist = bist-comes
-  kind-comes (fs.Pio f) = not-taken d _ 4 (λ z. omega arith)
-  kind-comes fs.Refused = not-taken d _ 4 (λ z. omega arith)
+  kind-comes j l (fs.Host h) s = register-comes d (openTag (d .flow .phase)) medium room g h
+  kind-comes j l (fs.Device f) s = not-taken d _ 4 (λ z. omega arith)
+  kind-comes j l (fs.Bits f) s = not-taken d _ 4 (λ z. omega arith)
+  kind-comes j l (fs.Setup f) s = not-taken d _ 4 (λ z. omega arith)
+  kind-comes j l fs.Activate s = not-taken d _ 4 (λ z. omega arith)
+  kind-comes j l (fs.Data n) s = data-comes n (s .1 .1)
+  kind-comes j l fs.Bist s = bist-comes
+  kind-comes j l (fs.Pio f) s = not-taken d _ 4 (λ z. omega arith)
+  kind-comes j l fs.Refused s = not-taken d _ 4 (λ z. omega arith)
 
 -- a taken host frame
 pub host-comes : (d : Device) (f : List ℕ) (n room : ℕ) → Comes d (frameAsks (readFrame f)) (hostAct d f n room)
@@ -239,4 +243,4 @@ host-comes d f n room z =
     let l = lent-none v (readFrame f) z in
     let g : contradictoryDevice d ≡ false = firsts.first-exactly (lentLadder (v .contradicts) (v .medium) (v .short)) tt .none .0 l 0 (lit< tt) in
     by-test (Comes d k) (not (eqb (lentOf v) 0)) (Refuse (lentOf v)) (kindAct v (readFrame f)) (λ n. not-taken d k (lentOf v) (eqb-false (lentOf v) 0 (not-true (eqb (lentOf v) 0) n)))
-    (λ _. kind-comes d (v .medium) room g (readFrame f)) z
+    (λ _. kind-comes d (v .medium) room g _ f (readFrame f) (read-data f)) z

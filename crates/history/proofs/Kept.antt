@@ -5,14 +5,14 @@ use mathlib.Core.List.{List, [], _++_}
 use Prim.Native.Nat.{ℕ, _+_, _-_}
 use native.Mathlib.Omega.{arith}
 use lib.Dec.{eqb, ltb, leb, lit<}
-use lib.ListN.{length, getD, take, drop}
+use lib.ListN.{length, getD, take, drop, length-drop}
 use borrow.Author.Tests.{eqb-true, eqb-false}
 use Rattle.bits.specs.Pick.{pick}
 use Rattle.bits.specs.Bit.{bitIn}
 use Rattle.bits.proofs.Picks.{by-test, or-left}
 use Rattle.wire.specs.Piece.{srstOf}
-use Rattle.wire.specs.Size.{readable}
-use Rattle.frames.specs.Read.{byKind, readFrame, hostOf, deviceOf, bitsOf, setupOf, pioOf}
+use Rattle.frames.specs.Read.{readFrame}
+use Rattle.frames.proofs.ReadLaws.{DataRead, read-data}
 use Rattle.frames.specs.declared.shapes.HostReg.{HostReg}
 use Rattle.frames.specs.declared.shapes.Frame.{Frame}
 use Rattle.frames.specs.declared.shapes.Frame.the-variants as fs
@@ -28,39 +28,9 @@ use Rattle.device.specs.declared.state.Device.{Device}
 use Rattle.device.proofs.Refusals.{refused-keeps-medium}
 use Rattle.device.proofs.Exactly.{first-exactly-host}
 use Rattle.device.proofs.Rooms.{move-within}
-use Rattle.device.proofs.Storing.{data-stored}
+use Rattle.device.proofs.Storing.{taken-46, data-kept-whole}
 use Rattle.history.specs.Replied.{dataIn}
 use Rattle.history.proofs.Placed.{LeftAt, EndsIn, left-none, ends-none, phaseEntry}
-
--- data is read of a 46h only
-abbrev Kinded : ℕ → Frame → Type 0
-Kinded k (fs.Host h) = Unit
-Kinded k (fs.Device f) = Unit
-Kinded k (fs.Bits f) = Unit
-Kinded k (fs.Setup f) = Unit
-Kinded k fs.Activate = Unit
-Kinded k (fs.Data n) = k ≡ 0x46
-Kinded k fs.Bist = Unit
-Kinded k (fs.Pio f) = Unit
-Kinded k fs.Refused = Unit
-
--- by its kind
-by-kinded : (k : ℕ) (l : List ℕ) → Kinded k (byKind k l)
-unfolding byKind
-by-kinded k l =
-    by-test (Kinded k) (eqb k 0x27) (fs.Host (hostOf l)) _ (λ _. tt)
-    (λ _. by-test (Kinded k) (eqb k 0x34) (fs.Device (deviceOf l)) _ (λ _. tt)
-    (λ _. by-test (Kinded k) (eqb k 0xA1) (fs.Bits (bitsOf l)) _ (λ _. tt)
-    (λ _. by-test (Kinded k) (eqb k 0x41) (fs.Setup (setupOf l)) _ (λ _. tt)
-    (λ _. by-test (Kinded k) (eqb k 0x39) fs.Activate _ (λ _. tt)
-    (λ _. by-test (Kinded k) (eqb k 0x58) fs.Bist _ (λ _. tt)
-    (λ _. by-test (Kinded k) (eqb k 0x5F) (fs.Pio (pioOf l)) _ (λ _. tt)
-    (λ _. by-test (Kinded k) (eqb k 0x46) (fs.Data (length l - 4)) fs.Refused (λ e. eqb-true k 0x46 e) (λ _. tt))))))))
-
--- as the reader sees it
-kinded : (f : List ℕ) → Kinded (getD f 0 0) (readFrame f)
-unfolding readFrame
-kinded f = by-test (Kinded (getD f 0 0)) (readable (getD f 0 0) (length f)) (byKind (getD f 0 0) f) fs.Refused (λ _. by-kinded (getD f 0 0) f) (λ _. tt)
 
 module _ (v : Facts) (f m : List ℕ) where
   -- an act that leaves the medium
@@ -115,7 +85,7 @@ module _ (d : Device) (f m : List ℕ) (room : ℕ) where
   abbrev act : Act
   act = hostAct d f (length m) room
 
-  -- where the next sector of the open phase's command stands
+  -- where the next byte of the open phase's command stands
   abbrev place : ℕ
   place = placeOf (phaseEntry d)
 
@@ -137,13 +107,12 @@ module _ (d : Device) (f m : List ℕ) (room : ℕ) where
   taken-left z (fs.Setup x) e = unkept (fs.Setup x) e refl
   taken-left z fs.Activate e = unkept fs.Activate e refl
   taken-left z (fs.Data n) e =
-      let s = data-stored d f m room (subst (Kinded (getD f 0 0)) e (kinded f)) z in
-      s .1 ∙ ap (λ (n : ℕ). take place m ++ (drop 4 f ++ drop (place + n) m)) (sym (s .0))
+      data-kept-whole d f m room (taken-46 d f (length m) room (subst (DataRead (getD f 0 0) f) e (read-data f) .0) z) .1
   taken-left z fs.Bist e = unkept fs.Bist e (bist-leaves v f m)
   taken-left z (fs.Pio x) e = unkept (fs.Pio x) e refl
   taken-left z fs.Refused e = unkept fs.Refused e refl
 
-  -- a host frame: what it brought stands at the next sector of the open phase's command, and the medium is otherwise as it was
+  -- a host frame: what it brought stands at the next byte of the open phase's command, and the medium is otherwise as it was
   pub host-left : LeftAt place m (keptIn act f m) (pick (eqb (numberOf act) 0) (dataIn f (readFrame f)) [])
   host-left =
       by-test (LeftAt place m (keptIn act f m)) (eqb (numberOf act) 0) (dataIn f (readFrame f)) []
@@ -161,9 +130,10 @@ module _ (d : Device) (f m : List ℕ) (room : ℕ) where
   taken-within z (fs.Data n) e =
       let none = first-exactly-host d f (length m) room .none .0 z in
       let time : wrongTime v (fs.Data n) ≡ false = rw e at (none 4 (lit< tt)) in
-      let size = data-stored d f m room (subst (Kinded (getD f 0 0)) e (kinded f)) z .0 in
-      let ends = move-within d (none 0 (lit< tt)) (or-left (eqb (d .flow .phase) 0) (not (v .entry .write)) time) (length m) (none 1 (lit< tt)) in
-      λ _. omega (arith, size, ends)
+      let size = data-kept-whole d f m room (taken-46 d f (length m) room (subst (DataRead (getD f 0 0) f) e (read-data f) .0) z) .0 in
+      let ends = move-within d (none 0 (lit< tt)) (or-left (eqb (d .flow .phase) 0) (not (v .entry .write)) time) (length f - 4) (length m) (none 1 (lit< tt)) in
+      let long = length-drop 4 f in
+      λ _. omega (arith, size, ends, long)
   taken-within z fs.Bist e = ends-none place m [] refl
   taken-within z (fs.Pio x) e = ends-none place m [] refl
   taken-within z fs.Refused e = ends-none place m [] refl

@@ -146,8 +146,8 @@ mannered d sendData m b h t s marked i =
     let w = always-send d m (length b) in
     let keep : (k .refusal ≡ 0 → ⊥) → k .frames ≡ [] = λ n. refused-keeps d (partOf (spanOf (sendOf d (length m) (length b))) m) (sendOf d (length m) (length b)) n .frames in
     let n = firstOf (sendTests v) in
-    let meek = decided-all (λ (a : Act). Meek (d .errors) (d .settings .mask) (d .values) (partOf (spanOf a) m) a) n (Send (moveOf (v .flow) (v .entry)))
-    (refused-meek (d .errors) (d .settings .mask) (d .values) _ n) (send-meek (d .errors) (d .settings .mask) (d .values) _ (moveOf (v .flow) (v .entry))) in
+    let meek = decided-all (λ (a : Act). Meek (d .errors) (d .settings .mask) (d .values) (partOf (spanOf a) m) a) n (Send (moveOf (v .flow) (v .entry) 8192))
+    (refused-meek (d .errors) (d .settings .mask) (d .values) _ n) (send-meek (d .errors) (d .settings .mask) (d .values) _ (moveOf (v .flow) (v .entry) 8192)) in
     event-mannered d k sendData m b h w keep refl (meek .1) (send-shaped d m (length b)) (polite d _ _ h i (comes d sendData m b t s)) (meek-finishes k sendData m b m w keep (meek .0))
 mannered d (finishTags set) m b h t s marked i =
     let k : Step = finishStep d set (length b) in

@@ -36,8 +36,8 @@ pub record Stays (d : Device) (e : Seen) (d′ : Device) (t : ℕ) : Type 0 wher
   pub write : entryAt d′ t .write ≡ entryAt d t .write
   pub first : entryAt d′ t .first ≡ entryAt d t .first
   pub count : entryAt d′ t .count ≡ entryAt d t .count
-  pub moved : entryAt d t .moved ≤ entryAt d t .count → entryAt d′ t .moved ≤ entryAt d t .count
-  pub carried : (start : ℕ) → span start (512 * entryAt d t .moved) ++ piece start (entryAt d t .write) t e (flowOf d) ≡ span start (512 * entryAt d′ t .moved)
+  pub moved : entryAt d t .moved ≤ 512 * entryAt d t .count → entryAt d′ t .moved ≤ 512 * entryAt d t .count
+  pub carried : (start : ℕ) → span start (entryAt d t .moved) ++ piece start (entryAt d t .write) t e (flowOf d) ≡ span start (entryAt d′ t .moved)
 
 -- a command that is accepted: its entry is what was asked for, and nothing has moved
 pub record New (e : Seen) (d′ : Device) : Type 0 where
@@ -52,7 +52,7 @@ pub record New (e : Seen) (d′ : Device) : Type 0 where
 pub record Moving (d : Device) (e : Seen) (d′ : Device) : Type 0 where
   pub stay : (t : ℕ) → busyAt d t ≡ true → ends t e ≡ false → Stays d e d′ t
   pub over : (t : ℕ) → ends t e ≡ true → Empty e
-  pub done : (t : ℕ) → busyAt d t ≡ true → e .finishes t ≡ true → entryAt d t .moved ≡ entryAt d t .count
+  pub done : (t : ℕ) → busyAt d t ≡ true → e .finishes t ≡ true → entryAt d t .moved ≡ 512 * entryAt d t .count
   pub new : accepts e ≡ true → New e d′
 
 -- a tag whose entry and whose bit stay, at an event that carries nothing
@@ -63,8 +63,8 @@ stays d d′ e t y b x = record {
   first = ap (λ (r : Entry). r .first) x;
   count = ap (λ (r : Entry). r .count) x;
   moved = λ l. rw x l;
-  carried = λ start. ap (λ (l : List ℕ). span start (512 * entryAt d t .moved) ++ l) (piece-none start (entryAt d t .write) t e (flowOf d) y)
-      ∙ append-nil (span start (512 * entryAt d t .moved)) ∙ ap (λ (r : Entry). span start (512 * r .moved)) (sym x);
+  carried = λ start. ap (λ (l : List ℕ). span start (entryAt d t .moved) ++ l) (piece-none start (entryAt d t .write) t e (flowOf d) y)
+      ∙ append-nil (span start (entryAt d t .moved)) ∙ ap (λ (r : Entry). span start (r .moved)) (sym x);
 }
 
 -- a tag of a state that keeps its set and its table
@@ -116,23 +116,23 @@ took-new d d′ e k =
     }
 
 -- the tag whose data moved
-own-piece : (d : Device) (e : Seen) (tag n : ℕ) → d .flow .phase ≡ tag + 1 → load (not (entryAt d tag .write)) e ≡ 512 * n
-    → (start : ℕ) → piece start (entryAt d tag .write) tag e (flowOf d) ≡ span (start + 512 * entryAt d tag .moved) (512 * n)
+own-piece : (d : Device) (e : Seen) (tag n : ℕ) → d .flow .phase ≡ tag + 1 → load (not (entryAt d tag .write)) e ≡ n
+    → (start : ℕ) → piece start (entryAt d tag .write) tag e (flowOf d) ≡ span (start + entryAt d tag .moved) n
 own-piece d e tag n p l start =
     let w = entryAt d tag .write in
     ap (piece start w tag e) (flow-open d tag p)
-    ∙ pick-yes (belongs w tag (not w) tag) (span (start + 512 * entryAt d tag .moved) (load (not w) e)) [] (belongs-own w tag)
-    ∙ ap (span (start + 512 * entryAt d tag .moved)) l
+    ∙ pick-yes (belongs w tag (not w) tag) (span (start + entryAt d tag .moved) (load (not w) e)) [] (belongs-own w tag)
+    ∙ ap (span (start + entryAt d tag .moved)) l
 
 -- a tag whose data did not move
 other-piece : (d : Device) (e : Seen) (tag t : ℕ) (w : Bool) → d .flow .phase ≡ tag + 1 → (t ≡ tag → ⊥) → (start : ℕ) → piece start w t e (flowOf d) ≡ []
 other-piece d e tag t w p x start =
     let z = not (entryAt d tag .write) in
     ap (piece start w t e) (flow-open d tag p)
-    ∙ pick-no (belongs w t z tag) (span (start + 512 * entryAt d tag .moved) (load z e)) [] (belongs-other w z t tag (λ y. x (sym y)))
+    ∙ pick-no (belongs w t z tag) (span (start + entryAt d tag .moved) (load z e)) [] (belongs-other w z t tag (λ y. x (sym y)))
 
--- n sectors of a tag moved
-module _ (d d′ : Device) (e : Seen) (tag n : ℕ) (k : Carried tag n d d′) (l : load (not (entryAt d tag .write)) e ≡ 512 * n) where
+-- n bytes of a tag moved
+module _ (d d′ : Device) (e : Seen) (tag n : ℕ) (k : Carried tag n d d′) (l : load (not (entryAt d tag .write)) e ≡ n) where
   -- its tag stays outstanding, with that much more moved
   carried-own : Stays d e d′ tag
   carried-own = record {
@@ -143,9 +143,8 @@ module _ (d d′ : Device) (e : Seen) (tag n : ℕ) (k : Carried tag n d d′) (
     moved = λ _. rw (k .moved) (k .within);
     carried = λ start.
         let m = entryAt d tag .moved in
-        let a : 512 * (m + n) ≡ 512 * m + 512 * n = omega arith in
-        ap (λ (x : List ℕ). span start (512 * m) ++ x) (own-piece d e tag n (k .phased) l start)
-        ∙ sym (span-add start (512 * m) (512 * n)) ∙ ap (span start) (sym a) ∙ ap (λ (y : ℕ). span start (512 * y)) (sym (k .moved));
+        ap (λ (x : List ℕ). span start m ++ x) (own-piece d e tag n (k .phased) l start)
+        ∙ sym (span-add start m n) ∙ ap (span start) (sym (k .moved));
   }
 
   -- each other tag stays as it was
@@ -158,8 +157,8 @@ module _ (d d′ : Device) (e : Seen) (tag n : ℕ) (k : Carried tag n d d′) (
         first = ap (λ (y : Entry). y .first) r;
         count = ap (λ (y : Entry). y .count) r;
         moved = λ z. rw r z;
-        carried = λ start. ap (λ (y : List ℕ). span start (512 * entryAt d t .moved) ++ y) (other-piece d e tag t (entryAt d t .write) (k .phased) x start)
-            ∙ append-nil (span start (512 * entryAt d t .moved)) ∙ ap (λ (y : Entry). span start (512 * y .moved)) (sym r);
+        carried = λ start. ap (λ (y : List ℕ). span start (entryAt d t .moved) ++ y) (other-piece d e tag t (entryAt d t .write) (k .phased) x start)
+            ∙ append-nil (span start (entryAt d t .moved)) ∙ ap (λ (y : Entry). span start (y .moved)) (sym r);
       }
 
   -- every outstanding tag stays
@@ -188,7 +187,7 @@ no-new : (e : Seen) (d′ : Device) → accepts e ≡ false → accepts e ≡ tr
 no-new e d′ x y = absurd (false≢true (sym x ∙ y))
 
 -- an event that finishes nothing
-no-done : (d : Device) (e : Seen) → ((t : ℕ) → e .finishes t ≡ false) → (t : ℕ) → busyAt d t ≡ true → e .finishes t ≡ true → entryAt d t .moved ≡ entryAt d t .count
+no-done : (d : Device) (e : Seen) → ((t : ℕ) → e .finishes t ≡ false) → (t : ℕ) → busyAt d t ≡ true → e .finishes t ≡ true → entryAt d t .moved ≡ 512 * entryAt d t .count
 no-done d e x t b y = absurd (false≢true (sym (x t) ∙ y))
 
 -- a kind of effect that ends every command, or has none
@@ -212,7 +211,7 @@ moving d d′ e (K.takes s u k) = record {
 }
 moving d d′ e (K.opens tag s k) = gone d d′ e (empty-of s) (s .accepted) (s .finishes) (λ t b x. kept d d′ e t (empty-of s) (k .outstanding) (k .entries) b)
 moving d d′ e (K.carries tag n s u k) = record {
-  stay = λ t b x. carried-stays d d′ e tag n k (load-own (entryAt d tag .write) e (512 * n) (s .sends) (s .brings)) t b;
+  stay = λ t b x. carried-stays d d′ e tag n k (load-own (entryAt d tag .write) e n (s .sends) (s .brings)) t b;
   over = λ t x. absurd (false≢true (sym (ap₂ _||_ (s .finishes t) (closing s)) ∙ x));
   done = no-done d e (s .finishes);
   new = no-new e d′ (s .accepted);

@@ -23,12 +23,12 @@ use Rattle.pages.specs.Page10.{fits10, page10}
 use Rattle.pages.specs.Page11.{readCounter, damaged, valueIn}
 use Rattle.pages.specs.Rows.{ids, rowOf, rowFrom}
 use Rattle.pages.specs.Sum.{sealed, sum256, sumTo}
-use Rattle.states.specs.Clauses.{contradictory, flowBad, settingsOut, recordBad, rowsBad, tableBad, entryBad, busyBad, idleBad}
+use Rattle.states.specs.Clauses.{movedBad, contradictory, flowBad, settingsOut, recordBad, rowsBad, tableBad, entryBad, busyBad, idleBad}
 use Rattle.states.specs.State.{echoOf, taskIn}
 use Rattle.states.specs.Table.{someBelow, placed, tab, cleared}
 use Rattle.rules.specs.Decide.{decideOf, kindAct, registerAct, queuedAct, otherAct, logPage, dataAct}
 use Rattle.rules.specs.Events.{openAct, decided, mediaAct, failing, finishAct, someUnready, sendAct}
-use Rattle.rules.specs.Facts.{moveOf, advancedOf}
+use Rattle.rules.specs.Facts.{moveOf, advancedBy}
 use Rattle.rules.specs.Taking.{numberOf, spanOf, keptIn, stored}
 use Rattle.replies.specs.Replies.{sentAll, sentBytes, repliesOf}
 use Rattle.device.specs.After.{afterOf, zeroedIf, resetHeld, movedBy, unhalted, finishedBy, failedBy, haltWith, released, openedFor, acceptedBy}
@@ -96,7 +96,7 @@ typed = all-typed calls refl
 
 -- the run: all four fates, an error that waits and is read, a tag used three times, a page that shows counters
 pub not-empty : Shown
-unfolding firstOf over pick joined cut cutTo pieceOf registerBytes readable fixedSize readFrame byKind fits encode setupBytes bitsBytes entries entriesFrom idAt entriesSo someOf page11 openTo rowsTo rowBytes fits10 page10 readCounter damaged valueIn ids rowOf rowFrom sealed sum256 sumTo contradictory flowBad settingsOut recordBad rowsBad tableBad entryBad busyBad idleBad echoOf taskIn someBelow placed tab cleared decideOf kindAct registerAct queuedAct otherAct logPage dataAct openAct decided mediaAct failing finishAct someUnready sendAct moveOf advancedOf numberOf spanOf keptIn stored sentAll sentBytes repliesOf afterOf zeroedIf resetHeld movedBy unhalted finishedBy failedBy haltWith released openedFor acceptedBy hostAct openTag openOf mediaOf finishOf sendOf contradictoryDevice powerOn freshDevice withValue comresetStep renewed carriedAt span flow countedIn story tagsFrom linesOf commands outstandingAt finishedAt givenUpAt droppedAt total totalWith howMany collect some payloads run seen begun waits sactive before since
+unfolding firstOf over pick joined cut cutTo pieceOf registerBytes readable fixedSize readFrame byKind fits encode setupBytes bitsBytes entries entriesFrom idAt entriesSo someOf page11 openTo rowsTo rowBytes fits10 page10 readCounter damaged valueIn ids rowOf rowFrom sealed sum256 sumTo contradictory flowBad settingsOut recordBad rowsBad tableBad entryBad busyBad idleBad echoOf taskIn someBelow placed tab cleared decideOf kindAct registerAct queuedAct otherAct logPage dataAct openAct decided mediaAct failing finishAct someUnready sendAct moveOf advancedBy numberOf spanOf keptIn stored sentAll sentBytes repliesOf afterOf zeroedIf resetHeld movedBy unhalted finishedBy failedBy haltWith released openedFor acceptedBy hostAct openTag openOf mediaOf finishOf sendOf contradictoryDevice powerOn freshDevice withValue comresetStep renewed carriedAt span flow countedIn story tagsFrom linesOf commands outstandingAt finishedAt givenUpAt droppedAt total totalWith howMany collect some payloads run seen begun waits sactive before since movedBad
 not-empty = record {
   powered = refl;
   typed = typed;
@@ -106,9 +106,11 @@ not-empty = record {
   ranges = refl;
   reading = refl;
   writing = refl;
+  half = refl;
   read = refl;
   written = refl;
   stored = refl;
+  rest = refl;
   blamed = refl;
   bad = refl;
   paged = refl;

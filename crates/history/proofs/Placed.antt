@@ -140,13 +140,13 @@ part-sent e mask values m k = rw (append-nil (take (k .size) (drop (k .at) m))) 
 abbrev pub phaseEntry : Device → Entry
 phaseEntry d = entryAt d (openTag (d .flow .phase))
 
--- send: what the medium holds at the next sector of the open phase's command
+-- send: what the medium holds at the next byte of the open phase's command
 pub send-sent : (d : Device) (m : List ℕ) (room : ℕ) → SentFrom (placeOf (phaseEntry d)) m (sentIn (sendStep d m room .frames))
 unfolding sendOf sendAct decided moveOf spanOf
 send-sent d m room =
     let v : Facts = factsOf d (openTag (d .flow .phase)) (mediumWrong (d .settings .capacity) (length m)) room in
     let n : ℕ = firstOf (sendTests v) in
     by-test (λ (a : Act). SentFrom (placeOf (phaseEntry d)) m (sentIn (repliesOf (d .errors) (d .settings .mask) (d .values) (partOf (spanOf a) m) a)))
-    (not (eqb n 0)) (Refuse n) (Send (moveOf (d .flow) (phaseEntry d)))
+    (not (eqb n 0)) (Refuse n) (Send (moveOf (d .flow) (phaseEntry d) 8192))
     (λ _. sent-none (placeOf (phaseEntry d)) m _ (no-part (d .errors) (d .settings .mask) (d .values) (Refuse n)))
-    (λ _. part-sent (d .errors) (d .settings .mask) (d .values) m (moveOf (d .flow) (phaseEntry d)))
+    (λ _. part-sent (d .errors) (d .settings .mask) (d .values) m (moveOf (d .flow) (phaseEntry d) 8192))

@@ -3,7 +3,7 @@ use mathlib.Core.Path.{_≡_, refl, sym, subst⁻¹, _∙_}
 use mathlib.Core.Bool.{Bool, true, false, not, _&&_, _||_, false≢true}
 use mathlib.Core.List.{List, [], _∷_, map, append-nil}
 use Prim.Native.Nat.{ℕ}
-use lib.Dec.{eqb}
+use lib.Dec.{ltb, eqb}
 use borrow.Author.Tests.{eqb-true, not-false}
 use Rattle.bits.specs.Pick.{pick}
 use Rattle.bits.specs.Bit.{bitIn}
@@ -16,7 +16,7 @@ use Rattle.frames.specs.declared.shapes.Frame.{Frame}
 use Rattle.frames.specs.declared.shapes.Frame.the-variants as fs
 use Rattle.pages.specs.Page10.{readLog}
 use Rattle.states.specs.declared.shapes.ErrorRecord.{ErrorRecord}
-use Rattle.rules.specs.Facts.{moveOf}
+use Rattle.rules.specs.Facts.{leftOf, moveOf}
 use Rattle.rules.specs.Decide.{bad, fault, pageAsked, queuedAct, otherAct, controlAct, registerAct, dataAct, bistAct, kindAct, decideOf, lentOf}
 use Rattle.rules.specs.declared.facts.Facts.{Facts}
 use Rattle.rules.specs.declared.acts.Act.{Act}
@@ -93,17 +93,17 @@ module _ (r : ErrorRecord) (mask : ℕ) (values : List ℕ) where
       (λ _. queued-all P v h (mild _ _ refl refl) (mild _ _ refl refl) (mild _ _ refl refl) (mild _ _ refl refl)) (λ _. other-said v h k (not-false (h .«command_bit») c))))
 
   -- an Activate or none
-  kept-said : (f : Frame) (v : Facts) → Said f (Keep (moveOf (v .flow) (v .entry)))
+  kept-said : (f : Frame) (v : Facts) (n : ℕ) → Said f (Keep (moveOf (v .flow) (v .entry) n))
   unfolding repliesOf some collect
-  kept-said f v = by-test (Says f) (not (moveOf (v .flow) (v .entry) .last)) (activate ∷ []) [] (λ _. mild _ _ refl refl) (λ _. mild _ _ refl refl)
+  kept-said f v n = by-test (Says f) (not (moveOf (v .flow) (v .entry) n .last)) (activate ∷ []) [] (λ _. mild _ _ refl refl) (λ _. mild _ _ refl refl)
 
   data-said : (f : Frame) (v : Facts) (n : ℕ) → Said f (dataAct v n)
   unfolding dataAct repliesOf some collect
   data-said f v n =
-      let due : Bool = eqb n (moveOf (v .flow) (v .entry) .size) in
-      let kept : Act = Keep (moveOf (v .flow) (v .entry)) in
-      by-test (Said f) (eqb (v .flow .phase) 0 || not (v .entry .write)) (Refuse 5) (pick (not due) (Refuse 6) kept) (λ _. mild _ _ refl refl)
-      (λ _. by-test (Said f) (not due) (Refuse 6) kept (λ _. mild _ _ refl refl) (λ _. kept-said f v))
+      let long : Bool = ltb (leftOf (v .entry)) n in
+      let kept : Act = Keep (moveOf (v .flow) (v .entry) n) in
+      by-test (Said f) (eqb (v .flow .phase) 0 || not (v .entry .write)) (Refuse 5) (pick long (Refuse 6) kept) (λ _. mild _ _ refl refl)
+      (λ _. by-test (Said f) long (Refuse 6) kept (λ _. mild _ _ refl refl) (λ _. kept-said f v n))
 
   bist-said : (f : Frame) (v : Facts) → Said f (bistAct v)
   unfolding bistAct repliesOf some collect

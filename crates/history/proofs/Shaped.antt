@@ -5,7 +5,7 @@ use mathlib.Core.List.{List, [], _∷_, map}
 use mathlib.Core.Logic.{inl, inr}
 use Prim.Native.Nat.{ℕ}
 use native.Mathlib.Omega.{arith}
-use lib.Dec.{eqb}
+use lib.Dec.{ltb, eqb}
 use borrow.Author.Tests.{eqb-false, not-true, not-false}
 use Rattle.bits.specs.Pick.{pick}
 use Rattle.bits.proofs.Picks.{by-test}
@@ -19,7 +19,7 @@ use Rattle.frames.specs.declared.shapes.Frame.{Frame}
 use Rattle.frames.specs.declared.shapes.Frame.the-variants as fs
 use Rattle.states.specs.Table.{entryOf}
 use Rattle.states.specs.declared.shapes.ErrorRecord.{ErrorRecord}
-use Rattle.rules.specs.Facts.{moveOf}
+use Rattle.rules.specs.Facts.{leftOf, moveOf}
 use Rattle.rules.specs.Decide.{queuedAct, otherAct, controlAct, registerAct, dataAct, bistAct, kindAct, decideOf, lentOf}
 use Rattle.rules.specs.Events.{decided, openAct, sendAct, finishAct, mediaAct}
 use Rattle.rules.specs.Taking.{numberOf, spanOf}
@@ -134,11 +134,11 @@ module _ (r : ErrorRecord) (mask : ℕ) (values : List ℕ) where
   data-shaped : (v : Facts) (n : ℕ) → Answers (fs.Data n) (dataAct v n)
   unfolding dataAct repliesOf some collect
   data-shaped v n =
-      let due : Bool = eqb n (moveOf (v .flow) (v .entry) .size) in
-      let kept : Act = Keep (moveOf (v .flow) (v .entry)) in
-      by-test (Answers (fs.Data n)) (eqb (v .flow .phase) 0 || not (v .entry .write)) (Refuse 5) (pick (not due) (Refuse 6) kept) (λ _. turned-down (fs.Data n) 5 (λ z. omega arith))
-      (λ _. by-test (Answers (fs.Data n)) (not due) (Refuse 6) kept (λ _. turned-down (fs.Data n) 6 (λ z. omega arith))
-      (λ _ _. by-test (Shaped (frameReplies (fs.Data n)) (dataAsks n)) (not (moveOf (v .flow) (v .entry) .last)) (activate ∷ []) [] (λ _. unblamed _ refl (inr (inl refl)) refl refl) (λ _. unblamed [] refl (inl refl) refl refl)))
+      let long : Bool = ltb (leftOf (v .entry)) n in
+      let kept : Act = Keep (moveOf (v .flow) (v .entry) n) in
+      by-test (Answers (fs.Data n)) (eqb (v .flow .phase) 0 || not (v .entry .write)) (Refuse 5) (pick long (Refuse 6) kept) (λ _. turned-down (fs.Data n) 5 (λ z. omega arith))
+      (λ _. by-test (Answers (fs.Data n)) long (Refuse 6) kept (λ _. turned-down (fs.Data n) 6 (λ z. omega arith))
+      (λ _ _. by-test (Shaped (frameReplies (fs.Data n)) (dataAsks n)) (not (moveOf (v .flow) (v .entry) n .last)) (activate ∷ []) [] (λ _. unblamed _ refl (inr (inl refl)) refl refl) (λ _. unblamed [] refl (inl refl) refl refl)))
 
   -- BIST Activate
   bist-shaped : (v : Facts) → Answers fs.Bist (bistAct v)

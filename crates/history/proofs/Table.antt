@@ -24,8 +24,8 @@ pub record Standing (d : Device) (c : Command) : Type 0 where
   pub write : entryAt d (ownTag c) .write ≡ c .accepted .asks .write
   pub first : entryAt d (ownTag c) .first ≡ c .accepted .asks .first
   pub count : entryAt d (ownTag c) .count ≡ c .accepted .asks .count
-  pub moved : entryAt d (ownTag c) .moved ≤ entryAt d (ownTag c) .count
-  pub bytes : carried c ≡ span (base c) (512 * entryAt d (ownTag c) .moved)
+  pub moved : entryAt d (ownTag c) .moved ≤ 512 * entryAt d (ownTag c) .count
+  pub bytes : carried c ≡ span (base c) (entryAt d (ownTag c) .moved)
 
 -- a command against the state: what is under way since it was accepted, its entry while it is outstanding, and the positions that it carried
 pub record Following (d : Device) (c : Command) : Type 0 where
@@ -36,9 +36,9 @@ pub record Following (d : Device) (c : Command) : Type 0 where
 
 -- what an outstanding command carried is a beginning of its range
 stands-begins : (d : Device) (c : Command) → Standing d c → Beginning (base c) (size c) (carried c)
-stands-begins d c s = record { long = 512 * entryAt d (ownTag c) .moved; within = stands-within (s .moved) (s .count); is = s .bytes }
+stands-begins d c s = record { long = entryAt d (ownTag c) .moved; within = stands-within (s .moved) (s .count); is = s .bytes }
   where
-    stands-within : {m n k : ℕ} → m ≤ n → n ≡ k → 512 * m ≤ 512 * k
+    stands-within : {m n k : ℕ} → m ≤ 512 * n → n ≡ k → m ≤ 512 * k
     stands-within l e = omega arith
 
 -- the same positions, the same beginning
@@ -55,7 +55,7 @@ follows-new d′ e k =
       first = k .first;
       count = k .count;
       moved = rw (k .moved) (omega arith);
-      bytes = sym (ap (λ (m : ℕ). span (512 * e .asks .first) (512 * m)) (k .moved) ∙ span-none (512 * e .asks .first));
+      bytes = sym (ap (λ (m : ℕ). span (512 * e .asks .first) m) (k .moved) ∙ span-none (512 * e .asks .first));
     } in
     record {
       under = whole-flow-start d′ (k .shut);
@@ -120,7 +120,7 @@ module _ (d d′ : Device) (e : Seen) (c : Command) (m : Moving d e d′) (k : F
       let t = ownTag c in
       let g = b-now (finished c) (outstanding c) (e .finishes t) f (finished-over t (c .after)) o in
       carried-none (base c) (c .accepted .asks .write) t e (c .after) (m .over t (b-over (e .finishes t) _ g))
-      ∙ s .bytes ∙ ap (λ (n : ℕ). span (base c) (512 * n)) (m .done t (s .busy) g ∙ s .count)
+      ∙ s .bytes ∙ ap (span (base c)) (m .done t (s .busy) g ∙ ap (λ (n : ℕ). 512 * n) (s .count))
 
   -- ended by this event
   ended : outstanding c ≡ true → Standing d c → ends (ownTag c) e ≡ true → Following d′ (later e c)

@@ -4,7 +4,7 @@ use mathlib.Core.Bool.{Bool, true, false, not, _||_}
 use mathlib.Core.List.{List, []}
 use mathlib.Core.Logic.{⊎-elim}
 use Prim.Native.Nat.{ℕ, _<_}
-use lib.Dec.{eqb, leb, lit<}
+use lib.Dec.{eqb, ltb, leb, lit<}
 use lib.ListN.{length}
 use borrow.Author.Tests.{eqb-true, eqb-false}
 use Rattle.bits.specs.Pick.{pick}
@@ -16,7 +16,7 @@ use Rattle.frames.specs.declared.shapes.Frame.{Frame}
 use Rattle.frames.specs.declared.shapes.Frame.the-variants as fs
 use Rattle.states.specs.Table.{entryOf}
 use Rattle.states.specs.declared.shapes.Settings.{Settings}
-use Rattle.rules.specs.Facts.{advancedOf, moveOf}
+use Rattle.rules.specs.Facts.{leftOf, advancedBy, moveOf}
 use Rattle.rules.specs.Decide.{queuedAct, otherAct, controlAct, registerAct, dataAct, bistAct, kindAct, lentOf, decideOf}
 use Rattle.rules.specs.Events.{decided, openAct, sendAct, finishAct, mediaAct}
 use Rattle.rules.specs.Taking.{numberOf}
@@ -114,9 +114,9 @@ fit-puts d (Finish set) f m = tt
 fit-puts d (Media g) f m = m
 
 -- what moves next keeps its command's bytes
-move-small : (d : Device) (t : ℕ) → SmallAll (d .entries) → Small (moveOf (d .flow) (entryOf (d .entries) t) .entry .echo)
-unfolding moveOf advancedOf
-move-small d t h = h t
+move-small : (d : Device) (t n : ℕ) → SmallAll (d .entries) → Small (moveOf (d .flow) (entryOf (d .entries) t) n .entry .echo)
+unfolding moveOf advancedBy
+move-small d t n h = h t
 
 module _ (d : Device) (tag : ℕ) (medium : Bool) (room : ℕ) (w : SmallAll (d .entries)) where
   abbrev facts : Facts
@@ -136,10 +136,10 @@ module _ (d : Device) (tag : ℕ) (medium : Bool) (room : ℕ) (w : SmallAll (d 
   data-moves : (n : ℕ) → Moves (dataAct facts n)
   unfolding dataAct Moves
   data-moves n =
-      let kept : Act = Keep (moveOf (d .flow) (entryOf (d .entries) tag)) in
-      let due : Bool = eqb n (moveOf (d .flow) (entryOf (d .entries) tag) .size) in
-      by-test Moves (eqb (d .flow .phase) 0 || not (entryOf (d .entries) tag .write)) (Refuse 5) (pick (not due) (Refuse 6) kept) (λ _. tt)
-      (λ _. by-test Moves (not due) (Refuse 6) kept (λ _. tt) (λ _. move-small d tag w))
+      let kept : Act = Keep (moveOf (d .flow) (entryOf (d .entries) tag) n) in
+      let long : Bool = ltb (leftOf (entryOf (d .entries) tag)) n in
+      by-test Moves (eqb (d .flow .phase) 0 || not (entryOf (d .entries) tag .write)) (Refuse 5) (pick long (Refuse 6) kept) (λ _. tt)
+      (λ _. by-test Moves long (Refuse 6) kept (λ _. tt) (λ _. move-small d tag n w))
 
   kind-moves : (f : Frame) → Moves (kindAct facts f)
   unfolding kindAct bistAct Moves
@@ -181,7 +181,7 @@ open-puts d t room = decided-puts _ _ tt
 
 send-puts : (d : Device) (n room : ℕ) → Wide d → Puts (sendOf d n room)
 unfolding sendOf sendAct Puts
-send-puts d n room w = decided-puts _ _ (move-small d (openTag (d .flow .phase)) (w .entries))
+send-puts d n room w = decided-puts _ _ (move-small d (openTag (d .flow .phase)) 8192 (w .entries))
 
 finish-puts : (d : Device) (s room : ℕ) → Puts (finishOf d s room)
 unfolding finishOf finishAct Puts

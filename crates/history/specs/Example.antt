@@ -1,4 +1,4 @@
--- One run of the device from power-on, of sixteen calls, in which each fate comes up, an error waits and is read, a tag is reused and a page shows counters. Assumes nothing.
+-- One run of the device from power-on, of seventeen calls, in which each fate comes up, an error waits and is read, a tag is reused and a page shows counters. Assumes nothing.
 use mathlib.Core.Path.{_≡_}
 use mathlib.Core.Bool.{Bool, true, false}
 use mathlib.Core.List.{List, [], _∷_, _++_, map, reverse}
@@ -28,6 +28,10 @@ settings = record { depth = 32; capacity = 1; mask = 0x0201 }
 abbrev pub sector : ℕ → List ℕ
 sector byte = replicate 512 byte
 
+-- one whose halves are
+abbrev pub halves : ℕ → ℕ → List ℕ
+halves a b = replicate 256 a ++ replicate 256 b
+
 -- a call, lent a medium and the smallest reply buffer that will do
 abbrev pub lent : List ℕ → Call → Lent
 lent medium call = record { call = call; medium = medium; buffer = replicate 8196 0 }
@@ -41,23 +45,23 @@ queued code tag =
 abbrev pub readLog : ℕ → Call
 readLog number = hostFrame (0x27 ∷ 0x80 ∷ 0x2F ∷ 0 ∷ number ∷ 0 ∷ 0 ∷ 0 ∷ 0 ∷ 0 ∷ 0 ∷ 0 ∷ 1 ∷ 0 ∷ 0 ∷ 0 ∷ 0 ∷ 0 ∷ 0 ∷ 0 ∷ [])
 
--- host data of one sector
+-- host data of half a sector
 abbrev pub hostData : ℕ → Call
-hostData byte = hostFrame (0x46 ∷ 0 ∷ 0 ∷ 0 ∷ sector byte)
+hostData byte = hostFrame (0x46 ∷ 0 ∷ 0 ∷ 0 ∷ replicate 256 byte)
 
--- the first nine calls: a read with tag 0 that is finished, and is not before it has moved; a write with tag 0 again that is wholly moved, and a read with tag 3
+-- the first nine calls: a read with tag 0 that is finished, and is not before it has moved; a write with tag 0 again, half of which is brought, and a read with tag 3
 abbrev pub firstCalls : List Call
 firstCalls =
     queued 0x60 0 ∷ finishTags 1 ∷ openPhase 0 ∷ sendData ∷ finishTags 1
     ∷ queued 0x61 0 ∷ queued 0x60 3 ∷ openPhase 0 ∷ hostData 7 ∷ []
 
--- the last seven: a media error, a read answered bad, the error is read; a write with tag 0 once more that COMRESET drops, page 11h, a read that stays outstanding
+-- the last seven, behind the other half of the write: a media error, a read answered bad, the error is read; a write with tag 0 once more that COMRESET drops, page 11h, a read that stays outstanding
 abbrev pub lastCalls : List Call
 lastCalls = mediaError 3 0x84 0 ∷ queued 0x60 4 ∷ readLog 0x10 ∷ queued 0x61 0 ∷ comReset ∷ readLog 0x11 ∷ queued 0x60 5 ∷ []
 
--- all calls, the oldest first: the medium holds 5 until the write has brought 7
+-- all calls, the oldest first: the medium holds 5 until the write has brought 7, and then its other half until it has brought 8
 abbrev pub calls : List Lent
-calls = map (lent (sector 5)) firstCalls ++ map (lent (sector 7)) lastCalls
+calls = map (lent (sector 5)) firstCalls ++ (lent (halves 7 5) (hostData 8) ∷ map (lent (halves 7 8)) lastCalls)
 
 -- what the outside saw of the run, the newest event first
 unfoldable pub story : List Event
@@ -65,7 +69,7 @@ story = history settings calls
 
 -- the history after the first n calls
 abbrev pub after : ℕ → List Event
-after n = drop (16 - n) story
+after n = drop (17 - n) story
 
 -- the same, as demand 3 reads it
 abbrev pub seenAfter : ℕ → List Seen
@@ -77,7 +81,7 @@ nth n = getD (after n) 0 (record { call = comReset; medium = []; refusal = 1; re
 
 -- every command of the run, the oldest first
 abbrev pub accepted : List Command
-accepted = reverse (commands (seenAfter 16))
+accepted = reverse (commands (seenAfter 17))
 
 -- the tags from a on, n of them, that are so
 unfoldable pub tagsFrom : ℕ → ℕ → (ℕ → Bool) → List ℕ
@@ -166,6 +170,7 @@ table =
     ∷ line 0 (reply 0x34 20 ∷ []) (0 ∷ []) false (ended ∷ stays ∷ [])
     ∷ line 0 (reply 0x34 20 ∷ []) (0 ∷ 3 ∷ []) false (ended ∷ stays ∷ stays ∷ [])
     ∷ line 0 (reply 0x41 28 ∷ reply 0x39 4 ∷ []) (0 ∷ 3 ∷ []) false (ended ∷ stays ∷ stays ∷ [])
+    ∷ line 0 (reply 0x39 4 ∷ []) (0 ∷ 3 ∷ []) false (ended ∷ stays ∷ stays ∷ [])
     ∷ line 0 [] (0 ∷ 3 ∷ []) false (ended ∷ stays ∷ stays ∷ [])
     ∷ line 0 (reply 0xA1 8 ∷ []) (0 ∷ 3 ∷ []) true (ended ∷ lost ∷ lost ∷ [])
     ∷ line 0 (reply 0x34 20 ∷ []) (0 ∷ 3 ∷ 4 ∷ []) true (ended ∷ lost ∷ lost ∷ [])
@@ -195,14 +200,17 @@ pub record Shown : Type 0 where
   -- data were due before the send and before the host data: to the host and from it, for tag 0
   pub reading : flow (seenAfter 3) ≡ flows true 0 0 512
   pub writing : flow (seenAfter 8) ≡ flows false 0 0 512
+  -- and the other half after one of two short frames
+  pub half : flow (seenAfter 9) ≡ flows false 0 256 512
   -- what was sent is what the medium held, and what was brought stands in the medium that the call left
   pub read : sent (nth 4) ≡ sector 5
-  pub written : brought (nth 9) ≡ sector 7
-  pub stored : nth 9 .left ≡ sector 7
+  pub written : brought (nth 9) ≡ replicate 256 7
+  pub stored : nth 9 .left ≡ halves 7 5
+  pub rest : nth 10 .left ≡ halves 7 8
   -- while the error waits, tags 0 and 3 were given up at it and tag 4 was answered with an error since
-  pub blamed : tagsSo (λ t. givenUpThere t (seenAfter 11)) ≡ 0 ∷ 3 ∷ []
-  pub bad : tagsSo (λ t. badSince t (seenAfter 11)) ≡ 4 ∷ []
+  pub blamed : tagsSo (λ t. givenUpThere t (seenAfter 12)) ≡ 0 ∷ 3 ∷ []
+  pub bad : tagsSo (λ t. badSince t (seenAfter 12)) ≡ 4 ∷ []
   -- page 11h was sent; it shows one event of 001h and of 00Ah, and 002h is absent; so says the history before it
-  pub paged : sends11 (nth 15) ≡ true
-  pub shows : threeOf (readCounter (page (nth 15))) ≡ Value 1 ∷ Value 1 ∷ Absent ∷ []
-  pub tells : threeOf (toldFor (settings .mask) (after 14)) ≡ Value 1 ∷ Value 1 ∷ Absent ∷ []
+  pub paged : sends11 (nth 16) ≡ true
+  pub shows : threeOf (readCounter (page (nth 16))) ≡ Value 1 ∷ Value 1 ∷ Absent ∷ []
+  pub tells : threeOf (toldFor (settings .mask) (after 15)) ≡ Value 1 ∷ Value 1 ∷ Absent ∷ []

@@ -2,7 +2,7 @@
 use mathlib.Core.Path.{_≡_, refl}
 use mathlib.Core.Bool.{Bool, true, false, not, _&&_, _||_}
 use Prim.Native.Nat.{ℕ}
-use lib.Dec.{eqb}
+use lib.Dec.{ltb, eqb}
 use borrow.Author.Tests.{eqb-true, not-false}
 use Rattle.bits.specs.Pick.{pick}
 use Rattle.bits.specs.First.{firstOf}
@@ -11,7 +11,7 @@ use Rattle.frames.specs.declared.shapes.HostReg.{HostReg}
 use Rattle.frames.specs.declared.shapes.Frame.{Frame}
 use Rattle.frames.specs.declared.shapes.Frame.the-variants.{Host, Device, Bits, Setup, Activate, Data, Bist, Pio, Refused}
 use Rattle.ladders.specs.Ladders.{lentLadder}
-use Rattle.rules.specs.Facts.{moveOf}
+use Rattle.rules.specs.Facts.{leftOf, moveOf}
 use Rattle.rules.specs.Decide.{queuedAct, otherAct, controlAct, registerAct, dataAct, bistAct, kindAct, lentOf, decideOf}
 use Rattle.rules.specs.HostTests.{wrongKind, wrongTime, wrongSize, hostTests}
 use Rattle.rules.specs.Events.{decided}
@@ -93,7 +93,7 @@ module _ (v : Facts) where
   kind-number (Setup x) = refl
   kind-number Activate = refl
   kind-number (Data n) =
-      data-first (eqb (v .flow .phase) 0 || not (v .entry .write)) (not (eqb n (moveOf (v .flow) (v .entry) .size))) (Keep (moveOf (v .flow) (v .entry))) refl
+      data-first (eqb (v .flow .phase) 0 || not (v .entry .write)) (ltb (leftOf (v .entry)) n) (Keep (moveOf (v .flow) (v .entry) n)) refl
   kind-number Bist = bist-first (not (eqb (v .flow .phase) 0)) Zero refl
   kind-number (Pio x) = refl
   kind-number Refused = refl

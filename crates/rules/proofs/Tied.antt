@@ -1,7 +1,7 @@
 -- Each public function's own contract: what it says, and that two answers which it allows are equal. Assumes nothing.
 use Rattle.rules.specs.Decide.{decideOf}
 use Rattle.rules.specs.Events.{finishAct, mediaAct, openAct, sendAct}
-use Rattle.rules.specs.Facts.{Due, advancedOf, moveOf}
+use Rattle.rules.specs.Facts.{leftOf, moveOf}
 use Rattle.rules.specs.Taking.{keptIn, numberOf, spanOf}
 use denote.Ref.{now}
 use mathlib.Core.Path.{_≡_, refl}
@@ -27,13 +27,10 @@ tied-finish-act = named (say (λ κs a. tt) (λ κs a r ws p. p)) (λ κs a ws w
 pub tied-media-act : Tied events.media_act.ended events.media_act.Reads.Asked events.media_act.Reads.Post (λ κs a r ws. r ≡ mediaAct (a .0) (a .1 .0) (a .1 .1 .0) (a .1 .1 .1 .0))
 tied-media-act = named (say (λ κs a. tt) (λ κs a r ws p. p)) (λ κs a ws ws′. refl)
 
-pub tied-due-of : Tied facts.due_of.ended facts.due_of.Reads.Asked facts.due_of.Reads.Post (λ κs a r ws. Due (a .0) (a .1 .0) r)
-tied-due-of = by (say (λ κs a. tt) (λ κs a r ws p. p)) (λ κs a r r′ ws ws′ p q. (same (p .value) (q .value), refl))
+pub tied-left-of : Tied facts.left_of.ended facts.left_of.Reads.Asked facts.left_of.Reads.Post (λ κs a r ws. r ≡ leftOf (a .0))
+tied-left-of = named (say (λ κs a. tt) (λ κs a r ws p. p)) (λ κs a ws ws′. refl)
 
-pub tied-advanced : Tied facts.advanced.ended facts.advanced.Reads.Asked facts.advanced.Reads.Post (λ κs a r ws. r ≡ advancedOf (a .0))
-tied-advanced = named (say (λ κs a. tt) (λ κs a r ws p. p)) (λ κs a ws ws′. refl)
-
-pub tied-next-move : Tied facts.next_move.ended facts.next_move.Reads.Asked facts.next_move.Reads.Post (λ κs a r ws. r ≡ moveOf (a .0) (a .1 .0))
+pub tied-next-move : Tied facts.next_move.ended facts.next_move.Reads.Asked facts.next_move.Reads.Post (λ κs a r ws. r ≡ moveOf (a .0) (a .1 .0) (a .1 .1 .0))
 tied-next-move = named (say (λ κs a. tt) (λ κs a r ws p. p)) (λ κs a ws ws′. refl)
 
 pub tied-number-of : Tied taking.number_of.ended taking.number_of.Reads.Asked taking.number_of.Reads.Post (λ κs a r ws. r ≡ numberOf (a .0))

@@ -10,7 +10,7 @@ use Rattle.frames.specs.declared.shapes.HostReg.{HostReg}
 use Rattle.frames.specs.declared.shapes.Frame.{Frame}
 use Rattle.frames.specs.declared.shapes.Frame.the-variants.{Host, Device, Bits, Setup, Activate, Data, Bist, Pio, Refused}
 use Rattle.states.specs.State.{echoOf}
-use Rattle.rules.specs.Facts.{moveOf}
+use Rattle.rules.specs.Facts.{leftOf, moveOf}
 use Rattle.ladders.specs.Ladders.{lentLadder}
 use Rattle.states.specs.declared.shapes.Echo.{Echo}
 use Rattle.states.specs.declared.shapes.Entry.{Entry}
@@ -82,11 +82,11 @@ registerAct v h =
     (pick (v .flow .held || not (eqb (v .flow .phase) 0)) (Refuse 5)
     (pick (eqb (h .command) 0x60 || eqb (h .command) 0x61) (queuedAct v h) (otherAct v h)))
 
--- host data: 5 with no write phase; 6 if the length is not what is due; otherwise it goes to the medium
+-- host data: 5 with no write phase; 6 if the payload is longer than what is left; otherwise it goes to the medium
 unfoldable pub dataAct : Facts → ℕ → Act
 dataAct v n =
     pick (eqb (v .flow .phase) 0 || not (v .entry .write)) (Refuse 5)
-    (pick (not (eqb n (moveOf (v .flow) (v .entry) .size))) (Refuse 6) (Keep (moveOf (v .flow) (v .entry))))
+    (pick (ltb (leftOf (v .entry)) n) (Refuse 6) (Keep (moveOf (v .flow) (v .entry) n)))
 
 -- BIST Activate zeroes the counters; 5 while a phase is open
 unfoldable pub bistAct : Facts → Act

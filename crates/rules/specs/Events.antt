@@ -7,6 +7,7 @@ use Rattle.bits.specs.Pick.{pick}
 use Rattle.bits.specs.First.{Rung, firstOf}
 use Rattle.bits.specs.Bit.{bitIn}
 use Rattle.bits.specs.Little.{byteOf}
+use Rattle.states.specs.State.{wholeOf}
 use Rattle.states.specs.Table.{someBelow, entryOf}
 use Rattle.rules.specs.Facts.{moveOf}
 use Rattle.ladders.specs.Ladders.{openLadder, sendLadder, finishLadder, mediaLadder}
@@ -30,7 +31,7 @@ inPhase v = not (eqb (v .flow .phase) 0)
 
 -- wholly moved
 abbrev pub allMoved : Entry → Bool
-allMoved e = eqb (e .moved) (e .count)
+allMoved e = eqb (e .moved) (wholeOf (e .count))
 
 -- open: 1, 3, 7 tag not outstanding, 8 while a phase is open, 9 all moved already
 abbrev pub openTests : Facts → ℕ → List Rung
@@ -44,9 +45,9 @@ openAct v tag = decided (firstOf (openTests v tag)) (Open (record { tag = tag; e
 abbrev pub sendTests : Facts → List Rung
 sendTests v = sendLadder (v .contradicts) (v .medium) (v .short) (eqb (v .flow .phase) 0 || v .entry .write)
 
--- send what is due of the read phase
+-- send what is due of the read phase: min(8,192, what is left) bytes
 unfoldable pub sendAct : Facts → Act
-sendAct v = decided (firstOf (sendTests v)) (Send (moveOf (v .flow) (v .entry)))
+sendAct v = decided (firstOf (sendTests v)) (Send (moveOf (v .flow) (v .entry) 8192))
 
 -- a tag of the set that is not outstanding or not wholly moved
 abbrev pub unready : Entry → Bool → Bool → Bool

@@ -1,42 +1,37 @@
--- Positions of a command: what is due, and where. Moved and count are kept in sectors. Assumes nothing.
-use mathlib.Core.Path.{_≡_}
+-- Positions of a command: what is left, and where. What has moved is kept in bytes. Assumes nothing.
 use lib.Dec.{leb}
-use Prim.Native.Nat.{ℕ, _+_, _-_, _*_, _≤_, min}
+use Prim.Native.Nat.{ℕ, _+_, _-_, _*_, min}
+use Rattle.states.specs.State.{wholeOf}
 use Rattle.states.specs.declared.shapes.Entry.{Entry}
 use Rattle.states.specs.declared.shapes.Flow.{Flow}
 use Rattle.rules.specs.declared.acts.Move.{Move}
 
--- min(16, what is left) sectors
-abbrev pub dueOf : ℕ → ℕ → ℕ
-dueOf count moved = min 16 (count - moved)
+-- what is left of a command, in bytes
+abbrev pub leftOf : Entry → ℕ
+leftOf e = wholeOf (e .count) - e .moved
 
--- what the code that works it out answers
-pub record Due (count moved r : ℕ) : Type 0 where
-  pub value : r ≡ dueOf count moved
-  pub bound : r ≤ count - moved
-
--- where the next sector of a command stands in the medium, in bytes
+-- where the next byte of a command stands in the medium
 abbrev pub placeOf : Entry → ℕ
-placeOf e = 512 * (e .first + e .moved)
+placeOf e = 512 * e .first + e .moved
 
--- the entry once the sectors that are due have moved
-unfoldable pub advancedOf : Entry → Entry
-advancedOf e = record {
+-- the entry once n bytes have moved
+unfoldable pub advancedBy : Entry → ℕ → Entry
+advancedBy e n = record {
   write = e .write;
   first = e .first;
   count = e .count;
-  moved = e .moved + dueOf (e .count) (e .moved);
+  moved = e .moved + n;
   features = e .features;
   «features_high» = e .«features_high»;
   echo = e .echo;
 }
 
--- what moves next in the open phase: the sectors that are due; at nothing left it is the last
-unfoldable pub moveOf : Flow → Entry → Move
-moveOf f e = record {
+-- n bytes that move in the open phase, or what is left if that is less; at nothing left it is the last
+unfoldable pub moveOf : Flow → Entry → ℕ → Move
+moveOf f e n = record {
   tag = f .phase - 1;
   at = placeOf e;
-  size = 512 * dueOf (e .count) (e .moved);
-  entry = advancedOf e;
-  last = leb (e .count) (advancedOf e .moved);
+  size = min n (leftOf e);
+  entry = advancedBy e (min n (leftOf e));
+  last = leb (leftOf e) n;
 }

@@ -1,12 +1,12 @@
 -- A host frame's refusals in the order in which they are tried. Assumes nothing.
 use mathlib.Core.Bool.{Bool, true, false, not, _&&_, _||_}
 use mathlib.Core.List.{List, [], _∷_}
-use lib.Dec.{eqb}
+use lib.Dec.{ltb, eqb}
 use Rattle.bits.specs.First.{Rung}
 use Rattle.frames.specs.declared.shapes.Frame.{Frame}
 use Rattle.frames.specs.declared.shapes.Frame.the-variants.{Host, Device, Bits, Setup, Activate, Data, Bist, Pio, Refused}
 use Rattle.ladders.specs.Ladders.{rung}
-use Rattle.rules.specs.Facts.{moveOf}
+use Rattle.rules.specs.Facts.{leftOf}
 use Rattle.rules.specs.declared.facts.Facts.{Facts}
 
 -- 4: frame type not 27h, 46h, 58h; wrong length, for which the reader refuses the frame
@@ -33,14 +33,14 @@ wrongTime v Bist = not (eqb (v .flow .phase) 0)
 wrongTime v (Pio f) = false
 wrongTime v Refused = false
 
--- 6: data length not what is due
+-- 6: the payload is longer than what is left of the command
 unfoldable pub wrongSize : Facts → Frame → Bool
 wrongSize v (Host h) = false
 wrongSize v (Device f) = false
 wrongSize v (Bits f) = false
 wrongSize v (Setup f) = false
 wrongSize v Activate = false
-wrongSize v (Data n) = not (eqb n (moveOf (v .flow) (v .entry) .size))
+wrongSize v (Data n) = ltb (leftOf (v .entry)) n
 wrongSize v Bist = false
 wrongSize v (Pio f) = false
 wrongSize v Refused = false

@@ -29,7 +29,7 @@ pub struct Log {
     pub task: Task,
 }
 
-// Sectors that move: `size` bytes of the medium from `at` on, and the command's entry once they have moved. `last`: nothing is left then.
+// Data that move: `size` bytes of the medium from `at` on, and the command's entry once they have moved. `last`: nothing is left then.
 pub struct Move {
     pub tag: u32,
     pub at: usize,

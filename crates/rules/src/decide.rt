@@ -9,6 +9,7 @@ use crate::acts::Fault;
 use crate::acts::Log;
 use crate::acts::Queued;
 use crate::facts::Facts;
+use crate::facts::left_of;
 use crate::facts::next_move;
 use frames::Frame;
 use frames::HostReg;
@@ -150,14 +151,13 @@ fn data_act(v: Facts, n: usize) -> Act
 {
     let flow = v.flow;
     let e = v.entry;
-    let next = next_move(flow, e);
     if (flow.phase == 0) | !e.write {
         return Act::Refuse(5);
     }
-    if !(n == next.size) {
+    if (left_of(e) as usize) < n {
         return Act::Refuse(6);
     }
-    Act::Keep(next)
+    Act::Keep(next_move(flow, e, n))
 }
 
 // 58h.

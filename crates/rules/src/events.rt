@@ -1,6 +1,6 @@
 // What a device event makes the device do, or the number that it is refused with.
 ghost use mathlib.Core.Path.{_≡_};
-ghost use Rattle.rules.specs.Events.{decided, failing, unready, someUnready, openAct, sendAct, finishAct, mediaAct};
+ghost use Rattle.rules.specs.Events.{decided, allMoved, failing, unready, someUnready, openAct, sendAct, finishAct, mediaAct};
 use crate::acts::Act;
 use crate::acts::Fault;
 use crate::acts::Queued;
@@ -20,6 +20,13 @@ fn decided(number: u8, act: Act) -> Act
     act
 }
 
+// Wholly moved.
+fn all_moved(e: Entry) -> bool
+    ensures { λ r. ⌜ r ≡ allMoved e ⌝ }
+{
+    e.moved == states::whole_of(e.count)
+}
+
 // Open a phase for a tag. A tag of 32 or more is not outstanding.
 pub fn open_act(v: Facts, tag: u8) -> Act
     ensures { λ r. ⌜ r ≡ openAct v tag ⌝ }
@@ -32,7 +39,7 @@ pub fn open_act(v: Facts, tag: u8) -> Act
         v.short,
         !busy,
         !(flow.phase == 0),
-        entry.moved == entry.count,
+        all_moved(entry),
     );
     decided(number, Act::Open(Queued { tag, entry }))
 }
@@ -43,7 +50,7 @@ pub fn send_act(v: Facts) -> Act
 {
     let flow = v.flow;
     let entry = v.entry;
-    let next = next_move(flow, entry);
+    let next = next_move(flow, entry, Settings::FRAME_SIZE);
     let number = ladders::send_number(
         v.contradicts,
         v.medium,
@@ -57,7 +64,7 @@ pub fn send_act(v: Facts) -> Act
 fn unready(e: Entry, asked: bool, busy: bool) -> bool
     ensures { λ r. ⌜ r ≡ unready e asked busy ⌝ }
 {
-    asked & (!busy | !(e.moved == e.count))
+    asked & (!busy | !all_moved(e))
 }
 
 // One walk over the thirty-two entries.

@@ -1,7 +1,7 @@
 // What a decision looks at: lengths and control values, never medium or payload bytes.
 ghost use mathlib.Core.Path.{_≡_};
-ghost use Prim.Native.Nat.{_-_};
-ghost use Rattle.rules.specs.Facts.{Due, advancedOf, moveOf};
+ghost use Prim.Native.Nat.{_≤_, min};
+ghost use Rattle.rules.specs.Facts.{leftOf, advancedBy, moveOf};
 use crate::acts::Move;
 use states::Entry;
 use states::Flow;
@@ -17,47 +17,57 @@ pub struct Facts {
     pub entry: Entry,
 }
 
-// How many sectors the next data frame holds.
-pub fn due_of(count: u32, moved: u32) -> u32
-    ensures { λ r. ⌜ Due count moved r ⌝ }
+// What is left of a command, in bytes.
+pub fn left_of(e: Entry) -> u32
+    ensures { λ r. ⌜ r ≡ leftOf e ⌝ }
 {
-    if count <= moved {
+    let whole = states::whole_of(e.count);
+    if whole <= e.moved {
         return 0;
     }
-    if Settings::FRAME_SECTORS <= count - moved {
-        return Settings::FRAME_SECTORS;
+    whole - e.moved
+}
+
+// At most so many bytes, of what is left.
+fn of_left(e: Entry, n: usize) -> u32
+    ensures { λ r. ⌜ r ≡ min n (leftOf e) ⌝ }
+{
+    let left = left_of(e);
+    if n < left as usize {
+        return n as u32;
     }
-    count - moved
+    left
 }
 
 // The entry once they have moved.
-pub fn advanced(e: Entry) -> Entry
-    ensures { λ r. ⌜ r ≡ advancedOf e ⌝ }
+fn advanced(e: Entry, n: u32) -> Entry
+    requires { ⌜ n ≤ leftOf e ⌝ }
+    ensures { λ r. ⌜ r ≡ advancedBy e n ⌝ }
 {
-    let due = due_of(e.count, e.moved);
     let echo = e.echo;
     Entry {
         write: e.write,
         first: e.first,
         count: e.count,
-        moved: e.moved + due,
+        moved: e.moved + n,
         features: e.features,
         features_high: e.features_high,
         echo,
     }
 }
 
-// What moves next in the open phase.
-pub fn next_move(flow: Flow, e: Entry) -> Move
-    ensures { λ r. ⌜ r ≡ moveOf flow e ⌝ }
+// n bytes that move next in the open phase, or what is left.
+pub fn next_move(flow: Flow, e: Entry, n: usize) -> Move
+    ensures { λ r. ⌜ r ≡ moveOf flow e n ⌝ }
 {
-    let due = due_of(e.count, e.moved);
-    let entry = advanced(e);
+    let size = of_left(e, n);
+    let entry = advanced(e, size);
+    let left = left_of(e);
     Move {
         tag: states::below(flow.phase),
-        at: Settings::SECTOR_SIZE * ((e.first as usize) + (e.moved as usize)),
-        size: Settings::SECTOR_SIZE * (due as usize),
+        at: Settings::SECTOR_SIZE * (e.first as usize) + (e.moved as usize),
+        size: size as usize,
         entry,
-        last: e.count <= entry.moved,
+        last: left as usize <= n,
     }
 }

@@ -17,6 +17,7 @@ pub use events::media_act;
 pub use events::open_act;
 pub use events::send_act;
 pub use facts::Facts;
+pub use facts::left_of;
 pub use taking::Span;
 pub use taking::keep;
 pub use taking::number_of;

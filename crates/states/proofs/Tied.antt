@@ -1,7 +1,7 @@
 -- Each public function's own contract: what it says, and that two answers which it allows are equal. Assumes nothing.
 use Prim.Native.Nat.{_-_}
 use Rattle.states.specs.Clauses.{contradictory, rowRefused, settingsOut}
-use Rattle.states.specs.State.{blankRecord, echoOf, taskIn, zeroEntry}
+use Rattle.states.specs.State.{blankRecord, echoOf, taskIn, wholeOf, zeroEntry}
 use Rattle.states.specs.Table.{cleared, entryOf, placed}
 use denote.Ref.{now}
 use mathlib.Core.Path.{_≡_, refl}
@@ -28,6 +28,9 @@ tied-task-in = named (say (λ κs a. tt) (λ κs a r ws p. p)) (λ κs a ws ws�
 
 pub tied-echo-of : Tied shapes.echo_of.ended shapes.echo_of.Reads.Asked shapes.echo_of.Reads.Post (λ κs a r ws. r ≡ echoOf (a .0))
 tied-echo-of = named (say (λ κs a. tt) (λ κs a r ws p. p)) (λ κs a ws ws′. refl)
+
+pub tied-whole-of : Tied shapes.whole_of.ended shapes.whole_of.Reads.Asked shapes.whole_of.Reads.Post (λ κs a r ws. r ≡ wholeOf (a .0))
+tied-whole-of = named (say (λ κs a. tt) (λ κs a r ws p. p)) (λ κs a ws ws′. refl)
 
 pub tied-idle-entry : Tied shapes.idle_entry.ended shapes.idle_entry.Reads.Asked shapes.idle_entry.Reads.Post (λ κs a r ws. r ≡ zeroEntry)
 tied-idle-entry = named (say (λ κs a. tt) (λ κs a r ws p. p)) (λ κs a ws ws′. refl)

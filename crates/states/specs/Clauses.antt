@@ -1,14 +1,14 @@
 -- A state contradicts itself if one of these clauses holds, each in the words of the rules. Assumes nothing.
 use mathlib.Core.Bool.{Bool, not, _&&_, _||_}
 use mathlib.Core.List.{List}
-use Prim.Native.Nat.{ℕ, _+_, _-_}
+use Prim.Native.Nat.{ℕ, _+_, _-_, _%_}
 use lib.Dec.{ltb, leb, eqb}
 use lib.ListN.{getD}
 use Rattle.bits.specs.Pick.{pick}
 use Rattle.bits.specs.Bit.{bitIn}
 use Rattle.wire.specs.Piece.{sectorsOf}
 use Rattle.pages.specs.Rows.{kept, keepsBoth}
-use Rattle.states.specs.State.{taskIn, tagIn, zeroEntry}
+use Rattle.states.specs.State.{taskIn, tagIn, wholeOf, zeroEntry}
 use Rattle.states.specs.Table.{someBelow}
 use Rattle.states.specs.declared.shapes.Settings.{Settings}
 use Rattle.states.specs.declared.shapes.Echo.{Echo}
@@ -40,23 +40,31 @@ otherTag e t = not (eqb (tagIn (e .echo)) t)
 abbrev pub otherRange : Entry → Bool
 otherRange e = not (eqb (taskIn (e .echo) .lba) (e .first)) || not (eqb (sectorsOf (e .features) (e .«features_high»)) (e .count))
 
--- moved exceeds count
+-- moved exceeds count, which in bytes is `wholeOf`
 abbrev pub movedAbove : Entry → Bool
-movedAbove e = ltb (e .count) (e .moved)
+movedAbove e = ltb (wholeOf (e .count)) (e .moved)
+
+-- moved is no multiple of 4
+abbrev pub movedOdd : Entry → Bool
+movedOdd e = not (eqb (e .moved % 4) 0)
 
 -- moved is neither 0 nor count for a tag whose phase isn't open
 abbrev pub movedBetween : Entry → Bool → Bool
-movedBetween e phase = not phase && (not (eqb (e .moved) 0) && not (eqb (e .moved) (e .count)))
+movedBetween e phase = not phase && (not (eqb (e .moved) 0) && not (eqb (e .moved) (wholeOf (e .count))))
 
 -- the open phase's tag has all moved
 abbrev pub phaseDone : Entry → Bool → Bool
-phaseDone e phase = phase && eqb (e .moved) (e .count)
+phaseDone e phase = phase && eqb (e .moved) (wholeOf (e .count))
+
+-- what has moved contradicts the rest of its entry
+unfoldable pub movedBad : Entry → Bool → Bool
+movedBad e phase = (movedAbove e || movedOdd e) || (movedBetween e phase || phaseDone e phase)
 
 -- an outstanding tag's entry contradicts itself
 unfoldable pub busyBad : Settings → Entry → ℕ → Bool → Bool
 busyBad s e t phase =
     ((aboveDepth s t || pastCapacity s e) || (countZero e || (otherTag e t || otherRange e)))
-    || (movedAbove e || (movedBetween e phase || phaseDone e phase))
+    || movedBad e phase
 
 -- some of a command's bytes 4-10 and 12-13 is not 0
 abbrev pub echoSet : Echo → Bool

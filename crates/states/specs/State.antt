@@ -1,7 +1,7 @@
 -- What the state holds of a command and of an error. Assumes nothing.
 use mathlib.Core.Bool.{false}
 use mathlib.Core.List.{List, [], _∷_}
-use Prim.Native.Nat.{ℕ}
+use Prim.Native.Nat.{ℕ, _*_, min}
 use Rattle.bits.specs.Little.{byteOf}
 use Rattle.wire.specs.Piece.{taskOf, tagOf}
 use Rattle.wire.specs.declared.pieces.Task.{Task}
@@ -34,6 +34,10 @@ echoOf t = record {
   b12 = byteOf (t .count) 0;
   b13 = byteOf (t .count) 1;
 }
+
+-- the bytes of a command of so many sectors; more than 65,536 no command has (`settingsOut`, `pastCapacity`), and then as many count, so that 32 bits hold them
+abbrev pub wholeOf : ℕ → ℕ
+wholeOf count = 512 * min count 65536
 
 -- no bytes of a command: all 0
 abbrev pub zeroEcho : Echo

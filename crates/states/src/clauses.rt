@@ -1,13 +1,14 @@
 // Refusal 1: settings out of bounds, or the state handed in contradicts itself.
 ghost use mathlib.Core.Path.{_≡_};
 ghost use Prim.Native.Nat.{_-_};
-ghost use Rattle.states.specs.Clauses.{settingsOut, busyBad, echoSet, idleBad, entryBad, tableBad, flowBad, recordBad, rowBad, rowsBad, contradictory, rowRefused};
+ghost use Rattle.states.specs.Clauses.{settingsOut, movedBad, busyBad, echoSet, idleBad, entryBad, tableBad, flowBad, recordBad, rowBad, rowsBad, contradictory, rowRefused};
 use crate::shapes::Echo;
 use crate::shapes::Entry;
 use crate::shapes::ErrorRecord;
 use crate::shapes::Flow;
 use crate::shapes::Settings;
 use crate::shapes::task_in;
+use crate::shapes::whole_of;
 
 // Depth 1 to 32, capacity 1 to 65,536, rows 0 and 9 kept.
 pub fn settings_out(s: Settings) -> bool
@@ -20,6 +21,16 @@ pub fn settings_out(s: Settings) -> bool
         | !(first & tenth)
 }
 
+// In bytes, and in whole Dwords.
+fn moved_bad(e: Entry, phase: bool) -> bool
+    ensures { λ r. ⌜ r ≡ movedBad e phase ⌝ }
+{
+    let whole = whole_of(e.count);
+    let between = !phase & (!(e.moved == 0) & !(e.moved == whole));
+    let done = phase & (e.moved == whole);
+    ((whole < e.moved) | !(e.moved % 4 == 0)) | (between | done)
+}
+
 fn busy_bad(s: Settings, e: Entry, t: u32, phase: bool) -> bool
     ensures { λ r. ⌜ r ≡ busyBad s e t phase ⌝ }
 {
@@ -29,10 +40,8 @@ fn busy_bad(s: Settings, e: Entry, t: u32, phase: bool) -> bool
     let count = wire::sectors_of(e.features, e.features_high);
     let past = (s.capacity as u64) < (e.first as u64) + (e.count as u64);
     let range = !(task.lba == e.first as u64) | !(count == e.count);
-    let between = !phase & (!(e.moved == 0) & !(e.moved == e.count));
-    let done = phase & (e.moved == e.count);
-    (((s.depth <= t) | past) | ((e.count == 0) | (!(tag as u32 == t) | range)))
-        | ((e.count < e.moved) | (between | done))
+    let wrong = moved_bad(e, phase);
+    (((s.depth <= t) | past) | ((e.count == 0) | (!(tag as u32 == t) | range))) | wrong
 }
 
 fn echo_set(e: Echo) -> bool

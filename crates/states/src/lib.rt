@@ -16,6 +16,7 @@ pub use shapes::echo_of;
 pub use shapes::idle_entry;
 pub use shapes::no_record;
 pub use shapes::task_in;
+pub use shapes::whole_of;
 pub use table::cleared;
 pub use table::entry_of;
 pub use table::with_entry;

@@ -1,6 +1,6 @@
 // What the state holds: nothing that the list of contradictions does not speak of.
 ghost use mathlib.Core.Path.{_≡_};
-ghost use Rattle.states.specs.State.{taskIn, echoOf, zeroEntry, blankRecord};
+ghost use Rattle.states.specs.State.{taskIn, echoOf, wholeOf, zeroEntry, blankRecord};
 use wire::Task;
 
 // Queue depth, capacity in sectors, and which rows of page 11h are kept.
@@ -19,10 +19,8 @@ impl Settings {
     pub const CAPACITY_LIMIT: u32 = 65536;
 
     pub const SECTOR_SIZE: usize = 512;
-    // the payload of a data frame, in bytes and in sectors
+    // the payload of a data frame
     pub const FRAME_SIZE: usize = 8192;
-
-    pub const FRAME_SECTORS: u32 = 16;
     // a data frame behind its header
     pub const REPLY_SIZE: usize = 8196;
 }
@@ -40,7 +38,7 @@ pub struct Echo {
     pub b13: u8,
 }
 
-// The table's entry of a tag: direction, range and what has moved, in sectors, and the command's bytes 3-13. An idle one is all zeros.
+// The table's entry of a tag: direction and range in sectors, what has moved in bytes, and the command's bytes 3-13. An idle one is all zeros.
 pub struct Entry {
     pub write: bool,
     pub first: u32,
@@ -107,6 +105,16 @@ pub fn echo_of(t: Task) -> Echo
         b12: bits::byte(count, 0),
         b13: bits::byte(count, 1),
     }
+}
+
+// The bytes of a command of so many sectors; more than 65,536 count as that many.
+pub fn whole_of(count: u32) -> u32
+    ensures { λ r. ⌜ r ≡ wholeOf count ⌝ }
+{
+    if Settings::CAPACITY_LIMIT <= count {
+        return (Settings::SECTOR_SIZE as u32) * Settings::CAPACITY_LIMIT;
+    }
+    (Settings::SECTOR_SIZE as u32) * count
 }
 
 pub fn idle_entry() -> Entry

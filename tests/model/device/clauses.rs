@@ -1,7 +1,7 @@
 //! When a state contradicts itself: the clauses of the list at the end of
 //! "What the device turns down", each by itself. One that holds is enough.
 
-use super::state::{Entry, Record, State, ROW_001H, ROW_00AH, TAGS, TOP_CAPACITY};
+use super::state::{Entry, Record, State, DWORD, ROW_001H, ROW_00AH, TAGS, TOP_CAPACITY};
 
 /// A clause over the whole state, and its name.
 pub type Clause = (&'static str, fn(&State) -> bool);
@@ -25,7 +25,7 @@ const CLAUSES: [Clause; 13] = [
     ("unkept row not zero", unkept_row_not_zero),
 ];
 
-const ENTRY_CLAUSES: [EntryClause; 8] = [
+const ENTRY_CLAUSES: [EntryClause; 9] = [
     ("tag at or above the depth", tag_above_depth),
     ("range past capacity", range_past_capacity),
     ("count 0", count_zero),
@@ -33,6 +33,7 @@ const ENTRY_CLAUSES: [EntryClause; 8] = [
     ("bytes name another first sector", names_another_first),
     ("bytes name another count", names_another_count),
     ("moved above count", moved_above_count),
+    ("moved not a multiple of 4", moved_not_in_dwords),
     ("moved between, no phase of its own", moved_between),
 ];
 
@@ -86,11 +87,15 @@ fn names_another_count(_: &State, _: u32, entry: &Entry) -> bool {
 }
 
 fn moved_above_count(_: &State, _: u32, entry: &Entry) -> bool {
-    entry.moved > entry.count
+    u64::from(entry.moved) > entry.bytes()
+}
+
+fn moved_not_in_dwords(_: &State, _: u32, entry: &Entry) -> bool {
+    entry.moved % DWORD != 0
 }
 
 fn moved_between(s: &State, tag: u32, entry: &Entry) -> bool {
-    let between = entry.moved != 0 && entry.moved != entry.count;
+    let between = entry.moved != 0 && !entry.all_moved();
     between && s.open_tag() != Some(tag)
 }
 
@@ -99,8 +104,7 @@ fn open_not_outstanding(s: &State) -> bool {
 }
 
 fn open_all_moved(s: &State) -> bool {
-    let all_moved = |entry: &Entry| entry.moved == entry.count;
-    s.open_tag().map_or(false, |tag| s.is_outstanding(tag) && all_moved(s.entry(tag)))
+    s.open_tag().map_or(false, |tag| s.is_outstanding(tag) && s.entry(tag).all_moved())
 }
 
 fn halted_outstanding(s: &State) -> bool {

@@ -3,7 +3,7 @@
 use super::clauses;
 use super::refusals::{self, refuse_if, Due};
 use super::replies;
-use super::state::{Record, State, ROW_001H, ROW_00AH, SECTOR};
+use super::state::{Record, State, ROW_001H, ROW_00AH};
 use super::{taken, turned_down, Answer};
 
 /// Idle, record blank, counters 0, no reply; refused, it hands back all zeros.
@@ -36,19 +36,17 @@ fn check_open(state: &State, tag: u8, reply: &[u8]) -> Due {
     refusals::check_room(reply)?;
     refusals::check_outstanding(state, tag)?;
     refusals::check_no_phase(state)?;
-    let entry = state.entry(u32::from(tag));
-    refuse_if(entry.moved == entry.count, refusals::ALL_MOVED)
+    refuse_if(state.entry(u32::from(tag)).all_moved(), refusals::ALL_MOVED)
 }
 
-/// Sends one data frame of min(16, what is left) sectors from the medium.
+/// Sends one data frame of min(8,192, what is left) bytes from the medium.
 pub fn send(state: &State, medium: &[u8], reply: &mut [u8]) -> Answer {
     match check_send(state, medium, reply) {
         Err(number) => turned_down(state, number),
         Ok(tag) => {
             let entry = state.entry(tag);
-            let at = SECTOR * (entry.first + entry.moved) as usize;
-            let length = SECTOR * entry.due() as usize;
-            let sent = [replies::data(&medium[at..at + length])];
+            let at = entry.place();
+            let sent = [replies::data(&medium[at..at + entry.due()])];
             let mut next = state.clone();
             next.move_on(tag, entry.due());
             taken(next, &sent, reply)
@@ -84,10 +82,7 @@ fn check_finish(state: &State, set: u32, reply: &[u8]) -> Due {
     refusals::check_state(state)?;
     refusals::check_room(reply)?;
     refusals::check_no_phase(state)?;
-    let done = |tag: u32| {
-        let entry = state.entry(tag);
-        state.is_outstanding(tag) && entry.moved == entry.count
-    };
+    let done = |tag: u32| state.is_outstanding(tag) && state.entry(tag).all_moved();
     refuse_if(set == 0 || !tags_of(set).into_iter().all(done), refusals::BAD_SET)
 }
 

@@ -4,7 +4,7 @@
 use super::command::{Command, COUNTER_PAGE, ERROR_PAGE};
 use super::refusals::{self, refuse_if, Due};
 use super::replies;
-use super::state::{Entry, Record, State, SECTOR};
+use super::state::{Entry, Record, State};
 use super::{taken, turned_down, Answer};
 use crate::frames::{self, Frame};
 
@@ -69,11 +69,11 @@ fn check_time(state: &State, frame: &Frame) -> Due {
     refuse_if(late, refusals::NOT_NOW)
 }
 
-/// 6: data holds exactly min(16, what is left) sectors.
+/// 6: the payload is longer than what is left.
 fn check_length(state: &State, frame: &Frame) -> Due {
-    let due = state.open_entry().map_or(0, |entry| SECTOR * entry.due() as usize);
-    let wrong = frame.kind == frames::DATA && frame.payload.len() != due;
-    refuse_if(wrong, refusals::BAD_DATA_LENGTH)
+    let left = state.open_entry().map_or(0, |entry| entry.left());
+    let too_long = frame.kind == frames::DATA && frame.payload.len() > left;
+    refuse_if(too_long, refusals::DATA_TOO_LONG)
 }
 
 /// What a frame that is not refused does.
@@ -86,12 +86,12 @@ fn act(state: &mut State, frame: &Frame, medium: &mut [u8]) -> Vec<Frame<'static
     }
 }
 
-/// The sectors go to the medium; if more is left, an Activate follows.
+/// The payload goes to the medium; if more is left, an Activate follows.
 fn take_data(state: &mut State, payload: &[u8], medium: &mut [u8]) -> Vec<Frame<'static>> {
     let tag = state.open_tag().expect("refusal 5 has seen a write phase");
-    let at = SECTOR * (state.entry(tag).first + state.entry(tag).moved) as usize;
+    let at = state.entry(tag).place();
     medium[at..at + payload.len()].copy_from_slice(payload);
-    state.move_on(tag, (payload.len() / SECTOR) as u32);
+    state.move_on(tag, payload.len());
     if state.phase != 0 {
         vec![replies::activate()]
     } else {

@@ -1,6 +1,6 @@
 //! What the device sends, each as a frame of the model's frame layer.
 
-use super::state::{Echo, Entry, Record, State, SECTOR};
+use super::state::{Echo, Entry, Record, State};
 use crate::frames::{self, Frame};
 use crate::pages;
 
@@ -57,8 +57,8 @@ pub fn media_error(error: u8) -> Frame<'static> {
 /// DMA Setup: A 0, I 0, D 1 to the host, offset 0, the whole byte count.
 pub fn dma_setup(tag: u32, entry: &Entry) -> Frame<'static> {
     let to_host = u64::from(!entry.write);
-    let bytes = u64::from(entry.count) * SECTOR as u64;
-    Frame::with(0x41, &[], &[("D", to_host), ("tag", u64::from(tag)), ("byte_count", bytes)])
+    let fields = [("D", to_host), ("tag", u64::from(tag)), ("byte_count", entry.bytes())];
+    Frame::with(0x41, &[], &fields)
 }
 
 pub fn activate() -> Frame<'static> {

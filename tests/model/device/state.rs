@@ -9,8 +9,10 @@ use crate::pages;
 pub const TAGS: u32 = 32;
 pub const TOP_CAPACITY: u32 = 65_536;
 pub const SECTOR: usize = 512;
-/// A data frame carries at most this many sectors.
-pub const FRAME_SECTORS: u32 = 16;
+/// A data frame carries at most this many bytes.
+pub const FRAME_BYTES: usize = 8_192;
+/// A Dword: what has moved is a multiple of it.
+pub const DWORD: u32 = 4;
 /// The shortest reply buffer that may be lent.
 pub const REPLY_ROOM: usize = 8_196;
 
@@ -67,7 +69,7 @@ pub struct Entry {
     pub write: bool,
     pub first: u32,
     pub count: u32,
-    /// Sectors that data frames have carried so far.
+    /// Bytes that data frames have carried so far.
     pub moved: u32,
     pub features: u8,
     pub features_high: u8,
@@ -80,9 +82,30 @@ impl Entry {
         u64::from(self.first) + u64::from(self.count)
     }
 
-    /// Sectors of the next data frame: min(16, what is left).
-    pub fn due(&self) -> u32 {
-        (self.count - self.moved).min(FRAME_SECTORS)
+    /// All bytes of the command, without wrap.
+    pub fn bytes(&self) -> u64 {
+        u64::from(self.count) * SECTOR as u64
+    }
+
+    pub fn all_moved(&self) -> bool {
+        u64::from(self.moved) == self.bytes()
+    }
+
+    /// The bytes that are left, in a state that does not contradict itself:
+    /// there no more has moved than the command has.
+    pub fn left(&self) -> usize {
+        (self.bytes() - u64::from(self.moved)) as usize
+    }
+
+    /// Bytes of the next frame to the host, or of the longest one that it may
+    /// send: min(8,192, what is left).
+    pub fn due(&self) -> usize {
+        self.left().min(FRAME_BYTES)
+    }
+
+    /// Where on the medium the next byte goes to or comes from.
+    pub fn place(&self) -> usize {
+        SECTOR * self.first as usize + self.moved as usize
     }
 
     /// The sectors that the command's bytes name.
@@ -188,12 +211,12 @@ impl State {
         self.record = Record::default();
     }
 
-    /// So many sectors of the open phase's command have been carried; at
+    /// So many bytes of the open phase's command have been carried; at
     /// nothing left the phase closes.
-    pub fn move_on(&mut self, tag: u32, sectors: u32) {
+    pub fn move_on(&mut self, tag: u32, bytes: usize) {
         let entry = &mut self.entries[tag as usize];
-        entry.moved += sectors;
-        if entry.moved == entry.count {
+        entry.moved += bytes as u32;
+        if entry.all_moved() {
             self.phase = 0;
         }
     }

@@ -10,7 +10,7 @@ use crate::device::{clauses, State};
 
 /// Every call that is given a state, none of which minds the states below but
 /// for the clause.
-fn each_call() -> Vec<(&'static str, Call)> {
+pub fn each_call() -> Vec<(&'static str, Call)> {
     vec![
         ("host frame", release()),
         ("open", open(2)),
@@ -40,7 +40,7 @@ fn each_clause(script: &mut Script) {
 
 /// No other clause holds. Two cannot be alone: bytes never name 0 sectors, and
 /// moved above count is neither 0 nor count unless the phase is open.
-fn check_alone(clause: &str, state: &State) {
+pub fn check_alone(clause: &str, state: &State) {
     let mut names = clauses::names(state);
     if clause == "count 0" {
         names.retain(|&name| name != "bytes name another count");

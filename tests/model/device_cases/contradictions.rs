@@ -131,18 +131,18 @@ fn moved() -> Vec<Contradiction> {
     let mut all = named(
         "moved above count",
         vec![
-            ("5 of 4, phase open", busy().moved(2, 5).opened(2)),
-            ("4,294,967,295 of 4, phase open", busy().moved(2, u32::MAX).opened(2)),
-            ("5 of 4, no phase", busy().moved(2, 5)),
+            ("5 of 4, phase open", busy().moved_sectors(2, 5).opened(2)),
+            ("4,294,967,292 bytes, phase open", busy().moved(2, u32::MAX - 3).opened(2)),
+            ("5 of 4, no phase", busy().moved_sectors(2, 5)),
         ],
     );
     all.extend(named(
         "moved between, no phase of its own",
         vec![
-            ("1 of 4", busy().moved(2, 1)),
-            ("3 of 4", busy().moved(2, 3)),
-            ("16 of 32 of a write", idle(8, 64).writing(2, 0, 32).moved(2, 16)),
-            ("1 of 4 while another tag's phase is open", other_open.moved(2, 1)),
+            ("1 of 4", busy().moved_sectors(2, 1)),
+            ("3 of 4", busy().moved_sectors(2, 3)),
+            ("16 of 32 of a write", idle(8, 64).writing(2, 0, 32).moved_sectors(2, 16)),
+            ("1 of 4 while another tag's phase is open", other_open.moved_sectors(2, 1)),
         ],
     ));
     all
@@ -168,8 +168,8 @@ fn phase() -> Vec<Contradiction> {
     all.extend(named(
         "open tag all moved",
         vec![
-            ("read, 4 of 4", busy().moved(2, 4).opened(2)),
-            ("write, 20 of 20", idle(8, 64).writing(2, 0, 20).moved(2, 20).opened(2)),
+            ("read, 4 of 4", busy().moved_sectors(2, 4).opened(2)),
+            ("write, 20 of 20", idle(8, 64).writing(2, 0, 20).moved_sectors(2, 20).opened(2)),
         ],
     ));
     all

@@ -33,7 +33,7 @@ fn bounds(script: &mut Script) {
         .given(&idle(32, 65_536).reading(3, 65_535, 1).keeping(0x0201))
         .call(comreset(), "capacity 65,536, its last sector", "0 20 00000000 0 0 0", SIGNATURE);
     let full = (0..32u8).fold(idle(32, 64), |s, tag| s.reading(tag, u32::from(tag), 1));
-    let moved = (0..32u8).fold(full, |s, tag| s.moved(tag, 1));
+    let moved = (0..32u8).fold(full, |s, tag| s.moved_sectors(tag, 1));
     script.given(&moved).call(
         finish(u32::MAX),
         "32 tags moved: finish them all",
@@ -120,7 +120,7 @@ fn halts(script: &mut Script) {
         .call(release(), "held with nothing else: release", "0 20 00000000 0 0 0", SIGNATURE);
 }
 
-/// Moved need not be a multiple of 16 in an open phase.
+/// Moved need not be a multiple of 16 sectors in an open phase.
 fn moves(script: &mut Script) {
     let reading = idle(8, 64).reading(2, 8, 40).opened(2);
     let writing = idle(8, 64).writing(2, 8, 40).opened(2);
@@ -129,14 +129,19 @@ fn moves(script: &mut Script) {
         let comment = format!("read phase with {} of 40 moved: {} due", moved, sectors);
         let flow = format!("0 {} 00000004 {} 0 0", 4 + 512 * sectors, phase);
         let bytes = sector_hex(0x30, 8 + moved as usize);
-        script.given(&reading.clone().moved(2, moved)).call(send(), &comment, &flow, &bytes);
+        script.given(&reading.clone().moved_sectors(2, moved)).call(
+            send(),
+            &comment,
+            &flow,
+            &bytes,
+        );
     }
     let ends = [(7, 16, 3, ACTIVATE), (24, 16, 0, ""), (30, 10, 0, ""), (39, 1, 0, "")];
     for &(moved, sectors, phase, ends) in &ends {
         let comment = format!("write phase with {} of 40 moved: {} due", moved, sectors);
         let flow = format!("0 {} 00000004 {} 0 0", ends.len() / 2, phase);
         let call = data(sectors, 0x11);
-        script.given(&writing.clone().moved(2, moved)).call(call, &comment, &flow, ends);
+        script.given(&writing.clone().moved_sectors(2, moved)).call(call, &comment, &flow, ends);
     }
 }
 
@@ -153,7 +158,7 @@ fn entries(script: &mut Script) {
         .call(open(2), "an entry with reserved bits set", "0 28 00000004 3 0 0", setup)
         .given(&idle(8, 64).reading(2, 8, 4).writing(3, 8, 4))
         .call(open(2), "two entries with the same range", "0 28 0000000C 3 0 0", setup)
-        .given(&idle(8, 64).reading(2, 8, 4).moved(2, 4))
+        .given(&idle(8, 64).reading(2, 8, 4).moved_sectors(2, 4))
         .call(read(3, 8, 4), "a moved entry beside a new one", "0 20 0000000C 0 0 0", "")
         .call(write(4, 8, 4), "a moved entry beside two new ones", "0 20 0000001C 0 0 0", "");
 }

@@ -106,7 +106,7 @@ fn malformed(script: &mut Script) {
 
 /// Something outstanding: bad, 04h, halt with NQ; the record holds the bytes.
 fn outstanding(script: &mut Script) {
-    let busy = idle(8, 64).reading(2, 8, 4).writing(3, 0, 4).moved(3, 4).counting(3, 7);
+    let busy = idle(8, 64).reading(2, 8, 4).writing(3, 0, 4).moved_sectors(3, 4).counting(3, 7);
     let with_bit = changed(log_bytes(0x11), &[(3, 1)]);
     let commands = vec![
         ("ECh", coded(0xEC)),

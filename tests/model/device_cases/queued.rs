@@ -99,7 +99,7 @@ fn rule_1(script: &mut Script) {
 
 /// Rule 2: tag at or above the depth, or outstanding.
 fn rule_2(script: &mut Script) {
-    let busy = || idle(8, 64).reading(2, 8, 4).writing(3, 0, 4).moved(3, 4).counting(3, 7);
+    let busy = || idle(8, 64).reading(2, 8, 4).writing(3, 0, 4).moved_sectors(3, 4).counting(3, 7);
     let cases: Vec<(&str, State, [u8; 20])> = vec![
         ("tag 8 at depth 8", idle(8, 64), queued_bytes(0x60, 8, 0, 1)),
         ("tag 31 at depth 31", idle(31, 64), queued_bytes(0x61, 31, 0, 1)),

@@ -13,7 +13,7 @@ pub fn all() -> Vec<Case> {
 
 /// Tag 2 reads sectors 8 to 27, tag 3 writes 0 to 3, all moved.
 fn busy() -> State {
-    idle(8, 64).reading(2, 8, 20).writing(3, 0, 4).moved(3, 4)
+    idle(8, 64).reading(2, 8, 20).writing(3, 0, 4).moved_sectors(3, 4)
 }
 
 fn broken() -> State {
@@ -155,7 +155,7 @@ fn media_sectors(script: &mut Script) {
         let record = format!("{}{:02x}0000400000001000", flow, sector);
         script.given(&busy()).call(media_error(2, 0x40, sector), &comment, &record, error);
     }
-    let phase = busy().opened(2).moved(2, 16);
+    let phase = busy().opened(2).moved_sectors(2, 16);
     let record = "0 8 00000000 0 1 0 01000304030000400000001800";
     script
         .given(&phase)

@@ -6,7 +6,7 @@ use super::calls::{
     bist, but, comreset, control, data, data_bytes, frame, log_bytes, long_frame, queued_bytes,
     read, read_log, release, srst, write,
 };
-use super::hex::{good, SIGNATURE};
+use super::hex::{good, ACTIVATE, SIGNATURE};
 use super::states::{idle, p2_record};
 use super::{scripted, Case, Script};
 use crate::device::State;
@@ -25,13 +25,12 @@ fn write_phase() -> State {
 
 /// One fault more each time, from the last to the first.
 fn lowest_first(script: &mut Script) {
-    let phase = write_phase();
     let broken = State { depth: 0, ..write_phase() };
     let short = long_frame(&[0x46], 7, 0);
     script
-        .given(&phase)
+        .given(&write_phase().moved_sectors(2, 16))
         .refused(data(15, 1), "6 alone", 6)
-        .given(&read_phase())
+        .given(&read_phase().moved_sectors(2, 16))
         .refused(data(15, 1), "5 before 6", 5)
         .refused(short.clone(), "4 before 5", 4)
         .refused(short.clone().room(8195), "3 before 4", 3)
@@ -187,19 +186,25 @@ fn time(script: &mut Script) {
         .call(comreset(), "not 5: COMRESET while held", "0 20 00000000 0 0 0", SIGNATURE);
 }
 
-/// 6: exactly min(16, what is left) sectors.
+/// 6: longer than what is left. Shorter is taken, and an Activate follows.
 fn data_length(script: &mut Script) {
-    let phases: [(&str, State, Vec<usize>); 5] = [
-        ("20 left", write_phase(), vec![4, 508, 512, 2_048, 7_680, 8_188]),
-        ("4 left", write_phase().moved(2, 16), vec![4, 1_536, 2_044, 2_052, 2_560, 8_192]),
-        ("1 left", write_phase().moved(2, 19), vec![4, 508, 516, 1_024, 8_192]),
-        ("16 left", write_phase().moved(2, 4), vec![7_680, 8_188]),
-        ("15 left", write_phase().moved(2, 5), vec![7_168, 7_676, 7_684, 8_192]),
+    let phases: [(&str, u32, Vec<usize>, Vec<usize>); 5] = [
+        ("20 left", 0, vec![4, 508, 512, 2_048, 7_680, 8_188], vec![]),
+        ("4 left", 16, vec![4, 1_536, 2_044], vec![2_052, 2_560, 8_192]),
+        ("1 left", 19, vec![4, 508], vec![516, 1_024, 8_192]),
+        ("16 left", 4, vec![7_680, 8_188], vec![]),
+        ("15 left", 5, vec![7_168, 7_676], vec![7_684, 8_192]),
     ];
-    for (left, state, bad) in phases.iter() {
-        for &payload in bad {
+    for (left, moved, short, long) in phases.iter() {
+        let state = write_phase().moved_sectors(2, *moved);
+        for &payload in short {
+            let comment = format!("not 6: {}, payload of {} bytes", left, payload);
+            let call = data_bytes(payload, 1);
+            script.given(&state).call(call, &comment, "0 4 00000004 3 0 0", ACTIVATE);
+        }
+        for &payload in long {
             let comment = format!("{}, payload of {} bytes", left, payload);
-            script.given(state).refused(data_bytes(payload, 1), &comment, 6);
+            script.given(&state).refused(data_bytes(payload, 1), &comment, 6);
         }
     }
 }

@@ -35,10 +35,15 @@ impl State {
         self.with(tag, entry(true, tag, first, count))
     }
 
-    /// ... of which so much has moved.
-    pub fn moved(mut self, tag: u8, moved: u32) -> State {
-        self.entries[usize::from(tag)].moved = moved;
+    /// ... of which so many bytes have moved ...
+    pub fn moved(mut self, tag: u8, bytes: u32) -> State {
+        self.entries[usize::from(tag)].moved = bytes;
         self
+    }
+
+    /// ... or so many whole sectors.
+    pub fn moved_sectors(self, tag: u8, sectors: u32) -> State {
+        self.moved(tag, 512 * sectors)
     }
 
     /// The same with this tag's phase open.
@@ -101,9 +106,9 @@ pub fn flows() -> Vec<(&'static str, State)> {
         ("with something outstanding", busy()),
         ("with a record and something outstanding", busy().recording(p2_record())),
         ("in a read phase", busy().opened(2)),
-        ("in a read phase, 16 of 20 moved", busy().moved(2, 16).opened(2)),
+        ("in a read phase, 16 of 20 moved", busy().moved_sectors(2, 16).opened(2)),
         ("in a write phase", busy().opened(3)),
-        ("in a write phase, 16 of 20 moved", busy().moved(3, 16).opened(3)),
+        ("in a write phase, 16 of 20 moved", busy().moved_sectors(3, 16).opened(3)),
         ("halted", idle(8, 64).recording(p2_record()).halted()),
         ("held", idle(8, 64).held()),
     ]

@@ -78,7 +78,7 @@ impl Machine {
 /// Host data of the length due; a few bytes where none is due.
 fn data_frame<'a>(buffer: &'a mut [u8], state: &State, byte: u8) -> &'a [u8] {
     let writing = state.open_entry().filter(|entry| entry.write);
-    let payload = writing.map_or(STRAY_PAYLOAD, |entry| SECTOR * entry.due() as usize);
+    let payload = writing.map_or(STRAY_PAYLOAD, |entry| entry.due());
     let frame = &mut buffer[..DATA_HEADER + payload];
     frame[..DATA_HEADER].copy_from_slice(&[frames::DATA, 0, 0, 0]);
     frame[DATA_HEADER..].fill(byte);

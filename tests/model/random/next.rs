@@ -121,7 +121,7 @@ fn link(random: &mut Random) -> Vec<u8> {
 
 /// Tags that are outstanding and wholly moved, or not.
 fn tags(state: &State, moved: bool) -> Vec<u32> {
-    let like = |&tag: &u32| (state.entry(tag).moved == state.entry(tag).count) == moved;
+    let like = |&tag: &u32| state.entry(tag).all_moved() == moved;
     state.tags().filter(like).collect()
 }
 

@@ -6,7 +6,7 @@ use Rattle.events.proofs.host_data.due_bytes.Statement.{statement}
 use Rattle.events.proofs.host_data.due_bytes.Tie as tie
 use Rattle.events.proofs.host_data.due_bytes.Reads as reads
 use Rattle.events.proofs.host_data.due_bytes.Lts as lts
-use Rattle.events.proofs.host_data.due_sectors.Reads as due-sectors-reads
+use Rattle.events.proofs.host_data.due_of.Reads as due-of-reads
 use Rattle.events.proofs.host_data.open_tag.Reads as open-tag-reads
 use Rattle.states.proofs.entry_of.Reads as entry-of-reads
 
@@ -19,21 +19,13 @@ entry-of-requires : tie.Need-entry-of-requires
 entry-of-requires c κs = search needs
 
 -- src/host_data.rt:39:9
-due-sectors-requires : tie.Need-due-sectors-requires
-due-sectors-requires c κs = search needs
-
--- src/host_data.rt:41:41
-cast-result : tie.Need-cast-result
-cast-result c = search needs
-
--- src/host_data.rt:41:16
-mul-result : tie.Need-mul-result
-mul-result c = search needs
+due-of-requires : tie.Need-due-of-requires
+due-of-requires c κs = search needs
 
 -- src/host_data.rt:41:9
 returns : tie.Need-returns
 unfolding dueBytes pick
-returns c = record { value = rw (← c .before .before .before .before .open-tag .ensures, ← c .before .before .before .entry-of .ensures, c .if1 .taken, c .before .before .due-sectors .ensures); bound = omega (arith, c .before .before .due-sectors .ensures) }
+returns c = record { value = rw (← c .before .before .before .before .open-tag .ensures, ← c .before .before .before .entry-of .ensures, c .if1 .taken, c .before .before .due-of .ensures); bound = omega (arith, c .before .before .due-of .ensures) }
 
 -- src/host_data.rt:33:1
 returns-2 : tie.Need-returns-2
@@ -46,8 +38,6 @@ due-bytes-spec =
     (tie.spec
     open-tag-requires
     entry-of-requires
-    due-sectors-requires
-    cast-result
-    mul-result
+    due-of-requires
     returns
     returns-2)

@@ -5,61 +5,67 @@ use Rattle.rules.proofs.facts.next_move.Tie as tie
 use Rattle.rules.proofs.facts.next_move.Reads as reads
 use Rattle.rules.proofs.facts.next_move.Lts as lts
 use Rattle.rules.proofs.facts.advanced.Reads as advanced-reads
+use Rattle.rules.proofs.facts.left_of.Reads as left-of-reads
+use Rattle.rules.proofs.facts.of_left.Reads as of-left-reads
 use Rattle.states.proofs.below.Reads as below-reads
-use Rattle.rules.proofs.facts.due_of.Reads as due-of-reads
 
--- src/facts.rt:61:9
-due-of-requires : tie.Need-due-of-requires
-due-of-requires c κs = search needs
+-- src/facts.rt:63:9
+of-left-requires : tie.Need-of-left-requires
+of-left-requires c κs = search needs
 
--- src/facts.rt:62:9
+-- src/facts.rt:64:9
 advanced-requires : tie.Need-advanced-requires
 advanced-requires c κs = search needs
 
--- src/facts.rt:64:14
+-- src/facts.rt:65:9
+left-of-requires : tie.Need-left-of-requires
+left-of-requires c κs = search needs
+
+-- src/facts.rt:67:14
 below-requires : tie.Need-below-requires
 below-requires c κs = search needs
 
--- src/facts.rt:65:39
-cast-t6 : tie.Need-cast-t6
-cast-t6 c = search needs
+-- src/facts.rt:68:38
+cast-t8 : tie.Need-cast-t8
+cast-t8 c = search needs
 
--- src/facts.rt:65:60
-cast-t7 : tie.Need-cast-t7
-cast-t7 c = search needs
-
--- src/facts.rt:65:38
-add-t8 : tie.Need-add-t8
-add-t8 c = search needs
-
--- src/facts.rt:65:13
+-- src/facts.rt:68:13
 mul-t9 : tie.Need-mul-t9
 mul-t9 c = search needs
 
--- src/facts.rt:66:40
+-- src/facts.rt:68:59
 cast-t10 : tie.Need-cast-t10
 cast-t10 c = search needs
 
--- src/facts.rt:66:15
-mul-t11 : tie.Need-mul-t11
-mul-t11 c = search needs
+-- src/facts.rt:68:13
+add-t11 : tie.Need-add-t11
+add-t11 c = search needs
 
--- src/facts.rt:58:1
+-- src/facts.rt:69:15
+cast-t12 : tie.Need-cast-t12
+cast-t12 c = search needs
+
+-- src/facts.rt:71:15
+cast-t13 : tie.Need-cast-t13
+cast-t13 c = search needs
+
+-- src/facts.rt:60:1
 returns : tie.Need-returns
 unfolding moveOf
-returns c = rw (c .before .before .before .before .before .before .due-of .ensures .value, c .before .before .before .before .before .advanced .ensures, c .before .before .before .before .below .ensures)
+returns c = rw (c .before .before .before .before .advanced .ensures, c .before .before .before .before .before .of-left .ensures, c .before .before .before .left-of .ensures, c .before .before .below .ensures)
 
 pub next-move-spec : {M : Type 1} → statement M
 next-move-spec =
     tie.close
     (tie.spec
-    due-of-requires
+    of-left-requires
     advanced-requires
+    left-of-requires
     below-requires
-    cast-t6
-    cast-t7
-    add-t8
+    cast-t8
     mul-t9
     cast-t10
-    mul-t11
+    add-t11
+    cast-t12
+    cast-t13
     returns)

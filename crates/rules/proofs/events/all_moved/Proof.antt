@@ -1,0 +1,17 @@
+use borrow.Author.Needs.{needs}
+use Rattle.rules.proofs.events.all_moved.Statement.{statement}
+use Rattle.rules.proofs.events.all_moved.Tie as tie
+use Rattle.rules.proofs.events.all_moved.Reads as reads
+use Rattle.rules.proofs.events.all_moved.Lts as lts
+use Rattle.states.proofs.whole_of.Reads as whole-of-reads
+
+-- src/events.rt:27:16
+whole-of-requires : tie.Need-whole-of-requires
+whole-of-requires c κs = search needs
+
+-- src/events.rt:24:1
+returns : tie.Need-returns
+returns c = rw (← c .before .whole-of .ensures)
+
+pub all-moved-spec : {M : Type 1} → statement M
+all-moved-spec = tie.close (tie.spec whole-of-requires returns)
