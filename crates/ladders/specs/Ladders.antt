@@ -12,6 +12,10 @@ rung n t = record { number = n; holds = t }
 abbrev pub powerLadder : Bool → List Rung
 powerLadder contradicts = rung 1 contradicts ∷ []
 
+-- host frame: 1; 2 medium length wrong; 3 reply buffer short; 4 no frame that a host sends; 5 at a wrong time; 6 longer than what is left
+abbrev pub hostLadder : Bool → Bool → Bool → Bool → Bool → Bool → List Rung
+hostLadder contradicts medium short kind time size = rung 1 contradicts ∷ rung 2 medium ∷ rung 3 short ∷ rung 4 kind ∷ rung 5 time ∷ rung 6 size ∷ []
+
 -- open: 1 contradiction; 3 reply buffer short; 7 tag not outstanding; 8 a phase is open; 9 all moved already
 abbrev pub openLadder : Bool → Bool → Bool → Bool → Bool → List Rung
 openLadder contradicts short idle phase moved = rung 1 contradicts ∷ rung 3 short ∷ rung 7 idle ∷ rung 8 phase ∷ rung 9 moved ∷ []

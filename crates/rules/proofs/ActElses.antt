@@ -1,18 +1,18 @@
 -- Where a `let .. else` on an act comes to its else branch. Assumes nothing.
-use mathlib.Core.Path.{_≡_, refl}
+use mathlib.Core.Path.{_≡_, refl, sym, ap}
 use mathlib.Core.List.{List, [], _∷_}
 use Prim.Native.Nat.{ℕ}
 use types.Run.{OneOf, miss}
 use denote.Enum.Declared.{tagOf}
-use Rattle.rules.specs.Taking.{numberOf, nowhere, spanOf, keptIn}
+use Rattle.rules.specs.Taking.{numberOf, Touch, leaves, sends, stores, touchOf, spanIn, nowhere, spanOf, keptBy, keptIn}
 use Rattle.rules.specs.declared.acts.Act.{Act}
-use Rattle.rules.specs.declared.acts.Act.the-variants.{Refuse, Nothing, Answer, Halt, Accept, Log10, Log11, Reset, Release, Zero, Keep, Open, Send, Finish, Media}
+use Rattle.rules.specs.declared.acts.Act.the-variants.{Refuse, Nothing, Answer, Halt, Accept, Log10, Log11, Reset, Release, Zero, Keep, Open, Send, Finish, Media, Count, Renew}
 use Rattle.rules.proofs.acts.Act as A
 
 -- it is no refusal
-pub else-refuse : (a : Act) → OneOf (1 ∷ 2 ∷ 3 ∷ 4 ∷ 5 ∷ 6 ∷ 7 ∷ 8 ∷ 9 ∷ 10 ∷ 11 ∷ 12 ∷ 13 ∷ 14 ∷ []) (tagOf A.the-type a) → 0 ≡ numberOf a
+pub else-refuse : (a : Act) → OneOf (1 ∷ 2 ∷ 3 ∷ 4 ∷ 5 ∷ 6 ∷ 7 ∷ 8 ∷ 9 ∷ 10 ∷ 11 ∷ 12 ∷ 13 ∷ 14 ∷ 15 ∷ 16 ∷ []) (tagOf A.the-type a) → 0 ≡ numberOf a
 unfolding numberOf
-else-refuse (Refuse n) k′ = absurd (miss (1 ∷ 2 ∷ 3 ∷ 4 ∷ 5 ∷ 6 ∷ 7 ∷ 8 ∷ 9 ∷ 10 ∷ 11 ∷ 12 ∷ 13 ∷ 14 ∷ []) 0 tt k′)
+else-refuse (Refuse n) k′ = absurd (miss (1 ∷ 2 ∷ 3 ∷ 4 ∷ 5 ∷ 6 ∷ 7 ∷ 8 ∷ 9 ∷ 10 ∷ 11 ∷ 12 ∷ 13 ∷ 14 ∷ 15 ∷ 16 ∷ []) 0 tt k′)
 else-refuse Nothing k′ = refl
 else-refuse (Answer b) k′ = refl
 else-refuse (Halt g) k′ = refl
@@ -27,10 +27,12 @@ else-refuse (Open q) k′ = refl
 else-refuse (Send k) k′ = refl
 else-refuse (Finish s) k′ = refl
 else-refuse (Media g) k′ = refl
+else-refuse (Count r) k′ = refl
+else-refuse Renew k′ = refl
 
 -- nothing is sent of the medium
-pub else-send : (a : Act) → OneOf (0 ∷ 1 ∷ 2 ∷ 3 ∷ 4 ∷ 5 ∷ 6 ∷ 7 ∷ 8 ∷ 9 ∷ 10 ∷ 11 ∷ 13 ∷ 14 ∷ []) (tagOf A.the-type a) → nowhere ≡ spanOf a
-unfolding spanOf
+pub else-send : (a : Act) → OneOf (0 ∷ 1 ∷ 2 ∷ 3 ∷ 4 ∷ 5 ∷ 6 ∷ 7 ∷ 8 ∷ 9 ∷ 10 ∷ 11 ∷ 13 ∷ 14 ∷ 15 ∷ 16 ∷ []) (tagOf A.the-type a) → nowhere ≡ spanOf a
+unfolding touchOf
 else-send (Refuse n) k′ = refl
 else-send Nothing k′ = refl
 else-send (Answer b) k′ = refl
@@ -43,13 +45,15 @@ else-send Release k′ = refl
 else-send Zero k′ = refl
 else-send (Keep k) k′ = refl
 else-send (Open q) k′ = refl
-else-send (Send k) k′ = absurd (miss (0 ∷ 1 ∷ 2 ∷ 3 ∷ 4 ∷ 5 ∷ 6 ∷ 7 ∷ 8 ∷ 9 ∷ 10 ∷ 11 ∷ 13 ∷ 14 ∷ []) 12 tt k′)
+else-send (Send k) k′ = absurd (miss (0 ∷ 1 ∷ 2 ∷ 3 ∷ 4 ∷ 5 ∷ 6 ∷ 7 ∷ 8 ∷ 9 ∷ 10 ∷ 11 ∷ 13 ∷ 14 ∷ 15 ∷ 16 ∷ []) 12 tt k′)
 else-send (Finish s) k′ = refl
 else-send (Media g) k′ = refl
+else-send (Count r) k′ = refl
+else-send Renew k′ = refl
 
 -- nothing goes to the medium
-pub else-keep : (a : Act) (f m : List ℕ) → OneOf (0 ∷ 1 ∷ 2 ∷ 3 ∷ 4 ∷ 5 ∷ 6 ∷ 7 ∷ 8 ∷ 9 ∷ 11 ∷ 12 ∷ 13 ∷ 14 ∷ []) (tagOf A.the-type a) → m ≡ keptIn a f m
-unfolding keptIn
+pub else-keep : (a : Act) (f m : List ℕ) → OneOf (0 ∷ 1 ∷ 2 ∷ 3 ∷ 4 ∷ 5 ∷ 6 ∷ 7 ∷ 8 ∷ 9 ∷ 11 ∷ 12 ∷ 13 ∷ 14 ∷ 15 ∷ 16 ∷ []) (tagOf A.the-type a) → m ≡ keptIn a f m
+unfolding touchOf
 else-keep (Refuse n) f m k′ = refl
 else-keep Nothing f m k′ = refl
 else-keep (Answer b) f m k′ = refl
@@ -60,8 +64,10 @@ else-keep (Log11 l) f m k′ = refl
 else-keep Reset f m k′ = refl
 else-keep Release f m k′ = refl
 else-keep Zero f m k′ = refl
-else-keep (Keep k) f m k′ = absurd (miss (0 ∷ 1 ∷ 2 ∷ 3 ∷ 4 ∷ 5 ∷ 6 ∷ 7 ∷ 8 ∷ 9 ∷ 11 ∷ 12 ∷ 13 ∷ 14 ∷ []) 10 tt k′)
+else-keep (Keep k) f m k′ = absurd (miss (0 ∷ 1 ∷ 2 ∷ 3 ∷ 4 ∷ 5 ∷ 6 ∷ 7 ∷ 8 ∷ 9 ∷ 11 ∷ 12 ∷ 13 ∷ 14 ∷ 15 ∷ 16 ∷ []) 10 tt k′)
 else-keep (Open q) f m k′ = refl
 else-keep (Send k) f m k′ = refl
 else-keep (Finish s) f m k′ = refl
 else-keep (Media g) f m k′ = refl
+else-keep (Count r) f m k′ = refl
+else-keep Renew f m k′ = refl

@@ -1,6 +1,7 @@
 -- Each public function's own contract: what it says, and that two answers which it allows are equal. Assumes nothing.
-use Rattle.rules.specs.Decide.{decideOf}
-use Rattle.rules.specs.Events.{finishAct, mediaAct, openAct, sendAct}
+use Rattle.rules.specs.Call.{openPhase, sendData, finishTags, mediaError, linkEvent, comReset}
+use Rattle.rules.specs.Tests.{someUnready}
+use Rattle.rules.specs.Act.{act, heardAct}
 use Rattle.rules.specs.Facts.{leftOf, moveOf}
 use Rattle.rules.specs.Taking.{keptIn, numberOf, spanOf}
 use denote.Ref.{now}
@@ -12,20 +13,29 @@ use Rattle.rules.proofs.events
 use Rattle.rules.proofs.facts
 use Rattle.rules.proofs.taking
 
-pub tied-decide-frame : Tied decide.decide_frame.ended decide.decide_frame.Reads.Asked decide.decide_frame.Reads.Post (λ κs a r ws. r ≡ decideOf (a .0) (a .1 .0))
-tied-decide-frame = named (say (λ κs a. tt) (λ κs a r ws p. p)) (λ κs a ws ws′. refl)
+pub tied-frame-act : Tied decide.frame_act.ended decide.frame_act.Reads.Asked decide.frame_act.Reads.Post (λ κs a r ws. r ≡ heardAct (a .0) (a .1 .0))
+tied-frame-act = named (say (λ κs a. tt) (λ κs a r ws p. p)) (λ κs a ws ws′. refl)
 
-pub tied-open-act : Tied events.open_act.ended events.open_act.Reads.Asked events.open_act.Reads.Post (λ κs a r ws. r ≡ openAct (a .0) (a .1 .0))
+pub tied-open-act : Tied events.open_act.ended events.open_act.Reads.Asked events.open_act.Reads.Post (λ κs a r ws. r ≡ act (a .0) (openPhase (a .1 .0)))
 tied-open-act = named (say (λ κs a. tt) (λ κs a r ws p. p)) (λ κs a ws ws′. refl)
 
-pub tied-send-act : Tied events.send_act.ended events.send_act.Reads.Asked events.send_act.Reads.Post (λ κs a r ws. r ≡ sendAct (a .0))
+pub tied-send-act : Tied events.send_act.ended events.send_act.Reads.Asked events.send_act.Reads.Post (λ κs a r ws. r ≡ act (a .0) sendData)
 tied-send-act = named (say (λ κs a. tt) (λ κs a r ws p. p)) (λ κs a ws ws′. refl)
 
-pub tied-finish-act : Tied events.finish_act.ended events.finish_act.Reads.Asked events.finish_act.Reads.Post (λ κs a r ws. r ≡ finishAct (a .0) (a .1 .0) (a .1 .1 .0))
+pub tied-finish-act : Tied events.finish_act.ended events.finish_act.Reads.Asked events.finish_act.Reads.Post (λ κs a r ws. r ≡ act (a .0) (finishTags (a .1 .0)))
 tied-finish-act = named (say (λ κs a. tt) (λ κs a r ws p. p)) (λ κs a ws ws′. refl)
 
-pub tied-media-act : Tied events.media_act.ended events.media_act.Reads.Asked events.media_act.Reads.Post (λ κs a r ws. r ≡ mediaAct (a .0) (a .1 .0) (a .1 .1 .0) (a .1 .1 .1 .0))
+pub tied-media-act : Tied events.media_act.ended events.media_act.Reads.Asked events.media_act.Reads.Post (λ κs a r ws. r ≡ act (a .0) (mediaError (a .1 .0) (a .1 .1 .0) (a .1 .1 .1 .0)))
 tied-media-act = named (say (λ κs a. tt) (λ κs a r ws p. p)) (λ κs a ws ws′. refl)
+
+pub tied-link-act : Tied events.link_act.ended events.link_act.Reads.Asked events.link_act.Reads.Post (λ κs a r ws. r ≡ act (a .0) (linkEvent (a .1 .0)))
+tied-link-act = named (say (λ κs a. tt) (λ κs a r ws p. p)) (λ κs a ws ws′. refl)
+
+pub tied-comreset-act : Tied events.comreset_act.ended events.comreset_act.Reads.Asked events.comreset_act.Reads.Post (λ κs a r ws. r ≡ act (a .0) comReset)
+tied-comreset-act = named (say (λ κs a. tt) (λ κs a r ws p. p)) (λ κs a ws ws′. refl)
+
+pub tied-some-unready : Tied events.some_unready.ended events.some_unready.Reads.Asked events.some_unready.Reads.Post (λ κs a r ws. r ≡ someUnready (a .0) (a .1 .0) (a .1 .1 .0))
+tied-some-unready = named (say (λ κs a. tt) (λ κs a r ws p. p)) (λ κs a ws ws′. refl)
 
 pub tied-left-of : Tied facts.left_of.ended facts.left_of.Reads.Asked facts.left_of.Reads.Post (λ κs a r ws. r ≡ leftOf (a .0))
 tied-left-of = named (say (λ κs a. tt) (λ κs a r ws p. p)) (λ κs a ws ws′. refl)

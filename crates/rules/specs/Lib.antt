@@ -1,5 +1,6 @@
+pub mod Call
 pub mod Facts
+pub mod Tests
 pub mod Decide
-pub mod Events
+pub mod Act
 pub mod Taking
-pub mod HostTests

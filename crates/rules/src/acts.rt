@@ -1,4 +1,4 @@
-// What a call makes the device do. Its replies, the medium and the new state are made from the act and the old state.
+// What a call makes the device do: what was asked for, and of the state the entry alone. Its replies, the medium and the new state are made from the act and the old state.
 use states::Echo;
 use states::Entry;
 use wire::Task;
@@ -23,9 +23,9 @@ pub struct Queued {
     pub entry: Entry,
 }
 
-// A page to be sent. `also`: with page 10h the sweep, with page 11h the counters to zero.
-pub struct Log {
-    pub also: bool,
+// Page 11h to be sent; with `zero` the counters are zeroed after it is made.
+pub struct CountersRead {
+    pub zero: bool,
     pub task: Task,
 }
 
@@ -45,8 +45,8 @@ pub enum Act {
     Answer(Bad),
     Halt(Fault),
     Accept(Queued),
-    Log10(Log),
-    Log11(Log),
+    Log10(Task),
+    Log11(CountersRead),
     Reset,
     Release,
     Zero,
@@ -55,4 +55,6 @@ pub enum Act {
     Send(Move),
     Finish(u32),
     Media(Fault),
+    Count(u8),
+    Renew,
 }

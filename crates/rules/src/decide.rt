@@ -2,11 +2,13 @@
 ghost use mathlib.Core.Path.{_≡_};
 ghost use Prim.Native.Nat.{_+_};
 ghost use lib.Dec.{ltb};
-ghost use Rattle.rules.specs.Decide.{queuedAct, logPage, otherAct, controlAct, registerAct, dataAct, bistAct, notHost, notData, decideOf};
+ghost use Rattle.frames.specs.declared.shapes.Frame.the-variants.{Host, Data, Bist};
+ghost use Rattle.rules.specs.Decide.{queuedAct, logPage, otherAct, controlAct};
+ghost use Rattle.rules.specs.Act.{kindAct, heardAct};
 use crate::acts::Act;
 use crate::acts::Bad;
+use crate::acts::CountersRead;
 use crate::acts::Fault;
-use crate::acts::Log;
 use crate::acts::Queued;
 use crate::facts::Facts;
 use crate::facts::left_of;
@@ -103,13 +105,10 @@ fn other_act(v: Facts, h: HostReg) -> Act
         });
     }
     if page == 0x10 {
-        return Act::Log10(Log {
-            also: flow.halted,
-            task,
-        });
+        return Act::Log10(task);
     }
     if page == 0x11 {
-        return Act::Log11(Log { also: zero, task });
+        return Act::Log11(CountersRead { zero, task });
     }
     Act::Answer(Bad { error: 0x04, task })
 }
@@ -130,13 +129,13 @@ fn control_act(v: Facts, h: HostReg) -> Act
 
 // 27h.
 fn register_act(v: Facts, h: HostReg) -> Act
-    ensures { λ r. ⌜ r ≡ registerAct v h ⌝ }
+    ensures { λ r. ⌜ r ≡ kindAct v (Host h) ⌝ }
 {
     let flow = v.flow;
     if !h.command_bit {
         return control_act(v, h);
     }
-    if flow.held | !(flow.phase == 0) {
+    if flow.held | v.link_busy {
         return Act::Refuse(5);
     }
     if (h.command == 0x60) | (h.command == 0x61) {
@@ -147,7 +146,7 @@ fn register_act(v: Facts, h: HostReg) -> Act
 
 // 46h: host data in a write phase.
 fn data_act(v: Facts, n: usize) -> Act
-    ensures { λ r. ⌜ r ≡ dataAct v n ⌝ }
+    ensures { λ r. ⌜ r ≡ kindAct v (Data n) ⌝ }
 {
     let flow = v.flow;
     let e = v.entry;
@@ -162,42 +161,30 @@ fn data_act(v: Facts, n: usize) -> Act
 
 // 58h.
 fn bist_act(v: Facts) -> Act
-    ensures { λ r. ⌜ r ≡ bistAct v ⌝ }
+    ensures { λ r. ⌜ r ≡ kindAct v Bist ⌝ }
 {
-    let flow = v.flow;
-    if !(flow.phase == 0) {
+    if v.link_busy {
         return Act::Refuse(5);
     }
     Act::Zero
 }
 
-fn not_data(v: Facts, f: Frame) -> Act
-    ensures { λ r. ⌜ r ≡ notData v f ⌝ }
+// A host frame, as it was read.
+pub fn frame_act(v: Facts, f: Frame) -> Act
+    ensures { λ r. ⌜ r ≡ heardAct v f ⌝ }
 {
-    let Frame::Bist = f else {
-        return Act::Refuse(4);
-    };
-    bist_act(v)
-}
-
-fn not_host(v: Facts, f: Frame) -> Act
-    ensures { λ r. ⌜ r ≡ notHost v f ⌝ }
-{
-    let Frame::Data(n) = f else {
-        return not_data(v, f);
-    };
-    data_act(v, n)
-}
-
-pub fn decide_frame(v: Facts, f: Frame) -> Act
-    ensures { λ r. ⌜ r ≡ decideOf v f ⌝ }
-{
-    let lent = ladders::lent_number(v.contradicts, v.medium, v.short);
+    let lent = ladders::lent_number(v.contradicts, v.medium_wrong, v.reply_short);
     if !(lent == 0) {
         return Act::Refuse(lent);
     }
     let Frame::Host(h) = f else {
-        return not_host(v, f);
+        let Frame::Data(n) = f else {
+            let Frame::Bist = f else {
+                return Act::Refuse(4);
+            };
+            return bist_act(v);
+        };
+        return data_act(v, n);
     };
     register_act(v, h)
 }

@@ -1,6 +1,8 @@
 // What a device event makes the device do, or the number that it is refused with.
 ghost use mathlib.Core.Path.{_≡_};
-ghost use Rattle.rules.specs.Events.{decided, allMoved, failing, unready, someUnready, openAct, sendAct, finishAct, mediaAct};
+ghost use Rattle.rules.specs.Call.{openPhase, sendData, finishTags, mediaError, linkEvent, comReset};
+ghost use Rattle.rules.specs.Tests.{allMoved, unready, someUnready};
+ghost use Rattle.rules.specs.Act.{failing, decided, act};
 use crate::acts::Act;
 use crate::acts::Fault;
 use crate::acts::Queued;
@@ -29,16 +31,16 @@ fn all_moved(e: Entry) -> bool
 
 // Open a phase for a tag. A tag of 32 or more is not outstanding.
 pub fn open_act(v: Facts, tag: u8) -> Act
-    ensures { λ r. ⌜ r ≡ openAct v tag ⌝ }
+    ensures { λ r. ⌜ r ≡ act v (openPhase tag) ⌝ }
 {
     let flow = v.flow;
     let entry = v.entry;
     let busy = bits::bit(flow.outstanding, tag as u32);
     let number = ladders::open_number(
         v.contradicts,
-        v.short,
+        v.reply_short,
         !busy,
-        !(flow.phase == 0),
+        v.link_busy,
         all_moved(entry),
     );
     decided(number, Act::Open(Queued { tag, entry }))
@@ -46,15 +48,15 @@ pub fn open_act(v: Facts, tag: u8) -> Act
 
 // Send, in a read phase.
 pub fn send_act(v: Facts) -> Act
-    ensures { λ r. ⌜ r ≡ sendAct v ⌝ }
+    ensures { λ r. ⌜ r ≡ act v sendData ⌝ }
 {
     let flow = v.flow;
     let entry = v.entry;
     let next = next_move(flow, entry, Settings::FRAME_SIZE);
     let number = ladders::send_number(
         v.contradicts,
-        v.medium,
-        v.short,
+        v.medium_wrong,
+        v.reply_short,
         (flow.phase == 0) | entry.write,
     );
     decided(number, Act::Send(next))
@@ -68,7 +70,7 @@ fn unready(e: Entry, asked: bool, busy: bool) -> bool
 }
 
 // One walk over the thirty-two entries.
-fn some_unready(entries: [Entry; Settings::ENTRIES], outstanding: u32, set: u32) -> bool
+pub fn some_unready(entries: [Entry; Settings::ENTRIES], outstanding: u32, set: u32) -> bool
     ensures { λ r. ⌜ r ≡ someUnready entries outstanding set ⌝ }
 {
     let mut bad = false;
@@ -84,16 +86,14 @@ fn some_unready(entries: [Entry; Settings::ENTRIES], outstanding: u32, set: u32)
 }
 
 // Finish a set of tags. One bad tag refuses the whole set.
-pub fn finish_act(v: Facts, entries: [Entry; Settings::ENTRIES], set: u32) -> Act
-    ensures { λ r. ⌜ r ≡ finishAct v entries set ⌝ }
+pub fn finish_act(v: Facts, set: u32) -> Act
+    ensures { λ r. ⌜ r ≡ act v (finishTags set) ⌝ }
 {
-    let flow = v.flow;
-    let bad = some_unready(entries, flow.outstanding, set);
     let number = ladders::finish_number(
         v.contradicts,
-        v.short,
-        !(flow.phase == 0),
-        (set == 0) | bad,
+        v.reply_short,
+        v.link_busy,
+        (set == 0) | v.unready,
     );
     decided(number, Act::Finish(set))
 }
@@ -118,7 +118,7 @@ fn failing(e: Echo, sector: u32) -> Echo
 
 // Media error at a sector of an outstanding command, in any phase.
 pub fn media_act(v: Facts, tag: u8, error: u8, sector: u32) -> Act
-    ensures { λ r. ⌜ r ≡ mediaAct v tag error sector ⌝ }
+    ensures { λ r. ⌜ r ≡ act v (mediaError tag error sector) ⌝ }
 {
     let flow = v.flow;
     let entry = v.entry;
@@ -127,7 +127,7 @@ pub fn media_act(v: Facts, tag: u8, error: u8, sector: u32) -> Act
     let behind = (entry.first as u64) + (entry.count as u64) <= sector as u64;
     let number = ladders::media_number(
         v.contradicts,
-        v.short,
+        v.reply_short,
         !busy,
         (error == 0) | ((sector < entry.first) | behind),
     );
@@ -140,4 +140,21 @@ pub fn media_act(v: Facts, tag: u8, error: u8, sector: u32) -> Act
             echo,
         }),
     )
+}
+
+// Link event.
+pub fn link_act(v: Facts, row: u8) -> Act
+    ensures { λ r. ⌜ r ≡ act v (linkEvent row) ⌝ }
+{
+    let settings = v.settings;
+    let number = ladders::link_number(v.contradicts, states::row_refused(settings.mask, row));
+    decided(number, Act::Count(row))
+}
+
+// COMRESET.
+pub fn comreset_act(v: Facts) -> Act
+    ensures { λ r. ⌜ r ≡ act v comReset ⌝ }
+{
+    let number = ladders::comreset_number(v.contradicts, v.reply_short);
+    decided(number, Act::Renew)
 }

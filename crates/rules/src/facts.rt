@@ -7,14 +7,16 @@ use states::Entry;
 use states::Flow;
 use states::Settings;
 
-// `contradicts`, `medium` (its length is wrong), `short` (the reply buffer is): the tests of refusals 1, 2 and 3. `entry`: that of the tag asked for, or of the open phase; an idle one if there is none.
+// The tests of refusals 1, 2 and 3, and whether a phase is open on the link; settings and control values. `entry`: that of the tag asked for, or of the open phase; an idle one if there is none. `unready`: a tag of the set asked for is not outstanding or not wholly moved.
 pub struct Facts {
     pub contradicts: bool,
-    pub medium: bool,
-    pub short: bool,
+    pub medium_wrong: bool,
+    pub reply_short: bool,
+    pub link_busy: bool,
     pub settings: Settings,
     pub flow: Flow,
     pub entry: Entry,
+    pub unready: bool,
 }
 
 // What is left of a command, in bytes.

@@ -15,55 +15,42 @@ Inv-loop medium₀ state₀ turns₀ medium state turns = length medium₀ ≡ l
 abbrev μ-loop : tie.MeasureT-loop
 μ-loop medium₀ state₀ turns₀ medium state turns = turns
 
--- src/main.rt:11:9
 blank-requires : tie.Need-blank-requires Inv-loop μ-loop
 blank-requires c κs = search needs
 
--- src/main.rt:13:5
 loop-holds : tie.Need-loop-holds Inv-loop μ-loop
 loop-holds c = search needs
 
--- src/main.rt:15:33
 slice-aggregate-read-case : tie.Need-slice-aggregate-read-case Inv-loop μ-loop
 slice-aggregate-read-case c = search needs
 
--- src/main.rt:15:13
 read-case-requires : tie.Need-read-case-requires Inv-loop μ-loop
 read-case-requires c κs = search needs
 
--- src/main.rt:16:13
 same-length : tie.Need-same-length Inv-loop μ-loop
 same-length c = search needs
 
--- src/main.rt:16:13
 returns : tie.Need-returns Inv-loop μ-loop
 returns c = search needs
 
--- src/main.rt:18:43
 slice-aggregate-answer : tie.Need-slice-aggregate-answer Inv-loop μ-loop
 slice-aggregate-answer c = search needs
 
--- src/main.rt:18:13
 answer-requires : tie.Need-answer-requires Inv-loop μ-loop
 answer-requires c κs = search needs
 
--- src/main.rt:20:9
 sub-turns : tie.Need-sub-turns Inv-loop μ-loop
 sub-turns c = search needs
 
--- src/main.rt:13:5
 loop-less : tie.Need-loop-less Inv-loop μ-loop
 loop-less c = search needs
 
--- src/main.rt:13:5
 loop-again : tie.Need-loop-again Inv-loop μ-loop
 loop-again c = search needs
 
--- src/main.rt:10:1
 same-length-2 : tie.Need-same-length-2 Inv-loop μ-loop
 same-length-2 c = search needs
 
--- src/main.rt:10:1
 returns-2 : tie.Need-returns-2 Inv-loop μ-loop
 returns-2 c = search needs
 

@@ -12,31 +12,24 @@ Inv-loop k₀ k = Unit {0}
 abbrev μ-loop : tie.MeasureT-loop
 μ-loop k₀ k = 100000 - k
 
--- src/main.rt:31:5
 loop-holds : tie.Need-loop-holds Inv-loop μ-loop
 loop-holds c = search needs
 
--- src/main.rt:31:25
 run-argument-requires : tie.Need-run-argument-requires Inv-loop μ-loop
 run-argument-requires c κs = search needs
 
--- src/main.rt:32:9
 add-k : tie.Need-add-k Inv-loop μ-loop
 add-k c = search needs
 
--- src/main.rt:31:5
 loop-less : tie.Need-loop-less Inv-loop μ-loop
 loop-less c = search needs
 
--- src/main.rt:31:5
 loop-again : tie.Need-loop-again Inv-loop μ-loop
 loop-again c = search needs
 
--- src/main.rt:29:1
 returns : tie.Need-returns Inv-loop μ-loop
 returns c = search needs
 
--- src/main.rt:29:1
 returns-2 : tie.Need-returns-2 Inv-loop μ-loop
 returns-2 c = search needs
 

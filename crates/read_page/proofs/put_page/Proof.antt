@@ -11,27 +11,21 @@ use Rattle.read_page.proofs.put_page.Lts as lts
 use Rattle.read_page.proofs.counters.put_counters.Reads as put-counters-reads
 use Rattle.read_page.proofs.fields.put_fields.Reads as put-fields-reads
 
--- src/main.rt:28:44
 enum-told : tie.Need-enum-told
 enum-told c = search needs
 
--- src/main.rt:28:25
 put-fields-requires : tie.Need-put-fields-requires
 put-fields-requires c κs = search needs
 
--- src/main.rt:29:50
 enum-told-2 : tie.Need-enum-told-2
 enum-told-2 c = search needs
 
--- src/main.rt:29:27
 put-counters-requires : tie.Need-put-counters-requires
 put-counters-requires c κs = search needs
 
--- src/main.rt:23:1
 same-length : tie.Need-same-length
 same-length c = search needs
 
--- src/main.rt:23:1
 returns : tie.Need-returns
 unfolding pageText
 returns c =
@@ -39,11 +33,9 @@ returns c =
     let m = text-most Errors (now (a .page)) in
     rw (c .before .before .before .before .enum-told .given .1) (held (fieldsText (now (a .page))) (now (a .out)) _ _ (omega arith) (search needs) (c .before .before .put-fields .ensures))
 
--- src/main.rt:23:1
 same-length-2 : tie.Need-same-length-2
 same-length-2 c = search needs
 
--- src/main.rt:23:1
 returns-2 : tie.Need-returns-2
 unfolding pageText
 returns-2 c =

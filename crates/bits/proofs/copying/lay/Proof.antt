@@ -18,33 +18,26 @@ Inv-loop d₀ s n i₀ d i = (n ≡ length s) × (n ≤ length d₀) × (i ≤ n
 abbrev μ-loop : tie.MeasureT-loop
 μ-loop d₀ s n i₀ d i = n - i
 
--- src/copying.rt:13:9
 returns : tie.Need-returns Inv-loop μ-loop
 returns c =
     let a = c .before .args in
     (sym (lt-leb _ _ (c .if1 .taken)), sym (over-no (now (a .s)) (now (a .d)) (c .if1 .taken)))
 
--- src/copying.rt:16:5
 loop-holds : tie.Need-loop-holds Inv-loop μ-loop
 loop-holds c = search needs
 
--- src/copying.rt:17:16
 shared-slice-read-d : tie.Need-shared-slice-read-d Inv-loop μ-loop
 shared-slice-read-d c = search needs
 
--- src/copying.rt:17:9
 slice-write-d : tie.Need-slice-write-d Inv-loop μ-loop
 slice-write-d c = search needs
 
--- src/copying.rt:18:9
 add-i : tie.Need-add-i Inv-loop μ-loop
 add-i c = search needs
 
--- src/copying.rt:16:5
 loop-less : tie.Need-loop-less Inv-loop μ-loop
 loop-less c = search needs
 
--- src/copying.rt:16:5
 loop-again : tie.Need-loop-again Inv-loop μ-loop
 loop-again c =
     let l = c .before .before .loop in
@@ -53,11 +46,9 @@ loop-again c =
     let v : l .i < length (now (a .d)) = omega arith in
     (search needs, search needs, omega arith, simp length-set (l .inv .3), rw (l .inv .4) (front-more (l .i) (now (a .s)) (now (a .d)) u v))
 
--- src/copying.rt:8:1
 same-length : tie.Need-same-length Inv-loop μ-loop
 same-length c = search needs
 
--- src/copying.rt:8:1
 returns-2 : tie.Need-returns-2 Inv-loop μ-loop
 returns-2 c =
     let l = c .before .loop in

@@ -7,27 +7,21 @@ use Rattle.bits.proofs.little.byte.Reads as reads
 use Rattle.bits.proofs.little.byte.Lts as lts
 use Rattle.bits.proofs.little.low8.Reads as low8-reads
 
--- src/little.rt:54:9
 returns : tie.Need-returns
 returns c = sym (byte-past (c .before .args .x) (c .before .args .k) (search needs) (c .if1 .taken))
 
--- src/little.rt:56:16
 mul-low8 : tie.Need-mul-low8
 mul-low8 c = search needs
 
--- src/little.rt:56:16
 cast-low8 : tie.Need-cast-low8
 cast-low8 c = search needs
 
--- src/little.rt:56:10
 shr-low8 : tie.Need-shr-low8
 shr-low8 c = search needs
 
--- src/little.rt:56:5
 low8-requires : tie.Need-low8-requires
 low8-requires c κs = search needs
 
--- src/little.rt:50:1
 returns-2 : tie.Need-returns-2
 returns-2 c = c .low8 .ensures
 

@@ -8,27 +8,21 @@ use Rattle.bits.proofs.little.byte_at.Tie as tie
 use Rattle.bits.proofs.little.byte_at.Reads as reads
 use Rattle.bits.proofs.little.byte_at.Lts as lts
 
--- src/little.rt:13:9
 returns : tie.Need-returns
 returns c = sym (List·getD-eq-default (now (c .before .args .s)) 0 (omega arith))
 
--- src/little.rt:15:8
 sub-if2 : tie.Need-sub-if2
 sub-if2 c = search needs
 
--- src/little.rt:16:9
 returns-2 : tie.Need-returns-2
 returns-2 c = sym (List·getD-eq-default (now (c .before .before .args .s)) 0 (omega arith))
 
--- src/little.rt:18:7
 add-result : tie.Need-add-result
 add-result c = search needs
 
--- src/little.rt:18:5
 shared-slice-read-result : tie.Need-shared-slice-read-result
 shared-slice-read-result c = search needs
 
--- src/little.rt:8:1
 returns-3 : tie.Need-returns-3
 returns-3 c = refl
 

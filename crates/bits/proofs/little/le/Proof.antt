@@ -20,34 +20,27 @@ Inv-loop s at n i₀ x₀ i x = (i ≤ min n 8) × (x ≡ leAt s (at + i) (min n
 abbrev μ-loop : tie.MeasureT-loop
 μ-loop s at n i₀ x₀ i x = i
 
--- src/little.rt:37:9
 at-most-8-requires : tie.Need-at-most-8-requires Inv-loop μ-loop
 at-most-8-requires c κs = search needs
 
--- src/little.rt:39:5
 loop-holds : tie.Need-loop-holds Inv-loop μ-loop
 loop-holds c =
     let a = c .before .before .args in
     let m = min (a .n) 8 in
     rw (c .at-most-8 .ensures) (omega arith, le-none (now (a .s)) (a .at) m, le-none-lt (now (a .s)) m)
 
--- src/little.rt:40:9
 sub-i : tie.Need-sub-i Inv-loop μ-loop
 sub-i c = search needs
 
--- src/little.rt:41:29
 byte-at-requires : tie.Need-byte-at-requires Inv-loop μ-loop
 byte-at-requires c κs = search needs
 
--- src/little.rt:41:24
 wide-requires : tie.Need-wide-requires Inv-loop μ-loop
 wide-requires c κs = search needs
 
--- src/little.rt:39:5
 loop-less : tie.Need-loop-less Inv-loop μ-loop
 loop-less c = search needs
 
--- src/little.rt:39:5
 loop-again : tie.Need-loop-again Inv-loop μ-loop
 loop-again c =
     let l = c .before .before .before .loop in
@@ -57,7 +50,6 @@ loop-again c =
     let m = le-more (now (a .s)) (a .at) (min (a .n) 8) (l .i) (l .x) (omega arith) (omega arith) (omega arith) b (l .inv .1) (l .inv .2) in
     rw e (omega arith, m .0, m .1)
 
--- src/little.rt:34:1
 returns : tie.Need-returns Inv-loop μ-loop
 returns c =
     let l = c .before .loop in

@@ -5,11 +5,9 @@ use Rattle.bits.proofs.little.low8.Tie as tie
 use Rattle.bits.proofs.little.low8.Reads as reads
 use Rattle.bits.proofs.little.low8.Lts as lts
 
--- src/little.rt:46:5
 cast-result : tie.Need-cast-result
 cast-result c = fits-mask (c .args .x) 8 tt
 
--- src/little.rt:43:1
 returns : tie.Need-returns
 returns c = and-mask (c .args .x) 8
 

@@ -7,15 +7,12 @@ use Rattle.bits.proofs.mask.bit.Tie as tie
 use Rattle.bits.proofs.mask.bit.Reads as reads
 use Rattle.bits.proofs.mask.bit.Lts as lts
 
--- src/mask.rt:10:9
 returns : tie.Need-returns
 returns c = rw (le-ltb (c .before .args .t) 32 (c .if1 .taken))
 
--- src/mask.rt:12:6
 shr-result : tie.Need-shr-result
 shr-result c = search needs
 
--- src/mask.rt:6:1
 returns-2 : tie.Need-returns-2
 returns-2 c = rw (lt-ltb (c .before .args .t) 32 (c .if1 .left), and-mask (c .before .args .m / 2 ^ (c .before .args .t)) 1)
 

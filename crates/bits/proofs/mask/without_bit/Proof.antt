@@ -7,16 +7,13 @@ use Rattle.bits.proofs.mask.without_bit.Tie as tie
 use Rattle.bits.proofs.mask.without_bit.Reads as reads
 use Rattle.bits.proofs.mask.without_bit.Lts as lts
 
--- src/mask.rt:30:9
 returns : tie.Need-returns
 unfolding pick
 returns c = rw (le-ltb (c .before .args .t) 32 (c .if1 .taken))
 
--- src/mask.rt:32:11
 shl-result : tie.Need-shl-result
 shl-result c = search needs
 
--- src/mask.rt:26:1
 returns-2 : tie.Need-returns-2
 unfolding pick
 returns-2 c = rw (lt-ltb (c .before .args .t) 32 (c .if1 .left), one-shl 32 (c .before .args .t) (c .if1 .left))

@@ -10,11 +10,9 @@ use Rattle.caller.proofs.calling.begin.Reads as reads
 use Rattle.caller.proofs.calling.begin.Lts as lts
 use Rattle.device.proofs.state.Device.power_on.Reads as power-on-reads
 
--- src/calling.rt:13:5
 power-on-requires : tie.Need-power-on-requires
 power-on-requires c κs = search needs
 
--- src/calling.rt:10:1
 returns : tie.Need-returns
 unfolding AllTyped Follows final
 returns c = holds _ _ [] _ (record { began = record { power = c .power-on .ensures; follows = tt }; typed = tt; last = refl })

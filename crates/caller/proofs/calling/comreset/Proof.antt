@@ -7,15 +7,12 @@ use Rattle.caller.proofs.calling.comreset.Reads as reads
 use Rattle.caller.proofs.calling.comreset.Lts as lts
 use Rattle.device.proofs.state.Device.comreset.Reads as comreset-reads
 
--- src/calling.rt:55:5
 comreset-requires : tie.Need-comreset-requires
 comreset-requires c κs = search needs
 
--- src/calling.rt:52:1
 same-length : tie.Need-same-length
 same-length c = search needs
 
--- src/calling.rt:52:1
 returns : tie.Need-returns
 returns c = λ m. continues _ _ _ tt (reset (c .before .before .before .before .before .κs) (c .before .before .before .before .before .args .reply) _ m _ (c .before .before .comreset .ensures))
 

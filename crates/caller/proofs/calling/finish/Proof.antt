@@ -8,15 +8,12 @@ use Rattle.caller.proofs.calling.finish.Reads as reads
 use Rattle.caller.proofs.calling.finish.Lts as lts
 use Rattle.device.proofs.state.Device.finish.Reads as finish-reads
 
--- src/calling.rt:37:5
 finish-requires : tie.Need-finish-requires
 finish-requires c κs = search needs
 
--- src/calling.rt:34:1
 same-length : tie.Need-same-length
 same-length c = search needs
 
--- src/calling.rt:34:1
 returns : tie.Need-returns
 returns c = λ m. continues _ _ _ (omega arith) (finished (c .before .before .before .before .before .κs) _ (c .before .before .before .before .before .args .reply) _ m _ (c .before .before .finish .ensures))
 

@@ -7,15 +7,12 @@ use Rattle.caller.proofs.calling.first_link.Lts as lts
 use Rattle.caller.proofs.calling.begin.Reads as begin-reads
 use Rattle.caller.proofs.calling.link_event.Reads as link-event-reads
 
--- src/calling.rt:62:9
 begin-requires : tie.Need-begin-requires
 begin-requires c κs = search needs
 
--- src/calling.rt:64:5
 link-event-requires : tie.Need-link-event-requires
 link-event-requires c κs = search needs
 
--- src/calling.rt:59:1
 returns : tie.Need-returns
 returns c = (_, c .link-event .ensures [] [] _ _ [] (c .before .before .begin .ensures .reached))
 

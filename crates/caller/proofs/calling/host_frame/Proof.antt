@@ -8,19 +8,15 @@ use Rattle.caller.proofs.calling.host_frame.Reads as reads
 use Rattle.caller.proofs.calling.host_frame.Lts as lts
 use Rattle.device.proofs.state.Device.host_frame.Reads as host-frame-reads
 
--- src/calling.rt:19:5
 host-frame-requires : tie.Need-host-frame-requires
 host-frame-requires c κs = search needs
 
--- src/calling.rt:16:1
 same-length : tie.Need-same-length
 same-length c = search needs
 
--- src/calling.rt:16:1
 same-length-2 : tie.Need-same-length-2
 same-length-2 c = search needs
 
--- src/calling.rt:16:1
 returns : tie.Need-returns
 returns c = continues _ _ _ (λ i. omega (arith, c .before .before .before .before .before .before .before .before .before .shared-slice-known .given i)) (hosted (c .before .before .before .before .before .before .before .before .before .before .κs) (c .before .before .before .before .before .before .before .before .before .before .args .frame) (c .before .before .before .before .before .before .before .before .before .before .args .medium) (c .before .before .before .before .before .before .before .before .before .before .args .reply) _ _ _ (c .before .before .before .before .host-frame .ensures))
 

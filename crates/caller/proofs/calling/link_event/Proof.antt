@@ -7,11 +7,9 @@ use Rattle.caller.proofs.calling.link_event.Reads as reads
 use Rattle.caller.proofs.calling.link_event.Lts as lts
 use Rattle.device.proofs.state.Device.link_event.Reads as link-event-reads
 
--- src/calling.rt:49:5
 link-event-requires : tie.Need-link-event-requires
 link-event-requires c κs = search needs
 
--- src/calling.rt:46:1
 returns : tie.Need-returns
 returns c = λ m b. continues _ _ _ tt (linked _ _ m b (c .link-event .ensures))
 

@@ -8,15 +8,12 @@ use Rattle.caller.proofs.calling.media_error.Reads as reads
 use Rattle.caller.proofs.calling.media_error.Lts as lts
 use Rattle.device.proofs.state.Device.media_error.Reads as media-error-reads
 
--- src/calling.rt:43:5
 media-error-requires : tie.Need-media-error-requires
 media-error-requires c κs = search needs
 
--- src/calling.rt:40:1
 same-length : tie.Need-same-length
 same-length c = search needs
 
--- src/calling.rt:40:1
 returns : tie.Need-returns
 returns c = λ m. continues _ _ _ (omega arith) (failed (c .before .before .before .before .before .κs) _ _ _ (c .before .before .before .before .before .args .reply) _ m _ (c .before .before .media-error .ensures))
 

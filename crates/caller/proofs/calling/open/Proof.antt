@@ -7,15 +7,12 @@ use Rattle.caller.proofs.calling.open.Reads as reads
 use Rattle.caller.proofs.calling.open.Lts as lts
 use Rattle.device.proofs.state.Device.open.Reads as open-reads
 
--- src/calling.rt:25:5
 open-requires : tie.Need-open-requires
 open-requires c κs = search needs
 
--- src/calling.rt:22:1
 same-length : tie.Need-same-length
 same-length c = search needs
 
--- src/calling.rt:22:1
 returns : tie.Need-returns
 returns c = λ m. continues _ _ _ tt (opened (c .before .before .before .before .before .κs) _ (c .before .before .before .before .before .args .reply) _ m _ (c .before .before .open .ensures))
 

@@ -7,15 +7,12 @@ use Rattle.caller.proofs.calling.send.Reads as reads
 use Rattle.caller.proofs.calling.send.Lts as lts
 use Rattle.device.proofs.state.Device.send.Reads as send-reads
 
--- src/calling.rt:31:5
 send-requires : tie.Need-send-requires
 send-requires c κs = search needs
 
--- src/calling.rt:28:1
 same-length : tie.Need-same-length
 same-length c = search needs
 
--- src/calling.rt:28:1
 returns : tie.Need-returns
 returns c = continues _ _ _ tt (sent (c .before .before .before .before .before .before .κs) (c .before .before .before .before .before .before .args .medium) (c .before .before .before .before .before .before .args .reply) _ _ (c .before .before .send .ensures))
 

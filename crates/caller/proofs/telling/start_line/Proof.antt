@@ -6,15 +6,12 @@ use Rattle.caller.proofs.telling.start_line.Reads as reads
 use Rattle.caller.proofs.telling.start_line.Lts as lts
 use Rattle.events.proofs.start_line.Reads as start-line-reads
 
--- src/telling.rt:10:5
 start-line-requires : tie.Need-start-line-requires
 start-line-requires c κs = search needs
 
--- src/telling.rt:7:1
 same-length : tie.Need-same-length
 same-length c = search needs
 
--- src/telling.rt:7:1
 returns : tie.Need-returns
 returns c = started (c .before .before .before .before .before .before .κs) (c .before .before .before .before .before .before .args .event) (c .before .before .before .before .before .before .args .line) _ _ (c .before .before .start-line .ensures)
 

@@ -15,185 +15,143 @@ use Rattle.device.proofs.state.Device.reset_held.Reads as reset-held-re
 use Rattle.device.proofs.state.Device.unhalted.Reads as unhalted-reads
 use Rattle.device.proofs.state.Device.zeroed_if.Reads as zeroed-if-reads
 
--- src/after.rt:131:27
 enum-told : tie.Need-enum-told
 enum-told c = search needs
 
--- src/after.rt:132:25
 enum-told-2 : tie.Need-enum-told-2
 enum-told-2 c = search needs
 
--- src/after.rt:133:27
 enum-told-3 : tie.Need-enum-told-3
 enum-told-3 c = search needs
 
--- src/after.rt:134:19
 enum-known-act : tie.Need-enum-known-act
 enum-known-act c = search needs
 
--- src/after.rt:134:25
 halt-with-requires : tie.Need-halt-with-requires
 halt-with-requires c κs = search needs
 
--- src/after.rt:135:21
 enum-known-act-2 : tie.Need-enum-known-act-2
 enum-known-act-2 c = search needs
 
--- src/after.rt:135:27
 accepted-by-requires : tie.Need-accepted-by-requires
 accepted-by-requires c κs = search needs
 
--- src/after.rt:136:26
 enum-told-4 : tie.Need-enum-told-4
 enum-told-4 c = search needs
 
--- src/after.rt:136:26
 unhalted-requires : tie.Need-unhalted-requires
 unhalted-requires c κs = search needs
 
--- src/after.rt:137:20
 enum-known-act-3 : tie.Need-enum-known-act-3
 enum-known-act-3 c = search needs
 
--- src/after.rt:137:26
 zeroed-if-requires : tie.Need-zeroed-if-requires
 zeroed-if-requires c κs = search needs
 
--- src/after.rt:138:23
 enum-told-5 : tie.Need-enum-told-5
 enum-told-5 c = search needs
 
--- src/after.rt:138:23
 reset-held-requires : tie.Need-reset-held-requires
 reset-held-requires c κs = search needs
 
--- src/after.rt:139:25
 enum-told-6 : tie.Need-enum-told-6
 enum-told-6 c = search needs
 
--- src/after.rt:139:25
 released-requires : tie.Need-released-requires
 released-requires c κs = search needs
 
--- src/after.rt:140:22
 enum-told-7 : tie.Need-enum-told-7
 enum-told-7 c = search needs
 
--- src/after.rt:140:22
 zeroed-if-requires-2 : tie.Need-zeroed-if-requires-2
 zeroed-if-requires-2 c κs = search needs
 
--- src/after.rt:141:19
 enum-known-act-4 : tie.Need-enum-known-act-4
 enum-known-act-4 c = search needs
 
--- src/after.rt:141:25
 moved-by-requires : tie.Need-moved-by-requires
 moved-by-requires c κs = search needs
 
--- src/after.rt:142:19
 enum-known-act-5 : tie.Need-enum-known-act-5
 enum-known-act-5 c = search needs
 
--- src/after.rt:142:25
 opened-for-requires : tie.Need-opened-for-requires
 opened-for-requires c κs = search needs
 
--- src/after.rt:143:19
 enum-known-act-6 : tie.Need-enum-known-act-6
 enum-known-act-6 c = search needs
 
--- src/after.rt:143:25
 moved-by-requires-2 : tie.Need-moved-by-requires-2
 moved-by-requires-2 c κs = search needs
 
--- src/after.rt:144:21
 enum-known-act-7 : tie.Need-enum-known-act-7
 enum-known-act-7 c = search needs
 
--- src/after.rt:144:29
 finished-by-requires : tie.Need-finished-by-requires
 finished-by-requires c κs = search needs
 
--- src/after.rt:145:20
 enum-known-act-8 : tie.Need-enum-known-act-8
 enum-known-act-8 c = search needs
 
--- src/after.rt:145:26
 failed-by-requires : tie.Need-failed-by-requires
 failed-by-requires c κs = search needs
 
--- src/after.rt:127:1
 returns : tie.Need-returns
 unfolding afterOf
 returns c = rw (c .enum-told .given .1)
 
--- src/after.rt:127:1
 returns-2 : tie.Need-returns-2
 unfolding afterOf
 returns-2 c = rw (c .enum-told2 .given .1)
 
--- src/after.rt:127:1
 returns-3 : tie.Need-returns-3
 unfolding afterOf
 returns-3 c = rw (c .enum-told3 .given .1)
 
--- src/after.rt:127:1
 returns-4 : tie.Need-returns-4
 unfolding afterOf
 returns-4 c = rw (c .before .before .act .given .1) (c .halt-with .ensures)
 
--- src/after.rt:127:1
 returns-5 : tie.Need-returns-5
 unfolding afterOf
 returns-5 c = rw (c .before .before .act2 .given .1) (c .accepted-by .ensures)
 
--- src/after.rt:127:1
 returns-6 : tie.Need-returns-6
 unfolding afterOf
 returns-6 c = rw (c .before .enum-told4 .given .1) (c .unhalted .ensures)
 
--- src/after.rt:127:1
 returns-7 : tie.Need-returns-7
 unfolding afterOf
 returns-7 c = rw (c .before .before .act3 .given .1) (c .zeroed-if .ensures)
 
--- src/after.rt:127:1
 returns-8 : tie.Need-returns-8
 unfolding afterOf
 returns-8 c = rw (c .before .enum-told5 .given .1) (c .reset-held .ensures)
 
--- src/after.rt:127:1
 returns-9 : tie.Need-returns-9
 unfolding afterOf
 returns-9 c = rw (c .before .enum-told6 .given .1) (c .released .ensures)
 
--- src/after.rt:127:1
 returns-10 : tie.Need-returns-10
 unfolding afterOf
 returns-10 c = rw (c .before .enum-told7 .given .1) (c .zeroed-if2 .ensures)
 
--- src/after.rt:127:1
 returns-11 : tie.Need-returns-11
 unfolding afterOf
 returns-11 c = rw (c .before .before .act4 .given .1) (c .moved-by .ensures)
 
--- src/after.rt:127:1
 returns-12 : tie.Need-returns-12
 unfolding afterOf
 returns-12 c = rw (c .before .before .act5 .given .1) (c .opened-for .ensures)
 
--- src/after.rt:127:1
 returns-13 : tie.Need-returns-13
 unfolding afterOf
 returns-13 c = rw (c .before .before .act6 .given .1) (c .moved-by2 .ensures)
 
--- src/after.rt:127:1
 returns-14 : tie.Need-returns-14
 unfolding afterOf
 returns-14 c = rw (c .before .before .act7 .given .1) (c .finished-by .ensures)
 
--- src/after.rt:127:1
 returns-15 : tie.Need-returns-15
 unfolding afterOf
 returns-15 c = rw (c .before .before .act8 .given .1) (c .failed-by .ensures)

@@ -10,16 +10,13 @@ use Rattle.device.proofs.calls.open_tag.Tie as tie
 use Rattle.device.proofs.calls.open_tag.Reads as reads
 use Rattle.device.proofs.calls.open_tag.Lts as lts
 
--- src/calls.rt:17:9
 returns : tie.Need-returns
 unfolding openTag
 returns c = let p = c .before .args .phase in sym (pick-yes (eqb p 0) 32 (p - 1) (eq-eqb p 0 (c .if1 .taken)))
 
--- src/calls.rt:19:5
 sub-result : tie.Need-sub-result
 sub-result c = search needs
 
--- src/calls.rt:13:1
 returns-2 : tie.Need-returns-2
 unfolding openTag
 returns-2 c = let p = c .before .args .phase in sym (pick-no (eqb p 0) 32 (p - 1) (ne-eqb p 0 (c .if1 .left)))

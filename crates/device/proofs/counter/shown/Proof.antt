@@ -8,46 +8,36 @@ use Rattle.device.proofs.counter.shown.Reads as reads
 use Rattle.device.proofs.counter.shown.Lts as lts
 use Rattle.pages.proofs.is_kept.Reads as is-kept-reads
 
--- src/counter.rt:14:20
 enum-known-place : tie.Need-enum-known-place
 enum-known-place c = search needs
 
--- src/counter.rt:15:9
 enum-told : tie.Need-enum-told
 enum-told c = search needs
 
--- src/counter.rt:15:9
 returns : tie.Need-returns
 unfolding onRow
 returns c = rw (c .enum-told .given .1)
 
--- src/counter.rt:17:9
 is-kept-requires : tie.Need-is-kept-requires
 is-kept-requires c κs = search needs
 
--- src/counter.rt:19:9
 returns-2 : tie.Need-returns-2
 unfolding onRow pick
 returns-2 c = rw (c .before .before .before .place .given .1, ← c .before .is-kept .ensures, not-true (c .before .is-kept .result) (c .if1 .taken))
 
--- src/counter.rt:22:9
 returns-3 : tie.Need-returns-3
 unfolding onRow pick
 returns-3 c = rw (c .before .before .before .before .place .given .1, le-ltb _ 16 (c .if2 .taken))
 
--- src/counter.rt:24:17
 mul-value : tie.Need-mul-value
 mul-value c = search needs
 
--- src/counter.rt:24:17
 array-read-value : tie.Need-array-read-value
 array-read-value c = search needs
 
--- src/counter.rt:25:20
 cast-t13 : tie.Need-cast-t13
 cast-t13 c = search needs
 
--- src/counter.rt:11:1
 returns-4 : tie.Need-returns-4
 unfolding onRow pick
 returns-4 c = rw (c .before .before .before .before .place .given .1, ← c .before .before .is-kept .ensures, not-false (c .before .before .is-kept .result) (c .before .if1 .left))

@@ -8,32 +8,25 @@ use Rattle.device.proofs.events.counted.Reads as reads
 use Rattle.device.proofs.events.counted.Lts as lts
 use Rattle.ladders.proofs.bump.Reads as bump-reads
 
--- src/events.rt:20:9
 returns : tie.Need-returns
 unfolding withValue pick
 returns c = rw (le-leb 16 (c .before .args .row) (c .if1 .taken))
 
--- src/events.rt:23:13
 mul-v : tie.Need-mul-v
 mul-v c = search needs
 
--- src/events.rt:23:13
 element-copy-out-v : tie.Need-element-copy-out-v
 element-copy-out-v c = search needs
 
--- src/events.rt:24:9
 bump-requires : tie.Need-bump-requires
 bump-requires c κs = search needs
 
--- src/events.rt:25:5
 mul-d : tie.Need-mul-d
 mul-d c = search needs
 
--- src/events.rt:25:5
 element-write-d : tie.Need-element-write-d
 element-write-d c = search needs
 
--- src/events.rt:16:1
 returns-2 : tie.Need-returns-2
 unfolding withValue pick
 returns-2 c = rw (lt-leb 16 (c .before .before .before .args .row) (c .before .before .if1 .left), ← c .bump .ensures)

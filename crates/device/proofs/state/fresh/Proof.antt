@@ -7,15 +7,12 @@ use Rattle.device.proofs.state.fresh.Lts as lts
 use Rattle.states.proofs.idle_entry.Reads as idle-entry-reads
 use Rattle.states.proofs.no_record.Reads as no-record-reads
 
--- src/state.rt:47:13
 idle-entry-requires : tie.Need-idle-entry-requires
 idle-entry-requires c κs = search needs
 
--- src/state.rt:49:13
 no-record-requires : tie.Need-no-record-requires
 no-record-requires c κs = search needs
 
--- src/state.rt:38:5
 returns : tie.Need-returns
 unfolding freshDevice
 returns c = rw (c .before .idle-entry .ensures, c .no-record .ensures)

@@ -12,35 +12,27 @@ Inv-loop values d₀ i₀ d i = i ≤ 16
 abbrev μ-loop : tie.MeasureT-loop
 μ-loop values d₀ i₀ d i = 16 - i
 
--- src/digests.rt:49:5
 loop-holds : tie.Need-loop-holds Inv-loop μ-loop
 loop-holds c = search needs
 
--- src/digests.rt:50:28
 mul-with-number : tie.Need-mul-with-number Inv-loop μ-loop
 mul-with-number c = search needs
 
--- src/digests.rt:50:28
 array-read-with-number : tie.Need-array-read-with-number Inv-loop μ-loop
 array-read-with-number c = search needs
 
--- src/digests.rt:50:9
 with-number-requires : tie.Need-with-number-requires Inv-loop μ-loop
 with-number-requires c κs = search needs
 
--- src/digests.rt:51:9
 add-i : tie.Need-add-i Inv-loop μ-loop
 add-i c = search needs
 
--- src/digests.rt:49:5
 loop-less : tie.Need-loop-less Inv-loop μ-loop
 loop-less c = search needs
 
--- src/digests.rt:49:5
 loop-again : tie.Need-loop-again Inv-loop μ-loop
 loop-again c = search needs
 
--- src/digests.rt:46:1
 returns : tie.Need-returns Inv-loop μ-loop
 returns c = search needs
 

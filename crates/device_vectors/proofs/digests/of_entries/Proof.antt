@@ -12,35 +12,27 @@ Inv-loop entries d₀ i₀ d i = i ≤ 32
 abbrev μ-loop : tie.MeasureT-loop
 μ-loop entries d₀ i₀ d i = 32 - i
 
--- src/digests.rt:38:5
 loop-holds : tie.Need-loop-holds Inv-loop μ-loop
 loop-holds c = search needs
 
--- src/digests.rt:39:17
 mul-e : tie.Need-mul-e Inv-loop μ-loop
 mul-e c = search needs
 
--- src/digests.rt:39:17
 array-copy-out-e : tie.Need-array-copy-out-e Inv-loop μ-loop
 array-copy-out-e c = search needs
 
--- src/digests.rt:40:9
 with-entry-requires : tie.Need-with-entry-requires Inv-loop μ-loop
 with-entry-requires c κs = search needs
 
--- src/digests.rt:41:9
 add-i : tie.Need-add-i Inv-loop μ-loop
 add-i c = search needs
 
--- src/digests.rt:38:5
 loop-less : tie.Need-loop-less Inv-loop μ-loop
 loop-less c = search needs
 
--- src/digests.rt:38:5
 loop-again : tie.Need-loop-again Inv-loop μ-loop
 loop-again c = search needs
 
--- src/digests.rt:35:1
 returns : tie.Need-returns Inv-loop μ-loop
 returns c = search needs
 

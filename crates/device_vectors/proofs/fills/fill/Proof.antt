@@ -14,35 +14,27 @@ Inv-loop s₀ first step jump b₀ i₀ s b i = (i ≤ length s₀) × (length s
 abbrev μ-loop : tie.MeasureT-loop
 μ-loop s₀ first step jump b₀ i₀ s b i = length s₀ - i
 
--- src/fills.rt:16:5
 loop-holds : tie.Need-loop-holds Inv-loop μ-loop
 loop-holds c = search needs
 
--- src/fills.rt:17:9
 slice-write-s : tie.Need-slice-write-s Inv-loop μ-loop
 slice-write-s c = search needs
 
--- src/fills.rt:18:9
 add-i : tie.Need-add-i Inv-loop μ-loop
 add-i c = search needs
 
--- src/fills.rt:19:9
 next-byte-requires : tie.Need-next-byte-requires Inv-loop μ-loop
 next-byte-requires c κs = search needs
 
--- src/fills.rt:16:5
 loop-less : tie.Need-loop-less Inv-loop μ-loop
 loop-less c = search needs
 
--- src/fills.rt:16:5
 loop-again : tie.Need-loop-again Inv-loop μ-loop
 loop-again c = search needs
 
--- src/fills.rt:13:1
 same-length : tie.Need-same-length Inv-loop μ-loop
 same-length c = search needs
 
--- src/fills.rt:13:1
 returns : tie.Need-returns Inv-loop μ-loop
 returns c = search needs
 

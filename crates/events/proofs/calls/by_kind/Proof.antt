@@ -11,80 +11,63 @@ use Rattle.events.proofs.calls.by_kind.Lts as lts
 use Rattle.events.proofs.calls.four.Reads as four-reads
 use Rattle.wire.proofs.byte_of.Reads as byte-of-reads
 
--- src/calls.rt:30:31
 byte-of-requires : tie.Need-byte-of-requires
 byte-of-requires c κs = search needs
 
--- src/calls.rt:32:33
 four-requires : tie.Need-four-requires
 four-requires c κs = search needs
 
--- src/calls.rt:34:18
 byte-of-requires-2 : tie.Need-byte-of-requires-2
 byte-of-requires-2 c κs = search needs
 
--- src/calls.rt:35:20
 byte-of-requires-3 : tie.Need-byte-of-requires-3
 byte-of-requires-3 c κs = search needs
 
--- src/calls.rt:36:21
 four-requires-2 : tie.Need-four-requires-2
 four-requires-2 c κs = search needs
 
--- src/calls.rt:38:31
 byte-of-requires-4 : tie.Need-byte-of-requires-4
 byte-of-requires-4 c κs = search needs
 
--- src/calls.rt:40:31
 byte-of-requires-5 : tie.Need-byte-of-requires-5
 byte-of-requires-5 c κs = search needs
 
--- src/calls.rt:26:1
 returns : tie.Need-returns
 unfolding byKind pick
 returns c = rw (c .before .match .keys1) (ap Opening (c .byte-of .ensures))
 
--- src/calls.rt:26:1
 returns-2 : tie.Need-returns-2
 unfolding byKind pick
 returns-2 c = rw (c .match .keys2)
 
--- src/calls.rt:26:1
 returns-3 : tie.Need-returns-3
 unfolding byKind pick
 returns-3 c = rw (c .before .match .keys3) (ap Finishing (c .four .ensures))
 
--- src/calls.rt:26:1
 returns-4 : tie.Need-returns-4
 unfolding byKind pick
 returns-4 c = rw (c .before .before .before .match .keys4, c .before .before .byte-of2 .ensures, c .before .byte-of3 .ensures, c .four2 .ensures)
 
--- src/calls.rt:26:1
 returns-5 : tie.Need-returns-5
 unfolding byKind pick
 returns-5 c = rw (c .before .match .keys5) (ap Linking (c .byte-of4 .ensures))
 
--- src/calls.rt:26:1
 returns-6 : tie.Need-returns-6
 unfolding byKind pick
 returns-6 c = rw (c .match .keys6)
 
--- src/calls.rt:26:1
 returns-7 : tie.Need-returns-7
 unfolding byKind pick
 returns-7 c = rw (c .before .match .keys7) (ap Hosting (c .byte-of5 .ensures))
 
--- src/calls.rt:26:1
 returns-8 : tie.Need-returns-8
 unfolding byKind pick
 returns-8 c = rw (c .match .keys8)
 
--- src/calls.rt:26:1
 returns-9 : tie.Need-returns-9
 unfolding byKind pick
 returns-9 c = rw (c .match .keys9)
 
--- src/calls.rt:26:1
 returns-10 : tie.Need-returns-10
 unfolding byKind pick
 returns-10 c =

@@ -10,24 +10,19 @@ use Rattle.events.proofs.calls.by_kind.Reads as by-kind-reads
 use Rattle.events.proofs.kinds.is_event.Reads as is-event-reads
 use Rattle.wire.proofs.byte_of.Reads as byte-of-reads
 
--- src/calls.rt:50:8
 is-event-requires : tie.Need-is-event-requires
 is-event-requires c κs = search needs
 
--- src/calls.rt:51:24
 byte-of-requires : tie.Need-byte-of-requires
 byte-of-requires c κs = search needs
 
--- src/calls.rt:51:9
 by-kind-requires : tie.Need-by-kind-requires
 by-kind-requires c κs = search needs
 
--- src/calls.rt:51:9
 returns : tie.Need-returns
 unfolding callOf pick
 returns c = rw (sym (c .before .before .before .is-event .ensures) ∙ c .before .before .if1 .taken) (rw (c .before .byte-of .ensures) at (c .by-kind .ensures))
 
--- src/calls.rt:47:1
 returns-2 : tie.Need-returns-2
 unfolding callOf pick
 returns-2 c = rw (sym (c .before .is-event .ensures) ∙ c .if1 .left)

@@ -10,24 +10,19 @@ use Rattle.events.proofs.host_data.due_of.Reads as due-of-reads
 use Rattle.events.proofs.host_data.open_tag.Reads as open-tag-reads
 use Rattle.states.proofs.entry_of.Reads as entry-of-reads
 
--- src/host_data.rt:38:43
 open-tag-requires : tie.Need-open-tag-requires
 open-tag-requires c κs = search needs
 
--- src/host_data.rt:38:9
 entry-of-requires : tie.Need-entry-of-requires
 entry-of-requires c κs = search needs
 
--- src/host_data.rt:39:9
 due-of-requires : tie.Need-due-of-requires
 due-of-requires c κs = search needs
 
--- src/host_data.rt:41:9
 returns : tie.Need-returns
 unfolding dueBytes pick
 returns c = record { value = rw (← c .before .before .before .before .open-tag .ensures, ← c .before .before .before .entry-of .ensures, c .if1 .taken, c .before .before .due-of .ensures); bound = omega (arith, c .before .before .due-of .ensures) }
 
--- src/host_data.rt:33:1
 returns-2 : tie.Need-returns-2
 unfolding dueBytes pick
 returns-2 c = record { value = rw (← c .before .before .before .before .open-tag .ensures, ← c .before .before .before .entry-of .ensures, c .if1 .left); bound = omega arith }

@@ -8,43 +8,33 @@ use Rattle.device.proofs.state.Device.host_frame.Reads as host-frame-reads
 use Rattle.events.proofs.host_data.due_bytes.Reads as due-bytes-reads
 use Rattle.events.proofs.host_data.longest.Reads as longest-reads
 
--- src/host_data.rt:61:19
 due-bytes-requires : tie.Need-due-bytes-requires
 due-bytes-requires c κs = search needs
 
--- src/host_data.rt:61:15
 add-end : tie.Need-add-end
 add-end c = search needs
 
--- src/host_data.rt:62:17
 longest-requires : tie.Need-longest-requires
 longest-requires c κs = search needs
 
--- src/host_data.rt:63:18
 sub-host-frame : tie.Need-sub-host-frame
 sub-host-frame c = search needs
 
--- src/host_data.rt:63:18
 part-host-frame-start : tie.Need-part-host-frame-start
 part-host-frame-start c = search needs
 
--- src/host_data.rt:63:18
 part-host-frame-end : tie.Need-part-host-frame-end
 part-host-frame-end c = search needs
 
--- src/host_data.rt:63:5
 host-frame-requires : tie.Need-host-frame-requires
 host-frame-requires c κs = search needs
 
--- src/host_data.rt:58:1
 same-length : tie.Need-same-length
 same-length c = search needs
 
--- src/host_data.rt:58:1
 same-length-2 : tie.Need-same-length-2
 same-length-2 c = search needs
 
--- src/host_data.rt:58:1
 returns : tie.Need-returns
 returns c = hosted-front (c .before .before .before .before .before .before .before .before .before .before .before .before .before .args .d) (c .before .before .before .before .before .before .before .before .before .before .before .before .before .args .byte) (c .before .before .before .before .before .before .before .before .before .before .due-bytes .result) (c .before .before .before .before .before .before .before .before .before .longest .result) _ _ _ _ _ (c .before .before .before .before .before .before .before .before .before .before .due-bytes .ensures) (c .before .before .before .before .before .before .before .before .before .longest .ensures) (c .before .before .before .before .host-frame .ensures)
 

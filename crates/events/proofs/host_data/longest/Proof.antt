@@ -6,23 +6,18 @@ use Rattle.events.proofs.host_data.longest.Tie as tie
 use Rattle.events.proofs.host_data.longest.Reads as reads
 use Rattle.events.proofs.host_data.longest.Lts as lts
 
--- src/host_data.rt:51:5
 array-write-frame : tie.Need-array-write-frame
 array-write-frame c = search needs
 
--- src/host_data.rt:52:5
 array-write-frame-2 : tie.Need-array-write-frame-2
 array-write-frame-2 c = search needs
 
--- src/host_data.rt:53:5
 array-write-frame-3 : tie.Need-array-write-frame-3
 array-write-frame-3 c = search needs
 
--- src/host_data.rt:54:5
 array-write-frame-4 : tie.Need-array-write-frame-4
 array-write-frame-4 c = search needs
 
--- src/host_data.rt:47:1
 returns : tie.Need-returns
 unfolding dataFrame
 returns c = refl

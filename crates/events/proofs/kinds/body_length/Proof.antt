@@ -8,57 +8,46 @@ use Rattle.events.proofs.kinds.body_length.Tie as tie
 use Rattle.events.proofs.kinds.body_length.Reads as reads
 use Rattle.events.proofs.kinds.body_length.Lts as lts
 
--- src/kinds.rt:18:1
 returns : tie.Need-returns
 unfolding bodyLength fixedSize pick
 returns c = rw (c .match .keys1)
 
--- src/kinds.rt:18:1
 returns-2 : tie.Need-returns-2
 unfolding bodyLength fixedSize pick
 returns-2 c = rw (c .match .keys2)
 
--- src/kinds.rt:18:1
 returns-3 : tie.Need-returns-3
 unfolding bodyLength fixedSize pick
 returns-3 c = rw (c .match .keys3)
 
--- src/kinds.rt:18:1
 returns-4 : tie.Need-returns-4
 unfolding bodyLength fixedSize pick
 returns-4 c = rw (c .match .keys4)
 
--- src/kinds.rt:18:1
 returns-5 : tie.Need-returns-5
 unfolding bodyLength fixedSize pick
 returns-5 c = rw (c .match .keys5)
 
--- src/kinds.rt:18:1
 returns-6 : tie.Need-returns-6
 unfolding bodyLength fixedSize pick
 returns-6 c = rw (c .match .keys6)
 
--- src/kinds.rt:18:1
 returns-7 : tie.Need-returns-7
 unfolding bodyLength fixedSize pick
 returns-7 c = rw (c .match .keys7)
 
--- src/kinds.rt:18:1
 returns-8 : tie.Need-returns-8
 unfolding bodyLength fixedSize pick
 returns-8 c = rw (c .match .keys8)
 
--- src/kinds.rt:18:1
 returns-9 : tie.Need-returns-9
 unfolding bodyLength fixedSize pick
 returns-9 c = rw (c .match .keys9)
 
--- src/kinds.rt:18:1
 returns-10 : tie.Need-returns-10
 unfolding bodyLength fixedSize pick
 returns-10 c = rw (c .match .keys10)
 
--- src/kinds.rt:18:1
 returns-11 : tie.Need-returns-11
 unfolding bodyLength fixedSize pick
 returns-11 c =

@@ -13,37 +13,29 @@ use Rattle.events.proofs.kinds.is_event.Lts as lts
 use Rattle.events.proofs.kinds.body_length.Reads as body-length-reads
 use Rattle.wire.proofs.byte_of.Reads as byte-of-reads
 
--- src/kinds.rt:69:40
 byte-of-requires : tie.Need-byte-of-requires
 byte-of-requires c κs = search needs
 
--- src/kinds.rt:69:28
 body-length-requires : tie.Need-body-length-requires
 body-length-requires c κs = search needs
 
--- src/kinds.rt:69:23
 enum-known-n : tie.Need-enum-known-n
 enum-known-n c = search needs
 
--- src/kinds.rt:70:9
 enum-told : tie.Need-enum-told
 enum-told c = search needs
 
--- src/kinds.rt:70:9
 returns : tie.Need-returns
 unfolding isEvent fitsLength
 returns c = rw (sym (ap bodyLength (c .before .before .before .byte-of .ensures)) ∙ sym (c .before .before .body-length .ensures) ∙ c .enum-told .given .1)
 
--- src/kinds.rt:73:9
 returns-2 : tie.Need-returns-2
 unfolding isEvent fitsLength
 returns-2 c = rw (sym (ap bodyLength (c .before .before .before .before .before .byte-of .ensures)) ∙ sym (c .before .before .before .before .body-length .ensures) ∙ c .before .before .n .given .1, ne-eqb (length (now (c .before .before .before .before .before .before .before .args .event))) (c .before .before .n .given .0 .0 + 1) (λ (q : length (now (c .before .before .before .before .before .before .before .args .event)) ≡ c .before .before .n .given .0 .0 + 1). omega arith))
 
--- src/kinds.rt:75:20
 add-result : tie.Need-add-result
 add-result c = search needs
 
--- src/kinds.rt:66:1
 returns-3 : tie.Need-returns-3
 unfolding isEvent fitsLength
 returns-3 c = rw (sym (ap bodyLength (c .before .before .before .before .before .byte-of .ensures)) ∙ sym (c .before .before .before .before .body-length .ensures) ∙ c .before .before .n .given .1)

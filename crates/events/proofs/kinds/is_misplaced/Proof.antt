@@ -6,12 +6,10 @@ use Rattle.events.proofs.kinds.is_misplaced.Tie as tie
 use Rattle.events.proofs.kinds.is_misplaced.Reads as reads
 use Rattle.events.proofs.kinds.is_misplaced.Lts as lts
 
--- src/kinds.rt:36:1
 returns : tie.Need-returns
 unfolding misplaced pick
 returns c = rw (c .if1 .taken)
 
--- src/kinds.rt:36:1
 returns-2 : tie.Need-returns-2
 unfolding misplaced pick
 returns-2 c = rw (c .if1 .left)

@@ -15,58 +15,46 @@ use Rattle.events.proofs.kinds.body_length.Reads as body-length-reads
 use Rattle.events.proofs.kinds.is_misplaced.Reads as is-misplaced-reads
 use Rattle.wire.proofs.byte_of.Reads as byte-of-reads
 
--- src/kinds.rt:48:13
 returns : tie.Need-returns
 unfolding nextOf pick
 returns c = rw (eq-eqb _ 0 (c .before .if1 .taken), c .if2 .taken)
 
--- src/kinds.rt:50:9
 returns-2 : tie.Need-returns-2
 unfolding nextOf pick
 returns-2 c = rw (eq-eqb _ 0 (c .before .if1 .taken), c .if2 .left)
 
--- src/kinds.rt:52:9
 byte-of-requires : tie.Need-byte-of-requires
 byte-of-requires c κs = search needs
 
--- src/kinds.rt:53:8
 is-misplaced-requires : tie.Need-is-misplaced-requires
 is-misplaced-requires c κs = search needs
 
--- src/kinds.rt:54:9
 returns-3 : tie.Need-returns-3
 unfolding nextOf pick
 returns-3 c = rw (ne-eqb _ 0 (c .before .before .before .if1 .left), ← c .before .before .byte-of .ensures, sym (c .before .is-misplaced .ensures) ∙ c .if3 .taken)
 
--- src/kinds.rt:56:28
 body-length-requires : tie.Need-body-length-requires
 body-length-requires c κs = search needs
 
--- src/kinds.rt:56:23
 enum-known-n : tie.Need-enum-known-n
 enum-known-n c = search needs
 
--- src/kinds.rt:57:9
 enum-told : tie.Need-enum-told
 enum-told c = search needs
 
--- src/kinds.rt:57:9
 returns-4 : tie.Need-returns-4
 unfolding nextOf pick wholeOf
 returns-4 c = rw (ne-eqb _ 0 (c .before .before .before .before .before .before .if1 .left), ← c .before .before .before .before .before .byte-of .ensures, sym (c .before .before .before .before .is-misplaced .ensures) ∙ c .before .before .before .if3 .left, sym (c .before .before .body-length .ensures) ∙ c .enum-told .given .1)
 
--- src/kinds.rt:60:9
 returns-5 : tie.Need-returns-5
 unfolding nextOf pick wholeOf
 returns-5 c =
     let h : length (now (c .before .before .before .before .before .before .before .before .before .before .args .rest)) < c .before .before .n .given .0 .0 + 1 = omega arith in
     rw (ne-eqb _ 0 (c .before .before .before .before .before .before .before .before .if1 .left), ← c .before .before .before .before .before .before .before .byte-of .ensures, sym (c .before .before .before .before .before .before .is-misplaced .ensures) ∙ c .before .before .before .before .before .if3 .left, sym (c .before .before .before .before .body-length .ensures) ∙ c .before .before .n .given .1, lt-leb _ _ h)
 
--- src/kinds.rt:62:17
 add-t5 : tie.Need-add-t5
 add-t5 c = search needs
 
--- src/kinds.rt:43:1
 returns-6 : tie.Need-returns-6
 unfolding nextOf pick wholeOf
 returns-6 c =

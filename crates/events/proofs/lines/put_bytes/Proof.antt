@@ -14,24 +14,19 @@ use Rattle.events.proofs.lines.put_bytes.Lts as lts
 use Rattle.text.proofs.put_hex.Reads as put-hex-reads
 use Rattle.text.proofs.put_byte.Reads as put-byte-reads
 
--- src/lines.rt:25:13
 put-byte-requires : tie.Need-put-byte-requires
 put-byte-requires c κs = search needs
 
--- src/lines.rt:26:9
 put-hex-requires : tie.Need-put-hex-requires
 put-hex-requires c κs = search needs
 
--- src/lines.rt:26:9
 same-length : tie.Need-same-length
 same-length c = search needs
 
--- src/lines.rt:26:9
 returns : tie.Need-returns
 unfolding bytesOf pick
 returns c = rw (c .before .before .before .before .before .before .before .before .if1 .taken) (byte-then 61 (hex false (now (c .before .before .before .before .before .before .before .before .before .before .before .args .piece))) _ _ _ (c .before .before .before .before .before .before .put-byte .ensures) (c .before .before .put-hex .ensures))
 
--- src/lines.rt:21:1
 returns-2 : tie.Need-returns-2
 unfolding bytesOf pick written
 returns-2 c = rw (c .if1 .left) refl

@@ -16,39 +16,30 @@ use Rattle.text.proofs.put_hex.Reads as put-hex-reads
 use Rattle.text.proofs.put_byte.Reads as put-byte-reads
 use Rattle.wire.proofs.byte_of.Reads as byte-of-reads
 
--- src/lines.rt:33:17
 byte-of-requires : tie.Need-byte-of-requires
 byte-of-requires c κs = search needs
 
--- src/lines.rt:34:9
 put-byte-requires : tie.Need-put-byte-requires
 put-byte-requires c κs = search needs
 
--- src/lines.rt:35:29
 slice-aggregate-put-hex : tie.Need-slice-aggregate-put-hex
 slice-aggregate-put-hex c = search needs
 
--- src/lines.rt:35:9
 put-hex-requires : tie.Need-put-hex-requires
 put-hex-requires c κs = search needs
 
--- src/lines.rt:36:9
 put-byte-requires-2 : tie.Need-put-byte-requires-2
 put-byte-requires-2 c κs = search needs
 
--- src/lines.rt:37:9
 put-decimal-requires : tie.Need-put-decimal-requires
 put-decimal-requires c κs = search needs
 
--- src/lines.rt:38:5
 put-bytes-requires : tie.Need-put-bytes-requires
 put-bytes-requires c κs = search needs
 
--- src/lines.rt:30:1
 same-length : tie.Need-same-length
 same-length c = search needs
 
--- src/lines.rt:30:1
 returns : tie.Need-returns
 unfolding fieldOf
 returns c =

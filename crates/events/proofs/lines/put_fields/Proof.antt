@@ -24,51 +24,39 @@ Inv-loop out₀ at reply traced end₀ from₀ out end from =
 abbrev μ-loop : tie.MeasureT-loop
 μ-loop out₀ at reply traced end₀ from₀ out end from = length reply - from
 
--- src/lines.rt:47:5
 loop-holds : tie.Need-loop-holds Inv-loop μ-loop
 loop-holds c = (omega arith, refl, refl)
 
--- src/lines.rt:48:33
 sub-cut-first : tie.Need-sub-cut-first Inv-loop μ-loop
 sub-cut-first c = search needs
 
--- src/lines.rt:48:33
 part-cut-first-start : tie.Need-part-cut-first-start Inv-loop μ-loop
 part-cut-first-start c = search needs
 
--- src/lines.rt:48:33
 part-cut-first-end : tie.Need-part-cut-first-end Inv-loop μ-loop
 part-cut-first-end c = search needs
 
--- src/lines.rt:48:13
 cut-first-requires : tie.Need-cut-first-requires Inv-loop μ-loop
 cut-first-requires c κs = search needs
 
--- src/lines.rt:49:20
 add-next : tie.Need-add-next Inv-loop μ-loop
 add-next c = let p = piece-left (now (c .before .before .before .before .before .before .args .reply)) (c .before .before .before .loop .from) (c .cut-first .result) (omega arith) (c .cut-first .ensures ∙ ap pieceOf (rest-part (c .before .before .before .loop .from) (now (c .before .before .before .before .before .before .args .reply)))) in omega arith
 
--- src/lines.rt:50:35
 sub-put-field : tie.Need-sub-put-field Inv-loop μ-loop
 sub-put-field c = omega arith
 
--- src/lines.rt:50:35
 part-put-field-start : tie.Need-part-put-field-start Inv-loop μ-loop
 part-put-field-start c = omega arith
 
--- src/lines.rt:50:35
 part-put-field-end : tie.Need-part-put-field-end Inv-loop μ-loop
 part-put-field-end c = let p = piece-left (now (c .before .before .before .before .before .before .before .args .reply)) (c .before .before .before .before .loop .from) (c .before .cut-first .result) (omega arith) (c .before .cut-first .ensures ∙ ap pieceOf (rest-part (c .before .before .before .before .loop .from) (now (c .before .before .before .before .before .before .before .args .reply)))) in omega arith
 
--- src/lines.rt:50:9
 put-field-requires : tie.Need-put-field-requires Inv-loop μ-loop
 put-field-requires c κs = search needs
 
--- src/lines.rt:47:5
 loop-less : tie.Need-loop-less Inv-loop μ-loop
 loop-less c = let p = piece-left (now (c .before .before .before .before .before .before .before .before .before .before .before .args .reply)) (c .before .before .before .before .before .before .before .before .loop .from) (c .before .before .before .before .before .cut-first .result) (omega arith) (c .before .before .before .before .before .cut-first .ensures ∙ ap pieceOf (rest-part (c .before .before .before .before .before .before .before .before .loop .from) (now (c .before .before .before .before .before .before .before .before .before .before .before .args .reply)))) in omega arith
 
--- src/lines.rt:47:5
 loop-again : tie.Need-loop-again Inv-loop μ-loop
 loop-again c =
     let p = piece-left (now (c .before .before .before .before .before .before .before .before .before .before .before .args .reply)) (c .before .before .before .before .before .before .before .before .loop .from) (c .before .before .before .before .before .cut-first .result) (omega arith) (c .before .before .before .before .before .cut-first .ensures ∙ ap pieceOf (rest-part (c .before .before .before .before .before .before .before .before .loop .from) (now (c .before .before .before .before .before .before .before .before .before .before .before .args .reply)))) in
@@ -76,11 +64,9 @@ loop-again c =
     let same : c .before .before .before .before .before .before .before .before .loop .from + c .before .before .before .before .before .cut-first .result - c .before .before .before .before .before .before .before .before .loop .from ≡ c .before .before .before .before .before .cut-first .result = omega arith in
     (omega arith, search needs, fields-turn (c .before .before .before .before .before .before .before .before .before .before .before .args .traced) r _ (c .before .before .before .before .before .before .before .before .loop .from) (c .before .before .before .before .before .cut-first .result) _ _ _ (omega arith) (c .before .before .before .before .before .cut-first .ensures ∙ ap pieceOf (rest-part (c .before .before .before .before .before .before .before .before .loop .from) r)) (ap (λ (k : ℕ). take k (drop (c .before .before .before .before .before .before .before .before .loop .from) r)) same) (c .before .before .before .before .before .before .before .before .loop .inv .2) (c .before .before .put-field .ensures))
 
--- src/lines.rt:42:1
 same-length : tie.Need-same-length Inv-loop μ-loop
 same-length c = search needs
 
--- src/lines.rt:42:1
 returns : tie.Need-returns Inv-loop μ-loop
 returns c = fields-end (c .before .before .before .before .args .traced) (now (c .before .before .before .before .args .reply)) (c .before .loop .from) _ _ (omega arith) (c .before .loop .inv .2)
 

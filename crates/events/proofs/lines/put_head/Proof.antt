@@ -14,31 +14,24 @@ use Rattle.text.proofs.put_decimal.Reads as put-decimal-reads
 use Rattle.text.proofs.put_upper8.Reads as put-upper8-reads
 use Rattle.text.proofs.put_byte.Reads as put-byte-reads
 
--- src/lines.rt:14:9
 put-decimal-requires : tie.Need-put-decimal-requires
 put-decimal-requires c κs = search needs
 
--- src/lines.rt:15:9
 put-byte-requires : tie.Need-put-byte-requires
 put-byte-requires c κs = search needs
 
--- src/lines.rt:16:9
 put-decimal-requires-2 : tie.Need-put-decimal-requires-2
 put-decimal-requires-2 c κs = search needs
 
--- src/lines.rt:17:9
 put-byte-requires-2 : tie.Need-put-byte-requires-2
 put-byte-requires-2 c κs = search needs
 
--- src/lines.rt:18:5
 put-upper8-requires : tie.Need-put-upper8-requires
 put-upper8-requires c κs = search needs
 
--- src/lines.rt:11:1
 same-length : tie.Need-same-length
 same-length c = search needs
 
--- src/lines.rt:11:1
 returns : tie.Need-returns
 unfolding headOf
 returns c =

@@ -13,27 +13,21 @@ use Rattle.events.proofs.lines.put_head.Reads as put-head-reads
 use Rattle.text.proofs.put_byte.Reads as put-byte-reads
 use Rattle.text.proofs.whole.Reads as whole-reads
 
--- src/lines.rt:68:9
 put-head-requires : tie.Need-put-head-requires
 put-head-requires c κs = search needs
 
--- src/lines.rt:69:9
 put-fields-requires : tie.Need-put-fields-requires
 put-fields-requires c κs = search needs
 
--- src/lines.rt:70:9
 put-byte-requires : tie.Need-put-byte-requires
 put-byte-requires c κs = search needs
 
--- src/lines.rt:71:5
 whole-requires : tie.Need-whole-requires
 whole-requires c κs = search needs
 
--- src/lines.rt:58:1
 same-length : tie.Need-same-length
 same-length c = search needs
 
--- src/lines.rt:58:1
 returns : tie.Need-returns
 unfolding lineOf
 returns c =

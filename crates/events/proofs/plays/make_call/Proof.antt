@@ -17,159 +17,122 @@ use Rattle.device.proofs.state.Device.send.Reads as send-reads
 use Rattle.events.proofs.host_data.host_data.Reads as host-data-reads
 use Rattle.events.proofs.plays.no_event.Reads as no-event-reads
 
--- src/plays.rt:23:23
 enum-known-call : tie.Need-enum-known-call
 enum-known-call c = search needs
 
--- src/plays.rt:23:31
 open-requires : tie.Need-open-requires
 open-requires c κs = search needs
 
--- src/plays.rt:24:33
 enum-told : tie.Need-enum-told
 enum-told c = search needs
 
--- src/plays.rt:24:26
 send-requires : tie.Need-send-requires
 send-requires c κs = search needs
 
--- src/plays.rt:25:25
 enum-known-call-2 : tie.Need-enum-known-call-2
 enum-known-call-2 c = search needs
 
--- src/plays.rt:25:33
 finish-requires : tie.Need-finish-requires
 finish-requires c κs = search needs
 
--- src/plays.rt:26:25
 enum-known-call-3 : tie.Need-enum-known-call-3
 enum-known-call-3 c = search needs
 
--- src/plays.rt:26:49
 media-error-requires : tie.Need-media-error-requires
 media-error-requires c κs = search needs
 
--- src/plays.rt:27:23
 enum-known-call-4 : tie.Need-enum-known-call-4
 enum-known-call-4 c = search needs
 
--- src/plays.rt:27:31
 link-event-requires : tie.Need-link-event-requires
 link-event-requires c κs = search needs
 
--- src/plays.rt:28:39
 enum-told-2 : tie.Need-enum-told-2
 enum-told-2 c = search needs
 
--- src/plays.rt:28:28
 comreset-requires : tie.Need-comreset-requires
 comreset-requires c κs = search needs
 
--- src/plays.rt:29:23
 enum-known-call-5 : tie.Need-enum-known-call-5
 enum-known-call-5 c = search needs
 
--- src/plays.rt:29:32
 host-data-requires : tie.Need-host-data-requires
 host-data-requires c κs = search needs
 
--- src/plays.rt:30:46
 enum-told-3 : tie.Need-enum-told-3
 enum-told-3 c = search needs
 
--- src/plays.rt:30:26
 host-frame-requires : tie.Need-host-frame-requires
 host-frame-requires c κs = search needs
 
--- src/plays.rt:31:26
 enum-told-4 : tie.Need-enum-told-4
 enum-told-4 c = search needs
 
--- src/plays.rt:31:26
 no-event-requires : tie.Need-no-event-requires
 no-event-requires c κs = search needs
 
--- src/plays.rt:19:1
 same-length : tie.Need-same-length
 same-length c = search needs
 
--- src/plays.rt:19:1
 returns : tie.Need-returns
 unfolding stepOf mediumOf
 returns c = rw (c .before .before .before .before .before .call .given .1) (record { answered = c .before .before .open .ensures; medium = refl })
 
--- src/plays.rt:19:1
 same-length-2 : tie.Need-same-length-2
 same-length-2 c = search needs
 
--- src/plays.rt:19:1
 same-length-3 : tie.Need-same-length-3
 same-length-3 c = search needs
 
--- src/plays.rt:19:1
 returns-2 : tie.Need-returns-2
 unfolding stepOf mediumOf
 returns-2 c = rw (c .before .before .before .before .before .enum-told .given .1) (record { answered = c .before .before .send .ensures; medium = refl })
 
--- src/plays.rt:19:1
 same-length-4 : tie.Need-same-length-4
 same-length-4 c = search needs
 
--- src/plays.rt:19:1
 returns-3 : tie.Need-returns-3
 unfolding stepOf mediumOf
 returns-3 c = rw (c .before .before .before .before .before .call2 .given .1) (record { answered = c .before .before .finish .ensures; medium = refl })
 
--- src/plays.rt:19:1
 same-length-5 : tie.Need-same-length-5
 same-length-5 c = search needs
 
--- src/plays.rt:19:1
 returns-4 : tie.Need-returns-4
 unfolding stepOf mediumOf
 returns-4 c = rw (c .before .before .before .before .before .call3 .given .1) (record { answered = c .before .before .media-error .ensures; medium = refl })
 
--- src/plays.rt:19:1
 returns-5 : tie.Need-returns-5
 unfolding stepOf mediumOf linkStep
 returns-5 c = rw (c .before .before .call4 .given .1) (record { answered = no-replies _ _ _ refl (c .link-event .ensures); medium = refl })
 
--- src/plays.rt:19:1
 same-length-6 : tie.Need-same-length-6
 same-length-6 c = search needs
 
--- src/plays.rt:19:1
 returns-6 : tie.Need-returns-6
 unfolding stepOf mediumOf
 returns-6 c = rw (c .before .before .before .before .enum-told2 .given .1) (record { answered = c .before .before .comreset .ensures; medium = refl })
 
--- src/plays.rt:19:1
 same-length-7 : tie.Need-same-length-7
 same-length-7 c = search needs
 
--- src/plays.rt:19:1
 same-length-8 : tie.Need-same-length-8
 same-length-8 c = search needs
 
--- src/plays.rt:19:1
 returns-7 : tie.Need-returns-7
 unfolding stepOf mediumOf
 returns-7 c = rw (c .before .before .before .before .before .before .before .before .call5 .given .1) (record { answered = c .before .before .before .before .host-data .ensures .answered; medium = c .before .before .before .before .host-data .ensures .medium })
 
--- src/plays.rt:19:1
 same-length-9 : tie.Need-same-length-9
 same-length-9 c = search needs
 
--- src/plays.rt:19:1
 same-length-10 : tie.Need-same-length-10
 same-length-10 c = search needs
 
--- src/plays.rt:19:1
 returns-8 : tie.Need-returns-8
 unfolding stepOf mediumOf
 returns-8 c = rw (c .before .before .before .before .before .before .before .enum-told3 .given .1) (record { answered = c .before .before .before .before .host-frame .ensures .answered; medium = c .before .before .before .before .host-frame .ensures .medium })
 
--- src/plays.rt:19:1
 returns-9 : tie.Need-returns-9
 unfolding stepOf mediumOf
 returns-9 c = rw (c .before .enum-told4 .given .1) (record { answered = no-replies _ _ _ refl (c .no-event .ensures); medium = refl })

@@ -6,23 +6,18 @@ use Rattle.events.proofs.plays.play.Lts as lts
 use Rattle.events.proofs.calls.call_of.Reads as call-of-reads
 use Rattle.events.proofs.plays.make_call.Reads as make-call-reads
 
--- src/plays.rt:39:18
 call-of-requires : tie.Need-call-of-requires
 call-of-requires c κs = search needs
 
--- src/plays.rt:39:5
 make-call-requires : tie.Need-make-call-requires
 make-call-requires c κs = search needs
 
--- src/plays.rt:36:1
 same-length : tie.Need-same-length
 same-length c = search needs
 
--- src/plays.rt:36:1
 same-length-2 : tie.Need-same-length-2
 same-length-2 c = search needs
 
--- src/plays.rt:36:1
 returns : tie.Need-returns
 returns c = rw (c .before .before .before .before .before .before .before .call-of .ensures) at (c .before .before .before .before .make-call .ensures)
 

@@ -8,24 +8,19 @@ use Rattle.events.proofs.kinds.is_event.Reads as is-event-reads
 use Rattle.events.proofs.starts.settings_of.Reads as settings-of-reads
 use Rattle.wire.proofs.byte_of.Reads as byte-of-reads
 
--- src/starts.rt:26:9
 settings-of-requires : tie.Need-settings-of-requires
 settings-of-requires c κs = search needs
 
--- src/starts.rt:27:9
 is-event-requires : tie.Need-is-event-requires
 is-event-requires c κs = search needs
 
--- src/starts.rt:28:9
 byte-of-requires : tie.Need-byte-of-requires
 byte-of-requires c κs = search needs
 
--- src/starts.rt:30:9
 returns : tie.Need-returns
 unfolding pick
 returns c = rw (← c .before .before .before .before .settings-of .ensures, ← c .before .before .before .is-event .ensures, ← c .before .before .byte-of .ensures, c .if1 .taken)
 
--- src/starts.rt:23:1
 returns-2 : tie.Need-returns-2
 unfolding pick
 returns-2 c = rw (← c .before .before .before .before .settings-of .ensures, ← c .before .before .before .is-event .ensures, ← c .before .before .byte-of .ensures, c .if1 .left)

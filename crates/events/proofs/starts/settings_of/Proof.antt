@@ -7,31 +7,24 @@ use Rattle.events.proofs.starts.settings_of.Lts as lts
 use Rattle.bits.proofs.le.Reads as le-reads
 use Rattle.wire.proofs.byte_of.Reads as byte-of-reads
 
--- src/starts.rt:14:16
 byte-of-requires : tie.Need-byte-of-requires
 byte-of-requires c κs = search needs
 
--- src/starts.rt:14:16
 cast-t3 : tie.Need-cast-t3
 cast-t3 c = search needs
 
--- src/starts.rt:15:19
 le-requires : tie.Need-le-requires
 le-requires c κs = search needs
 
--- src/starts.rt:15:19
 cast-t5 : tie.Need-cast-t5
 cast-t5 c = search needs
 
--- src/starts.rt:16:15
 le-requires-2 : tie.Need-le-requires-2
 le-requires-2 c κs = search needs
 
--- src/starts.rt:16:15
 cast-t7 : tie.Need-cast-t7
 cast-t7 c = search needs
 
--- src/starts.rt:10:1
 returns : tie.Need-returns
 unfolding settingsOf
 returns c = rw (c .before .before .byte-of .ensures, c .before .le .ensures .value, c .le2 .ensures .value)

@@ -7,15 +7,12 @@ use Rattle.events.proofs.starts.start.Lts as lts
 use Rattle.device.proofs.state.Device.power_on.Reads as power-on-reads
 use Rattle.events.proofs.starts.asked.Reads as asked-reads
 
--- src/starts.rt:42:22
 asked-requires : tie.Need-asked-requires
 asked-requires c κs = search needs
 
--- src/starts.rt:42:5
 power-on-requires : tie.Need-power-on-requires
 power-on-requires c κs = search needs
 
--- src/starts.rt:39:1
 returns : tie.Need-returns
 unfolding startOf
 returns c = rw (← c .before .asked .ensures) (c .power-on .ensures)

@@ -7,27 +7,21 @@ use Rattle.events.proofs.tells.play_line.Lts as lts
 use Rattle.events.proofs.plays.play.Reads as play-reads
 use Rattle.events.proofs.tells.tell.Reads as tell-reads
 
--- src/tells.rt:57:9
 play-requires : tie.Need-play-requires
 play-requires c κs = search needs
 
--- src/tells.rt:58:5
 tell-requires : tie.Need-tell-requires
 tell-requires c κs = reply-fits _ _ _ _ (c .before .before .before .before .before .before .play .ensures .answered)
 
--- src/tells.rt:46:1
 same-length : tie.Need-same-length
 same-length c = search needs
 
--- src/tells.rt:46:1
 same-length-2 : tie.Need-same-length-2
 same-length-2 c = search needs
 
--- src/tells.rt:46:1
 same-length-3 : tie.Need-same-length-3
 same-length-3 c = search needs
 
--- src/tells.rt:46:1
 returns : tie.Need-returns
 returns c =
     let p = c .before .before .before .before .before .before .before .before .before .play .ensures in

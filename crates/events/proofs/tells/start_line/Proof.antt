@@ -8,23 +8,18 @@ use Rattle.events.proofs.tells.start_line.Lts as lts
 use Rattle.events.proofs.starts.start.Reads as start-reads
 use Rattle.events.proofs.tells.tell.Reads as tell-reads
 
--- src/tells.rt:66:10
 start-requires : tie.Need-start-requires
 start-requires c κs = search needs
 
--- src/tells.rt:66:35
 slice-aggregate-tell : tie.Need-slice-aggregate-tell
 slice-aggregate-tell c = search needs
 
--- src/tells.rt:66:5
 tell-requires : tie.Need-tell-requires
 tell-requires c κs = reply-fits _ _ _ _ (start-answers _ (0 ∷ []) _ (c .before .before .start .ensures))
 
--- src/tells.rt:62:1
 same-length : tie.Need-same-length
 same-length c = search needs
 
--- src/tells.rt:62:1
 returns : tie.Need-returns
 returns c = tells-step _ _ _ (0 ∷ []) _ _ (start-answers _ (0 ∷ []) _ (c .before .before .before .before .before .start .ensures)) _ _ _ (c .before .before .tell .ensures)
 

@@ -9,23 +9,18 @@ use Rattle.events.proofs.tells.tell.Reads as reads
 use Rattle.events.proofs.tells.tell.Lts as lts
 use Rattle.events.proofs.lines.put_line.Reads as put-line-reads
 
--- src/tells.rt:33:9
 cast-put-line : tie.Need-cast-put-line
 cast-put-line c = search needs
 
--- src/tells.rt:35:9
 slice-aggregate-put-line : tie.Need-slice-aggregate-put-line
 slice-aggregate-put-line c = sym (length-take-le (c .before .before .before .before .before .args .out .len) (now (c .before .before .before .before .before .args .reply)) (omega arith))
 
--- src/tells.rt:30:9
 put-line-requires : tie.Need-put-line-requires
 put-line-requires c κs = search needs
 
--- src/tells.rt:22:1
 same-length : tie.Need-same-length
 same-length c = search needs
 
--- src/tells.rt:22:1
 returns : tie.Need-returns
 returns c = search needs
 

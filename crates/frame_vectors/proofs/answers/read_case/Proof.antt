@@ -14,67 +14,51 @@ use Rattle.frame_vectors.proofs.reads.say_frame.Reads as say-frame-read
 use Rattle.frame_vectors.proofs.reads.say_log.Reads as say-log-reads
 use Rattle.frame_vectors.proofs.writes.filled.Reads as filled-reads
 
--- src/answers.rt:17:14
 slice-aggregate-word : tie.Need-slice-aggregate-word
 slice-aggregate-word c = refl
 
--- src/answers.rt:17:9
 word-requires : tie.Need-word-requires
 word-requires c κs = search needs
 
--- src/answers.rt:18:9
 returns : tie.Need-returns
 returns c = search needs
 
--- src/answers.rt:20:21
 filled-requires : tie.Need-filled-requires
 filled-requires c κs = search needs
 
--- src/answers.rt:21:15
 slice-aggregate-lay : tie.Need-slice-aggregate-lay
 slice-aggregate-lay c = search needs
 
--- src/answers.rt:21:5
 lay-requires : tie.Need-lay-requires
 lay-requires c κs = search needs
 
--- src/answers.rt:22:13
 array-share-prefix-input : tie.Need-array-share-prefix-input
 array-share-prefix-input c = search needs
 
--- src/answers.rt:22:9
 slice-aggregate-s : tie.Need-slice-aggregate-s
 slice-aggregate-s c = sym (length-take-le (c .before .before .before .before .before .before .before .args .n) (c .before .before .lay .last .0) (omega arith))
 
--- src/answers.rt:24:17
 say-frame-requires : tie.Need-say-frame-requires
 say-frame-requires c κs = search needs
 
--- src/answers.rt:25:17
 say-log-requires : tie.Need-say-log-requires
 say-log-requires c κs = search needs
 
--- src/answers.rt:26:17
 say-counter-requires : tie.Need-say-counter-requires
 say-counter-requires c κs = search needs
 
--- src/answers.rt:27:14
 say-cut-requires : tie.Need-say-cut-requires
 say-cut-requires c κs = search needs
 
--- src/answers.rt:15:1
 returns-2 : tie.Need-returns-2
 returns-2 c = search needs
 
--- src/answers.rt:15:1
 returns-3 : tie.Need-returns-3
 returns-3 c = search needs
 
--- src/answers.rt:15:1
 returns-4 : tie.Need-returns-4
 returns-4 c = search needs
 
--- src/answers.rt:15:1
 returns-5 : tie.Need-returns-5
 returns-5 c = search needs
 

@@ -12,51 +12,39 @@ use Rattle.frame_vectors.proofs.writes.say_counters.Reads as say-counte
 use Rattle.frame_vectors.proofs.writes.say_frame.Reads as say-frame-reads
 use Rattle.frame_vectors.proofs.writes.say_log.Reads as say-log-reads
 
--- src/answers.rt:33:14
 slice-aggregate-word : tie.Need-slice-aggregate-word
 slice-aggregate-word c = refl
 
--- src/answers.rt:33:9
 word-requires : tie.Need-word-requires
 word-requires c κs = search needs
 
--- src/answers.rt:34:9
 returns : tie.Need-returns
 returns c = search needs
 
--- src/answers.rt:37:20
 filled-requires : tie.Need-filled-requires
 filled-requires c κs = search needs
 
--- src/answers.rt:38:15
 array-borrow-prefix-room : tie.Need-array-borrow-prefix-room
 array-borrow-prefix-room c = search needs
 
--- src/answers.rt:38:9
 slice-aggregate-buf : tie.Need-slice-aggregate-buf
 slice-aggregate-buf c = sym (length-take-le (c .before .before .before .before .args .n) (c .before .filled .result) (omega arith))
 
--- src/answers.rt:40:17
 say-frame-requires : tie.Need-say-frame-requires
 say-frame-requires c κs = search needs
 
--- src/answers.rt:41:17
 say-log-requires : tie.Need-say-log-requires
 say-log-requires c κs = search needs
 
--- src/answers.rt:42:14
 say-counters-requires : tie.Need-say-counters-requires
 say-counters-requires c κs = search needs
 
--- src/answers.rt:31:1
 returns-2 : tie.Need-returns-2
 returns-2 c = search needs
 
--- src/answers.rt:31:1
 returns-3 : tie.Need-returns-3
 returns-3 c = search needs
 
--- src/answers.rt:31:1
 returns-4 : tie.Need-returns-4
 returns-4 c = search needs
 

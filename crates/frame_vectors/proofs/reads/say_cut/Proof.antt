@@ -15,71 +15,54 @@ Inv-loop s at₀ at = at ≤ length s
 abbrev μ-loop : tie.MeasureT-loop
 μ-loop s at₀ at = length s - at
 
--- src/reads.rt:167:14
 slice-aggregate-word : tie.Need-slice-aggregate-word Inv-loop μ-loop
 slice-aggregate-word c = search needs
 
--- src/reads.rt:167:9
 word-requires : tie.Need-word-requires Inv-loop μ-loop
 word-requires c κs = search needs
 
--- src/reads.rt:168:9
 returns : tie.Need-returns Inv-loop μ-loop
 returns c = search needs
 
--- src/reads.rt:171:5
 loop-holds : tie.Need-loop-holds Inv-loop μ-loop
 loop-holds c = search needs
 
--- src/reads.rt:172:33
 sub-cut-first : tie.Need-sub-cut-first Inv-loop μ-loop
 sub-cut-first c = search needs
 
--- src/reads.rt:172:33
 part-cut-first-start : tie.Need-part-cut-first-start Inv-loop μ-loop
 part-cut-first-start c = search needs
 
--- src/reads.rt:172:33
 part-cut-first-end : tie.Need-part-cut-first-end Inv-loop μ-loop
 part-cut-first-end c = search needs
 
--- src/reads.rt:172:13
 cut-first-requires : tie.Need-cut-first-requires Inv-loop μ-loop
 cut-first-requires c κs = search needs
 
--- src/reads.rt:174:13
 returns-2 : tie.Need-returns-2 Inv-loop μ-loop
 returns-2 c = search needs
 
--- src/reads.rt:176:16
 sub-if3 : tie.Need-sub-if3 Inv-loop μ-loop
 sub-if3 c = search needs
 
--- src/reads.rt:177:13
 returns-3 : tie.Need-returns-3 Inv-loop μ-loop
 returns-3 c = search needs
 
--- src/reads.rt:179:28
 shared-slice-read-say-piece : tie.Need-shared-slice-read-say-piece Inv-loop μ-loop
 shared-slice-read-say-piece c = search needs
 
--- src/reads.rt:179:9
 say-piece-requires : tie.Need-say-piece-requires Inv-loop μ-loop
 say-piece-requires c κs = search needs
 
--- src/reads.rt:180:9
 add-at : tie.Need-add-at Inv-loop μ-loop
 add-at c = search needs
 
--- src/reads.rt:171:5
 loop-less : tie.Need-loop-less Inv-loop μ-loop
 loop-less c = search needs
 
--- src/reads.rt:171:5
 loop-again : tie.Need-loop-again Inv-loop μ-loop
 loop-again c = search needs
 
--- src/reads.rt:165:1
 returns-4 : tie.Need-returns-4 Inv-loop μ-loop
 returns-4 c = search needs
 

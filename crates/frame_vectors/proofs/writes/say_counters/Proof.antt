@@ -17,59 +17,45 @@ Inv-loop buf s values₀ row₀ values row = (row ≤ 16) × (16 ≡ length valu
 abbrev μ-loop : tie.MeasureT-loop
 μ-loop buf s values₀ row₀ values row = 16 - row
 
--- src/writes.rt:187:5
 loop-holds : tie.Need-loop-holds Inv-loop μ-loop
 loop-holds c = search needs
 
--- src/writes.rt:188:35
 mul-four : tie.Need-mul-four Inv-loop μ-loop
 mul-four c = search needs
 
--- src/writes.rt:188:31
 add-four : tie.Need-add-four Inv-loop μ-loop
 add-four c = search needs
 
--- src/writes.rt:188:23
 four-requires : tie.Need-four-requires Inv-loop μ-loop
 four-requires c κs = search needs
 
--- src/writes.rt:188:9
 mul-values : tie.Need-mul-values Inv-loop μ-loop
 mul-values c = search needs
 
--- src/writes.rt:188:9
 array-write-values : tie.Need-array-write-values Inv-loop μ-loop
 array-write-values c = search needs
 
--- src/writes.rt:189:9
 add-row : tie.Need-add-row Inv-loop μ-loop
 add-row c = search needs
 
--- src/writes.rt:187:5
 loop-less : tie.Need-loop-less Inv-loop μ-loop
 loop-less c = search needs
 
--- src/writes.rt:187:5
 loop-again : tie.Need-loop-again Inv-loop μ-loop
 loop-again c = search needs
 
--- src/writes.rt:191:40
 two-requires : tie.Need-two-requires Inv-loop μ-loop
 two-requires c κs = search needs
 
--- src/writes.rt:191:9
 write-counters-requires : tie.Need-write-counters-requires Inv-loop μ-loop
 write-counters-requires c κs = search needs
 
--- src/writes.rt:192:5
 say-written-requires : tie.Need-say-written-requires Inv-loop μ-loop
 say-written-requires c κs = search needs
 
--- src/writes.rt:184:1
 same-length : tie.Need-same-length Inv-loop μ-loop
 same-length c = search needs
 
--- src/writes.rt:184:1
 returns : tie.Need-returns Inv-loop μ-loop
 returns c = search needs
 

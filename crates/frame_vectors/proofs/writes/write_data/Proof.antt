@@ -18,63 +18,48 @@ Inv-loop buf n first payload₀ i₀ b₀ payload i b = (i ≤ 8300) × (b ≤ 2
 abbrev μ-loop : tie.MeasureT-loop
 μ-loop buf n first payload₀ i₀ b₀ payload i b = 8300 - i
 
--- src/writes.rt:146:23
 filled-requires : tie.Need-filled-requires Inv-loop μ-loop
 filled-requires c κs = search needs
 
--- src/writes.rt:148:9
 wide-requires : tie.Need-wide-requires Inv-loop μ-loop
 wide-requires c κs = search needs
 
--- src/writes.rt:149:5
 loop-holds : tie.Need-loop-holds Inv-loop μ-loop
 loop-holds c = search needs
 
--- src/writes.rt:150:22
 cast-payload : tie.Need-cast-payload Inv-loop μ-loop
 cast-payload c = search needs
 
--- src/writes.rt:150:9
 array-write-payload : tie.Need-array-write-payload Inv-loop μ-loop
 array-write-payload c = search needs
 
--- src/writes.rt:151:13
 add-b : tie.Need-add-b Inv-loop μ-loop
 add-b c = search needs
 
--- src/writes.rt:152:9
 add-i : tie.Need-add-i Inv-loop μ-loop
 add-i c = search needs
 
--- src/writes.rt:149:5
 loop-less : tie.Need-loop-less Inv-loop μ-loop
 loop-less c = search needs
 
--- src/writes.rt:149:5
 loop-again : tie.Need-loop-again Inv-loop μ-loop
 loop-again c = search needs
 
--- src/writes.rt:155:9
 returns : tie.Need-returns Inv-loop μ-loop
 returns c = search needs
 
--- src/writes.rt:157:29
 array-share-prefix-payload : tie.Need-array-share-prefix-payload Inv-loop μ-loop
 array-share-prefix-payload c = search needs
 
--- src/writes.rt:157:29
 slice-aggregate-write-data : tie.Need-slice-aggregate-write-data Inv-loop μ-loop
 slice-aggregate-write-data c = sym (length-take-le (c .before .before .before .before .before .before .before .before .args .n) (c .before .before .before .before .loop .payload) (omega arith))
 
--- src/writes.rt:157:5
 write-data-requires : tie.Need-write-data-requires Inv-loop μ-loop
 write-data-requires c κs = search needs
 
--- src/writes.rt:145:1
 same-length : tie.Need-same-length Inv-loop μ-loop
 same-length c = search needs
 
--- src/writes.rt:145:1
 returns-2 : tie.Need-returns-2 Inv-loop μ-loop
 returns-2 c = search needs
 

@@ -8,35 +8,27 @@ use Rattle.wire.proofs.byte_of.Reads as byte-of-reads
 use Rattle.wire.proofs.flag.Reads as flag-reads
 use Rattle.wire.proofs.halves.Reads as halves-reads
 
--- src/reading.rt:81:25
 byte-of-requires : tie.Need-byte-of-requires
 byte-of-requires c κs = search needs
 
--- src/reading.rt:81:20
 flag-requires : tie.Need-flag-requires
 flag-requires c κs = search needs
 
--- src/reading.rt:82:24
 byte-of-requires-2 : tie.Need-byte-of-requires-2
 byte-of-requires-2 c κs = search needs
 
--- src/reading.rt:82:17
 halves-requires : tie.Need-halves-requires
 halves-requires c κs = search needs
 
--- src/reading.rt:83:16
 byte-of-requires-3 : tie.Need-byte-of-requires-3
 byte-of-requires-3 c κs = search needs
 
--- src/reading.rt:84:17
 le-requires : tie.Need-le-requires
 le-requires c κs = search needs
 
--- src/reading.rt:84:17
 cast-t8 : tie.Need-cast-t8
 cast-t8 c = search needs
 
--- src/reading.rt:77:1
 returns : tie.Need-returns
 returns c = cc
 

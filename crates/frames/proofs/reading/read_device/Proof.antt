@@ -7,27 +7,21 @@ use Rattle.wire.proofs.byte_of.Reads as byte-of-reads
 use Rattle.wire.proofs.flag.Reads as flag-reads
 use Rattle.wire.proofs.task_of.Reads as task-of-reads
 
--- src/reading.rt:70:25
 byte-of-requires : tie.Need-byte-of-requires
 byte-of-requires c κs = search needs
 
--- src/reading.rt:70:20
 flag-requires : tie.Need-flag-requires
 flag-requires c κs = search needs
 
--- src/reading.rt:71:17
 byte-of-requires-2 : tie.Need-byte-of-requires-2
 byte-of-requires-2 c κs = search needs
 
--- src/reading.rt:72:16
 byte-of-requires-3 : tie.Need-byte-of-requires-3
 byte-of-requires-3 c κs = search needs
 
--- src/reading.rt:73:15
 task-of-requires : tie.Need-task-of-requires
 task-of-requires c κs = search needs
 
--- src/reading.rt:66:1
 returns : tie.Need-returns
 returns c = cc
 

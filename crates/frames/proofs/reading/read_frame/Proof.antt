@@ -21,85 +21,67 @@ use Rattle.frames.proofs.reading.read_host.Reads as read-host-reads
 use Rattle.frames.proofs.reading.read_pio.Reads as read-pio-reads
 use Rattle.frames.proofs.reading.read_setup.Reads as read-setup-reads
 
--- src/reading.rt:120:9
 byte-of-requires : tie.Need-byte-of-requires
 byte-of-requires c κs = search needs
 
--- src/reading.rt:121:9
 is-readable-requires : tie.Need-is-readable-requires
 is-readable-requires c κs = search needs
 
--- src/reading.rt:122:9
 returns : tie.Need-returns
 returns c = read-told _ _ (sym (read-not (now (c .before .before .before .before .args .s)) (c .before .before .byte-of .result) (c .before .before .byte-of .ensures) (sym (c .before .is-readable .ensures) ∙ not-true _ (c .if1 .taken))))
 
--- src/reading.rt:125:29
 read-host-requires : tie.Need-read-host-requires
 read-host-requires c κs = search needs
 
--- src/reading.rt:126:31
 read-device-requires : tie.Need-read-device-requires
 read-device-requires c κs = search needs
 
--- src/reading.rt:127:29
 read-bits-requires : tie.Need-read-bits-requires
 read-bits-requires c κs = search needs
 
--- src/reading.rt:128:30
 read-setup-requires : tie.Need-read-setup-requires
 read-setup-requires c κs = search needs
 
--- src/reading.rt:131:28
 read-pio-requires : tie.Need-read-pio-requires
 read-pio-requires c κs = search needs
 
--- src/reading.rt:132:29
 sub-t12 : tie.Need-sub-t12
 sub-t12 c =
     let e = sym (c .before .before .is-readable .ensures) ∙ not-false _ (c .before .if1 .left) in
     omega (arith, data-4 _ (rw (c .match .keys8) at e))
 
--- src/reading.rt:116:1
 returns-2 : tie.Need-returns-2
 unfolding byKind pick
 returns-2 c = read-told _ _ (rw (read-by (now (c .before .before .before .before .before .before .args .s)) (c .before .before .before .before .byte-of .result) (c .before .before .before .before .byte-of .ensures) (sym (c .before .before .before .is-readable .ensures) ∙ not-false _ (c .before .before .if1 .left)), c .before .match .keys1) (ap Host (c .read-host .ensures)))
 
--- src/reading.rt:116:1
 returns-3 : tie.Need-returns-3
 unfolding byKind pick
 returns-3 c = read-told _ _ (rw (read-by (now (c .before .before .before .before .before .before .args .s)) (c .before .before .before .before .byte-of .result) (c .before .before .before .before .byte-of .ensures) (sym (c .before .before .before .is-readable .ensures) ∙ not-false _ (c .before .before .if1 .left)), c .before .match .keys2) (ap Device (c .read-device .ensures)))
 
--- src/reading.rt:116:1
 returns-4 : tie.Need-returns-4
 unfolding byKind pick
 returns-4 c = read-told _ _ (rw (read-by (now (c .before .before .before .before .before .before .args .s)) (c .before .before .before .before .byte-of .result) (c .before .before .before .before .byte-of .ensures) (sym (c .before .before .before .is-readable .ensures) ∙ not-false _ (c .before .before .if1 .left)), c .before .match .keys3) (ap Bits (c .read-bits .ensures)))
 
--- src/reading.rt:116:1
 returns-5 : tie.Need-returns-5
 unfolding byKind pick
 returns-5 c = read-told _ _ (rw (read-by (now (c .before .before .before .before .before .before .args .s)) (c .before .before .before .before .byte-of .result) (c .before .before .before .before .byte-of .ensures) (sym (c .before .before .before .is-readable .ensures) ∙ not-false _ (c .before .before .if1 .left)), c .before .match .keys4) (ap Setup (c .read-setup .ensures)))
 
--- src/reading.rt:116:1
 returns-6 : tie.Need-returns-6
 unfolding byKind pick
 returns-6 c = read-told _ _ (rw (read-by (now (c .before .before .before .before .before .args .s)) (c .before .before .before .byte-of .result) (c .before .before .before .byte-of .ensures) (sym (c .before .before .is-readable .ensures) ∙ not-false _ (c .before .if1 .left)), c .match .keys5))
 
--- src/reading.rt:116:1
 returns-7 : tie.Need-returns-7
 unfolding byKind pick
 returns-7 c = read-told _ _ (rw (read-by (now (c .before .before .before .before .before .args .s)) (c .before .before .before .byte-of .result) (c .before .before .before .byte-of .ensures) (sym (c .before .before .is-readable .ensures) ∙ not-false _ (c .before .if1 .left)), c .match .keys6))
 
--- src/reading.rt:116:1
 returns-8 : tie.Need-returns-8
 unfolding byKind pick
 returns-8 c = read-told _ _ (rw (read-by (now (c .before .before .before .before .before .before .args .s)) (c .before .before .before .before .byte-of .result) (c .before .before .before .before .byte-of .ensures) (sym (c .before .before .before .is-readable .ensures) ∙ not-false _ (c .before .before .if1 .left)), c .before .match .keys7) (ap Pio (c .read-pio .ensures)))
 
--- src/reading.rt:116:1
 returns-9 : tie.Need-returns-9
 unfolding byKind pick
 returns-9 c = read-told _ _ (rw (read-by (now (c .before .before .before .before .before .args .s)) (c .before .before .before .byte-of .result) (c .before .before .before .byte-of .ensures) (sym (c .before .before .is-readable .ensures) ∙ not-false _ (c .before .if1 .left)), c .match .keys8))
 
--- src/reading.rt:116:1
 returns-10 : tie.Need-returns-10
 unfolding byKind pick
 returns-10 c =

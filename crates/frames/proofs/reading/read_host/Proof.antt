@@ -7,35 +7,27 @@ use Rattle.wire.proofs.byte_of.Reads as byte-of-reads
 use Rattle.wire.proofs.flag.Reads as flag-reads
 use Rattle.wire.proofs.task_of.Reads as task-of-reads
 
--- src/reading.rt:57:27
 byte-of-requires : tie.Need-byte-of-requires
 byte-of-requires c κs = search needs
 
--- src/reading.rt:57:22
 flag-requires : tie.Need-flag-requires
 flag-requires c κs = search needs
 
--- src/reading.rt:58:18
 byte-of-requires-2 : tie.Need-byte-of-requires-2
 byte-of-requires-2 c κs = search needs
 
--- src/reading.rt:59:19
 byte-of-requires-3 : tie.Need-byte-of-requires-3
 byte-of-requires-3 c κs = search needs
 
--- src/reading.rt:60:15
 task-of-requires : tie.Need-task-of-requires
 task-of-requires c κs = search needs
 
--- src/reading.rt:61:24
 byte-of-requires-4 : tie.Need-byte-of-requires-4
 byte-of-requires-4 c κs = search needs
 
--- src/reading.rt:62:18
 byte-of-requires-5 : tie.Need-byte-of-requires-5
 byte-of-requires-5 c κs = search needs
 
--- src/reading.rt:53:1
 returns : tie.Need-returns
 returns c = cc
 

@@ -8,47 +8,36 @@ use Rattle.wire.proofs.byte_of.Reads as byte-of-reads
 use Rattle.wire.proofs.flag.Reads as flag-reads
 use Rattle.wire.proofs.task_of.Reads as task-of-reads
 
--- src/reading.rt:105:25
 byte-of-requires : tie.Need-byte-of-requires
 byte-of-requires c κs = search needs
 
--- src/reading.rt:105:20
 flag-requires : tie.Need-flag-requires
 flag-requires c κs = search needs
 
--- src/reading.rt:106:23
 byte-of-requires-2 : tie.Need-byte-of-requires-2
 byte-of-requires-2 c κs = search needs
 
--- src/reading.rt:106:18
 flag-requires-2 : tie.Need-flag-requires-2
 flag-requires-2 c κs = search needs
 
--- src/reading.rt:107:17
 byte-of-requires-3 : tie.Need-byte-of-requires-3
 byte-of-requires-3 c κs = search needs
 
--- src/reading.rt:108:16
 byte-of-requires-4 : tie.Need-byte-of-requires-4
 byte-of-requires-4 c κs = search needs
 
--- src/reading.rt:109:15
 task-of-requires : tie.Need-task-of-requires
 task-of-requires c κs = search needs
 
--- src/reading.rt:110:17
 byte-of-requires-5 : tie.Need-byte-of-requires-5
 byte-of-requires-5 c κs = search needs
 
--- src/reading.rt:111:16
 le-requires : tie.Need-le-requires
 le-requires c κs = search needs
 
--- src/reading.rt:111:16
 cast-t11 : tie.Need-cast-t11
 cast-t11 c = search needs
 
--- src/reading.rt:101:1
 returns : tie.Need-returns
 returns c = cc
 

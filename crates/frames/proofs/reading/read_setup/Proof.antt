@@ -7,55 +7,42 @@ use Rattle.bits.proofs.le.Reads as le-reads
 use Rattle.wire.proofs.byte_of.Reads as byte-of-reads
 use Rattle.wire.proofs.flag.Reads as flag-reads
 
--- src/reading.rt:92:20
 byte-of-requires : tie.Need-byte-of-requires
 byte-of-requires c κs = search needs
 
--- src/reading.rt:92:15
 flag-requires : tie.Need-flag-requires
 flag-requires c κs = search needs
 
--- src/reading.rt:93:25
 byte-of-requires-2 : tie.Need-byte-of-requires-2
 byte-of-requires-2 c κs = search needs
 
--- src/reading.rt:93:20
 flag-requires-2 : tie.Need-flag-requires-2
 flag-requires-2 c κs = search needs
 
--- src/reading.rt:94:23
 byte-of-requires-3 : tie.Need-byte-of-requires-3
 byte-of-requires-3 c κs = search needs
 
--- src/reading.rt:94:18
 flag-requires-3 : tie.Need-flag-requires-3
 flag-requires-3 c κs = search needs
 
--- src/reading.rt:95:14
 le-requires : tie.Need-le-requires
 le-requires c κs = search needs
 
--- src/reading.rt:95:14
 cast-t9 : tie.Need-cast-t9
 cast-t9 c = search needs
 
--- src/reading.rt:96:17
 le-requires-2 : tie.Need-le-requires-2
 le-requires-2 c κs = search needs
 
--- src/reading.rt:96:17
 cast-t11 : tie.Need-cast-t11
 cast-t11 c = search needs
 
--- src/reading.rt:97:16
 le-requires-3 : tie.Need-le-requires-3
 le-requires-3 c κs = search needs
 
--- src/reading.rt:97:16
 cast-t13 : tie.Need-cast-t13
 cast-t13 c = search needs
 
--- src/reading.rt:88:1
 returns : tie.Need-returns
 returns c = cc
 

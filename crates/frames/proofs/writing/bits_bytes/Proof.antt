@@ -8,35 +8,27 @@ use Rattle.bits.proofs.byte.Reads as byte-reads
 use Rattle.wire.proofs.flags.Reads as flags-reads
 use Rattle.wire.proofs.halves.Reads as halves-reads
 
--- src/writing.rt:88:13
 cast-a : tie.Need-cast-a
 cast-a c = search needs
 
--- src/writing.rt:91:9
 flags-requires : tie.Need-flags-requires
 flags-requires c κs = search needs
 
--- src/writing.rt:92:9
 halves-requires : tie.Need-halves-requires
 halves-requires c κs = search needs
 
--- src/writing.rt:94:9
 byte-requires : tie.Need-byte-requires
 byte-requires c κs = search needs
 
--- src/writing.rt:95:9
 byte-requires-2 : tie.Need-byte-requires-2
 byte-requires-2 c κs = search needs
 
--- src/writing.rt:96:9
 byte-requires-3 : tie.Need-byte-requires-3
 byte-requires-3 c κs = search needs
 
--- src/writing.rt:97:9
 byte-requires-4 : tie.Need-byte-requires-4
 byte-requires-4 c κs = search needs
 
--- src/writing.rt:85:1
 returns : tie.Need-returns
 unfolding bitsBytes
 returns c = cc

@@ -7,15 +7,12 @@ use Rattle.frames.proofs.writing.bits_fit.Reads as reads
 use Rattle.frames.proofs.writing.bits_fit.Lts as lts
 use Rattle.wire.proofs.flag.Reads as flag-reads
 
--- src/writing.rt:105:6
 flag-requires : tie.Need-flag-requires
 flag-requires c κs = search needs
 
--- src/writing.rt:105:27
 flag-requires-2 : tie.Need-flag-requires-2
 flag-requires-2 c κs = search needs
 
--- src/writing.rt:102:1
 returns : tie.Need-returns
 unfolding fits
 returns c =

@@ -7,11 +7,9 @@ use Rattle.frames.proofs.writing.device_fits.Reads as reads
 use Rattle.frames.proofs.writing.device_fits.Lts as lts
 use Rattle.wire.proofs.task_fits.Reads as task-fits-reads
 
--- src/writing.rt:78:5
 task-fits-requires : tie.Need-task-fits-requires
 task-fits-requires c κs = search needs
 
--- src/writing.rt:74:1
 returns : tie.Need-returns
 unfolding fits
 returns c =

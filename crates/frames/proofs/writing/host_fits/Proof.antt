@@ -7,11 +7,9 @@ use Rattle.frames.proofs.writing.host_fits.Reads as reads
 use Rattle.frames.proofs.writing.host_fits.Lts as lts
 use Rattle.wire.proofs.task_fits.Reads as task-fits-reads
 
--- src/writing.rt:53:5
 task-fits-requires : tie.Need-task-fits-requires
 task-fits-requires c κs = search needs
 
--- src/writing.rt:49:1
 returns : tie.Need-returns
 unfolding fits
 returns c =

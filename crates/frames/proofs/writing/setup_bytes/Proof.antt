@@ -7,71 +7,54 @@ use Rattle.frames.proofs.writing.setup_bytes.Lts as lts
 use Rattle.bits.proofs.byte.Reads as byte-reads
 use Rattle.wire.proofs.flags.Reads as flags-reads
 
--- src/writing.rt:118:15
 cast-tag : tie.Need-cast-tag
 cast-tag c = search needs
 
--- src/writing.rt:119:18
 cast-offset : tie.Need-cast-offset
 cast-offset c = search needs
 
--- src/writing.rt:120:17
 cast-count : tie.Need-cast-count
 cast-count c = search needs
 
--- src/writing.rt:123:9
 flags-requires : tie.Need-flags-requires
 flags-requires c κs = search needs
 
--- src/writing.rt:126:9
 byte-requires : tie.Need-byte-requires
 byte-requires c κs = search needs
 
--- src/writing.rt:127:9
 byte-requires-2 : tie.Need-byte-requires-2
 byte-requires-2 c κs = search needs
 
--- src/writing.rt:128:9
 byte-requires-3 : tie.Need-byte-requires-3
 byte-requires-3 c κs = search needs
 
--- src/writing.rt:129:9
 byte-requires-4 : tie.Need-byte-requires-4
 byte-requires-4 c κs = search needs
 
--- src/writing.rt:138:9
 byte-requires-5 : tie.Need-byte-requires-5
 byte-requires-5 c κs = search needs
 
--- src/writing.rt:139:9
 byte-requires-6 : tie.Need-byte-requires-6
 byte-requires-6 c κs = search needs
 
--- src/writing.rt:140:9
 byte-requires-7 : tie.Need-byte-requires-7
 byte-requires-7 c κs = search needs
 
--- src/writing.rt:141:9
 byte-requires-8 : tie.Need-byte-requires-8
 byte-requires-8 c κs = search needs
 
--- src/writing.rt:142:9
 byte-requires-9 : tie.Need-byte-requires-9
 byte-requires-9 c κs = search needs
 
--- src/writing.rt:143:9
 byte-requires-10 : tie.Need-byte-requires-10
 byte-requires-10 c κs = search needs
 
--- src/writing.rt:144:9
 byte-requires-11 : tie.Need-byte-requires-11
 byte-requires-11 c κs = search needs
 
--- src/writing.rt:145:9
 byte-requires-12 : tie.Need-byte-requires-12
 byte-requires-12 c κs = search needs
 
--- src/writing.rt:115:1
 returns : tie.Need-returns
 unfolding setupBytes
 returns c = cc

@@ -6,7 +6,6 @@ use Rattle.frames.proofs.writing.setup_fits.Tie as tie
 use Rattle.frames.proofs.writing.setup_fits.Reads as reads
 use Rattle.frames.proofs.writing.setup_fits.Lts as lts
 
--- src/writing.rt:175:1
 returns : tie.Need-returns
 unfolding fits
 returns c =

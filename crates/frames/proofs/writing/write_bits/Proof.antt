@@ -8,27 +8,21 @@ use Rattle.frames.proofs.writing.bits_bytes.Reads as bits-bytes-reads
 use Rattle.frames.proofs.writing.bits_fit.Reads as bits-fit-reads
 use Rattle.wire.proofs.emit.Reads as emit-reads
 
--- src/writing.rt:111:13
 bits-bytes-requires : tie.Need-bits-bytes-requires
 bits-bytes-requires c κs = search needs
 
--- src/writing.rt:112:15
 bits-fit-requires : tie.Need-bits-fit-requires
 bits-fit-requires c κs = search needs
 
--- src/writing.rt:112:28
 slice-aggregate-emit : tie.Need-slice-aggregate-emit
 slice-aggregate-emit c = search needs
 
--- src/writing.rt:112:5
 emit-requires : tie.Need-emit-requires
 emit-requires c κs = search needs
 
--- src/writing.rt:108:1
 same-length : tie.Need-same-length
 same-length c = search needs
 
--- src/writing.rt:108:1
 returns : tie.Need-returns
 unfolding encode
 returns c = rw (c .before .before .before .before .before .before .bits-bytes .ensures, c .before .before .before .before .bits-fit .ensures) at (c .before .before .emit .ensures)

@@ -18,61 +18,48 @@ use Rattle.frames.proofs.writing.write_data.Lts as lts
 use Rattle.bits.proofs.lay.Reads as lay-reads
 use Rattle.wire.proofs.payload_size.Reads as payload-size-reads
 
--- src/writing.rt:179:9
 payload-size-requires : tie.Need-payload-size-requires
 payload-size-requires c κs = search needs
 
--- src/writing.rt:180:9
 returns : tie.Need-returns
 unfolding fits
 returns c =
     let a = c .before .before .before .before .args in
     emitted-large (fits (payload (now (a .p)))) (encode (payload (now (a .p)))) (now (a .buf)) (sym (c .before .payload-size .ensures) ∙ not-true _ (c .if1 .taken))
 
--- src/writing.rt:182:20
 add-if2 : tie.Need-add-if2
 add-if2 c = search needs
 
--- src/writing.rt:183:9
 returns-2 : tie.Need-returns-2
 unfolding fits
 returns-2 c =
     let a = c .before .before .before .before .before .args in
     emitted-short (fits (payload (now (a .p)))) (encode (payload (now (a .p)))) (now (a .buf)) (sym (c .before .before .payload-size .ensures) ∙ not-false _ (c .before .if1 .left)) (omega (arith, length-payload (now (a .p))))
 
--- src/writing.rt:186:20
 slice-aggregate-lay : tie.Need-slice-aggregate-lay
 slice-aggregate-lay c = search needs
 
--- src/writing.rt:186:5
 lay-requires : tie.Need-lay-requires
 lay-requires c κs = search needs
 
--- src/writing.rt:187:15
 sub-lay : tie.Need-sub-lay
 sub-lay c = search needs
 
--- src/writing.rt:187:15
 part-lay-start : tie.Need-part-lay-start
 part-lay-start c = search needs
 
--- src/writing.rt:187:15
 part-lay-end : tie.Need-part-lay-end
 part-lay-end c = search needs
 
--- src/writing.rt:187:5
 lay-requires-2 : tie.Need-lay-requires-2
 lay-requires-2 c κs = search needs
 
--- src/writing.rt:190:14
 add-t8 : tie.Need-add-t8
 add-t8 c = search needs
 
--- src/writing.rt:175:1
 same-length : tie.Need-same-length
 same-length c = search needs
 
--- src/writing.rt:175:1
 returns-3 : tie.Need-returns-3
 unfolding fits encode
 returns-3 c =

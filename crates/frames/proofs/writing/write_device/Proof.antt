@@ -9,31 +9,24 @@ use Rattle.wire.proofs.register_bytes.Reads as register-bytes-reads
 use Rattle.frames.proofs.writing.device_fits.Reads as device-fits-reads
 use Rattle.wire.proofs.emit.Reads as emit-reads
 
--- src/writing.rt:85:9
 flags-requires : tie.Need-flags-requires
 flags-requires c κs = search needs
 
--- src/writing.rt:86:13
 register-bytes-requires : tie.Need-register-bytes-requires
 register-bytes-requires c κs = search needs
 
--- src/writing.rt:87:15
 device-fits-requires : tie.Need-device-fits-requires
 device-fits-requires c κs = search needs
 
--- src/writing.rt:87:31
 slice-aggregate-emit : tie.Need-slice-aggregate-emit
 slice-aggregate-emit c = search needs
 
--- src/writing.rt:87:5
 emit-requires : tie.Need-emit-requires
 emit-requires c κs = search needs
 
--- src/writing.rt:81:1
 same-length : tie.Need-same-length
 same-length c = search needs
 
--- src/writing.rt:81:1
 returns : tie.Need-returns
 unfolding encode
 returns c = rw (c .before .before .before .before .before .before .register-bytes .ensures, c .before .before .before .before .before .before .before .flags .ensures, c .before .before .before .before .device-fits .ensures) at (c .before .before .emit .ensures)

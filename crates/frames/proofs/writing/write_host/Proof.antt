@@ -9,31 +9,24 @@ use Rattle.wire.proofs.register_bytes.Reads as register-bytes-reads
 use Rattle.wire.proofs.emit.Reads as emit-reads
 use Rattle.frames.proofs.writing.host_fits.Reads as host-fits-reads
 
--- src/writing.rt:60:9
 flags-requires : tie.Need-flags-requires
 flags-requires c κs = search needs
 
--- src/writing.rt:61:13
 register-bytes-requires : tie.Need-register-bytes-requires
 register-bytes-requires c κs = search needs
 
--- src/writing.rt:71:15
 host-fits-requires : tie.Need-host-fits-requires
 host-fits-requires c κs = search needs
 
--- src/writing.rt:71:29
 slice-aggregate-emit : tie.Need-slice-aggregate-emit
 slice-aggregate-emit c = search needs
 
--- src/writing.rt:71:5
 emit-requires : tie.Need-emit-requires
 emit-requires c κs = search needs
 
--- src/writing.rt:56:1
 same-length : tie.Need-same-length
 same-length c = search needs
 
--- src/writing.rt:56:1
 returns : tie.Need-returns
 unfolding encode
 returns c = rw (c .before .before .before .before .before .before .register-bytes .ensures, c .before .before .before .before .before .before .before .flags .ensures, c .before .before .before .before .host-fits .ensures) at (c .before .before .emit .ensures)

@@ -8,27 +8,21 @@ use Rattle.wire.proofs.emit.Reads as emit-reads
 use Rattle.frames.proofs.writing.setup_bytes.Reads as setup-bytes-reads
 use Rattle.frames.proofs.writing.setup_fits.Reads as setup-fits-reads
 
--- src/writing.rt:184:13
 setup-bytes-requires : tie.Need-setup-bytes-requires
 setup-bytes-requires c κs = search needs
 
--- src/writing.rt:185:15
 setup-fits-requires : tie.Need-setup-fits-requires
 setup-fits-requires c κs = search needs
 
--- src/writing.rt:185:30
 slice-aggregate-emit : tie.Need-slice-aggregate-emit
 slice-aggregate-emit c = search needs
 
--- src/writing.rt:185:5
 emit-requires : tie.Need-emit-requires
 emit-requires c κs = search needs
 
--- src/writing.rt:181:1
 same-length : tie.Need-same-length
 same-length c = search needs
 
--- src/writing.rt:181:1
 returns : tie.Need-returns
 unfolding encode
 returns c = rw (c .before .before .before .before .before .before .setup-bytes .ensures, c .before .before .before .before .setup-fits .ensures) at (c .before .before .emit .ensures)

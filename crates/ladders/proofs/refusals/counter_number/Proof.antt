@@ -6,15 +6,12 @@ use Rattle.ladders.proofs.refusals.counter_number.Reads as reads
 use Rattle.ladders.proofs.refusals.counter_number.Lts as lts
 use Rattle.ladders.proofs.refusals.or_else.Reads as or-else-reads
 
--- src/refusals.rt:73:29
 or-else-requires : tie.Need-or-else-requires
 or-else-requires c κs = search needs
 
--- src/refusals.rt:73:5
 or-else-requires-2 : tie.Need-or-else-requires-2
 or-else-requires-2 c κs = search needs
 
--- src/refusals.rt:70:1
 returns : tie.Need-returns
 unfolding firstOf
 returns c = rw (c .or-else2 .ensures, c .before .or-else .ensures)

@@ -6,19 +6,15 @@ use Rattle.ladders.proofs.refusals.lent_number.Reads as reads
 use Rattle.ladders.proofs.refusals.lent_number.Lts as lts
 use Rattle.ladders.proofs.refusals.or_else.Reads as or-else-reads
 
--- src/refusals.rt:80:48
 or-else-requires : tie.Need-or-else-requires
 or-else-requires c κs = search needs
 
--- src/refusals.rt:80:29
 or-else-requires-2 : tie.Need-or-else-requires-2
 or-else-requires-2 c κs = search needs
 
--- src/refusals.rt:80:5
 or-else-requires-3 : tie.Need-or-else-requires-3
 or-else-requires-3 c κs = search needs
 
--- src/refusals.rt:77:1
 returns : tie.Need-returns
 unfolding firstOf
 returns c = rw (c .or-else3 .ensures, c .before .or-else2 .ensures, c .before .before .or-else .ensures)

@@ -6,27 +6,21 @@ use Rattle.ladders.proofs.refusals.open_number.Reads as reads
 use Rattle.ladders.proofs.refusals.open_number.Lts as lts
 use Rattle.ladders.proofs.refusals.or_else.Reads as or-else-reads
 
--- src/refusals.rt:29:48
 or-else-requires : tie.Need-or-else-requires
 or-else-requires c κs = search needs
 
--- src/refusals.rt:29:30
 or-else-requires-2 : tie.Need-or-else-requires-2
 or-else-requires-2 c κs = search needs
 
--- src/refusals.rt:29:13
 or-else-requires-3 : tie.Need-or-else-requires-3
 or-else-requires-3 c κs = search needs
 
--- src/refusals.rt:26:9
 or-else-requires-4 : tie.Need-or-else-requires-4
 or-else-requires-4 c κs = search needs
 
--- src/refusals.rt:23:5
 or-else-requires-5 : tie.Need-or-else-requires-5
 or-else-requires-5 c κs = search needs
 
--- src/refusals.rt:20:1
 returns : tie.Need-returns
 unfolding firstOf
 returns c = rw (c .or-else5 .ensures, c .before .or-else4 .ensures, c .before .before .or-else3 .ensures, c .before .before .before .or-else2 .ensures, c .before .before .before .before .or-else .ensures)

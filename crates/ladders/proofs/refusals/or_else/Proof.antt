@@ -4,12 +4,10 @@ use Rattle.ladders.proofs.refusals.or_else.Tie as tie
 use Rattle.ladders.proofs.refusals.or_else.Reads as reads
 use Rattle.ladders.proofs.refusals.or_else.Lts as lts
 
--- src/refusals.rt:8:1
 returns : tie.Need-returns
 unfolding pick
 returns c = rw (c .if1 .taken)
 
--- src/refusals.rt:8:1
 returns-2 : tie.Need-returns-2
 unfolding pick
 returns-2 c = rw (c .if1 .left)

@@ -6,11 +6,9 @@ use Rattle.ladders.proofs.refusals.power_number.Reads as reads
 use Rattle.ladders.proofs.refusals.power_number.Lts as lts
 use Rattle.ladders.proofs.refusals.or_else.Reads as or-else-reads
 
--- src/refusals.rt:17:5
 or-else-requires : tie.Need-or-else-requires
 or-else-requires c κs = search needs
 
--- src/refusals.rt:14:1
 returns : tie.Need-returns
 unfolding firstOf
 returns c = rw (c .or-else .ensures)

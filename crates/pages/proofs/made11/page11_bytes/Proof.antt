@@ -23,63 +23,48 @@ Inv-loop mask values page₀ at₀ row₀ page at row = Filled mask values page 
 abbrev μ-loop : tie.MeasureT-loop
 μ-loop mask values page₀ at₀ row₀ page at row = 16 - row
 
--- src/made11.rt:33:5
 loop-holds : tie.Need-loop-holds Inv-loop μ-loop
 loop-holds c = filled-none _ _
 
--- src/made11.rt:34:12
 is-kept-requires : tie.Need-is-kept-requires Inv-loop μ-loop
 is-kept-requires c κs = search needs
 
--- src/made11.rt:35:35
 id-of-requires : tie.Need-id-of-requires Inv-loop μ-loop
 id-of-requires c κs = search needs
 
--- src/made11.rt:35:47
 mul-row-bytes : tie.Need-mul-row-bytes Inv-loop μ-loop
 mul-row-bytes c = search needs
 
--- src/made11.rt:35:47
 array-read-row-bytes : tie.Need-array-read-row-bytes Inv-loop μ-loop
 array-read-row-bytes c = search needs
 
--- src/made11.rt:35:25
 row-bytes-requires : tie.Need-row-bytes-requires Inv-loop μ-loop
 row-bytes-requires c κs = omega (arith, id-small (c .before .before .before .before .loop .row) (omega arith))
 
--- src/made11.rt:36:23
 sub-lay : tie.Need-sub-lay Inv-loop μ-loop
 sub-lay c = search needs
 
--- src/made11.rt:36:23
 part-page-start : tie.Need-part-page-start Inv-loop μ-loop
 part-page-start c = search needs
 
--- src/made11.rt:36:23
 part-page-end : tie.Need-part-page-end Inv-loop μ-loop
 part-page-end c = search needs
 
--- src/made11.rt:36:40
 slice-aggregate-lay : tie.Need-slice-aggregate-lay Inv-loop μ-loop
 slice-aggregate-lay c = search needs
 
--- src/made11.rt:36:13
 lay-requires : tie.Need-lay-requires Inv-loop μ-loop
 lay-requires c κs = search needs
 
--- src/made11.rt:37:13
 add-at : tie.Need-add-at Inv-loop μ-loop
 add-at c = search needs
 
--- src/made11.rt:39:9
 add-row : tie.Need-add-row Inv-loop μ-loop
 add-row c = search needs
 
--- src/made11.rt:33:5
 loop-less : tie.Need-loop-less Inv-loop μ-loop
 loop-less c = search needs
 
--- src/made11.rt:33:5
 loop-again : tie.Need-loop-again Inv-loop μ-loop
 loop-again c =
     let l = c .before .before .before .loop in
@@ -93,19 +78,15 @@ loop-again c =
     (λ w. rw (w .1, w .2) (skip (a .mask) (a .t2) (l .page) (l .at) (l .row) h (sym k ∙ w .0 .left) (l .inv)))
     (c .if1 .came)
 
--- src/made11.rt:41:26
 slice-aggregate-sum-byte : tie.Need-slice-aggregate-sum-byte Inv-loop μ-loop
 slice-aggregate-sum-byte c = search needs
 
--- src/made11.rt:41:17
 sum-byte-requires : tie.Need-sum-byte-requires Inv-loop μ-loop
 sum-byte-requires c κs = search needs
 
--- src/made11.rt:41:5
 array-write-page : tie.Need-array-write-page Inv-loop μ-loop
 array-write-page c = search needs
 
--- src/made11.rt:27:1
 returns : tie.Need-returns Inv-loop μ-loop
 returns c =
     let l = c .before .before .before .loop in

@@ -7,31 +7,24 @@ use Rattle.pages.proofs.made11.row_bytes.Reads as reads
 use Rattle.pages.proofs.made11.row_bytes.Lts as lts
 use Rattle.bits.proofs.byte.Reads as byte-reads
 
--- src/made11.rt:17:9
 byte-requires : tie.Need-byte-requires
 byte-requires c κs = search needs
 
--- src/made11.rt:18:9
 byte-requires-2 : tie.Need-byte-requires-2
 byte-requires-2 c κs = search needs
 
--- src/made11.rt:19:9
 byte-requires-3 : tie.Need-byte-requires-3
 byte-requires-3 c κs = search needs
 
--- src/made11.rt:20:9
 byte-requires-4 : tie.Need-byte-requires-4
 byte-requires-4 c κs = search needs
 
--- src/made11.rt:21:9
 byte-requires-5 : tie.Need-byte-requires-5
 byte-requires-5 c κs = search needs
 
--- src/made11.rt:22:9
 byte-requires-6 : tie.Need-byte-requires-6
 byte-requires-6 c κs = search needs
 
--- src/made11.rt:10:1
 returns : tie.Need-returns
 unfolding rowBytes
 returns c = cc (or-shifted 2 12 (c .before .before .before .before .before .before .args .id) (c .before .before .before .before .before .before .pre))

@@ -5,11 +5,9 @@ use Rattle.pages.proofs.page10.first_byte.Tie as tie
 use Rattle.pages.proofs.page10.first_byte.Reads as reads
 use Rattle.pages.proofs.page10.first_byte.Lts as lts
 
--- src/page10.rt:27:7
 cast-result : tie.Need-cast-result
 cast-result c = search needs
 
--- src/page10.rt:24:1
 returns : tie.Need-returns
 returns c = first-or (c .args .nq) (c .args .tag)
 

@@ -8,11 +8,9 @@ use Rattle.pages.proofs.page10.log_fits.Reads as reads
 use Rattle.pages.proofs.page10.log_fits.Lts as lts
 use Rattle.wire.proofs.task_fits.Reads as task-fits-reads
 
--- src/page10.rt:35:5
 task-fits-requires : tie.Need-task-fits-requires
 task-fits-requires c κs = search needs
 
--- src/page10.rt:31:1
 returns : tie.Need-returns
 unfolding fits10
 returns c =

@@ -16,39 +16,30 @@ use Rattle.wire.proofs.register_bytes.Reads as register-bytes-reads
 use Rattle.pages.proofs.page10.first_byte.Reads as first-byte-reads
 use Rattle.pages.proofs.sums.sum_byte.Reads as sum-byte-reads
 
--- src/page10.rt:43:9
 first-byte-requires : tie.Need-first-byte-requires
 first-byte-requires c κs = search needs
 
--- src/page10.rt:44:16
 register-bytes-requires : tie.Need-register-bytes-requires
 register-bytes-requires c κs = search needs
 
--- src/page10.rt:46:15
 slice-aggregate-lay : tie.Need-slice-aggregate-lay
 slice-aggregate-lay c = search needs
 
--- src/page10.rt:46:26
 slice-aggregate-lay-2 : tie.Need-slice-aggregate-lay-2
 slice-aggregate-lay-2 c = search needs
 
--- src/page10.rt:46:5
 lay-requires : tie.Need-lay-requires
 lay-requires c κs = search needs
 
--- src/page10.rt:47:26
 slice-aggregate-sum-byte : tie.Need-slice-aggregate-sum-byte
 slice-aggregate-sum-byte c = search needs
 
--- src/page10.rt:47:17
 sum-byte-requires : tie.Need-sum-byte-requires
 sum-byte-requires c κs = search needs
 
--- src/page10.rt:47:5
 array-write-page : tie.Need-array-write-page
 array-write-page c = search needs
 
--- src/page10.rt:39:1
 returns : tie.Need-returns
 unfolding page10 registerBytes
 returns c =

@@ -8,31 +8,24 @@ use Rattle.wire.proofs.byte_of.Reads as byte-of-reads
 use Rattle.wire.proofs.flag.Reads as flag-reads
 use Rattle.wire.proofs.task_of.Reads as task-of-reads
 
--- src/page10.rt:61:9
 byte-of-requires : tie.Need-byte-of-requires
 byte-of-requires c κs = search needs
 
--- src/page10.rt:62:9
 flag-requires : tie.Need-flag-requires
 flag-requires c κs = search needs
 
--- src/page10.rt:65:14
 tag-in-requires : tie.Need-tag-in-requires
 tag-in-requires c κs = search needs
 
--- src/page10.rt:66:17
 byte-of-requires-2 : tie.Need-byte-of-requires-2
 byte-of-requires-2 c κs = search needs
 
--- src/page10.rt:67:16
 byte-of-requires-3 : tie.Need-byte-of-requires-3
 byte-of-requires-3 c κs = search needs
 
--- src/page10.rt:68:15
 task-of-requires : tie.Need-task-of-requires
 task-of-requires c κs = search needs
 
--- src/page10.rt:58:1
 returns : tie.Need-returns
 returns c = cc
 

@@ -15,25 +15,20 @@ use Rattle.pages.proofs.page10.read_log.Lts as lts
 use Rattle.pages.proofs.page10.read_fields.Reads as read-fields-reads
 use Rattle.pages.proofs.sums.byte_sum.Reads as byte-sum-reads
 
--- src/page10.rt:77:9
 returns : tie.Need-returns
 unfolding readLog firstOf pick
 returns c = log-told _ _ (rw (ne-eqb (length (now (c .before .before .args .page))) 512 (c .if1 .taken)))
 
--- src/page10.rt:79:8
 byte-sum-requires : tie.Need-byte-sum-requires
 byte-sum-requires c κs = search needs
 
--- src/page10.rt:80:9
 returns-2 : tie.Need-returns-2
 unfolding readLog firstOf pick
 returns-2 c = log-told _ _ (rw (eq-eqb (length (now (c .before .before .before .before .args .page))) 512 (c .before .before .if1 .left), ← c .before .byte-sum .ensures, ne-eqb _ 0 (c .if2 .taken)))
 
--- src/page10.rt:82:20
 read-fields-requires : tie.Need-read-fields-requires
 read-fields-requires c κs = search needs
 
--- src/page10.rt:73:1
 returns-3 : tie.Need-returns-3
 unfolding readLog firstOf pick
 returns-3 c = log-told _ _ (rw (eq-eqb (length (now (c .before .before .before .before .before .args .page))) 512 (c .before .before .before .if1 .left), ← c .before .before .byte-sum .ensures, eq-eqb _ 0 (c .before .if2 .left)) (ap Fields (c .read-fields .ensures)))

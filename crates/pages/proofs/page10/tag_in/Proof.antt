@@ -5,12 +5,10 @@ use Rattle.pages.proofs.page10.tag_in.Tie as tie
 use Rattle.pages.proofs.page10.tag_in.Reads as reads
 use Rattle.pages.proofs.page10.tag_in.Lts as lts
 
--- src/page10.rt:52:1
 returns : tie.Need-returns
 unfolding pick
 returns c = rw (c .if1 .taken)
 
--- src/page10.rt:52:1
 returns-2 : tie.Need-returns-2
 unfolding pick
 returns-2 c = rw (c .if1 .left) (and-mask (c .before .args .first) 5)

@@ -7,19 +7,15 @@ use Rattle.pages.proofs.page11.is_asked.Lts as lts
 use Rattle.pages.proofs.walk.is_vendor.Reads as is-vendor-reads
 use Rattle.pages.proofs.walk.number_of.Reads as number-of-reads
 
--- src/page11.rt:30:8
 is-vendor-requires : tie.Need-is-vendor-requires
 is-vendor-requires c κs = search needs
 
--- src/page11.rt:31:9
 returns : tie.Need-returns
 returns c = simp (sym (c .before .is-vendor .ensures) ∙ c .if1 .taken)
 
--- src/page11.rt:33:5
 number-of-requires : tie.Need-number-of-requires
 number-of-requires c κs = search needs
 
--- src/page11.rt:27:1
 returns-2 : tie.Need-returns-2
 returns-2 c = rw (c .number-of .ensures) (simp (sym (c .before .before .is-vendor .ensures) ∙ c .before .if1 .left))
 

@@ -16,26 +16,21 @@ use Rattle.pages.proofs.page11.read_counter.Lts as lts
 use Rattle.pages.proofs.page11.walk_page.Reads as walk-page-reads
 use Rattle.pages.proofs.sums.byte_sum.Reads as byte-sum-reads
 
--- src/page11.rt:91:9
 returns : tie.Need-returns
 unfolding readCounter firstOf pick
 returns c = counter-told _ _ _ (simp (ne-eqb _ 512 (c .if1 .taken)))
 
--- src/page11.rt:94:9
 returns-2 : tie.Need-returns-2
 unfolding readCounter firstOf pick
 returns-2 c = counter-told _ _ _ (simp (eq-eqb _ 512 (c .before .if1 .left), lt-ltb _ 1 (c .if2 .taken)))
 
--- src/page11.rt:97:9
 returns-3 : tie.Need-returns-3
 unfolding readCounter firstOf pick
 returns-3 c = counter-told _ _ _ (simp (eq-eqb _ 512 (c .before .before .if1 .left), le-ltb _ 1 (c .before .if2 .left), lt-ltb 4095 _ (c .if3 .taken)))
 
--- src/page11.rt:99:8
 byte-sum-requires : tie.Need-byte-sum-requires
 byte-sum-requires c κs = search needs
 
--- src/page11.rt:100:9
 returns-4 : tie.Need-returns-4
 unfolding readCounter firstOf pick
 returns-4 c =
@@ -43,11 +38,9 @@ returns-4 c =
     (rw (← c .before .byte-sum .ensures)
     (simp (eq-eqb _ 512 (c .before .before .before .before .if1 .left), le-ltb _ 1 (c .before .before .before .if2 .left), le-ltb 4095 _ (c .before .before .if3 .left), ne-eqb _ 0 (c .if4 .taken))))
 
--- src/page11.rt:102:5
 walk-page-requires : tie.Need-walk-page-requires
 walk-page-requires c κs = search needs
 
--- src/page11.rt:87:1
 returns-5 : tie.Need-returns-5
 unfolding readCounter firstOf pick
 returns-5 c =

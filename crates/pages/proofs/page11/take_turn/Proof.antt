@@ -12,65 +12,51 @@ use Rattle.bits.proofs.le.Reads as le-reads
 use Rattle.pages.proofs.page11.is_asked.Reads as is-asked-reads
 use Rattle.pages.proofs.walk.walk_step.Reads as walk-step-reads
 
--- src/page11.rt:40:11
 walk-step-requires : tie.Need-walk-step-requires
 walk-step-requires c κs = search needs
 
--- src/page11.rt:41:22
 enum-told : tie.Need-enum-told
 enum-told c = search needs
 
--- src/page11.rt:42:35
 enum-told-2 : tie.Need-enum-told-2
 enum-told-2 c = search needs
 
--- src/page11.rt:43:21
 enum-known-id : tie.Need-enum-known-id
 enum-known-id c = search needs
 
--- src/page11.rt:44:16
 is-asked-requires : tie.Need-is-asked-requires
 is-asked-requires c κs = search needs
 
--- src/page11.rt:47:29
 enum-told-3 : tie.Need-enum-told-3
 enum-told-3 c = search needs
 
--- src/page11.rt:47:29
 add-t14 : tie.Need-add-t14
 add-t14 c =
     let l = row-lies _ _ _ _ _ (sym (c .before .before .before .before .before .before .before .walk-step .ensures) ∙ c .before .before .before .before .before .id .given .1) in
     omega arith
 
--- src/page11.rt:48:47
 le-requires : tie.Need-le-requires
 le-requires c κs = search needs
 
--- src/page11.rt:50:53
 enum-told-4 : tie.Need-enum-told-4
 enum-told-4 c = search needs
 
--- src/page11.rt:51:55
 enum-told-5 : tie.Need-enum-told-5
 enum-told-5 c = search needs
 
--- src/page11.rt:55:25
 add-t19 : tie.Need-add-t19
 add-t19 c =
     let l = row-lies _ _ _ _ _ (sym (c .before .before .before .before .before .walk-step .ensures) ∙ c .before .before .before .id .given .1) in
     omega arith
 
--- src/page11.rt:37:1
 returns : tie.Need-returns
 unfolding turnOf
 returns c = ap (onStep _ _ _) (sym (c .enum-told .given .1) ∙ c .before .before .walk-step .ensures)
 
--- src/page11.rt:37:1
 returns-2 : tie.Need-returns-2
 unfolding turnOf
 returns-2 c = ap (onStep _ _ _) (sym (c .enum-told2 .given .1) ∙ c .before .before .walk-step .ensures)
 
--- src/page11.rt:37:1
 returns-3 : tie.Need-returns-3
 unfolding turnOf pick
 returns-3 c =
@@ -79,21 +65,18 @@ returns-3 c =
     (simp (sym (c .before .before .before .before .is-asked .ensures) ∙ c .before .before .before .if1 .taken)
     (rw (c .before .enum-told3 .given .1, value-read _ _ _ _ (l .most) (c .le .ensures))))
 
--- src/page11.rt:37:1
 returns-4 : tie.Need-returns-4
 unfolding turnOf pick
 returns-4 c =
     rw (← sym (c .before .before .before .before .before .id .given .1) ∙ c .before .before .before .before .before .before .before .walk-step .ensures)
     (simp (sym (c .before .before .before .is-asked .ensures) ∙ c .before .before .if1 .taken) (rw (c .enum-told4 .given .1)))
 
--- src/page11.rt:37:1
 returns-5 : tie.Need-returns-5
 unfolding turnOf pick
 returns-5 c =
     rw (← sym (c .before .before .before .before .before .id .given .1) ∙ c .before .before .before .before .before .before .before .walk-step .ensures)
     (simp (sym (c .before .before .before .is-asked .ensures) ∙ c .before .before .if1 .taken) (rw (c .enum-told5 .given .1)))
 
--- src/page11.rt:37:1
 returns-6 : tie.Need-returns-6
 unfolding turnOf pick
 returns-6 c =

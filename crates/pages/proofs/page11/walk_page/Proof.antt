@@ -19,37 +19,29 @@ Inv-loop page number at₀ found₀ at found = pick (damaged number (entries pag
 abbrev μ-loop : tie.MeasureT-loop
 μ-loop page number at₀ found₀ at found = 508 - at
 
--- src/page11.rt:69:5
 loop-holds : tie.Need-loop-holds Inv-loop μ-loop
 loop-holds c = walk-starts _ _
 
--- src/page11.rt:70:15
 take-turn-requires : tie.Need-take-turn-requires Inv-loop μ-loop
 take-turn-requires c κs = search needs
 
--- src/page11.rt:71:24
 enum-known-r : tie.Need-enum-known-r Inv-loop μ-loop
 enum-known-r c = search needs
 
--- src/page11.rt:72:17
 returns : tie.Need-returns Inv-loop μ-loop
 returns c = sym (c .before .before .before .before .before .loop .inv ∙ walk-done _ _ _ _ _ (c .before .before .before .before .loop-test .taken) (sym (c .before .before .before .take-turn .ensures) ∙ c .before .r .given .1))
 
--- src/page11.rt:75:21
 enum-known-next : tie.Need-enum-known-next Inv-loop μ-loop
 enum-known-next c = search needs
 
--- src/page11.rt:69:5
 loop-less : tie.Need-loop-less Inv-loop μ-loop
 loop-less c =
     let f = next-forward _ _ _ _ _ _ (sym (c .before .before .before .take-turn .ensures) ∙ c .before .next .given .1) in
     omega arith
 
--- src/page11.rt:69:5
 loop-again : tie.Need-loop-again Inv-loop μ-loop
 loop-again c = c .before .before .before .before .before .loop .inv ∙ walk-next _ _ _ _ _ _ (c .before .before .before .before .loop-test .taken) (sym (c .before .before .before .take-turn .ensures) ∙ c .before .next .given .1)
 
--- src/page11.rt:64:1
 returns-2 : tie.Need-returns-2 Inv-loop μ-loop
 returns-2 c = sym (c .before .loop .inv ∙ walk-end _ _ _ _ (c .loop-test .left))
 

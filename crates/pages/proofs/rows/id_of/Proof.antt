@@ -7,19 +7,15 @@ use Rattle.pages.proofs.rows.id_of.Tie as tie
 use Rattle.pages.proofs.rows.id_of.Reads as reads
 use Rattle.pages.proofs.rows.id_of.Lts as lts
 
--- src/rows.rt:21:9
 returns : tie.Need-returns
 returns c = sym (id-past _ (c .if1 .taken))
 
--- src/rows.rt:23:5
 mul-result : tie.Need-mul-result
 mul-result c = search needs
 
--- src/rows.rt:23:5
 array-read-result : tie.Need-array-read-result
 array-read-result c = search needs
 
--- src/rows.rt:17:1
 returns-2 : tie.Need-returns-2
 unfolding ids
 returns-2 c = refl

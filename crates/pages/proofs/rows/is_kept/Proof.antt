@@ -7,19 +7,15 @@ use Rattle.pages.proofs.rows.is_kept.Reads as reads
 use Rattle.pages.proofs.rows.is_kept.Lts as lts
 use Rattle.bits.proofs.bit.Reads as bit-reads
 
--- src/rows.rt:45:9
 returns : tie.Need-returns
 returns c = rw (le-ltb (c .before .args .row) 16 (c .if1 .taken))
 
--- src/rows.rt:47:28
 cast-bit : tie.Need-cast-bit
 cast-bit c = search needs
 
--- src/rows.rt:47:5
 bit-requires : tie.Need-bit-requires
 bit-requires c κs = search needs
 
--- src/rows.rt:41:1
 returns-2 : tie.Need-returns-2
 returns-2 c =
     let k = c .before .before .args .row in

@@ -20,15 +20,12 @@ Inv-loop number row₀ row = (row ≤ 16) × (rowOf number ≡ rowFrom row (drop
 abbrev μ-loop : tie.MeasureT-loop
 μ-loop number row₀ row = 16 - row
 
--- src/rows.rt:31:5
 loop-holds : tie.Need-loop-holds Inv-loop μ-loop
 loop-holds c = (omega arith, row-start _)
 
--- src/rows.rt:32:12
 id-of-requires : tie.Need-id-of-requires Inv-loop μ-loop
 id-of-requires c κs = search needs
 
--- src/rows.rt:33:13
 returns : tie.Need-returns Inv-loop μ-loop
 unfolding pick
 returns c =
@@ -36,15 +33,12 @@ returns c =
     let e = sym (c .before .id-of .ensures) ∙ c .if1 .taken in
     sym (l .inv .1 ∙ row-here (l .row) _ (c .before .before .loop-test .taken) ∙ simp (eq-eqb _ _ e))
 
--- src/rows.rt:35:9
 add-row : tie.Need-add-row Inv-loop μ-loop
 add-row c = search needs
 
--- src/rows.rt:31:5
 loop-less : tie.Need-loop-less Inv-loop μ-loop
 loop-less c = search needs
 
--- src/rows.rt:31:5
 loop-again : tie.Need-loop-again Inv-loop μ-loop
 unfolding pick
 loop-again c =
@@ -52,7 +46,6 @@ loop-again c =
     rw (add-one (l .row))
     (omega arith, l .inv .1 ∙ row-here (l .row) _ (c .before .before .loop-test .taken) ∙ rw (← c .before .id-of .ensures) (simp (ne-eqb _ _ (c .if1 .left))))
 
--- src/rows.rt:27:1
 returns-2 : tie.Need-returns-2 Inv-loop μ-loop
 returns-2 c =
     let l = c .before .loop in

@@ -18,43 +18,34 @@ Inv-loop s sum₀ i₀ sum i = (i ≤ length s) × (sum ≡ sumTo s i % 256)
 abbrev μ-loop : tie.MeasureT-loop
 μ-loop s sum₀ i₀ sum i = length s - i
 
--- src/sums.rt:11:5
 loop-holds : tie.Need-loop-holds Inv-loop μ-loop
 unfolding sumTo
 loop-holds c = search needs
 
--- src/sums.rt:12:22
 shared-slice-read-sum : tie.Need-shared-slice-read-sum Inv-loop μ-loop
 shared-slice-read-sum c = omega arith
 
--- src/sums.rt:12:22
 cast-sum : tie.Need-cast-sum Inv-loop μ-loop
 cast-sum c = omega (arith, c .shared-slice-known .given (c .before .before .loop .i))
 
--- src/sums.rt:12:16
 add-sum : tie.Need-add-sum Inv-loop μ-loop
 add-sum c = omega (arith, c .shared-slice-known .given (c .before .before .loop .i))
 
--- src/sums.rt:13:9
 add-i : tie.Need-add-i Inv-loop μ-loop
 add-i c = omega arith
 
--- src/sums.rt:11:5
 loop-less : tie.Need-loop-less Inv-loop μ-loop
 loop-less c = omega arith
 
--- src/sums.rt:11:5
 loop-again : tie.Need-loop-again Inv-loop μ-loop
 unfolding sumTo
 loop-again c =
     let l = c .before .before .loop in
     (omega arith, rw add-one (and-mask (l .sum + getD (c .before .before .before .args .s .now) (l .i) 0) 8 ∙ omega arith))
 
--- src/sums.rt:15:5
 cast-result : tie.Need-cast-result Inv-loop μ-loop
 cast-result c = omega arith
 
--- src/sums.rt:6:1
 returns : tie.Need-returns Inv-loop μ-loop
 unfolding sum256
 returns c =

@@ -9,23 +9,18 @@ use Rattle.pages.proofs.sums.sum_byte.Reads as reads
 use Rattle.pages.proofs.sums.sum_byte.Lts as lts
 use Rattle.pages.proofs.sums.byte_sum.Reads as byte-sum-reads
 
--- src/sums.rt:22:15
 byte-sum-requires : tie.Need-byte-sum-requires
 byte-sum-requires c κs = search needs
 
--- src/sums.rt:22:15
 cast-sum : tie.Need-cast-sum
 cast-sum c = search needs
 
--- src/sums.rt:23:7
 sub-result : tie.Need-sub-result
 sub-result c = search needs
 
--- src/sums.rt:23:5
 cast-result : tie.Need-cast-result
 cast-result c = fits-mask (256 - c .byte-sum .result) 8 tt
 
--- src/sums.rt:19:1
 returns : tie.Need-returns
 returns c = and-mask (256 - c .byte-sum .result) 8 ∙ ap (λ (k : ℕ). (256 - k) % 256) (c .byte-sum .ensures)
 

@@ -12,44 +12,35 @@ use Rattle.bits.proofs.le.Reads as le-reads
 use Rattle.pages.proofs.walk.is_faulty.Reads as is-faulty-reads
 use Rattle.pages.proofs.walk.width_of.Reads as width-of-reads
 
--- src/walk.rt:64:9
 returns : tie.Need-returns
 unfolding stepAt pick
 returns c = simp (le-leb 508 _ (c .if1 .taken))
 
--- src/walk.rt:66:9
 le-requires : tie.Need-le-requires
 le-requires c κs = search needs
 
--- src/walk.rt:68:9
 returns-2 : tie.Need-returns-2
 unfolding stepAt pick
 returns-2 c = rw (← id-read _ _ _ (c .before .le .ensures)) (simp (lt-leb 508 _ (c .before .before .if1 .left), eq-eqb _ 0 (c .if2 .taken)))
 
--- src/walk.rt:70:8
 is-faulty-requires : tie.Need-is-faulty-requires
 is-faulty-requires c κs = search needs
 
--- src/walk.rt:71:9
 returns-3 : tie.Need-returns-3
 unfolding stepAt pick
 returns-3 c =
     rw (← id-read _ _ _ (c .before .before .before .le .ensures))
     (simp (lt-leb 508 _ (c .before .before .before .before .if1 .left), ne-eqb _ 0 (c .before .before .if2 .left), sym (c .before .is-faulty .ensures) ∙ c .if3 .taken))
 
--- src/walk.rt:73:17
 add-start : tie.Need-add-start
 add-start c = search needs
 
--- src/walk.rt:74:19
 width-of-requires : tie.Need-width-of-requires
 width-of-requires c κs = search needs
 
--- src/walk.rt:74:15
 mul-len : tie.Need-mul-len
 mul-len c = search needs
 
--- src/walk.rt:60:1
 returns-4 : tie.Need-returns-4
 unfolding stepAt pick
 returns-4 c =

@@ -9,49 +9,38 @@ use Rattle.pages.proofs.walk.is_vendor.Reads as is-vendor-reads
 use Rattle.pages.proofs.walk.number_of.Reads as number-of-reads
 use Rattle.pages.proofs.walk.width_of.Reads as width-of-reads
 
--- src/walk.rt:43:9
 width-of-requires : tie.Need-width-of-requires
 width-of-requires c κs = search needs
 
--- src/walk.rt:45:9
 returns : tie.Need-returns
 returns c = rw (← c .before .width-of .ensures) (simp (lt-ltb _ 1 (c .if1 .taken)))
 
--- src/walk.rt:48:9
 returns-2 : tie.Need-returns-2
 returns-2 c = rw (← c .before .before .width-of .ensures) (simp (le-ltb _ 1 (c .before .if1 .left), lt-ltb 4 _ (c .if2 .taken)))
 
--- src/walk.rt:50:14
 add-if3 : tie.Need-add-if3
 add-if3 c = search needs
 
--- src/walk.rt:50:23
 mul-if3 : tie.Need-mul-if3
 mul-if3 c = search needs
 
--- src/walk.rt:50:14
 add-if3-2 : tie.Need-add-if3-2
 add-if3-2 c = search needs
 
--- src/walk.rt:51:9
 returns-3 : tie.Need-returns-3
 returns-3 c = rw (← c .before .before .before .width-of .ensures) (simp (le-ltb _ 1 (c .before .before .if1 .left), le-ltb 4 _ (c .before .if2 .left), lt-ltb 508 _ (c .if3 .taken)))
 
--- src/walk.rt:53:8
 is-vendor-requires : tie.Need-is-vendor-requires
 is-vendor-requires c κs = search needs
 
--- src/walk.rt:54:9
 returns-4 : tie.Need-returns-4
 returns-4 c =
     rw (← c .before .before .before .before .before .width-of .ensures)
     (simp (le-ltb _ 1 (c .before .before .before .before .if1 .left), le-ltb 4 _ (c .before .before .before .if2 .left), le-ltb 508 _ (c .before .before .if3 .left), sym (c .before .is-vendor .ensures) ∙ c .if4 .taken))
 
--- src/walk.rt:56:5
 number-of-requires : tie.Need-number-of-requires
 number-of-requires c κs = search needs
 
--- src/walk.rt:39:1
 returns-5 : tie.Need-returns-5
 returns-5 c =
     rw (← c .before .before .before .before .before .before .width-of .ensures, c .number-of .ensures)

@@ -7,7 +7,6 @@ use Rattle.pages.proofs.walk.is_vendor.Tie as tie
 use Rattle.pages.proofs.walk.is_vendor.Reads as reads
 use Rattle.pages.proofs.walk.is_vendor.Lts as lts
 
--- src/walk.rt:32:1
 returns : tie.Need-returns
 returns c = ap (λ (k : ℕ). eqb k 1) (and-mask (c .args .id / 32768) 1)
 

@@ -4,7 +4,6 @@ use Rattle.pages.proofs.walk.number_of.Tie as tie
 use Rattle.pages.proofs.walk.number_of.Reads as reads
 use Rattle.pages.proofs.walk.number_of.Lts as lts
 
--- src/walk.rt:25:1
 returns : tie.Need-returns
 returns c = and-mask (c .args .id) 12
 

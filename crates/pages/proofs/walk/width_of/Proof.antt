@@ -5,7 +5,6 @@ use Rattle.pages.proofs.walk.width_of.Tie as tie
 use Rattle.pages.proofs.walk.width_of.Reads as reads
 use Rattle.pages.proofs.walk.width_of.Lts as lts
 
--- src/walk.rt:18:1
 returns : tie.Need-returns
 returns c = and-mask (c .args .id / 4096) 3
 

@@ -7,31 +7,24 @@ use Rattle.wire.proofs.emit.Reads as emit-reads
 use Rattle.pages.proofs.made11.page11_bytes.Reads as page11-bytes-reads
 use Rattle.pages.proofs.rows.is_kept.Reads as is-kept-reads
 
--- src/writing.rt:24:16
 page11-bytes-requires : tie.Need-page11-bytes-requires
 page11-bytes-requires c κs = search needs
 
--- src/writing.rt:25:23
 is-kept-requires : tie.Need-is-kept-requires
 is-kept-requires c κs = search needs
 
--- src/writing.rt:25:42
 is-kept-requires-2 : tie.Need-is-kept-requires-2
 is-kept-requires-2 c κs = search needs
 
--- src/writing.rt:25:60
 slice-aggregate-emit : tie.Need-slice-aggregate-emit
 slice-aggregate-emit c = search needs
 
--- src/writing.rt:25:5
 emit-requires : tie.Need-emit-requires
 emit-requires c κs = search needs
 
--- src/writing.rt:21:1
 same-length : tie.Need-same-length
 same-length c = search needs
 
--- src/writing.rt:21:1
 returns : tie.Need-returns
 returns c = rw (c .before .before .before .before .before .before .before .page11-bytes .ensures, c .before .before .before .before .before .is-kept .ensures, c .before .before .before .before .is-kept2 .ensures) at (c .before .before .emit .ensures)
 

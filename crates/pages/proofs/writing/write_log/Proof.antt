@@ -7,27 +7,21 @@ use Rattle.wire.proofs.emit.Reads as emit-reads
 use Rattle.pages.proofs.page10.log_fits.Reads as log-fits-reads
 use Rattle.pages.proofs.page10.page10_bytes.Reads as page10-bytes-reads
 
--- src/writing.rt:16:16
 page10-bytes-requires : tie.Need-page10-bytes-requires
 page10-bytes-requires c κs = search needs
 
--- src/writing.rt:17:23
 log-fits-requires : tie.Need-log-fits-requires
 log-fits-requires c κs = search needs
 
--- src/writing.rt:17:36
 slice-aggregate-emit : tie.Need-slice-aggregate-emit
 slice-aggregate-emit c = search needs
 
--- src/writing.rt:17:5
 emit-requires : tie.Need-emit-requires
 emit-requires c κs = search needs
 
--- src/writing.rt:13:1
 same-length : tie.Need-same-length
 same-length c = search needs
 
--- src/writing.rt:13:1
 returns : tie.Need-returns
 returns c = rw (c .before .before .before .before .before .before .page10-bytes .ensures, c .before .before .before .before .log-fits .ensures) at (c .before .before .emit .ensures)
 

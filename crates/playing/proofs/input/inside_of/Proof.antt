@@ -7,15 +7,12 @@ use Rattle.playing.proofs.input.inside_of.Reads as reads
 use Rattle.playing.proofs.input.inside_of.Lts as lts
 use Rattle.playing.proofs.input.least.Reads as least-reads
 
--- src/input.rt:88:9
 least-requires : tie.Need-least-requires
 least-requires c κs = search needs
 
--- src/input.rt:89:9
 least-requires-2 : tie.Need-least-requires-2
 least-requires-2 c κs = search needs
 
--- src/input.rt:85:1
 returns : tie.Need-returns
 returns c =
     let w = c .before .before .args .last in

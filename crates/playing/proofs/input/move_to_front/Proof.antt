@@ -12,47 +12,36 @@ use Rattle.playing.proofs.input.move_to_front.Reads as reads
 use Rattle.playing.proofs.input.move_to_front.Lts as lts
 use Rattle.bits.proofs.lay.Reads as lay-reads
 
--- src/input.rt:43:13
 sub-n : tie.Need-sub-n
 sub-n c = search needs
 
--- src/input.rt:44:15
 slice-aggregate-lay : tie.Need-slice-aggregate-lay
 slice-aggregate-lay c = search needs
 
--- src/input.rt:44:27
 sub-lay : tie.Need-sub-lay
 sub-lay c = search needs
 
--- src/input.rt:44:27
 part-lay-start : tie.Need-part-lay-start
 part-lay-start c = search needs
 
--- src/input.rt:44:27
 part-lay-end : tie.Need-part-lay-end
 part-lay-end c = search needs
 
--- src/input.rt:44:5
 lay-requires : tie.Need-lay-requires
 lay-requires c κs = search needs
 
--- src/input.rt:45:22
 array-share-prefix-small : tie.Need-array-share-prefix-small
 array-share-prefix-small c = search needs
 
--- src/input.rt:45:22
 slice-aggregate-lay-2 : tie.Need-slice-aggregate-lay-2
 slice-aggregate-lay-2 c = sym (length-take-le _ _ (omega (arith, length-take (c .before .before .before .before .before .before .before .before .args .end - c .before .before .before .before .before .before .before .before .args .at) (drop (c .before .before .before .before .before .before .before .before .args .at) (now (c .before .before .before .before .before .before .before .before .args .input))))))
 
--- src/input.rt:45:5
 lay-requires-2 : tie.Need-lay-requires-2
 lay-requires-2 c κs = search needs
 
--- src/input.rt:36:1
 same-length : tie.Need-same-length
 same-length c = search needs
 
--- src/input.rt:36:1
 returns : tie.Need-returns
 returns c =
     let a = c .before .before .before .before .before .before .before .before .before .before .before .args in

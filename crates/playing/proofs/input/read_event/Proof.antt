@@ -13,43 +13,33 @@ Inv-loop fd input₀ kept window₀ turns₀ input window turns = Behind kept in
 abbrev μ-loop : tie.MeasureT-loop
 μ-loop fd input₀ kept window₀ turns₀ input window turns = turns
 
--- src/input.rt:70:9
 read-more-requires : tie.Need-read-more-requires Inv-loop μ-loop
 read-more-requires c κs = search needs
 
--- src/input.rt:72:5
 loop-holds : tie.Need-loop-holds Inv-loop μ-loop
 loop-holds c = search needs
 
--- src/input.rt:75:13
 same-length : tie.Need-same-length Inv-loop μ-loop
 same-length c = search needs
 
--- src/input.rt:75:13
 returns : tie.Need-returns Inv-loop μ-loop
 returns c = behind-again _ _ _ _ _ _ (c .before .before .before .before .before .before .read-more .ensures) (c .before .before .before .loop .inv)
 
--- src/input.rt:77:13
 read-more-requires-2 : tie.Need-read-more-requires-2 Inv-loop μ-loop
 read-more-requires-2 c κs = search needs
 
--- src/input.rt:79:9
 sub-turns : tie.Need-sub-turns Inv-loop μ-loop
 sub-turns c = search needs
 
--- src/input.rt:72:5
 loop-less : tie.Need-loop-less Inv-loop μ-loop
 loop-less c = search needs
 
--- src/input.rt:72:5
 loop-again : tie.Need-loop-again Inv-loop μ-loop
 loop-again c = behind-more _ _ _ _ _ _ (c .before .before .before .before .before .before .before .loop .inv) (c .before .before .read-more2 .ensures)
 
--- src/input.rt:66:1
 same-length-2 : tie.Need-same-length-2 Inv-loop μ-loop
 same-length-2 c = search needs
 
--- src/input.rt:66:1
 returns-2 : tie.Need-returns-2 Inv-loop μ-loop
 returns-2 c = behind-again _ _ _ _ _ _ (c .before .before .before .before .read-more .ensures) (c .before .loop .inv)
 

@@ -12,47 +12,36 @@ use Rattle.playing.proofs.input.read_more.Lts as lts
 use Rattle.io.proofs.count.Reads as count-reads
 use Rattle.libc.proofs.read.Reads as read-reads
 
--- src/input.rt:53:30
 sub-read : tie.Need-sub-read
 sub-read c = search needs
 
--- src/input.rt:53:30
 part-read-start : tie.Need-part-read-start
 part-read-start c = search needs
 
--- src/input.rt:53:30
 part-read-end : tie.Need-part-read-end
 part-read-end c = search needs
 
--- src/input.rt:53:9
 read-requires : tie.Need-read-requires
 read-requires c κs = search needs
 
--- src/input.rt:54:28
 sub-count : tie.Need-sub-count
 sub-count c = search needs
 
--- src/input.rt:54:28
 part-count-start : tie.Need-part-count-start
 part-count-start c = search needs
 
--- src/input.rt:54:28
 part-count-end : tie.Need-part-count-end
 part-count-end c = search needs
 
--- src/input.rt:54:9
 count-requires : tie.Need-count-requires
 count-requires c κs = search needs
 
--- src/input.rt:55:15
 add-end : tie.Need-add-end
 add-end c = search needs
 
--- src/input.rt:49:1
 same-length : tie.Need-same-length
 same-length c = search needs
 
--- src/input.rt:49:1
 returns : tie.Need-returns
 returns c =
     let a = c .before .before .before .before .before .before .before .before .args in

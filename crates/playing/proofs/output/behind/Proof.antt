@@ -10,27 +10,21 @@ use Rattle.playing.proofs.output.behind.Reads as reads
 use Rattle.playing.proofs.output.behind.Lts as lts
 use Rattle.playing.proofs.input.least.Reads as least-reads
 
--- src/output.rt:40:9
 returns : tie.Need-returns
 returns c = sym (pick-yes (eqb (c .before .args .n) 0) _ _ (eq-eqb (c .before .args .n) 0 (omega arith)))
 
--- src/output.rt:42:9
 least-requires : tie.Need-least-requires
 least-requires c κs = search needs
 
--- src/output.rt:43:19
 sub-least : tie.Need-sub-least
 sub-least c = search needs
 
--- src/output.rt:43:10
 least-requires-2 : tie.Need-least-requires-2
 least-requires-2 c κs = search needs
 
--- src/output.rt:43:5
 add-result : tie.Need-add-result
 add-result c = search needs
 
--- src/output.rt:36:1
 returns-2 : tie.Need-returns-2
 returns-2 c =
     let n = c .before .before .before .args .n in

@@ -6,39 +6,30 @@ use Rattle.playing.proofs.running.one.Lts as lts
 use Rattle.events.proofs.play_line.Reads as play-line-reads
 use Rattle.playing.proofs.output.behind.Reads as behind-reads
 
--- src/running.rt:42:9
 sub-play-line : tie.Need-sub-play-line
 sub-play-line c = search needs
 
--- src/running.rt:42:9
 part-play-line-start : tie.Need-part-play-line-start
 part-play-line-start c = search needs
 
--- src/running.rt:42:9
 part-play-line-end : tie.Need-part-play-line-end
 part-play-line-end c = search needs
 
--- src/running.rt:35:9
 play-line-requires : tie.Need-play-line-requires
 play-line-requires c κs = search needs
 
--- src/running.rt:46:9
 behind-requires : tie.Need-behind-requires
 behind-requires c κs = search needs
 
--- src/running.rt:22:1
 same-length : tie.Need-same-length
 same-length c = search needs
 
--- src/running.rt:22:1
 same-length-2 : tie.Need-same-length-2
 same-length-2 c = search needs
 
--- src/running.rt:22:1
 same-length-3 : tie.Need-same-length-3
 same-length-3 c = search needs
 
--- src/running.rt:22:1
 returns : tie.Need-returns
 returns c = search needs
 

@@ -24,149 +24,113 @@ abbrev μ-loop : tie.MeasureT-loop
 μ-loop fd traced input₀ medium₀ reply₀ output₀ step₀ window₀ number₀ input medium reply output step window number =
     18446744073709551615 - number
 
--- src/running.rt:69:5
 loop-holds : tie.Need-loop-holds Inv-loop μ-loop
 loop-holds c = search needs
 
--- src/running.rt:70:13
 refill-requires : tie.Need-refill-requires Inv-loop μ-loop
 refill-requires c κs = search needs
 
--- src/running.rt:74:41
 sub-next-event : tie.Need-sub-next-event Inv-loop μ-loop
 sub-next-event c = search needs
 
--- src/running.rt:74:41
 part-next-event-start : tie.Need-part-next-event-start Inv-loop μ-loop
 part-next-event-start c = search needs
 
--- src/running.rt:74:41
 part-next-event-end : tie.Need-part-next-event-end Inv-loop μ-loop
 part-next-event-end c = search needs
 
--- src/running.rt:74:15
 next-event-requires : tie.Need-next-event-requires Inv-loop μ-loop
 next-event-requires c κs = search needs
 
--- src/running.rt:75:25
 enum-known-n : tie.Need-enum-known-n Inv-loop μ-loop
 enum-known-n c = search needs
 
--- src/running.rt:76:21
 next-place-requires : tie.Need-next-place-requires Inv-loop μ-loop
 next-place-requires c κs = search needs
 
--- src/running.rt:78:21
 complain-requires : tie.Need-complain-requires Inv-loop μ-loop
 complain-requires c κs = search needs
 
--- src/running.rt:79:21
 same-length : tie.Need-same-length Inv-loop μ-loop
 same-length c = search needs
 
--- src/running.rt:79:21
 same-length-2 : tie.Need-same-length-2 Inv-loop μ-loop
 same-length-2 c = search needs
 
--- src/running.rt:79:21
 same-length-3 : tie.Need-same-length-3 Inv-loop μ-loop
 same-length-3 c = search needs
 
--- src/running.rt:79:21
 same-length-4 : tie.Need-same-length-4 Inv-loop μ-loop
 same-length-4 c = search needs
 
--- src/running.rt:79:21
 returns : tie.Need-returns Inv-loop μ-loop
 returns c = search needs
 
--- src/running.rt:82:26
 add-to : tie.Need-add-to Inv-loop μ-loop
 add-to c = let f = part-fits _ (c .before .before .before .before .before .before .before .before .before .before .before .refill .last .1 .0) (c .before .before .before .before .before .before .before .before .before .before .before .refill .result .at) (c .before .before .before .before .before .before .before .before .before .before .before .refill .result .end) (c .before .before .before .before .n .given .0 .0) _ (c .before .before .before .before .before .before .before .before .before .before .before .refill .ensures .within .order) (c .before .before .before .before .before .before .before .before .before .before .before .refill .ensures .within .bound) (c .before .before .before .before .before .before .next-event .ensures) (c .before .before .before .before .n .given .1) in omega arith
 
--- src/running.rt:88:21
 sub-one : tie.Need-sub-one Inv-loop μ-loop
 sub-one c = search needs
 
--- src/running.rt:88:21
 part-one-start : tie.Need-part-one-start Inv-loop μ-loop
 part-one-start c = search needs
 
--- src/running.rt:88:21
 part-one-end : tie.Need-part-one-end Inv-loop μ-loop
 part-one-end c =
     let f = part-fits _ (c .before .before .before .before .before .before .before .before .before .before .before .before .before .refill .last .1 .0) (c .before .before .before .before .before .before .before .before .before .before .before .before .before .refill .result .at) (c .before .before .before .before .before .before .before .before .before .before .before .before .before .refill .result .end) (c .before .before .before .before .before .before .n .given .0 .0) _ (c .before .before .before .before .before .before .before .before .before .before .before .before .before .refill .ensures .within .order) (c .before .before .before .before .before .before .before .before .before .before .before .before .before .refill .ensures .within .bound) (c .before .before .before .before .before .before .before .before .next-event .ensures) (c .before .before .before .before .before .before .n .given .1) in
     omega (arith, c .before .before .before .before .before .before .before .before .before .before .before .before .before .refill .ensures .within .bound)
 
--- src/running.rt:84:21
 one-requires : tie.Need-one-requires Inv-loop μ-loop
 one-requires c κs = search needs
 
--- src/running.rt:103:23
 enum-told : tie.Need-enum-told Inv-loop μ-loop
 enum-told c = search needs
 
--- src/running.rt:103:17
 close-requires : tie.Need-close-requires Inv-loop μ-loop
 close-requires c κs = search needs
 
--- src/running.rt:104:17
 same-length-5 : tie.Need-same-length-5 Inv-loop μ-loop
 same-length-5 c = search needs
 
--- src/running.rt:104:17
 same-length-6 : tie.Need-same-length-6 Inv-loop μ-loop
 same-length-6 c = search needs
 
--- src/running.rt:104:17
 same-length-7 : tie.Need-same-length-7 Inv-loop μ-loop
 same-length-7 c = search needs
 
--- src/running.rt:104:17
 same-length-8 : tie.Need-same-length-8 Inv-loop μ-loop
 same-length-8 c = search needs
 
--- src/running.rt:104:17
 returns-2 : tie.Need-returns-2 Inv-loop μ-loop
 returns-2 c = search needs
 
--- src/running.rt:107:23
 enum-told-2 : tie.Need-enum-told-2 Inv-loop μ-loop
 enum-told-2 c = search needs
 
--- src/running.rt:107:17
 close-requires-2 : tie.Need-close-requires-2 Inv-loop μ-loop
 close-requires-2 c κs = search needs
 
--- src/running.rt:108:17
 same-length-9 : tie.Need-same-length-9 Inv-loop μ-loop
 same-length-9 c = search needs
 
--- src/running.rt:108:17
 same-length-10 : tie.Need-same-length-10 Inv-loop μ-loop
 same-length-10 c = search needs
 
--- src/running.rt:108:17
 same-length-11 : tie.Need-same-length-11 Inv-loop μ-loop
 same-length-11 c = search needs
 
--- src/running.rt:108:17
 same-length-12 : tie.Need-same-length-12 Inv-loop μ-loop
 same-length-12 c = search needs
 
--- src/running.rt:108:17
 returns-3 : tie.Need-returns-3 Inv-loop μ-loop
 returns-3 c = search needs
 
--- src/running.rt:111:9
 add-number : tie.Need-add-number Inv-loop μ-loop
 add-number c = omega (arith, c .before .before .before .before .before .before .before .before .before .before .before .before .before .before .before .before .before .before .before .before .before .before .before .before .before .before .loop-test .taken)
 
--- src/running.rt:69:5
 loop-less : tie.Need-loop-less Inv-loop μ-loop
 loop-less c = omega (arith, c .before .before .before .before .before .before .before .before .before .before .before .before .before .before .before .before .before .before .before .before .before .before .before .before .before .before .loop-test .taken)
 
--- src/running.rt:69:5
 loop-again : tie.Need-loop-again Inv-loop μ-loop
 loop-again c =
     let f = part-fits _ (c .before .before .before .before .before .before .before .before .before .before .before .before .before .before .before .before .before .before .before .before .before .before .before .before .refill .last .1 .0) (c .before .before .before .before .before .before .before .before .before .before .before .before .before .before .before .before .before .before .before .before .before .before .before .before .refill .result .at) (c .before .before .before .before .before .before .before .before .before .before .before .before .before .before .before .before .before .before .before .before .before .before .before .before .refill .result .end) (c .before .before .before .before .before .before .before .before .before .before .before .before .before .before .before .before .before .n .given .0 .0) _ (c .before .before .before .before .before .before .before .before .before .before .before .before .before .before .before .before .before .before .before .before .before .before .before .before .refill .ensures .within .order) (c .before .before .before .before .before .before .before .before .before .before .before .before .before .before .before .before .before .before .before .before .before .before .before .before .refill .ensures .within .bound) (c .before .before .before .before .before .before .before .before .before .before .before .before .before .before .before .before .before .before .before .next-event .ensures) (c .before .before .before .before .before .before .before .before .before .before .before .before .before .before .before .before .before .n .given .1) in
@@ -180,27 +144,21 @@ loop-again c =
       record { order = f; bound = w .within .bound },
     )
 
--- src/running.rt:114:5
 close-requires-3 : tie.Need-close-requires-3 Inv-loop μ-loop
 close-requires-3 c κs = search needs
 
--- src/running.rt:54:1
 same-length-13 : tie.Need-same-length-13 Inv-loop μ-loop
 same-length-13 c = search needs
 
--- src/running.rt:54:1
 same-length-14 : tie.Need-same-length-14 Inv-loop μ-loop
 same-length-14 c = search needs
 
--- src/running.rt:54:1
 same-length-15 : tie.Need-same-length-15 Inv-loop μ-loop
 same-length-15 c = search needs
 
--- src/running.rt:54:1
 same-length-16 : tie.Need-same-length-16 Inv-loop μ-loop
 same-length-16 c = search needs
 
--- src/running.rt:54:1
 returns-4 : tie.Need-returns-4 Inv-loop μ-loop
 returns-4 c = search needs
 

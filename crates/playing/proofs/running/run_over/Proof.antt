@@ -14,149 +14,113 @@ use Rattle.playing.proofs.output.behind.Reads as behind-reads
 use Rattle.playing.proofs.output.close.Reads as close-reads
 use Rattle.playing.proofs.running.play_on.Reads as play-on-reads
 
--- src/running.rt:125:36
 unread-requires : tie.Need-unread-requires
 unread-requires c κs = search needs
 
--- src/running.rt:125:9
 refill-requires : tie.Need-refill-requires
 refill-requires c κs = search needs
 
--- src/running.rt:128:51
 sub-next-event : tie.Need-sub-next-event
 sub-next-event c = search needs
 
--- src/running.rt:128:51
 part-next-event-start : tie.Need-part-next-event-start
 part-next-event-start c = search needs
 
--- src/running.rt:128:51
 part-next-event-end : tie.Need-part-next-event-end
 part-next-event-end c = search needs
 
--- src/running.rt:128:26
 next-event-requires : tie.Need-next-event-requires
 next-event-requires c κs = search needs
 
--- src/running.rt:128:21
 enum-known-n : tie.Need-enum-known-n
 enum-known-n c = search needs
 
--- src/running.rt:129:9
 close-requires : tie.Need-close-requires
 close-requires c κs = search needs
 
--- src/running.rt:130:9
 same-length : tie.Need-same-length
 same-length c = search needs
 
--- src/running.rt:130:9
 same-length-2 : tie.Need-same-length-2
 same-length-2 c = search needs
 
--- src/running.rt:130:9
 returns : tie.Need-returns
 returns c = search needs
 
--- src/running.rt:132:14
 add-to : tie.Need-add-to
 add-to c = let f = part-fits _ (c .before .before .before .before .before .before .before .before .refill .last .1 .0) (c .before .before .before .before .before .before .before .before .refill .result .at) (c .before .before .before .before .before .before .before .before .refill .result .end) (c .before .n .given .0 .0) _ (c .before .before .before .before .before .before .before .before .refill .ensures .within .order) (c .before .before .before .before .before .before .before .before .refill .ensures .within .bound) (c .before .before .before .next-event .ensures) (c .before .n .given .1) in omega arith
 
--- src/running.rt:134:43
 sub-start-line : tie.Need-sub-start-line
 sub-start-line c = search needs
 
--- src/running.rt:134:43
 part-start-line-start : tie.Need-part-start-line-start
 part-start-line-start c = search needs
 
--- src/running.rt:134:43
 part-start-line-end : tie.Need-part-start-line-end
 part-start-line-end c =
     let f = part-fits _ (c .before .before .before .before .before .before .before .before .before .refill .last .1 .0) (c .before .before .before .before .before .before .before .before .before .refill .result .at) (c .before .before .before .before .before .before .before .before .before .refill .result .end) (c .before .before .n .given .0 .0) _ (c .before .before .before .before .before .before .before .before .before .refill .ensures .within .order) (c .before .before .before .before .before .before .before .before .before .refill .ensures .within .bound) (c .before .before .before .before .next-event .ensures) (c .before .before .n .given .1) in
     omega (arith, c .before .before .before .before .before .before .before .before .before .refill .ensures .within .bound)
 
--- src/running.rt:134:9
 start-line-requires : tie.Need-start-line-requires
 start-line-requires c κs = search needs
 
--- src/running.rt:136:9
 behind-requires : tie.Need-behind-requires
 behind-requires c κs = search needs
 
--- src/running.rt:140:9
 close-requires-2 : tie.Need-close-requires-2
 close-requires-2 c κs = search needs
 
--- src/running.rt:141:9
 same-length-3 : tie.Need-same-length-3
 same-length-3 c = search needs
 
--- src/running.rt:141:9
 same-length-4 : tie.Need-same-length-4
 same-length-4 c = search needs
 
--- src/running.rt:141:9
 returns-2 : tie.Need-returns-2
 returns-2 c = search needs
 
--- src/running.rt:143:39
 cast-size : tie.Need-cast-size
 cast-size c = search needs
 
--- src/running.rt:143:16
 mul-size : tie.Need-mul-size
 mul-size c = search needs
 
--- src/running.rt:145:9
 close-requires-3 : tie.Need-close-requires-3
 close-requires-3 c κs = search needs
 
--- src/running.rt:146:9
 same-length-5 : tie.Need-same-length-5
 same-length-5 c = c .before .before .before .before .before .before .before .before .before .before .before .before .before .before .before .before .before .before .before .before .before .refill .kept .1 .0
 
--- src/running.rt:146:9
 same-length-6 : tie.Need-same-length-6
 same-length-6 c = search needs
 
--- src/running.rt:146:9
 returns-3 : tie.Need-returns-3
 returns-3 c = search needs
 
--- src/running.rt:161:9
 sub-play-on : tie.Need-sub-play-on
 sub-play-on c = search needs
 
--- src/running.rt:161:9
 part-play-on-start : tie.Need-part-play-on-start
 part-play-on-start c = search needs
 
--- src/running.rt:161:9
 part-play-on-end : tie.Need-part-play-on-end
 part-play-on-end c = search needs
 
--- src/running.rt:155:5
 play-on-requires : tie.Need-play-on-requires
 play-on-requires c κs = record { order = part-fits _ (c .before .before .before .before .before .before .before .before .before .before .before .before .before .before .before .before .before .before .before .before .before .before .before .refill .last .1 .0) (c .before .before .before .before .before .before .before .before .before .before .before .before .before .before .before .before .before .before .before .before .before .before .before .refill .result .at) (c .before .before .before .before .before .before .before .before .before .before .before .before .before .before .before .before .before .before .before .before .before .before .before .refill .result .end) (c .before .before .before .before .before .before .before .before .before .before .before .before .before .before .before .before .n .given .0 .0) _ (c .before .before .before .before .before .before .before .before .before .before .before .before .before .before .before .before .before .before .before .before .before .before .before .refill .ensures .within .order) (c .before .before .before .before .before .before .before .before .before .before .before .before .before .before .before .before .before .before .before .before .before .before .before .refill .ensures .within .bound) (c .before .before .before .before .before .before .before .before .before .before .before .before .before .before .before .before .before .before .next-event .ensures) (c .before .before .before .before .before .before .before .before .before .before .before .before .before .before .before .before .n .given .1); bound = c .before .before .before .before .before .before .before .before .before .before .before .before .before .before .before .before .before .before .before .before .before .before .before .refill .ensures .within .bound }
 
--- src/running.rt:117:1
 same-length-7 : tie.Need-same-length-7
 same-length-7 c = c .before .before .before .before .before .before .before .before .play-on .kept .1 .1 .1 .1 .0 ∙ c .before .before .before .before .before .before .before .before .before .before .before .before .before .before .before .before .before .before .before .before .before .before .before .before .before .before .before .before .before .before .before .before .refill .kept .1 .0
 
--- src/running.rt:117:1
 same-length-8 : tie.Need-same-length-8
 same-length-8 c = search needs
 
--- src/running.rt:117:1
 same-length-9 : tie.Need-same-length-9
 same-length-9 c = search needs
 
--- src/running.rt:117:1
 same-length-10 : tie.Need-same-length-10
 same-length-10 c = search needs
 
--- src/running.rt:117:1
 returns-4 : tie.Need-returns-4
 returns-4 c = search needs
 

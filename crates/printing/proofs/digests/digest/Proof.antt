@@ -19,55 +19,42 @@ abbrev μ-loop : tie.MeasureT-loop
 below : (d f : ℕ) → d ≤ 4294967296 → f ≤ 65536 → d * f ≤ 281474976710656
 below d f hd hf = omega (arith, mul-le-mul-left d hf)
 
--- src/digests.rt:13:9
 returns : tie.Need-returns Inv-loop μ-loop
 returns c = search needs
 
--- src/digests.rt:17:17
 rem-d : tie.Need-rem-d Inv-loop μ-loop
 rem-d c = search needs
 
--- src/digests.rt:19:5
 loop-holds : tie.Need-loop-holds Inv-loop μ-loop
 loop-holds c = (search needs, mod-lt (c .before .before .args .from) (search needs))
 
--- src/digests.rt:20:14
 mul-d : tie.Need-mul-d Inv-loop μ-loop
 mul-d c = omega (arith, below (c .before .loop .d) (c .before .before .before .before .args .factor) (search needs) (search needs))
 
--- src/digests.rt:20:27
 shared-slice-read-wide : tie.Need-shared-slice-read-wide Inv-loop μ-loop
 shared-slice-read-wide c = search needs
 
--- src/digests.rt:20:22
 wide-requires : tie.Need-wide-requires Inv-loop μ-loop
 wide-requires c κs = search needs
 
--- src/digests.rt:20:14
 add-d : tie.Need-add-d Inv-loop μ-loop
 add-d c = omega (arith, below (c .before .before .before .loop .d) (c .before .before .before .before .before .before .args .factor) (search needs) (search needs))
 
--- src/digests.rt:20:14
 add-d-2 : tie.Need-add-d-2 Inv-loop μ-loop
 add-d-2 c = omega (arith, below (c .before .before .before .loop .d) (c .before .before .before .before .before .before .args .factor) (search needs) (search needs))
 
--- src/digests.rt:20:13
 rem-d-2 : tie.Need-rem-d-2 Inv-loop μ-loop
 rem-d-2 c = search needs
 
--- src/digests.rt:21:9
 add-i : tie.Need-add-i Inv-loop μ-loop
 add-i c = search needs
 
--- src/digests.rt:19:5
 loop-less : tie.Need-loop-less Inv-loop μ-loop
 loop-less c = search needs
 
--- src/digests.rt:19:5
 loop-again : tie.Need-loop-again Inv-loop μ-loop
 loop-again c = (search needs, mod-lt _ (search needs))
 
--- src/digests.rt:11:1
 returns-2 : tie.Need-returns-2 Inv-loop μ-loop
 returns-2 c = search needs
 

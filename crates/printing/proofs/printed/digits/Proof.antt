@@ -15,75 +15,57 @@ Inv-loop s most ten text₀ i₀ text i = (i ≤ 64) × (128 ≡ length text)
 abbrev μ-loop : tie.MeasureT-loop
 μ-loop s most ten text₀ i₀ text i = 64 - i
 
--- src/printed.rt:49:5
 loop-holds : tie.Need-loop-holds Inv-loop μ-loop
 loop-holds c = search needs
 
--- src/printed.rt:50:17
 shared-slice-read-b : tie.Need-shared-slice-read-b Inv-loop μ-loop
 shared-slice-read-b c = search needs
 
--- src/printed.rt:51:23
 digit-requires : tie.Need-digit-requires Inv-loop μ-loop
 digit-requires c κs = search needs
 
--- src/printed.rt:51:14
 mul-text : tie.Need-mul-text Inv-loop μ-loop
 mul-text c = search needs
 
--- src/printed.rt:51:9
 array-write-text : tie.Need-array-write-text Inv-loop μ-loop
 array-write-text c = search needs
 
--- src/printed.rt:52:27
 digit-requires-2 : tie.Need-digit-requires-2 Inv-loop μ-loop
 digit-requires-2 c κs = search needs
 
--- src/printed.rt:52:14
 mul-text-2 : tie.Need-mul-text-2 Inv-loop μ-loop
 mul-text-2 c = search needs
 
--- src/printed.rt:52:14
 add-text : tie.Need-add-text Inv-loop μ-loop
 add-text c = search needs
 
--- src/printed.rt:52:9
 array-write-text-2 : tie.Need-array-write-text-2 Inv-loop μ-loop
 array-write-text-2 c = search needs
 
--- src/printed.rt:53:9
 add-i : tie.Need-add-i Inv-loop μ-loop
 add-i c = search needs
 
--- src/printed.rt:49:5
 loop-less : tie.Need-loop-less Inv-loop μ-loop
 loop-less c = search needs
 
--- src/printed.rt:49:5
 loop-again : tie.Need-loop-again Inv-loop μ-loop
 loop-again c = search needs
 
--- src/printed.rt:55:43
 mul-write-all : tie.Need-mul-write-all Inv-loop μ-loop
 mul-write-all c = search needs
 
--- src/printed.rt:55:34
 sub-write-all : tie.Need-sub-write-all Inv-loop μ-loop
 sub-write-all c = search needs
 
--- src/printed.rt:55:34
 part-write-all-start : tie.Need-part-write-all-start Inv-loop μ-loop
 part-write-all-start c = search needs
 
--- src/printed.rt:55:34
 part-write-all-end : tie.Need-part-write-all-end Inv-loop μ-loop
 part-write-all-end c = search needs
 
--- src/printed.rt:55:5
 write-all-requires : tie.Need-write-all-requires Inv-loop μ-loop
 write-all-requires c κs = search needs
 
--- src/printed.rt:44:1
 returns : tie.Need-returns Inv-loop μ-loop
 returns c = search needs
 

@@ -22,35 +22,27 @@ Inv-loop out₀ page end₀ row₀ out end row =
 abbrev μ-loop : tie.MeasureT-loop
 μ-loop out₀ page end₀ row₀ out end row = 16 - row
 
--- src/counters.rt:79:5
 loop-holds : tie.Need-loop-holds Inv-loop μ-loop
 loop-holds c = (omega arith, refl, refl)
 
--- src/counters.rt:80:43
 id-of-requires : tie.Need-id-of-requires Inv-loop μ-loop
 id-of-requires c κs = search needs
 
--- src/counters.rt:80:9
 put-counter-requires : tie.Need-put-counter-requires Inv-loop μ-loop
 put-counter-requires c κs = search needs
 
--- src/counters.rt:81:9
 add-row : tie.Need-add-row Inv-loop μ-loop
 add-row c = search needs
 
--- src/counters.rt:79:5
 loop-less : tie.Need-loop-less Inv-loop μ-loop
 loop-less c = search needs
 
--- src/counters.rt:79:5
 loop-again : tie.Need-loop-again Inv-loop μ-loop
 loop-again c = (omega arith, search needs, lines-turn (now (c .before .before .before .before .before .before .before .before .before .args .page)) (c .before .before .before .before .before .before .loop .row) _ _ _ _ (c .before .before .before .before .before .loop-test .taken) (c .before .before .before .id-of .ensures) (c .before .before .before .before .before .before .loop .inv .2) (c .before .before .put-counter .ensures))
 
--- src/counters.rt:74:1
 same-length : tie.Need-same-length Inv-loop μ-loop
 same-length c = search needs
 
--- src/counters.rt:74:1
 returns : tie.Need-returns Inv-loop μ-loop
 returns c = lines-end (now (c .before .before .before .before .args .page)) (c .before .loop .row) _ _ (omega arith) (c .before .loop .inv .2)
 

@@ -11,65 +11,50 @@ use Rattle.read_page.proofs.tops.is_top.Reads as is-top-reads
 use Rattle.read_page.proofs.words.put_refusal.Reads as put-refusal-reads
 use Rattle.text.proofs.put.Reads as put-reads
 
--- src/counters.rt:58:11
 read-counter-requires : tie.Need-read-counter-requires
 read-counter-requires c κs = search needs
 
--- src/counters.rt:59:24
 enum-known-v : tie.Need-enum-known-v
 enum-known-v c = search needs
 
--- src/counters.rt:59:52
 is-top-requires : tie.Need-is-top-requires
 is-top-requires c κs = search needs
 
--- src/counters.rt:59:30
 put-value-requires : tie.Need-put-value-requires
 put-value-requires c κs = search needs
 
--- src/counters.rt:60:32
 enum-told : tie.Need-enum-told
 enum-told c = search needs
 
--- src/counters.rt:60:41
 slice-aggregate-put : tie.Need-slice-aggregate-put
 slice-aggregate-put c = search needs
 
--- src/counters.rt:60:28
 put-requires : tie.Need-put-requires
 put-requires c κs = search needs
 
--- src/counters.rt:61:26
 enum-known-n : tie.Need-enum-known-n
 enum-known-n c = search needs
 
--- src/counters.rt:61:32
 put-refusal-requires : tie.Need-put-refusal-requires
 put-refusal-requires c κs = search needs
 
--- src/counters.rt:55:1
 same-length : tie.Need-same-length
 same-length c = search needs
 
--- src/counters.rt:55:1
 returns : tie.Need-returns
 unfolding answerLine
 returns c = rw (sym (c .before .before .before .before .before .before .before .before .read-counter .ensures .answer) ∙ c .before .before .before .before .before .before .v .given .1) (rw (c .before .before .before .is-top .ensures) at (c .before .before .put-value .ensures))
 
--- src/counters.rt:55:1
 same-length-2 : tie.Need-same-length-2
 same-length-2 c = search needs
 
--- src/counters.rt:55:1
 returns-2 : tie.Need-returns-2
 unfolding answerLine
 returns-2 c = rw (sym (c .before .before .before .before .before .before .before .read-counter .ensures .answer) ∙ c .before .before .before .before .before .enum-told .given .1) (c .before .before .put .ensures)
 
--- src/counters.rt:55:1
 same-length-3 : tie.Need-same-length-3
 same-length-3 c = search needs
 
--- src/counters.rt:55:1
 returns-3 : tie.Need-returns-3
 unfolding answerLine
 returns-3 c = rw (sym (c .before .before .before .before .before .before .before .read-counter .ensures .answer) ∙ c .before .before .before .before .before .n .given .1) (c .before .before .put-refusal .ensures)

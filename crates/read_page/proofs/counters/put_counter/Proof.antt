@@ -12,27 +12,21 @@ use Rattle.read_page.proofs.counters.put_answer.Reads as put-answer-rea
 use Rattle.read_page.proofs.words.put_upper.Reads as put-upper-reads
 use Rattle.text.proofs.put.Reads as put-reads
 
--- src/counters.rt:69:9
 put-upper-requires : tie.Need-put-upper-requires
 put-upper-requires c κs = search needs
 
--- src/counters.rt:70:25
 slice-aggregate-put : tie.Need-slice-aggregate-put
 slice-aggregate-put c = search needs
 
--- src/counters.rt:70:9
 put-requires : tie.Need-put-requires
 put-requires c κs = search needs
 
--- src/counters.rt:71:5
 put-answer-requires : tie.Need-put-answer-requires
 put-answer-requires c κs = search needs
 
--- src/counters.rt:66:1
 same-length : tie.Need-same-length
 same-length c = search needs
 
--- src/counters.rt:66:1
 returns : tie.Need-returns
 unfolding counterLine
 returns c =

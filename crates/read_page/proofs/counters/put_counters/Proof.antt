@@ -9,19 +9,15 @@ use Rattle.read_page.proofs.counters.put_counters.Lts as lts
 use Rattle.read_page.proofs.counters.put_read.Reads as put-read-reads
 use Rattle.text.proofs.whole.Reads as whole-reads
 
--- src/counters.rt:101:9
 put-read-requires : tie.Need-put-read-requires
 put-read-requires c κs = search needs
 
--- src/counters.rt:102:5
 whole-requires : tie.Need-whole-requires
 whole-requires c κs = search needs
 
--- src/counters.rt:98:1
 same-length : tie.Need-same-length
 same-length c = search needs
 
--- src/counters.rt:98:1
 returns : tie.Need-returns
 returns c = fronted (countersText (now (c .before .before .before .before .before .before .before .args .page))) _ _ _ _ (c .before .before .before .put-read .ensures) (c .whole .ensures)
 

@@ -8,31 +8,24 @@ use Rattle.read_page.proofs.counters.put_all.Reads as put-all-reads
 use Rattle.read_page.proofs.counters.refusal.Reads as refusal-reads
 use Rattle.read_page.proofs.words.put_refusal.Reads as put-refusal-reads
 
--- src/counters.rt:90:9
 refusal-requires : tie.Need-refusal-requires
 refusal-requires c κs = search needs
 
--- src/counters.rt:92:9
 put-refusal-requires : tie.Need-put-refusal-requires
 put-refusal-requires c κs = search needs
 
--- src/counters.rt:92:9
 same-length : tie.Need-same-length
 same-length c = search needs
 
--- src/counters.rt:92:9
 returns : tie.Need-returns
 returns c = rw (text-refused _ _ (c .before .before .before .before .before .refusal .ensures) (c .before .before .before .before .if1 .taken)) (c .before .before .put-refusal .ensures)
 
--- src/counters.rt:94:5
 put-all-requires : tie.Need-put-all-requires
 put-all-requires c κs = search needs
 
--- src/counters.rt:87:1
 same-length-2 : tie.Need-same-length-2
 same-length-2 c = search needs
 
--- src/counters.rt:87:1
 returns-2 : tie.Need-returns-2
 returns-2 c = rw (text-answered _ _ (c .before .before .before .before .before .refusal .ensures) (c .before .before .before .before .if1 .left)) (c .before .before .put-all .ensures)
 

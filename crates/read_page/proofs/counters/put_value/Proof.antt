@@ -13,36 +13,28 @@ use Rattle.text.proofs.put_decimal.Reads as put-decimal-reads
 use Rattle.text.proofs.put.Reads as put-reads
 use Rattle.text.proofs.put_byte.Reads as put-byte-reads
 
--- src/counters.rt:47:9
 put-decimal-requires : tie.Need-put-decimal-requires
 put-decimal-requires c κs = search needs
 
--- src/counters.rt:49:28
 slice-aggregate-put : tie.Need-slice-aggregate-put
 slice-aggregate-put c = search needs
 
--- src/counters.rt:49:9
 put-requires : tie.Need-put-requires
 put-requires c κs = search needs
 
--- src/counters.rt:49:9
 same-length : tie.Need-same-length
 same-length c = search needs
 
--- src/counters.rt:49:9
 returns : tie.Need-returns
 unfolding valueLine pick
 returns c = rw (c .before .before .before .before .before .if1 .taken) (wrote-both (decimal (c .before .before .before .before .before .before .before .before .before .before .before .args .v)) topWord _ _ _ (c .before .before .before .before .before .before .before .before .put-decimal .ensures) (c .before .before .put .ensures))
 
--- src/counters.rt:51:5
 put-byte-requires : tie.Need-put-byte-requires
 put-byte-requires c κs = search needs
 
--- src/counters.rt:44:1
 same-length-2 : tie.Need-same-length-2
 same-length-2 c = search needs
 
--- src/counters.rt:44:1
 returns-2 : tie.Need-returns-2
 unfolding valueLine pick
 returns-2 c = rw (c .before .before .before .before .if1 .left) (wrote-both (decimal (c .before .before .before .before .before .before .before .before .before .before .args .v)) (10 ∷ []) _ _ _ (c .before .before .before .before .before .before .before .put-decimal .ensures) (c .before .before .put-byte .ensures))

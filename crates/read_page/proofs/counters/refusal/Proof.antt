@@ -19,39 +19,31 @@ Inv-loop page row₀ row = (row ≤ 16) × (refusalIn page ids ≡ refusalIn pag
 abbrev μ-loop : tie.MeasureT-loop
 μ-loop page row₀ row = 16 - row
 
--- src/counters.rt:33:5
 loop-holds : tie.Need-loop-holds Inv-loop μ-loop
 loop-holds c = (omega arith, refl)
 
--- src/counters.rt:34:34
 id-of-requires : tie.Need-id-of-requires Inv-loop μ-loop
 id-of-requires c κs = search needs
 
--- src/counters.rt:34:13
 refusal-of-requires : tie.Need-refusal-of-requires Inv-loop μ-loop
 refusal-of-requires c κs = search needs
 
--- src/counters.rt:36:13
 returns : tie.Need-returns Inv-loop μ-loop
 returns c =
     let l = c .before .before .before .before .loop in
     sym (l .inv .1 ∙ asked-refused _ (l .row) (c .before .before .before .loop-test .taken) _ _ (c .before .before .id-of .ensures) (c .before .refusal-of .ensures) (c .if1 .taken))
 
--- src/counters.rt:38:9
 add-row : tie.Need-add-row Inv-loop μ-loop
 add-row c = search needs
 
--- src/counters.rt:33:5
 loop-less : tie.Need-loop-less Inv-loop μ-loop
 loop-less c = search needs
 
--- src/counters.rt:33:5
 loop-again : tie.Need-loop-again Inv-loop μ-loop
 loop-again c =
     let l = c .before .before .before .before .loop in
     (omega arith, l .inv .1 ∙ asked-next _ (l .row) (c .before .before .before .loop-test .taken) _ _ (c .before .before .id-of .ensures) (c .before .refusal-of .ensures) (c .if1 .left))
 
--- src/counters.rt:29:1
 returns-2 : tie.Need-returns-2 Inv-loop μ-loop
 returns-2 c =
     let l = c .before .loop in

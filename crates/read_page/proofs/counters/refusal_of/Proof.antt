@@ -8,33 +8,26 @@ use Rattle.read_page.proofs.counters.refusal_of.Reads as reads
 use Rattle.read_page.proofs.counters.refusal_of.Lts as lts
 use Rattle.pages.proofs.read_counter.Reads as read-counter-reads
 
--- src/counters.rt:21:11
 read-counter-requires : tie.Need-read-counter-requires
 read-counter-requires c κs = search needs
 
--- src/counters.rt:22:30
 enum-told : tie.Need-enum-told
 enum-told c = search needs
 
--- src/counters.rt:23:28
 enum-told-2 : tie.Need-enum-told-2
 enum-told-2 c = search needs
 
--- src/counters.rt:24:26
 enum-known-n : tie.Need-enum-known-n
 enum-known-n c = search needs
 
--- src/counters.rt:18:1
 returns : tie.Need-returns
 unfolding toldCounter
 returns c = ap (λ (r : Counter). toldCounter r .number) (sym (c .enum-told .given .1)) ∙ c .before .before .read-counter .ensures .refusal
 
--- src/counters.rt:18:1
 returns-2 : tie.Need-returns-2
 unfolding toldCounter
 returns-2 c = ap (λ (r : Counter). toldCounter r .number) (sym (c .enum-told2 .given .1)) ∙ c .before .before .read-counter .ensures .refusal
 
--- src/counters.rt:18:1
 returns-3 : tie.Need-returns-3
 unfolding toldCounter
 returns-3 c = ap (λ (r : Counter). toldCounter r .number) (sym (c .before .n .given .1)) ∙ c .before .before .before .read-counter .ensures .refusal

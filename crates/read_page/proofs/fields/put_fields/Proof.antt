@@ -9,19 +9,15 @@ use Rattle.read_page.proofs.fields.put_fields.Lts as lts
 use Rattle.read_page.proofs.fields.put_read.Reads as put-read-reads
 use Rattle.text.proofs.whole.Reads as whole-reads
 
--- src/fields.rt:50:9
 put-read-requires : tie.Need-put-read-requires
 put-read-requires c κs = search needs
 
--- src/fields.rt:51:5
 whole-requires : tie.Need-whole-requires
 whole-requires c κs = search needs
 
--- src/fields.rt:47:1
 same-length : tie.Need-same-length
 same-length c = search needs
 
--- src/fields.rt:47:1
 returns : tie.Need-returns
 returns c = fronted (fieldsText (now (c .before .before .before .before .before .before .before .args .page))) _ _ _ _ (c .before .before .before .put-read .ensures) (c .whole .ensures)
 

@@ -8,19 +8,15 @@ use Rattle.read_page.proofs.fields.put_log.Lts as lts
 use Rattle.read_page.proofs.fields.put_marks.Reads as put-marks-reads
 use Rattle.read_page.proofs.fields.put_task.Reads as put-task-reads
 
--- src/fields.rt:32:9
 put-marks-requires : tie.Need-put-marks-requires
 put-marks-requires c κs = search needs
 
--- src/fields.rt:33:5
 put-task-requires : tie.Need-put-task-requires
 put-task-requires c κs = search needs
 
--- src/fields.rt:29:1
 same-length : tie.Need-same-length
 same-length c = search needs
 
--- src/fields.rt:29:1
 returns : tie.Need-returns
 returns c = wrote-both (marksText (c .before .before .before .before .before .before .before .before .before .args .log)) (taskText (c .before .before .before .before .before .before .before .before .before .args .log .task)) _ _ _ (c .before .before .before .before .before .before .put-marks .ensures) (c .before .before .put-task .ensures)
 

@@ -11,59 +11,45 @@ use Rattle.read_page.proofs.fields.put_marks.Lts as lts
 use Rattle.read_page.proofs.words.put_hex.Reads as put-hex-reads
 use Rattle.read_page.proofs.words.put_number.Reads as put-number-reads
 
--- src/fields.rt:15:32
 slice-aggregate-put-number : tie.Need-slice-aggregate-put-number
 slice-aggregate-put-number c = search needs
 
--- src/fields.rt:15:40
 cast-put-number : tie.Need-cast-put-number
 cast-put-number c = search needs
 
--- src/fields.rt:15:9
 put-number-requires : tie.Need-put-number-requires
 put-number-requires c κs = search needs
 
--- src/fields.rt:16:32
 slice-aggregate-put-number-2 : tie.Need-slice-aggregate-put-number-2
 slice-aggregate-put-number-2 c = search needs
 
--- src/fields.rt:16:41
 cast-put-number-2 : tie.Need-cast-put-number-2
 cast-put-number-2 c = search needs
 
--- src/fields.rt:16:9
 put-number-requires-2 : tie.Need-put-number-requires-2
 put-number-requires-2 c κs = search needs
 
--- src/fields.rt:17:29
 slice-aggregate-put-hex : tie.Need-slice-aggregate-put-hex
 slice-aggregate-put-hex c = search needs
 
--- src/fields.rt:17:41
 cast-put-hex : tie.Need-cast-put-hex
 cast-put-hex c = search needs
 
--- src/fields.rt:17:9
 put-hex-requires : tie.Need-put-hex-requires
 put-hex-requires c κs = search needs
 
--- src/fields.rt:18:21
 slice-aggregate-put-hex-2 : tie.Need-slice-aggregate-put-hex-2
 slice-aggregate-put-hex-2 c = search needs
 
--- src/fields.rt:18:32
 cast-put-hex-2 : tie.Need-cast-put-hex-2
 cast-put-hex-2 c = search needs
 
--- src/fields.rt:18:5
 put-hex-requires-2 : tie.Need-put-hex-requires-2
 put-hex-requires-2 c κs = search needs
 
--- src/fields.rt:12:1
 same-length : tie.Need-same-length
 same-length c = search needs
 
--- src/fields.rt:12:1
 returns : tie.Need-returns
 unfolding marksText
 returns c =

@@ -9,40 +9,31 @@ use Rattle.pages.proofs.read_log.Reads as read-log-reads
 use Rattle.read_page.proofs.fields.put_log.Reads as put-log-reads
 use Rattle.read_page.proofs.words.put_refusal.Reads as put-refusal-reads
 
--- src/fields.rt:40:11
 read-log-requires : tie.Need-read-log-requires
 read-log-requires c κs = search needs
 
--- src/fields.rt:41:24
 enum-known-log : tie.Need-enum-known-log
 enum-known-log c = search needs
 
--- src/fields.rt:41:32
 put-log-requires : tie.Need-put-log-requires
 put-log-requires c κs = search needs
 
--- src/fields.rt:42:25
 enum-known-n : tie.Need-enum-known-n
 enum-known-n c = search needs
 
--- src/fields.rt:42:31
 put-refusal-requires : tie.Need-put-refusal-requires
 put-refusal-requires c κs = search needs
 
--- src/fields.rt:37:1
 same-length : tie.Need-same-length
 same-length c = search needs
 
--- src/fields.rt:37:1
 returns : tie.Need-returns
 unfolding fieldsText logText
 returns c = rw (sym (c .before .before .before .before .before .before .before .read-log .ensures .answer) ∙ c .before .before .before .before .before .log .given .1) (c .before .before .put-log .ensures)
 
--- src/fields.rt:37:1
 same-length-2 : tie.Need-same-length-2
 same-length-2 c = search needs
 
--- src/fields.rt:37:1
 returns-2 : tie.Need-returns-2
 unfolding fieldsText logText
 returns-2 c = rw (sym (c .before .before .before .before .before .before .before .read-log .ensures .answer) ∙ c .before .before .before .before .before .n .given .1) (c .before .before .put-refusal .ensures)

@@ -9,43 +9,33 @@ use Rattle.read_page.proofs.fields.put_task.Reads as reads
 use Rattle.read_page.proofs.fields.put_task.Lts as lts
 use Rattle.read_page.proofs.words.put_hex.Reads as put-hex-reads
 
--- src/fields.rt:24:30
 slice-aggregate-put-hex : tie.Need-slice-aggregate-put-hex
 slice-aggregate-put-hex c = search needs
 
--- src/fields.rt:24:9
 put-hex-requires : tie.Need-put-hex-requires
 put-hex-requires c κs = search needs
 
--- src/fields.rt:25:29
 slice-aggregate-put-hex-2 : tie.Need-slice-aggregate-put-hex-2
 slice-aggregate-put-hex-2 c = search needs
 
--- src/fields.rt:25:41
 cast-put-hex : tie.Need-cast-put-hex
 cast-put-hex c = search needs
 
--- src/fields.rt:25:9
 put-hex-requires-2 : tie.Need-put-hex-requires-2
 put-hex-requires-2 c κs = search needs
 
--- src/fields.rt:26:21
 slice-aggregate-put-hex-3 : tie.Need-slice-aggregate-put-hex-3
 slice-aggregate-put-hex-3 c = search needs
 
--- src/fields.rt:26:32
 cast-put-hex-2 : tie.Need-cast-put-hex-2
 cast-put-hex-2 c = search needs
 
--- src/fields.rt:26:5
 put-hex-requires-3 : tie.Need-put-hex-requires-3
 put-hex-requires-3 c κs = search needs
 
--- src/fields.rt:21:1
 same-length : tie.Need-same-length
 same-length c = search needs
 
--- src/fields.rt:21:1
 returns : tie.Need-returns
 unfolding taskText
 returns c =

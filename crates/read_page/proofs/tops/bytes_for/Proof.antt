@@ -21,66 +21,52 @@ Inv-loop page number at₀ at = bytesFor number (entries page) ≡ fromHere page
 abbrev μ-loop : tie.MeasureT-loop
 μ-loop page number at₀ at = 508 - at
 
--- src/tops.rt:42:5
 loop-holds : tie.Need-loop-holds Inv-loop μ-loop
 loop-holds c = width-starts _ _
 
--- src/tops.rt:43:13
 le-requires : tie.Need-le-requires Inv-loop μ-loop
 le-requires c κs = search needs
 
--- src/tops.rt:45:13
 returns : tie.Need-returns Inv-loop μ-loop
 returns c = sym (c .before .before .before .loop .inv ∙ width-end _ _ _ (c .before .before .loop-test .taken) _ (id-read _ _ _ (c .before .le .ensures)) (c .if1 .taken))
 
--- src/tops.rt:47:13
 value-bytes-requires : tie.Need-value-bytes-requires Inv-loop μ-loop
 value-bytes-requires c κs = search needs
 
--- src/tops.rt:48:12
 is-asked-requires : tie.Need-is-asked-requires Inv-loop μ-loop
 is-asked-requires c κs = search needs
 
--- src/tops.rt:49:13
 returns-2 : tie.Need-returns-2 Inv-loop μ-loop
 returns-2 c =
     c .before .before .value-bytes .ensures
     ∙ sym (c .before .before .before .before .before .before .loop .inv ∙ width-hit _ _ _ (c .before .before .before .before .before .loop-test .taken) _ (id-read _ _ _ (c .before .before .before .before .le .ensures)) (c .before .before .before .if1 .left) (sym (c .before .is-asked .ensures) ∙ c .if2 .taken))
 
--- src/tops.rt:51:19
 add-end : tie.Need-add-end Inv-loop μ-loop
 add-end c = search needs
 
--- src/tops.rt:51:19
 add-end-2 : tie.Need-add-end-2 Inv-loop μ-loop
 add-end-2 c = search needs
 
--- src/tops.rt:52:22
 width-of-requires : tie.Need-width-of-requires Inv-loop μ-loop
 width-of-requires c κs = search needs
 
--- src/tops.rt:52:12
 is-broken-requires : tie.Need-is-broken-requires Inv-loop μ-loop
 is-broken-requires c κs = search needs
 
--- src/tops.rt:53:13
 returns-3 : tie.Need-returns-3 Inv-loop μ-loop
 returns-3 c =
     sym
     (c .before .before .before .before .before .before .before .before .before .loop .inv
     ∙ width-stop _ _ _ (c .before .before .before .before .before .before .before .before .loop-test .taken) _ (id-read _ _ _ (c .before .before .before .before .before .before .before .le .ensures)) (c .before .before .before .before .before .before .if1 .left) (sym (c .before .before .before .before .is-asked .ensures) ∙ c .before .before .before .if2 .left) _ _ (c .before .before .width-of .ensures) (c .before .before .before .before .before .value-bytes .ensures) (sym (c .before .is-broken .ensures) ∙ c .if3 .taken))
 
--- src/tops.rt:42:5
 loop-less : tie.Need-loop-less Inv-loop μ-loop
 loop-less c = search needs
 
--- src/tops.rt:42:5
 loop-again : tie.Need-loop-again Inv-loop μ-loop
 loop-again c =
     c .before .before .before .before .before .before .before .before .before .loop .inv
     ∙ width-next _ _ _ (c .before .before .before .before .before .before .before .before .loop-test .taken) _ (id-read _ _ _ (c .before .before .before .before .before .before .before .le .ensures)) (c .before .before .before .before .before .before .if1 .left) (sym (c .before .before .before .before .is-asked .ensures) ∙ c .before .before .before .if2 .left) _ _ (c .before .before .width-of .ensures) (c .before .before .before .before .before .value-bytes .ensures) (sym (c .before .is-broken .ensures) ∙ c .if3 .left)
 
--- src/tops.rt:38:1
 returns-4 : tie.Need-returns-4 Inv-loop μ-loop
 returns-4 c = sym (c .before .loop .inv ∙ width-past _ _ _ (c .loop-test .left))
 

@@ -8,7 +8,6 @@ use Rattle.read_page.proofs.tops.is_asked.Tie as tie
 use Rattle.read_page.proofs.tops.is_asked.Reads as reads
 use Rattle.read_page.proofs.tops.is_asked.Lts as lts
 
--- src/tops.rt:24:1
 returns : tie.Need-returns
 returns c = ap₂ (λ (v n : ℕ). not (eqb v 1) && eqb n (c .args .number)) (and-mask (c .args .id / 32768) 1) (and-mask (c .args .id) 12)
 

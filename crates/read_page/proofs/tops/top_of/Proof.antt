@@ -10,26 +10,21 @@ use Rattle.read_page.proofs.tops.top_of.Tie as tie
 use Rattle.read_page.proofs.tops.top_of.Reads as reads
 use Rattle.read_page.proofs.tops.top_of.Lts as lts
 
--- src/tops.rt:65:9
 returns : tie.Need-returns
 unfolding topOf
 returns c =
     let e : min (c .before .args .bytes) 8 ≡ 8 = omega arith in
     rw e
 
--- src/tops.rt:67:15
 mul-result : tie.Need-mul-result
 mul-result c = search needs
 
--- src/tops.rt:67:6
 shl-result : tie.Need-shl-result
 shl-result c = search needs
 
--- src/tops.rt:67:5
 sub-result : tie.Need-sub-result
 sub-result c = rw (one-shl 64 (8 * c .before .args .bytes) (omega arith)) (pow-pos (8 * c .before .args .bytes))
 
--- src/tops.rt:61:1
 returns-2 : tie.Need-returns-2
 unfolding topOf
 returns-2 c =

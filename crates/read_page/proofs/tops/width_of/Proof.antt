@@ -5,7 +5,6 @@ use Rattle.read_page.proofs.tops.width_of.Tie as tie
 use Rattle.read_page.proofs.tops.width_of.Reads as reads
 use Rattle.read_page.proofs.tops.width_of.Lts as lts
 
--- src/tops.rt:10:1
 returns : tie.Need-returns
 returns c = and-mask (c .args .id / 4096) 3
 

@@ -10,27 +10,21 @@ use Rattle.read_page.proofs.words.put_hex.Lts as lts
 use Rattle.read_page.proofs.words.put_upper.Reads as put-upper-reads
 use Rattle.text.proofs.put.Reads as put-reads
 
--- src/words.rt:50:9
 put-requires : tie.Need-put-requires
 put-requires c κs = search needs
 
--- src/words.rt:51:9
 put-upper-requires : tie.Need-put-upper-requires
 put-upper-requires c κs = search needs
 
--- src/words.rt:52:17
 slice-aggregate-put : tie.Need-slice-aggregate-put
 slice-aggregate-put c = search needs
 
--- src/words.rt:52:5
 put-requires-2 : tie.Need-put-requires-2
 put-requires-2 c κs = search needs
 
--- src/words.rt:46:1
 same-length : tie.Need-same-length
 same-length c = search needs
 
--- src/words.rt:46:1
 returns : tie.Need-returns
 unfolding hexLine
 returns c =

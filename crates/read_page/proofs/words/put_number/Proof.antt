@@ -12,23 +12,18 @@ use Rattle.text.proofs.put_decimal.Reads as put-decimal-reads
 use Rattle.text.proofs.put.Reads as put-reads
 use Rattle.text.proofs.put_byte.Reads as put-byte-reads
 
--- src/words.rt:19:9
 put-requires : tie.Need-put-requires
 put-requires c κs = search needs
 
--- src/words.rt:20:9
 put-decimal-requires : tie.Need-put-decimal-requires
 put-decimal-requires c κs = search needs
 
--- src/words.rt:21:5
 put-byte-requires : tie.Need-put-byte-requires
 put-byte-requires c κs = search needs
 
--- src/words.rt:16:1
 same-length : tie.Need-same-length
 same-length c = search needs
 
--- src/words.rt:16:1
 returns : tie.Need-returns
 unfolding numberLine
 returns c =

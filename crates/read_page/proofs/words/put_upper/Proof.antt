@@ -14,75 +14,57 @@ use Rattle.read_page.proofs.words.left_out.Reads as left-out-reads
 use Rattle.text.proofs.put_hex.Reads as put-hex-reads
 use Rattle.text.proofs.put.Reads as put-reads
 
--- src/words.rt:37:9
 byte-requires : tie.Need-byte-requires
 byte-requires c κs = search needs
 
--- src/words.rt:38:9
 byte-requires-2 : tie.Need-byte-requires-2
 byte-requires-2 c κs = search needs
 
--- src/words.rt:39:9
 byte-requires-3 : tie.Need-byte-requires-3
 byte-requires-3 c κs = search needs
 
--- src/words.rt:40:9
 byte-requires-4 : tie.Need-byte-requires-4
 byte-requires-4 c κs = search needs
 
--- src/words.rt:41:9
 byte-requires-5 : tie.Need-byte-requires-5
 byte-requires-5 c κs = search needs
 
--- src/words.rt:42:9
 byte-requires-6 : tie.Need-byte-requires-6
 byte-requires-6 c κs = search needs
 
--- src/words.rt:43:9
 byte-requires-7 : tie.Need-byte-requires-7
 byte-requires-7 c κs = search needs
 
--- src/words.rt:44:9
 byte-requires-8 : tie.Need-byte-requires-8
 byte-requires-8 c κs = search needs
 
--- src/words.rt:47:19
 slice-aggregate-put-hex : tie.Need-slice-aggregate-put-hex
 slice-aggregate-put-hex c = search needs
 
--- src/words.rt:47:32
 slice-aggregate-put-hex-2 : tie.Need-slice-aggregate-put-hex-2
 slice-aggregate-put-hex-2 c = search needs
 
--- src/words.rt:47:5
 put-hex-requires : tie.Need-put-hex-requires
 put-hex-requires c κs = search needs
 
--- src/words.rt:48:9
 left-out-requires : tie.Need-left-out-requires
 left-out-requires c κs = search needs
 
--- src/words.rt:49:18
 sub-put : tie.Need-sub-put
 sub-put c = search needs
 
--- src/words.rt:49:18
 part-put-start : tie.Need-part-put-start
 part-put-start c = search needs
 
--- src/words.rt:49:18
 part-put-end : tie.Need-part-put-end
 part-put-end c = search needs
 
--- src/words.rt:49:5
 put-requires : tie.Need-put-requires
 put-requires c κs = search needs
 
--- src/words.rt:33:1
 same-length : tie.Need-same-length
 same-length c = search needs
 
--- src/words.rt:33:1
 returns : tie.Need-returns
 returns c =
     let a = c .before .before .before .before .before .before .before .before .before .before .before .before .before .before .before .before .before .before .before .before .args in

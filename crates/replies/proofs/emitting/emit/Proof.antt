@@ -15,29 +15,23 @@ use Rattle.replies.proofs.emitting.emit.Lts as lts
 use Rattle.replies.proofs.shown.is_sized.Reads as is-sized-reads
 use Rattle.replies.proofs.emitting.send.Reads as send-reads
 
--- src/emitting.rt:309:9
 returns : tie.Need-returns
 unfolding pick
 returns c = rw (lt-leb 8196 (length (now (c .before .before .before .args .reply))) (c .if1 .taken)) (sends-none (now (c .before .before .before .args .reply)))
 
--- src/emitting.rt:311:9
 is-sized-requires : tie.Need-is-sized-requires
 is-sized-requires c κs = search needs
 
--- src/emitting.rt:312:9
 returns-2 : tie.Need-returns-2
 unfolding pick
 returns-2 c = rw (le-leb 8196 (length (now (c .before .before .before .before .before .args .reply))) (c .before .before .if1 .left), sym (c .before .is-sized .ensures) ∙ not-true _ (c .if2 .taken)) (sends-none (now (c .before .before .before .before .before .args .reply)))
 
--- src/emitting.rt:314:5
 send-requires : tie.Need-send-requires
 send-requires c κs = (search needs, sym (c .before .before .is-sized .ensures) ∙ not-false _ (c .before .if2 .left))
 
--- src/emitting.rt:298:1
 same-length : tie.Need-same-length
 same-length c = search needs
 
--- src/emitting.rt:298:1
 returns-3 : tie.Need-returns-3
 unfolding pick
 returns-3 c = rw (le-leb 8196 (length (now (c .before .before .before .before .before .before .before .before .before .args .reply))) (c .before .before .before .before .before .before .if1 .left), sym (c .before .before .before .before .before .is-sized .ensures) ∙ not-false _ (c .before .before .before .before .if2 .left)) (c .before .before .send .ensures)

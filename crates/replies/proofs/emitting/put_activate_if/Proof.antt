@@ -11,20 +11,16 @@ use Rattle.replies.proofs.emitting.put_activate_if.Reads as reads
 use Rattle.replies.proofs.emitting.put_activate_if.Lts as lts
 use Rattle.frames.proofs.write_activate.Reads as write-activate-reads
 
--- src/emitting.rt:71:9
 returns : tie.Need-returns
 unfolding pick
 returns c = (rw (not-true (c .before .before .args .on) (c .if1 .taken)) (sends-none (now (c .before .before .args .reply))), search needs)
 
--- src/emitting.rt:73:9
 write-activate-requires : tie.Need-write-activate-requires
 write-activate-requires c κs = search needs
 
--- src/emitting.rt:66:1
 same-length : tie.Need-same-length
 same-length c = search needs
 
--- src/emitting.rt:66:1
 returns-2 : tie.Need-returns-2
 unfolding pick
 returns-2 c =

@@ -11,15 +11,12 @@ use Rattle.replies.proofs.emitting.put_bits.Reads as reads
 use Rattle.replies.proofs.emitting.put_bits.Lts as lts
 use Rattle.frames.proofs.write_bits.Reads as write-bits-reads
 
--- src/emitting.rt:118:9
 write-bits-requires : tie.Need-write-bits-requires
 write-bits-requires c κs = search needs
 
--- src/emitting.rt:114:1
 same-length : tie.Need-same-length
 same-length c = search needs
 
--- src/emitting.rt:114:1
 returns : tie.Need-returns
 returns c =
     let w = c .before .before .write-bits in

@@ -10,15 +10,12 @@ use Rattle.replies.proofs.emitting.put_data.Reads as reads
 use Rattle.replies.proofs.emitting.put_data.Lts as lts
 use Rattle.frames.proofs.write_data.Reads as write-data-reads
 
--- src/emitting.rt:102:9
 write-data-requires : tie.Need-write-data-requires
 write-data-requires c κs = search needs
 
--- src/emitting.rt:97:1
 same-length : tie.Need-same-length
 same-length c = search needs
 
--- src/emitting.rt:97:1
 returns : tie.Need-returns
 returns c =
     let w = c .before .before .write-data in

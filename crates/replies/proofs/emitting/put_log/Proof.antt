@@ -15,55 +15,42 @@ use Rattle.replies.proofs.emitting.put_data.Reads as put-data-reads
 use Rattle.replies.proofs.emitting.put_pio.Reads as put-pio-reads
 use Rattle.replies.proofs.emitting.put_sweep_if.Reads as put-sweep-if-reads
 
--- src/emitting.rt:111:9
 put-sweep-if-requires : tie.Need-put-sweep-if-requires
 put-sweep-if-requires c κs = search needs
 
--- src/emitting.rt:112:26
 sub-put-pio : tie.Need-sub-put-pio
 sub-put-pio c = search needs
 
--- src/emitting.rt:112:26
 part-put-pio-start : tie.Need-part-put-pio-start
 part-put-pio-start c = search needs
 
--- src/emitting.rt:112:26
 part-put-pio-end : tie.Need-part-put-pio-end
 part-put-pio-end c = search needs
 
--- src/emitting.rt:112:9
 put-pio-requires : tie.Need-put-pio-requires
 put-pio-requires c κs = search needs
 
--- src/emitting.rt:113:16
 add-both : tie.Need-add-both
 add-both c = search needs
 
--- src/emitting.rt:114:26
 sub-put-data : tie.Need-sub-put-data
 sub-put-data c = search needs
 
--- src/emitting.rt:114:26
 part-put-data-start : tie.Need-part-put-data-start
 part-put-data-start c = search needs
 
--- src/emitting.rt:114:26
 part-put-data-end : tie.Need-part-put-data-end
 part-put-data-end c = search needs
 
--- src/emitting.rt:114:9
 put-data-requires : tie.Need-put-data-requires
 put-data-requires c κs = search needs
 
--- src/emitting.rt:115:5
 add-result : tie.Need-add-result
 add-result c = search needs
 
--- src/emitting.rt:107:1
 same-length : tie.Need-same-length
 same-length c = search needs
 
--- src/emitting.rt:107:1
 returns : tie.Need-returns
 returns c =
     let s = c .before .before .before .before .before .before .before .before .before .before .before .before .before .before .args in

@@ -14,23 +14,18 @@ use Rattle.replies.proofs.shown.log_of.Reads as log-of-reads
 use Rattle.replies.proofs.emitting.page_room.Reads as page-room-reads
 use Rattle.replies.proofs.emitting.put_log.Reads as put-log-reads
 
--- src/emitting.rt:158:20
 page-room-requires : tie.Need-page-room-requires
 page-room-requires c κs = search needs
 
--- src/emitting.rt:159:9
 log-of-requires : tie.Need-log-of-requires
 log-of-requires c κs = search needs
 
--- src/emitting.rt:160:30
 slice-aggregate-write-log : tie.Need-slice-aggregate-write-log
 slice-aggregate-write-log c = search needs
 
--- src/emitting.rt:160:9
 write-log-requires : tie.Need-write-log-requires
 write-log-requires c κs = search needs
 
--- src/emitting.rt:162:33
 array-share-prefix-page : tie.Need-array-share-prefix-page
 array-share-prefix-page c =
     let w = c .before .before .write-log in
@@ -39,7 +34,6 @@ array-share-prefix-page c =
     let d = c .before .before .before .before .before .page-room .ensures in
     omega (arith, page-most (fits10 f) (page10 f) (c .before .before .before .before .before .page-room .result) (w .result) (w .last .0) (w .ensures) (omega arith))
 
--- src/emitting.rt:162:33
 slice-aggregate-put-log : tie.Need-slice-aggregate-put-log
 slice-aggregate-put-log c =
     let w = c .before .before .before .write-log in
@@ -49,7 +43,6 @@ slice-aggregate-put-log c =
     let m = page-most (fits10 f) (page10 f) (c .before .before .before .before .before .before .page-room .result) (w .result) (w .last .0) (w .ensures) (omega arith) in
     sym (length-take-le (w .result .len) (w .last .0) (omega arith))
 
--- src/emitting.rt:162:5
 put-log-requires : tie.Need-put-log-requires
 put-log-requires c κs =
     let w = c .before .before .before .write-log in
@@ -60,11 +53,9 @@ put-log-requires c κs =
     let t = length-take-le (w .result .len) (w .last .0) (omega arith) in
     omega arith
 
--- src/emitting.rt:154:1
 same-length : tie.Need-same-length
 same-length c = search needs
 
--- src/emitting.rt:154:1
 returns : tie.Need-returns
 returns c =
     let w = c .before .before .before .before .before .before .write-log in

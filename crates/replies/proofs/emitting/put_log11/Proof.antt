@@ -14,19 +14,15 @@ use Rattle.pages.proofs.write_counters.Reads as write-counters-reads
 use Rattle.replies.proofs.emitting.page_room.Reads as page-room-reads
 use Rattle.replies.proofs.emitting.put_log.Reads as put-log-reads
 
--- src/emitting.rt:170:20
 page-room-requires : tie.Need-page-room-requires
 page-room-requires c κs = search needs
 
--- src/emitting.rt:171:35
 slice-aggregate-write-counters : tie.Need-slice-aggregate-write-counters
 slice-aggregate-write-counters c = search needs
 
--- src/emitting.rt:171:9
 write-counters-requires : tie.Need-write-counters-requires
 write-counters-requires c κs = search needs
 
--- src/emitting.rt:173:33
 array-share-prefix-page : tie.Need-array-share-prefix-page
 array-share-prefix-page c =
     let w = c .before .before .write-counters in
@@ -35,7 +31,6 @@ array-share-prefix-page c =
     let d = c .before .before .before .before .page-room .ensures in
     omega (arith, page-most (keepsBoth (a .mask)) (page11 (a .mask) (a .values)) (c .before .before .before .before .page-room .result) (w .result) (w .last .0) (w .ensures) (omega arith))
 
--- src/emitting.rt:173:33
 slice-aggregate-put-log : tie.Need-slice-aggregate-put-log
 slice-aggregate-put-log c =
     let w = c .before .before .before .write-counters in
@@ -45,7 +40,6 @@ slice-aggregate-put-log c =
     let m = page-most (keepsBoth (a .mask)) (page11 (a .mask) (a .values)) (c .before .before .before .before .before .page-room .result) (w .result) (w .last .0) (w .ensures) (omega arith) in
     sym (length-take-le (w .result .len) (w .last .0) (omega arith))
 
--- src/emitting.rt:173:5
 put-log-requires : tie.Need-put-log-requires
 put-log-requires c κs =
     let w = c .before .before .before .write-counters in
@@ -56,11 +50,9 @@ put-log-requires c κs =
     let t = length-take-le (w .result .len) (w .last .0) (omega arith) in
     omega arith
 
--- src/emitting.rt:166:1
 same-length : tie.Need-same-length
 same-length c = search needs
 
--- src/emitting.rt:166:1
 returns : tie.Need-returns
 returns c =
     let w = c .before .before .before .before .before .before .write-counters in

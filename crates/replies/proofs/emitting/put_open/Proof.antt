@@ -10,35 +10,27 @@ use Rattle.replies.proofs.emitting.put_open.Lts as lts
 use Rattle.replies.proofs.emitting.put_activate_if.Reads as put-activate-if-reads
 use Rattle.replies.proofs.emitting.put_setup.Reads as put-setup-reads
 
--- src/emitting.rt:108:9
 put-setup-requires : tie.Need-put-setup-requires
 put-setup-requires c κs = search needs
 
--- src/emitting.rt:110:34
 sub-put-activate-if : tie.Need-sub-put-activate-if
 sub-put-activate-if c = search needs
 
--- src/emitting.rt:110:34
 part-put-activate-if-start : tie.Need-part-put-activate-if-start
 part-put-activate-if-start c = search needs
 
--- src/emitting.rt:110:34
 part-put-activate-if-end : tie.Need-part-put-activate-if-end
 part-put-activate-if-end c = search needs
 
--- src/emitting.rt:110:9
 put-activate-if-requires : tie.Need-put-activate-if-requires
 put-activate-if-requires c κs = search needs
 
--- src/emitting.rt:111:5
 add-result : tie.Need-add-result
 add-result c = search needs
 
--- src/emitting.rt:103:1
 same-length : tie.Need-same-length
 same-length c = search needs
 
--- src/emitting.rt:103:1
 returns : tie.Need-returns
 returns c =
     let s = c .before .before .before .before .before .before .before .before .before .before .args in

@@ -7,19 +7,15 @@ use Rattle.replies.proofs.emitting.put_part.Reads as reads
 use Rattle.replies.proofs.emitting.put_part.Lts as lts
 use Rattle.replies.proofs.emitting.put_data.Reads as put-data-reads
 
--- src/emitting.rt:165:9
 returns : tie.Need-returns
 returns c = sends-long _ _ (c .if1 .taken)
 
--- src/emitting.rt:167:5
 put-data-requires : tie.Need-put-data-requires
 put-data-requires c κs = search needs
 
--- src/emitting.rt:160:1
 same-length : tie.Need-same-length
 same-length c = search needs
 
--- src/emitting.rt:160:1
 returns-2 : tie.Need-returns-2
 returns-2 c = c .before .before .put-data .ensures .0
 

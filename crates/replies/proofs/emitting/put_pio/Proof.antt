@@ -9,19 +9,15 @@ use Rattle.replies.proofs.emitting.put_pio.Reads as reads
 use Rattle.replies.proofs.emitting.put_pio.Lts as lts
 use Rattle.frames.proofs.write_pio.Reads as write-pio-reads
 
--- src/emitting.rt:144:20
 cast-t6 : tie.Need-cast-t6
 cast-t6 c = search needs
 
--- src/emitting.rt:135:9
 write-pio-requires : tie.Need-write-pio-requires
 write-pio-requires c κs = search needs
 
--- src/emitting.rt:130:1
 same-length : tie.Need-same-length
 same-length c = search needs
 
--- src/emitting.rt:130:1
 returns : tie.Need-returns
 returns c =
     let w = c .before .before .write-pio in

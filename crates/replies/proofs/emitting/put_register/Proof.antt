@@ -9,15 +9,12 @@ use Rattle.replies.proofs.emitting.put_register.Reads as reads
 use Rattle.replies.proofs.emitting.put_register.Lts as lts
 use Rattle.frames.proofs.write_device.Reads as write-device-reads
 
--- src/emitting.rt:22:9
 write-device-requires : tie.Need-write-device-requires
 write-device-requires c κs = search needs
 
--- src/emitting.rt:18:1
 same-length : tie.Need-same-length
 same-length c = search needs
 
--- src/emitting.rt:18:1
 returns : tie.Need-returns
 returns c =
     let a = c .before .before .before .before .before .args in

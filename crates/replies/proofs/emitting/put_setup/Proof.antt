@@ -12,27 +12,21 @@ use Rattle.replies.proofs.emitting.put_setup.Reads as reads
 use Rattle.replies.proofs.emitting.put_setup.Lts as lts
 use Rattle.frames.proofs.write_setup.Reads as write-setup-reads
 
--- src/emitting.rt:95:18
 cast-t8 : tie.Need-cast-t8
 cast-t8 c = search needs
 
--- src/emitting.rt:97:21
 cast-t9 : tie.Need-cast-t9
 cast-t9 c = search needs
 
--- src/emitting.rt:97:20
 mul-t10 : tie.Need-mul-t10
 mul-t10 c = search needs
 
--- src/emitting.rt:89:9
 write-setup-requires : tie.Need-write-setup-requires
 write-setup-requires c κs = search needs
 
--- src/emitting.rt:82:1
 same-length : tie.Need-same-length
 same-length c = search needs
 
--- src/emitting.rt:82:1
 returns : tie.Need-returns
 returns c =
     let w = c .before .before .write-setup in

@@ -11,20 +11,16 @@ use Rattle.replies.proofs.emitting.put_sweep_if.Reads as reads
 use Rattle.replies.proofs.emitting.put_sweep_if.Lts as lts
 use Rattle.frames.proofs.write_bits.Reads as write-bits-reads
 
--- src/emitting.rt:52:9
 returns : tie.Need-returns
 unfolding pick
 returns c = rw (not-true (c .before .before .args .on) (c .if1 .taken)) (sends-none (now (c .before .before .args .reply)), omega arith)
 
--- src/emitting.rt:54:9
 write-bits-requires : tie.Need-write-bits-requires
 write-bits-requires c κs = search needs
 
--- src/emitting.rt:46:1
 same-length : tie.Need-same-length
 same-length c = search needs
 
--- src/emitting.rt:46:1
 returns-2 : tie.Need-returns-2
 unfolding pick
 returns-2 c =

@@ -6,15 +6,12 @@ use Rattle.replies.proofs.shown.is_sized.Tie as tie
 use Rattle.replies.proofs.shown.is_sized.Reads as reads
 use Rattle.replies.proofs.shown.is_sized.Lts as lts
 
--- src/emitting.rt:290:19
 enum-known-act : tie.Need-enum-known-act
 enum-known-act c = search needs
 
--- src/emitting.rt:291:9
 returns : tie.Need-returns
 returns c = else-open _ (c .match .keys2)
 
--- src/emitting.rt:287:1
 returns-2 : tie.Need-returns-2
 unfolding sized
 returns-2 c = rw (c .before .before .before .act .given .1)

@@ -6,16 +6,13 @@ use Rattle.replies.proofs.shown.log_of.Reads as reads
 use Rattle.replies.proofs.shown.log_of.Lts as lts
 use Rattle.states.proofs.task_in.Reads as task-in-reads
 
--- src/emitting.rt:123:13
 task-in-requires : tie.Need-task-in-requires
 task-in-requires c κs = search needs
 
--- src/emitting.rt:124:9
 returns : tie.Need-returns
 unfolding pick
 returns c = rw (c .before .before .if1 .taken, c .task-in .ensures)
 
--- src/emitting.rt:118:1
 returns-2 : tie.Need-returns-2
 unfolding pick
 returns-2 c = rw (c .if1 .left)

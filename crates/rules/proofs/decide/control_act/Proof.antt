@@ -7,21 +7,17 @@ use Rattle.rules.proofs.decide.control_act.Reads as reads
 use Rattle.rules.proofs.decide.control_act.Lts as lts
 use Rattle.wire.proofs.srst.Reads as srst-reads
 
--- src/decide.rt:126:8
 srst-requires : tie.Need-srst-requires
 srst-requires c κs = search needs
 
--- src/decide.rt:127:9
 returns : tie.Need-returns
 unfolding controlAct pick
 returns c = rw (← c .before .srst .ensures, c .if1 .taken)
 
--- src/decide.rt:130:9
 returns-2 : tie.Need-returns-2
 unfolding controlAct pick
 returns-2 c = rw (← c .before .before .srst .ensures, c .before .if1 .left, c .if2 .taken)
 
--- src/decide.rt:122:1
 returns-3 : tie.Need-returns-3
 unfolding controlAct pick
 returns-3 c = rw (← c .before .before .srst .ensures, c .before .if1 .left, c .if2 .left)

@@ -5,12 +5,10 @@ use Rattle.rules.proofs.decide.log_page.Tie as tie
 use Rattle.rules.proofs.decide.log_page.Reads as reads
 use Rattle.rules.proofs.decide.log_page.Lts as lts
 
--- src/decide.rt:84:9
 returns : tie.Need-returns
 unfolding logPage pick
 returns c = rw (c .if1 .taken)
 
--- src/decide.rt:79:1
 returns-2 : tie.Need-returns-2
 unfolding logPage pick
 returns-2 c = rw (c .if1 .left)

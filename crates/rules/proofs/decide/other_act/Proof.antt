@@ -10,39 +10,31 @@ use Rattle.rules.proofs.decide.log_page.Reads as log-page-reads
 use Rattle.states.proofs.echo_of.Reads as echo-of-reads
 use Rattle.wire.proofs.flag.Reads as flag-reads
 
--- src/decide.rt:95:9
 echo-of-requires : tie.Need-echo-of-requires
 echo-of-requires c κs = search needs
 
--- src/decide.rt:96:9
 log-page-requires : tie.Need-log-page-requires
 log-page-requires c κs = search needs
 
--- src/decide.rt:97:9
 flag-requires : tie.Need-flag-requires
 flag-requires c κs = search needs
 
--- src/decide.rt:99:9
 returns : tie.Need-returns
 unfolding otherAct pick
 returns c = rw (← c .before .before .before .before .echo-of .ensures, ← c .before .before .before .log-page .ensures, c .if1 .taken)
 
--- src/decide.rt:102:9
 returns-2 : tie.Need-returns-2
 unfolding otherAct pick
 returns-2 c = rw (← c .before .before .before .before .before .before .echo-of .ensures, ← c .before .before .before .before .before .log-page .ensures, c .before .before .if1 .left, c .if2 .taken)
 
--- src/decide.rt:110:9
 returns-3 : tie.Need-returns-3
 unfolding otherAct pick
 returns-3 c = rw (← c .before .before .before .before .before .before .before .echo-of .ensures, ← c .before .before .before .before .before .before .log-page .ensures, c .before .before .before .if1 .left, c .before .if2 .left, eq-eqb _ 0x10 (c .if3 .taken))
 
--- src/decide.rt:116:9
 returns-4 : tie.Need-returns-4
 unfolding otherAct pick
 returns-4 c = rw (← c .before .before .before .before .before .before .before .before .echo-of .ensures, ← c .before .before .before .before .before .before .before .log-page .ensures, c .before .before .before .before .if1 .left, c .before .before .if2 .left, ne-eqb _ 0x10 (c .before .if3 .left), eq-eqb _ 0x11 (c .if4 .taken), ← c .before .before .before .before .before .before .flag .ensures)
 
--- src/decide.rt:90:1
 returns-5 : tie.Need-returns-5
 unfolding otherAct pick
 returns-5 c = rw (← c .before .before .before .before .before .before .before .before .echo-of .ensures, ← c .before .before .before .before .before .before .before .log-page .ensures, c .before .before .before .before .if1 .left, c .before .before .if2 .left, ne-eqb _ 0x10 (c .before .if3 .left), ne-eqb _ 0x11 (c .if4 .left))

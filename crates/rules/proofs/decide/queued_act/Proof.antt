@@ -15,56 +15,44 @@ use Rattle.states.proofs.echo_of.Reads as echo-of-reads
 use Rattle.wire.proofs.sectors_of.Reads as sectors-of-reads
 use Rattle.wire.proofs.tag_of.Reads as tag-of-reads
 
--- src/decide.rt:38:9
 echo-of-requires : tie.Need-echo-of-requires
 echo-of-requires c κs = search needs
 
--- src/decide.rt:39:9
 tag-of-requires : tie.Need-tag-of-requires
 tag-of-requires c κs = search needs
 
--- src/decide.rt:40:9
 sectors-of-requires : tie.Need-sectors-of-requires
 sectors-of-requires c κs = search needs
 
--- src/decide.rt:41:44
 cast-bit : tie.Need-cast-bit
 cast-bit c = search needs
 
--- src/decide.rt:41:9
 bit-requires : tie.Need-bit-requires
 bit-requires c κs = search needs
 
--- src/decide.rt:43:9
 returns : tie.Need-returns
 unfolding queuedAct pick
 returns c = rw (c .if1 .taken)
 
--- src/decide.rt:45:27
 cast-if2 : tie.Need-cast-if2
 cast-if2 c = search needs
 
--- src/decide.rt:46:9
 returns-2 : tie.Need-returns-2
 unfolding queuedAct pick
 returns-2 c = rw (c .before .before .if1 .left, ← c .before .before .before .before .before .tag-of .ensures, ← c .before .before .before .bit .ensures, c .if2 .taken, ← c .before .before .before .before .before .before .echo-of .ensures)
 
--- src/decide.rt:54:8
 too-far-requires : tie.Need-too-far-requires
 too-far-requires c κs = search needs
 
--- src/decide.rt:55:9
 returns-3 : tie.Need-returns-3
 unfolding queuedAct pick
 returns-3 c = rw (c .before .before .before .before .if1 .left, ← c .before .before .before .before .before .before .before .tag-of .ensures, ← c .before .before .before .before .before .bit .ensures, c .before .before .if2 .left, ← c .before .before .before .before .before .before .sectors-of .ensures, ← c .before .too-far .ensures, c .if3 .taken, ← c .before .before .before .before .before .before .before .before .echo-of .ensures)
 
--- src/decide.rt:64:16
 cast-t12 : tie.Need-cast-t12
 cast-t12 c =
     let a = c .before .before .before .before .before .before .before .before .before .before .before .before .before .args in
     omega (arith, ltb-false (a .v .settings .capacity) (a .h .task .lba + c .before .before .before .before .before .before .before .sectors-of .result) (sym (c .before .before .too-far .ensures) ∙ c .before .if3 .left))
 
--- src/decide.rt:32:1
 returns-4 : tie.Need-returns-4
 unfolding queuedAct pick
 returns-4 c = rw (c .before .before .before .before .before .if1 .left, ← c .before .before .before .before .before .before .before .before .tag-of .ensures, ← c .before .before .before .before .before .before .bit .ensures, c .before .before .before .if2 .left, ← c .before .before .before .before .before .before .before .sectors-of .ensures, ← c .before .before .too-far .ensures, c .before .if3 .left, ← c .before .before .before .before .before .before .before .before .before .echo-of .ensures)

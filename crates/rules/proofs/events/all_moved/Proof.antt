@@ -5,11 +5,9 @@ use Rattle.rules.proofs.events.all_moved.Reads as reads
 use Rattle.rules.proofs.events.all_moved.Lts as lts
 use Rattle.states.proofs.whole_of.Reads as whole-of-reads
 
--- src/events.rt:27:16
 whole-of-requires : tie.Need-whole-of-requires
 whole-of-requires c κs = search needs
 
--- src/events.rt:24:1
 returns : tie.Need-returns
 returns c = rw (← c .before .whole-of .ensures)
 

@@ -1,17 +1,15 @@
 use Rattle.bits.specs.Pick.{pick}
-use Rattle.rules.specs.Events.{decided}
+use Rattle.rules.specs.Act.{decided}
 use borrow.Author.Needs.{needs}
 use Rattle.rules.proofs.events.decided.Statement.{statement}
 use Rattle.rules.proofs.events.decided.Tie as tie
 use Rattle.rules.proofs.events.decided.Reads as reads
 use Rattle.rules.proofs.events.decided.Lts as lts
 
--- src/events.rt:22:9
 returns : tie.Need-returns
 unfolding decided pick
 returns c = rw (c .if1 .taken)
 
--- src/events.rt:18:1
 returns-2 : tie.Need-returns-2
 unfolding decided pick
 returns-2 c = rw (c .if1 .left)

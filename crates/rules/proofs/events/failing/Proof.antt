@@ -1,4 +1,4 @@
-use Rattle.rules.specs.Events.{failing}
+use Rattle.rules.specs.Act.{failing}
 use borrow.Author.Needs.{needs}
 use Rattle.rules.proofs.events.failing.Statement.{statement}
 use Rattle.rules.proofs.events.failing.Tie as tie
@@ -6,31 +6,24 @@ use Rattle.rules.proofs.events.failing.Reads as reads
 use Rattle.rules.proofs.events.failing.Lts as lts
 use Rattle.bits.proofs.byte.Reads as byte-reads
 
--- src/events.rt:105:13
 byte-requires : tie.Need-byte-requires
 byte-requires c κs = search needs
 
--- src/events.rt:106:13
 byte-requires-2 : tie.Need-byte-requires-2
 byte-requires-2 c κs = search needs
 
--- src/events.rt:107:13
 byte-requires-3 : tie.Need-byte-requires-3
 byte-requires-3 c κs = search needs
 
--- src/events.rt:109:13
 byte-requires-4 : tie.Need-byte-requires-4
 byte-requires-4 c κs = search needs
 
--- src/events.rt:110:13
 byte-requires-5 : tie.Need-byte-requires-5
 byte-requires-5 c κs = search needs
 
--- src/events.rt:111:14
 byte-requires-6 : tie.Need-byte-requires-6
 byte-requires-6 c κs = search needs
 
--- src/events.rt:100:1
 returns : tie.Need-returns
 unfolding failing
 returns c = rw (c .before .before .before .before .before .byte .ensures, c .before .before .before .before .byte2 .ensures, c .before .before .before .byte3 .ensures, c .before .before .byte4 .ensures, c .before .byte5 .ensures, c .byte6 .ensures)

@@ -1,4 +1,5 @@
-use Rattle.rules.specs.Events.{mediaAct}
+use Rattle.rules.specs.Tests.{tests}
+use Rattle.rules.specs.Act.{does, act}
 use borrow.Author.Needs.{needs}
 use Rattle.rules.proofs.events.media_act.Statement.{statement}
 use Rattle.rules.proofs.events.media_act.Tie as tie
@@ -9,37 +10,29 @@ use Rattle.rules.proofs.events.decided.Reads as decided-reads
 use Rattle.rules.proofs.events.failing.Reads as failing-reads
 use Rattle.ladders.proofs.media_number.Reads as media-number-reads
 
--- src/events.rt:123:9
 failing-requires : tie.Need-failing-requires
 failing-requires c κs = search needs
 
--- src/events.rt:124:9
 bit-requires : tie.Need-bit-requires
 bit-requires c κs = search needs
 
--- src/events.rt:125:19
 cast-behind : tie.Need-cast-behind
 cast-behind c = search needs
 
--- src/events.rt:125:42
 cast-behind-2 : tie.Need-cast-behind-2
 cast-behind-2 c = search needs
 
--- src/events.rt:125:18
 add-behind : tie.Need-add-behind
 add-behind c = search needs
 
--- src/events.rt:126:9
 media-number-requires : tie.Need-media-number-requires
 media-number-requires c κs = search needs
 
--- src/events.rt:132:5
 decided-requires : tie.Need-decided-requires
 decided-requires c κs = search needs
 
--- src/events.rt:118:1
 returns : tie.Need-returns
-unfolding mediaAct
+unfolding act tests does
 returns c = rw (c .decided .ensures, c .before .media-number .ensures, c .before .before .before .before .before .bit .ensures, c .before .before .before .before .before .before .failing .ensures)
 
 pub media-act-spec : {M : Type 1} → statement M

@@ -1,4 +1,5 @@
-use Rattle.rules.specs.Events.{sendAct}
+use Rattle.rules.specs.Tests.{tests}
+use Rattle.rules.specs.Act.{does, act}
 use borrow.Author.Needs.{needs}
 use Rattle.rules.proofs.events.send_act.Statement.{statement}
 use Rattle.rules.proofs.events.send_act.Tie as tie
@@ -8,21 +9,17 @@ use Rattle.rules.proofs.events.decided.Reads as decided-reads
 use Rattle.rules.proofs.facts.next_move.Reads as next-move-reads
 use Rattle.ladders.proofs.send_number.Reads as send-number-reads
 
--- src/events.rt:56:9
 next-move-requires : tie.Need-next-move-requires
 next-move-requires c κs = search needs
 
--- src/events.rt:57:9
 send-number-requires : tie.Need-send-number-requires
 send-number-requires c κs = search needs
 
--- src/events.rt:63:5
 decided-requires : tie.Need-decided-requires
 decided-requires c κs = search needs
 
--- src/events.rt:51:1
 returns : tie.Need-returns
-unfolding sendAct
+unfolding act tests does
 returns c = rw (c .decided .ensures, c .before .send-number .ensures, c .before .before .before .before .next-move .ensures)
 
 pub send-act-spec : {M : Type 1} → statement M

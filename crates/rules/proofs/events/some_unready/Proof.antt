@@ -2,7 +2,7 @@ use mathlib.Core.Path.{_≡_}
 use Prim.Native.Nat.{_-_, _≤_}
 use native.Mathlib.Omega.{arith}
 use Rattle.states.specs.Table.{someBelow}
-use Rattle.rules.specs.Events.{unreadyAt, someUnready}
+use Rattle.rules.specs.Tests.{unreadyAt, someUnready}
 use Rattle.states.proofs.TableLaws.{some-none, some-turn, some-end}
 use borrow.Author.Needs.{needs}
 use Rattle.rules.proofs.events.some_unready.Statement.{statement}
@@ -18,50 +18,39 @@ Inv-loop outstanding set entries bad₀ i₀ bad i = (i ≤ 32) × (bad ≡ some
 abbrev μ-loop : tie.MeasureT-loop
 μ-loop outstanding set entries bad₀ i₀ bad i = 32 - i
 
--- src/events.rt:78:5
 loop-holds : tie.Need-loop-holds Inv-loop μ-loop
 loop-holds c = (search needs, some-none _)
 
--- src/events.rt:79:17
 mul-e : tie.Need-mul-e Inv-loop μ-loop
 mul-e c = search needs
 
--- src/events.rt:79:17
 array-copy-out-e : tie.Need-array-copy-out-e Inv-loop μ-loop
 array-copy-out-e c = search needs
 
--- src/events.rt:80:17
 cast-t : tie.Need-cast-t Inv-loop μ-loop
 cast-t c = search needs
 
--- src/events.rt:81:13
 bit-requires : tie.Need-bit-requires Inv-loop μ-loop
 bit-requires c κs = search needs
 
--- src/events.rt:82:13
 bit-requires-2 : tie.Need-bit-requires-2 Inv-loop μ-loop
 bit-requires-2 c κs = search needs
 
--- src/events.rt:83:13
 unready-requires : tie.Need-unready-requires Inv-loop μ-loop
 unready-requires c κs = search needs
 
--- src/events.rt:78:9
 add-i : tie.Need-add-i Inv-loop μ-loop
 add-i c = search needs
 
--- src/events.rt:78:5
 loop-less : tie.Need-loop-less Inv-loop μ-loop
 loop-less c = search needs
 
--- src/events.rt:78:5
 loop-again : tie.Need-loop-again Inv-loop μ-loop
 loop-again c =
     let l = c .before .before .before .before .before .loop in
     let a = c .before .before .before .before .before .before .args in
     (omega arith, some-turn (unreadyAt (a .t1) (a .outstanding) (a .set)) (l .i) (l .bad) (c .unready .result) (l .inv .1) (rw (c .before .before .bit .ensures, c .before .bit2 .ensures) at (c .unready .ensures)))
 
--- src/events.rt:74:1
 returns : tie.Need-returns Inv-loop μ-loop
 unfolding someUnready
 returns c =

@@ -5,11 +5,9 @@ use Rattle.rules.proofs.events.unready.Reads as reads
 use Rattle.rules.proofs.events.unready.Lts as lts
 use Rattle.rules.proofs.events.all_moved.Reads as all-moved-reads
 
--- src/events.rt:67:23
 all-moved-requires : tie.Need-all-moved-requires
 all-moved-requires c κs = search needs
 
--- src/events.rt:64:1
 returns : tie.Need-returns
 returns c = rw (c .all-moved .ensures)
 

@@ -6,11 +6,9 @@ use Rattle.rules.proofs.facts.advanced.Tie as tie
 use Rattle.rules.proofs.facts.advanced.Reads as reads
 use Rattle.rules.proofs.facts.advanced.Lts as lts
 
--- src/facts.rt:52:16
 add-t4 : tie.Need-add-t4
 add-t4 c = search needs
 
--- src/facts.rt:43:1
 returns : tie.Need-returns
 unfolding advancedBy
 returns c = refl

@@ -9,47 +9,36 @@ use Rattle.rules.proofs.facts.left_of.Reads as left-of-reads
 use Rattle.rules.proofs.facts.of_left.Reads as of-left-reads
 use Rattle.states.proofs.below.Reads as below-reads
 
--- src/facts.rt:63:9
 of-left-requires : tie.Need-of-left-requires
 of-left-requires c κs = search needs
 
--- src/facts.rt:64:9
 advanced-requires : tie.Need-advanced-requires
 advanced-requires c κs = search needs
 
--- src/facts.rt:65:9
 left-of-requires : tie.Need-left-of-requires
 left-of-requires c κs = search needs
 
--- src/facts.rt:67:14
 below-requires : tie.Need-below-requires
 below-requires c κs = search needs
 
--- src/facts.rt:68:38
 cast-t8 : tie.Need-cast-t8
 cast-t8 c = search needs
 
--- src/facts.rt:68:13
 mul-t9 : tie.Need-mul-t9
 mul-t9 c = search needs
 
--- src/facts.rt:68:59
 cast-t10 : tie.Need-cast-t10
 cast-t10 c = search needs
 
--- src/facts.rt:68:13
 add-t11 : tie.Need-add-t11
 add-t11 c = search needs
 
--- src/facts.rt:69:15
 cast-t12 : tie.Need-cast-t12
 cast-t12 c = search needs
 
--- src/facts.rt:71:15
 cast-t13 : tie.Need-cast-t13
 cast-t13 c = search needs
 
--- src/facts.rt:60:1
 returns : tie.Need-returns
 unfolding moveOf
 returns c = rw (c .before .before .before .before .advanced .ensures, c .before .before .before .before .before .of-left .ensures, c .before .before .before .left-of .ensures, c .before .before .below .ensures)

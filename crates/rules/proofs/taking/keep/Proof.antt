@@ -1,4 +1,4 @@
-use Rattle.rules.specs.Taking.{keptIn}
+use Rattle.rules.specs.Taking.{touchOf}
 use Rattle.rules.proofs.ActElses.{else-keep}
 use borrow.Author.Needs.{needs}
 use Rattle.rules.proofs.taking.keep.Statement.{statement}
@@ -7,25 +7,20 @@ use Rattle.rules.proofs.taking.keep.Reads as reads
 use Rattle.rules.proofs.taking.keep.Lts as lts
 use Rattle.rules.proofs.taking.store.Reads as store-reads
 
--- src/taking.rt:52:19
 enum-known-act : tie.Need-enum-known-act
 enum-known-act c = search needs
 
--- src/taking.rt:53:9
 returns : tie.Need-returns
 returns c = else-keep _ _ _ (c .match .keys2)
 
--- src/taking.rt:56:5
 store-requires : tie.Need-store-requires
 store-requires c κs = search needs
 
--- src/taking.rt:49:1
 same-length : tie.Need-same-length
 same-length c = search needs
 
--- src/taking.rt:49:1
 returns-2 : tie.Need-returns-2
-unfolding keptIn
+unfolding touchOf
 returns-2 c = rw (c .before .before .before .before .before .act .given .1) (c .before .before .store .ensures)
 
 pub keep-spec : {M : Type 1} → statement M

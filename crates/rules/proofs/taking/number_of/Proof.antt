@@ -6,15 +6,12 @@ use Rattle.rules.proofs.taking.number_of.Tie as tie
 use Rattle.rules.proofs.taking.number_of.Reads as reads
 use Rattle.rules.proofs.taking.number_of.Lts as lts
 
--- src/taking.rt:16:21
 enum-known-act : tie.Need-enum-known-act
 enum-known-act c = search needs
 
--- src/taking.rt:17:9
 returns : tie.Need-returns
 returns c = else-refuse _ (c .match .keys2)
 
--- src/taking.rt:13:1
 returns-2 : tie.Need-returns-2
 unfolding numberOf
 returns-2 c = rw (c .before .act .given .1)

@@ -1,4 +1,4 @@
-use Rattle.rules.specs.Taking.{spanOf}
+use Rattle.rules.specs.Taking.{touchOf}
 use Rattle.rules.proofs.ActElses.{else-send}
 use borrow.Author.Needs.{needs}
 use Rattle.rules.proofs.taking.span_of.Statement.{statement}
@@ -6,17 +6,14 @@ use Rattle.rules.proofs.taking.span_of.Tie as tie
 use Rattle.rules.proofs.taking.span_of.Reads as reads
 use Rattle.rules.proofs.taking.span_of.Lts as lts
 
--- src/taking.rt:26:19
 enum-known-act : tie.Need-enum-known-act
 enum-known-act c = search needs
 
--- src/taking.rt:27:9
 returns : tie.Need-returns
 returns c = else-send _ (c .match .keys2)
 
--- src/taking.rt:23:1
 returns-2 : tie.Need-returns-2
-unfolding spanOf
+unfolding touchOf
 returns-2 c = rw (c .before .act .given .1)
 
 pub span-of-spec : {M : Type 1} → statement M

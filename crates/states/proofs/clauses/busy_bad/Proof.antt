@@ -9,47 +9,36 @@ use Rattle.states.proofs.shapes.task_in.Reads as task-in-reads
 use Rattle.wire.proofs.sectors_of.Reads as sectors-of-reads
 use Rattle.wire.proofs.tag_of.Reads as tag-of-reads
 
--- src/clauses.rt:38:9
 task-in-requires : tie.Need-task-in-requires
 task-in-requires c κs = search needs
 
--- src/clauses.rt:39:9
 tag-of-requires : tie.Need-tag-of-requires
 tag-of-requires c κs = search needs
 
--- src/clauses.rt:40:9
 sectors-of-requires : tie.Need-sectors-of-requires
 sectors-of-requires c κs = search needs
 
--- src/clauses.rt:41:17
 cast-past : tie.Need-cast-past
 cast-past c = search needs
 
--- src/clauses.rt:41:39
 cast-past-2 : tie.Need-cast-past-2
 cast-past-2 c = search needs
 
--- src/clauses.rt:41:58
 cast-past-3 : tie.Need-cast-past-3
 cast-past-3 c = search needs
 
--- src/clauses.rt:41:38
 add-past : tie.Need-add-past
 add-past c = search needs
 
--- src/clauses.rt:42:31
 cast-range : tie.Need-cast-range
 cast-range c = search needs
 
--- src/clauses.rt:43:9
 moved-bad-requires : tie.Need-moved-bad-requires
 moved-bad-requires c κs = search needs
 
--- src/clauses.rt:44:53
 cast-result : tie.Need-cast-result
 cast-result c = search needs
 
--- src/clauses.rt:34:1
 returns : tie.Need-returns
 unfolding busyBad
 returns c = rw (c .before .before .before .before .before .before .before .before .before .sectors-of .ensures, c .before .before .before .before .before .before .before .before .before .before .tag-of .ensures, c .before .before .before .before .before .before .before .before .before .before .before .task-in .ensures, c .before .before .moved-bad .ensures)

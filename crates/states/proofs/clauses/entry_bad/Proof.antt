@@ -8,20 +8,16 @@ use Rattle.states.proofs.clauses.entry_bad.Lts as lts
 use Rattle.states.proofs.clauses.busy_bad.Reads as busy-bad-reads
 use Rattle.states.proofs.clauses.idle_bad.Reads as idle-bad-reads
 
--- src/clauses.rt:68:9
 busy-bad-requires : tie.Need-busy-bad-requires
 busy-bad-requires c κs = search needs
 
--- src/clauses.rt:68:9
 returns : tie.Need-returns
 unfolding entryBad pick
 returns c = rw (c .before .if1 .taken) (c .busy-bad .ensures)
 
--- src/clauses.rt:70:5
 idle-bad-requires : tie.Need-idle-bad-requires
 idle-bad-requires c κs = search needs
 
--- src/clauses.rt:64:1
 returns-2 : tie.Need-returns-2
 unfolding entryBad pick
 returns-2 c = rw (c .before .if1 .left) (c .idle-bad .ensures)

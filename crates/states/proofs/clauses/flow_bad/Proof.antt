@@ -7,15 +7,12 @@ use Rattle.states.proofs.clauses.flow_bad.Lts as lts
 use Rattle.bits.proofs.bit.Reads as bit-reads
 use Rattle.states.proofs.clauses.below.Reads as below-reads
 
--- src/clauses.rt:98:41
 below-requires : tie.Need-below-requires
 below-requires c κs = search needs
 
--- src/clauses.rt:98:9
 bit-requires : tie.Need-bit-requires
 bit-requires c κs = search needs
 
--- src/clauses.rt:95:1
 returns : tie.Need-returns
 unfolding flowBad
 returns c = rw (c .before .before .before .before .before .bit .ensures, c .before .before .before .before .before .before .below .ensures)

@@ -6,11 +6,9 @@ use Rattle.states.proofs.clauses.idle_bad.Reads as reads
 use Rattle.states.proofs.clauses.idle_bad.Lts as lts
 use Rattle.states.proofs.clauses.echo_set.Reads as echo-set-reads
 
--- src/clauses.rt:54:9
 echo-set-requires : tie.Need-echo-set-requires
 echo-set-requires c κs = search needs
 
--- src/clauses.rt:50:1
 returns : tie.Need-returns
 unfolding idleBad
 returns c = rw (c .before .before .before .before .before .before .echo-set .ensures)

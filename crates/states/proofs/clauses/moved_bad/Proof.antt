@@ -6,11 +6,9 @@ use Rattle.states.proofs.clauses.moved_bad.Reads as reads
 use Rattle.states.proofs.clauses.moved_bad.Lts as lts
 use Rattle.states.proofs.shapes.whole_of.Reads as whole-of-reads
 
--- src/clauses.rt:28:9
 whole-of-requires : tie.Need-whole-of-requires
 whole-of-requires c κs = search needs
 
--- src/clauses.rt:25:1
 returns : tie.Need-returns
 unfolding movedBad
 returns c = rw (← c .before .before .before .before .before .whole-of .ensures)

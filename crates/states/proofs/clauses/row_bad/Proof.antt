@@ -5,11 +5,9 @@ use Rattle.states.proofs.clauses.row_bad.Reads as reads
 use Rattle.states.proofs.clauses.row_bad.Lts as lts
 use Rattle.pages.proofs.is_kept.Reads as is-kept-reads
 
--- src/clauses.rt:115:9
 is-kept-requires : tie.Need-is-kept-requires
 is-kept-requires c κs = search needs
 
--- src/clauses.rt:112:1
 returns : tie.Need-returns
 returns c = rw (c .is-kept .ensures)
 

@@ -17,38 +17,30 @@ Inv-loop mask values bad₀ i₀ bad i = (i ≤ 16) × (bad ≡ someBelow i (row
 abbrev μ-loop : tie.MeasureT-loop
 μ-loop mask values bad₀ i₀ bad i = 16 - i
 
--- src/clauses.rt:123:5
 loop-holds : tie.Need-loop-holds Inv-loop μ-loop
 loop-holds c = (search needs, some-none _)
 
--- src/clauses.rt:124:17
 mul-v : tie.Need-mul-v Inv-loop μ-loop
 mul-v c = search needs
 
--- src/clauses.rt:124:17
 array-read-v : tie.Need-array-read-v Inv-loop μ-loop
 array-read-v c = search needs
 
--- src/clauses.rt:125:13
 row-bad-requires : tie.Need-row-bad-requires Inv-loop μ-loop
 row-bad-requires c κs = search needs
 
--- src/clauses.rt:123:9
 add-i : tie.Need-add-i Inv-loop μ-loop
 add-i c = search needs
 
--- src/clauses.rt:123:5
 loop-less : tie.Need-loop-less Inv-loop μ-loop
 loop-less c = search needs
 
--- src/clauses.rt:123:5
 loop-again : tie.Need-loop-again Inv-loop μ-loop
 loop-again c =
     let l = c .before .before .loop in
     let a = c .before .before .before .args in
     (omega arith, some-turn (rowBadAt (a .mask) (a .t2)) (l .i) (l .bad) (c .row-bad .result) (l .inv .1) (c .row-bad .ensures))
 
--- src/clauses.rt:119:1
 returns : tie.Need-returns Inv-loop μ-loop
 unfolding rowsBad
 returns c =

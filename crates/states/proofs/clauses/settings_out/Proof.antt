@@ -6,15 +6,12 @@ use Rattle.states.proofs.clauses.settings_out.Reads as reads
 use Rattle.states.proofs.clauses.settings_out.Lts as lts
 use Rattle.pages.proofs.is_kept.Reads as is-kept-reads
 
--- src/clauses.rt:16:9
 is-kept-requires : tie.Need-is-kept-requires
 is-kept-requires c κs = search needs
 
--- src/clauses.rt:17:9
 is-kept-requires-2 : tie.Need-is-kept-requires-2
 is-kept-requires-2 c κs = search needs
 
--- src/clauses.rt:13:1
 returns : tie.Need-returns
 unfolding settingsOut
 returns c = rw (c .before .before .before .before .before .is-kept .ensures, c .before .before .before .before .is-kept2 .ensures)

@@ -18,50 +18,39 @@ Inv-loop s outstanding phase entries bad₀ i₀ bad i = (i ≤ 32) × (bad ≡ 
 abbrev μ-loop : tie.MeasureT-loop
 μ-loop s outstanding phase entries bad₀ i₀ bad i = 32 - i
 
--- src/clauses.rt:78:5
 loop-holds : tie.Need-loop-holds Inv-loop μ-loop
 loop-holds c = (search needs, some-none _)
 
--- src/clauses.rt:79:17
 mul-e : tie.Need-mul-e Inv-loop μ-loop
 mul-e c = search needs
 
--- src/clauses.rt:79:17
 array-copy-out-e : tie.Need-array-copy-out-e Inv-loop μ-loop
 array-copy-out-e c = search needs
 
--- src/clauses.rt:80:17
 cast-t : tie.Need-cast-t Inv-loop μ-loop
 cast-t c = search needs
 
--- src/clauses.rt:81:13
 bit-requires : tie.Need-bit-requires Inv-loop μ-loop
 bit-requires c κs = search needs
 
--- src/clauses.rt:82:53
 add-entry-bad : tie.Need-add-entry-bad Inv-loop μ-loop
 add-entry-bad c = search needs
 
--- src/clauses.rt:82:13
 entry-bad-requires : tie.Need-entry-bad-requires Inv-loop μ-loop
 entry-bad-requires c κs = search needs
 
--- src/clauses.rt:78:9
 add-i : tie.Need-add-i Inv-loop μ-loop
 add-i c = search needs
 
--- src/clauses.rt:78:5
 loop-less : tie.Need-loop-less Inv-loop μ-loop
 loop-less c = search needs
 
--- src/clauses.rt:78:5
 loop-again : tie.Need-loop-again Inv-loop μ-loop
 loop-again c =
     let l = c .before .before .before .before .loop in
     let a = c .before .before .before .before .before .args in
     (omega arith, some-turn (tagBad (a .s) (a .t2) (a .outstanding) (a .phase)) (l .i) (l .bad) (c .entry-bad .result) (l .inv .1) (rw (c .before .bit .ensures) at (c .entry-bad .ensures)))
 
--- src/clauses.rt:74:1
 returns : tie.Need-returns Inv-loop μ-loop
 unfolding tableBad
 returns c =

@@ -6,43 +6,33 @@ use Rattle.states.proofs.shapes.echo_of.Reads as reads
 use Rattle.states.proofs.shapes.echo_of.Lts as lts
 use Rattle.bits.proofs.byte.Reads as byte-reads
 
--- src/shapes.rt:81:17
 cast-count : tie.Need-cast-count
 cast-count c = search needs
 
--- src/shapes.rt:83:13
 byte-requires : tie.Need-byte-requires
 byte-requires c κs = search needs
 
--- src/shapes.rt:84:13
 byte-requires-2 : tie.Need-byte-requires-2
 byte-requires-2 c κs = search needs
 
--- src/shapes.rt:85:13
 byte-requires-3 : tie.Need-byte-requires-3
 byte-requires-3 c κs = search needs
 
--- src/shapes.rt:87:13
 byte-requires-4 : tie.Need-byte-requires-4
 byte-requires-4 c κs = search needs
 
--- src/shapes.rt:88:13
 byte-requires-5 : tie.Need-byte-requires-5
 byte-requires-5 c κs = search needs
 
--- src/shapes.rt:89:14
 byte-requires-6 : tie.Need-byte-requires-6
 byte-requires-6 c κs = search needs
 
--- src/shapes.rt:90:14
 byte-requires-7 : tie.Need-byte-requires-7
 byte-requires-7 c κs = search needs
 
--- src/shapes.rt:91:14
 byte-requires-8 : tie.Need-byte-requires-8
 byte-requires-8 c κs = search needs
 
--- src/shapes.rt:78:1
 returns : tie.Need-returns
 unfolding echoOf
 returns c = cc

@@ -5,11 +5,9 @@ use Rattle.states.proofs.shapes.no_record.Reads as reads
 use Rattle.states.proofs.shapes.no_record.Lts as lts
 use Rattle.states.proofs.shapes.idle_entry.Reads as idle-entry-reads
 
--- src/shapes.rt:123:9
 idle-entry-requires : tie.Need-idle-entry-requires
 idle-entry-requires c κs = search needs
 
--- src/shapes.rt:120:1
 returns : tie.Need-returns
 returns c = rw (c .before .idle-entry .ensures)
 

@@ -6,15 +6,12 @@ use Rattle.states.proofs.shapes.task_in.Reads as reads
 use Rattle.states.proofs.shapes.task_in.Lts as lts
 use Rattle.wire.proofs.task_of.Reads as task-of-reads
 
--- src/shapes.rt:74:19
 slice-aggregate-task-of : tie.Need-slice-aggregate-task-of
 slice-aggregate-task-of c = search needs
 
--- src/shapes.rt:74:5
 task-of-requires : tie.Need-task-of-requires
 task-of-requires c κs = search needs
 
--- src/shapes.rt:55:1
 returns : tie.Need-returns
 unfolding taskIn
 returns c = c .task-of .ensures

@@ -24,47 +24,36 @@ Inv-loop set es₀ i₀ es i = (i ≤ 32) × (length es₀ ≡ 32) × (length es
 abbrev μ-loop : tie.MeasureT-loop
 μ-loop set es₀ i₀ es i = 32 - i
 
--- src/table.rt:43:5
 loop-holds : tie.Need-loop-holds Inv-loop μ-loop
 loop-holds c = (search needs, search needs, search needs, partly-none _ _)
 
--- src/table.rt:44:19
 mul-old : tie.Need-mul-old Inv-loop μ-loop
 mul-old c = search needs
 
--- src/table.rt:44:19
 array-copy-out-old : tie.Need-array-copy-out-old Inv-loop μ-loop
 array-copy-out-old c = search needs
 
--- src/table.rt:45:36
 cast-bit : tie.Need-cast-bit Inv-loop μ-loop
 cast-bit c = search needs
 
--- src/table.rt:45:13
 bit-requires : tie.Need-bit-requires Inv-loop μ-loop
 bit-requires c κs = search needs
 
--- src/table.rt:46:13
 idle-if-requires : tie.Need-idle-if-requires Inv-loop μ-loop
 idle-if-requires c κs = search needs
 
--- src/table.rt:47:9
 mul-es : tie.Need-mul-es Inv-loop μ-loop
 mul-es c = search needs
 
--- src/table.rt:47:9
 array-set-from-es : tie.Need-array-set-from-es Inv-loop μ-loop
 array-set-from-es c = search needs
 
--- src/table.rt:43:9
 add-i : tie.Need-add-i Inv-loop μ-loop
 add-i c = search needs
 
--- src/table.rt:43:5
 loop-less : tie.Need-loop-less Inv-loop μ-loop
 loop-less c = search needs
 
--- src/table.rt:43:5
 loop-again : tie.Need-loop-again Inv-loop μ-loop
 loop-again c =
     let l = c .before .before .before .before .loop in
@@ -79,7 +68,6 @@ loop-again c =
           ∙ ap (λ (t : List Entry). set t i (f i)) (l .inv .3) ∙ partly-turn i f (a .entries) zeroEntry more,
     )
 
--- src/table.rt:39:1
 returns : tie.Need-returns Inv-loop μ-loop
 unfolding cleared
 returns c =

@@ -9,26 +9,21 @@ use Rattle.states.proofs.table.entry_of.Reads as reads
 use Rattle.states.proofs.table.entry_of.Lts as lts
 use Rattle.states.proofs.shapes.idle_entry.Reads as idle-entry-reads
 
--- src/table.rt:12:9
 idle-entry-requires : tie.Need-idle-entry-requires
 idle-entry-requires c κs = search needs
 
--- src/table.rt:12:9
 returns : tie.Need-returns
 returns c =
     let es = c .before .before .args .t1 in
     let l : length es ≡ 32 = search needs in
     c .idle-entry .ensures ∙ sym (List·getD-eq-default es zeroEntry (omega arith))
 
--- src/table.rt:15:5
 mul-result : tie.Need-mul-result
 mul-result c = search needs
 
--- src/table.rt:15:5
 array-copy-out-result : tie.Need-array-copy-out-result
 array-copy-out-result c = search needs
 
--- src/table.rt:8:1
 returns-2 : tie.Need-returns-2
 returns-2 c = refl
 

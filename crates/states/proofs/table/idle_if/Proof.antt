@@ -6,16 +6,13 @@ use Rattle.states.proofs.table.idle_if.Reads as reads
 use Rattle.states.proofs.table.idle_if.Lts as lts
 use Rattle.states.proofs.shapes.idle_entry.Reads as idle-entry-reads
 
--- src/table.rt:56:9
 idle-entry-requires : tie.Need-idle-entry-requires
 idle-entry-requires c κs = search needs
 
--- src/table.rt:56:9
 returns : tie.Need-returns
 unfolding pick
 returns c = rw (c .before .if1 .taken) (c .idle-entry .ensures)
 
--- src/table.rt:52:1
 returns-2 : tie.Need-returns-2
 unfolding pick
 returns-2 c = rw (c .if1 .left)

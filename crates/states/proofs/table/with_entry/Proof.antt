@@ -7,22 +7,18 @@ use Rattle.states.proofs.table.with_entry.Tie as tie
 use Rattle.states.proofs.table.with_entry.Reads as reads
 use Rattle.states.proofs.table.with_entry.Lts as lts
 
--- src/table.rt:24:9
 returns : tie.Need-returns
 returns c =
     let es = c .before .args .entries in
     let l : length es ≡ 32 = search needs in
     none-placed es (c .before .args .tag) (c .before .args .e) l (c .if1 .taken)
 
--- src/table.rt:27:5
 mul-es : tie.Need-mul-es
 mul-es c = search needs
 
--- src/table.rt:27:5
 array-set-from-es : tie.Need-array-set-from-es
 array-set-from-es c = search needs
 
--- src/table.rt:19:1
 returns-2 : tie.Need-returns-2
 returns-2 c =
     let es = c .before .args .entries in

@@ -7,29 +7,23 @@ use Rattle.text.proofs.digits.digit.Tie as tie
 use Rattle.text.proofs.digits.digit.Reads as reads
 use Rattle.text.proofs.digits.digit.Lts as lts
 
--- src/digits.rt:15:16
 add-result : tie.Need-add-result
 add-result c = search needs
 
--- src/digits.rt:15:9
 returns : tie.Need-returns
 unfolding pick digit
 returns c = rw (lt-ltb _ 10 (c .if1 .taken))
 
--- src/digits.rt:18:16
 add-result-2 : tie.Need-add-result-2
 add-result-2 c = search needs
 
--- src/digits.rt:18:9
 returns-2 : tie.Need-returns-2
 unfolding pick digit
 returns-2 c = rw (le-ltb _ 10 (c .before .if1 .left), c .if2 .taken)
 
--- src/digits.rt:20:5
 add-result-3 : tie.Need-add-result-3
 add-result-3 c = search needs
 
--- src/digits.rt:10:1
 returns-3 : tie.Need-returns-3
 unfolding pick digit
 returns-3 c = rw (le-ltb _ 10 (c .before .if1 .left), c .if2 .left)

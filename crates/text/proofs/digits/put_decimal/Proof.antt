@@ -24,60 +24,46 @@ Inv-loop out at n text₀ i₀ rest₀ text i rest =
 abbrev μ-loop : tie.MeasureT-loop
 μ-loop out at n text₀ i₀ rest₀ text i rest = i
 
--- src/digits.rt:65:16
 last-digit-requires : tie.Need-last-digit-requires Inv-loop μ-loop
 last-digit-requires c κs = search needs
 
--- src/digits.rt:65:5
 array-write-text : tie.Need-array-write-text Inv-loop μ-loop
 array-write-text c = search needs
 
--- src/digits.rt:66:5
 loop-holds : tie.Need-loop-holds Inv-loop μ-loop
 unfolding decimalTo
 loop-holds c = (omega arith, refl, rw (c .last-digit .ensures))
 
--- src/digits.rt:68:9
 sub-i : tie.Need-sub-i Inv-loop μ-loop
 sub-i c = let l = c .before .loop in omega (arith, ltb-true 0 (l .i) (and-right (ltb 9 (l .rest)) (ltb 0 (l .i)) (c .loop-test .taken)))
 
--- src/digits.rt:69:19
 last-digit-requires-2 : tie.Need-last-digit-requires-2 Inv-loop μ-loop
 last-digit-requires-2 c κs = search needs
 
--- src/digits.rt:69:9
 array-write-text-2 : tie.Need-array-write-text-2 Inv-loop μ-loop
 array-write-text-2 c = let l = c .before .before .loop in omega (arith, ltb-true 0 (l .i) (and-right (ltb 9 (l .rest)) (ltb 0 (l .i)) (c .before .loop-test .taken)))
 
--- src/digits.rt:66:5
 loop-less : tie.Need-loop-less Inv-loop μ-loop
 loop-less c = let l = c .before .before .loop in omega (arith, ltb-true 0 (l .i) (and-right (ltb 9 (l .rest)) (ltb 0 (l .i)) (c .before .loop-test .taken)))
 
--- src/digits.rt:66:5
 loop-again : tie.Need-loop-again Inv-loop μ-loop
 loop-again c = let l = c .before .before .loop in (omega arith, simp length-set (l .inv .1), rw (c .last-digit2 .ensures) (decimal-turn _ (l .text) (l .rest) (l .i) (c .before .loop-test .taken) (omega arith) (l .inv .2)))
 
--- src/digits.rt:71:18
 sub-put : tie.Need-sub-put Inv-loop μ-loop
 sub-put c = search needs
 
--- src/digits.rt:71:18
 part-put-start : tie.Need-part-put-start Inv-loop μ-loop
 part-put-start c = search needs
 
--- src/digits.rt:71:18
 part-put-end : tie.Need-part-put-end Inv-loop μ-loop
 part-put-end c = search needs
 
--- src/digits.rt:71:5
 put-requires : tie.Need-put-requires Inv-loop μ-loop
 put-requires c κs = search needs
 
--- src/digits.rt:59:1
 same-length : tie.Need-same-length Inv-loop μ-loop
 same-length c = search needs
 
--- src/digits.rt:59:1
 returns : tie.Need-returns Inv-loop μ-loop
 returns c = let l = c .before .before .before .before .before .before .before .loop in rw (← decimal-end _ (l .text) (l .rest) (l .i) (c .before .before .before .before .before .before .loop-test .left) (l .inv .1) (omega arith) (l .inv .2)) at (c .before .before .put .ensures)
 

@@ -6,35 +6,27 @@ use Rattle.text.proofs.digits.put_upper8.Lts as lts
 use Rattle.bits.proofs.byte.Reads as byte-reads
 use Rattle.text.proofs.digits.put_hex.Reads as put-hex-reads
 
--- src/digits.rt:44:9
 byte-requires : tie.Need-byte-requires
 byte-requires c κs = search needs
 
--- src/digits.rt:45:9
 byte-requires-2 : tie.Need-byte-requires-2
 byte-requires-2 c κs = search needs
 
--- src/digits.rt:46:9
 byte-requires-3 : tie.Need-byte-requires-3
 byte-requires-3 c κs = search needs
 
--- src/digits.rt:47:9
 byte-requires-4 : tie.Need-byte-requires-4
 byte-requires-4 c κs = search needs
 
--- src/digits.rt:49:22
 slice-aggregate-put-hex : tie.Need-slice-aggregate-put-hex
 slice-aggregate-put-hex c = search needs
 
--- src/digits.rt:49:5
 put-hex-requires : tie.Need-put-hex-requires
 put-hex-requires c κs = search needs
 
--- src/digits.rt:39:1
 same-length : tie.Need-same-length
 same-length c = search needs
 
--- src/digits.rt:39:1
 returns : tie.Need-returns
 returns c = rw (c .before .before .before .before .before .before .before .before .byte .ensures, c .before .before .before .before .before .before .before .byte2 .ensures, c .before .before .before .before .before .before .byte3 .ensures, c .before .before .before .before .before .byte4 .ensures) at (c .before .before .put-hex .ensures)
 

@@ -6,27 +6,21 @@ use Rattle.text.proofs.sheets.put_byte.Tie as tie
 use Rattle.text.proofs.sheets.put_byte.Reads as reads
 use Rattle.text.proofs.sheets.put_byte.Lts as lts
 
--- src/sheets.rt:13:9
 slice-write-out : tie.Need-slice-write-out
 slice-write-out c = search needs
 
--- src/sheets.rt:14:16
 add-result : tie.Need-add-result
 add-result c = search needs
 
--- src/sheets.rt:14:9
 same-length : tie.Need-same-length
 same-length c = search needs
 
--- src/sheets.rt:14:9
 returns : tie.Need-returns
 returns c = let a = c .before .args in added-room (a .x) (a .at) (now (a .out)) (c .if1 .taken)
 
--- src/sheets.rt:16:5
 add-result-2 : tie.Need-add-result-2
 add-result-2 c = search needs
 
--- src/sheets.rt:9:1
 returns-2 : tie.Need-returns-2
 returns-2 c = let a = c .before .args in added-none (a .x) (a .at) (now (a .out)) (c .if1 .left)
 

@@ -6,12 +6,10 @@ use Rattle.text.proofs.sheets.whole.Tie as tie
 use Rattle.text.proofs.sheets.whole.Reads as reads
 use Rattle.text.proofs.sheets.whole.Lts as lts
 
--- src/sheets.rt:32:1
 returns : tie.Need-returns
 unfolding pick
 returns c = rw (le-leb _ _ (c .if1 .taken))
 
--- src/sheets.rt:32:1
 returns-2 : tie.Need-returns-2
 unfolding pick
 returns-2 c = rw (lt-leb _ _ (c .if1 .left))

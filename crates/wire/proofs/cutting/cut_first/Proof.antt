@@ -10,19 +10,15 @@ use Rattle.wire.proofs.cutting.cut_first.Lts as lts
 use Rattle.wire.proofs.pieces.byte_of.Reads as byte-of-reads
 use Rattle.wire.proofs.sizes.fixed_size.Reads as fixed-size-reads
 
--- src/cutting.rt:11:27
 byte-of-requires : tie.Need-byte-of-requires
 byte-of-requires c κs = search needs
 
--- src/cutting.rt:11:9
 fixed-size-requires : tie.Need-fixed-size-requires
 fixed-size-requires c κs = search needs
 
--- src/cutting.rt:13:9
 returns : tie.Need-returns
 returns c = piece-taken (now (c .before .before .before .before .args .s)) (c .before .fixed-size .result) (c .before .fixed-size .ensures ∙ ap fixedSize (c .before .before .byte-of .ensures)) (c .if1 .taken)
 
--- src/cutting.rt:8:1
 returns-2 : tie.Need-returns-2
 returns-2 c = piece-left (now (c .before .before .before .before .args .s)) (c .before .fixed-size .result) (c .before .fixed-size .ensures ∙ ap fixedSize (c .before .before .byte-of .ensures)) (c .if1 .left)
 

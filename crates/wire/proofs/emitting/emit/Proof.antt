@@ -10,21 +10,17 @@ use Rattle.wire.proofs.emitting.emit.Reads as reads
 use Rattle.wire.proofs.emitting.emit.Lts as lts
 use Rattle.bits.proofs.lay.Reads as lay-reads
 
--- src/writing.rt:30:9
 returns : tie.Need-returns
 returns c =
     let a = c .before .before .before .args in
     emitted-large (a .fit) (now (a .s)) (now (a .buf)) (not-true (a .fit) (c .if1 .taken))
 
--- src/writing.rt:32:8
 lay-requires : tie.Need-lay-requires
 lay-requires c κs = search needs
 
--- src/writing.rt:26:1
 same-length : tie.Need-same-length
 same-length c = search needs
 
--- src/writing.rt:26:1
 returns-2 : tie.Need-returns-2
 returns-2 c =
     let a = c .before .before .before .before .before .before .before .before .args in
@@ -32,11 +28,9 @@ returns-2 c =
     let h = leb-true _ _ (sym (l .0) ∙ c .if2 .taken) in
     emitted-done (a .fit) (now (a .s)) (now (a .buf)) _ _ (not-false (a .fit) (c .before .before .before .before .before .if1 .left)) h refl (l .1 ∙ over-yes (now (a .s)) (now (a .buf)) h)
 
--- src/writing.rt:26:1
 same-length-2 : tie.Need-same-length-2
 same-length-2 c = search needs
 
--- src/writing.rt:26:1
 returns-3 : tie.Need-returns-3
 returns-3 c =
     let a = c .before .before .before .before .before .before .before .before .args in

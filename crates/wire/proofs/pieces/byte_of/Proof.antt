@@ -10,11 +10,9 @@ use Rattle.wire.proofs.pieces.byte_of.Reads as reads
 use Rattle.wire.proofs.pieces.byte_of.Lts as lts
 use Rattle.bits.proofs.byte_at.Reads as byte-at-reads
 
--- src/pieces.rt:13:5
 byte-at-requires : tie.Need-byte-at-requires
 byte-at-requires c κs = search needs
 
--- src/pieces.rt:10:1
 returns : tie.Need-returns
 returns c = c .byte-at .ensures ∙ ap (λ (k : ℕ). getD (now (c .before .before .args .s)) k 0) (add-zero (c .before .before .args .k))
 

@@ -7,19 +7,15 @@ use Rattle.wire.proofs.pieces.flag.Tie as tie
 use Rattle.wire.proofs.pieces.flag.Reads as reads
 use Rattle.wire.proofs.pieces.flag.Lts as lts
 
--- src/pieces.rt:27:9
 returns : tie.Need-returns
 returns c = rw (le-ltb (c .before .args .k) 8 (c .if1 .taken))
 
--- src/pieces.rt:29:11
 cast-result : tie.Need-cast-result
 cast-result c = search needs
 
--- src/pieces.rt:29:6
 shr-result : tie.Need-shr-result
 shr-result c = search needs
 
--- src/pieces.rt:23:1
 returns-2 : tie.Need-returns-2
 returns-2 c = rw (lt-ltb (c .before .args .k) 8 (c .if1 .left), and-mask (c .before .args .b / 2 ^ (c .before .args .k)) 1)
 

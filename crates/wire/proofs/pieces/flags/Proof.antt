@@ -5,19 +5,15 @@ use Rattle.wire.proofs.pieces.flags.Tie as tie
 use Rattle.wire.proofs.pieces.flags.Reads as reads
 use Rattle.wire.proofs.pieces.flags.Lts as lts
 
--- src/pieces.rt:27:7
 cast-result : tie.Need-cast-result
 cast-result c = search needs
 
--- src/pieces.rt:27:30
 cast-result-2 : tie.Need-cast-result-2
 cast-result-2 c = search needs
 
--- src/pieces.rt:27:51
 cast-result-3 : tie.Need-cast-result-3
 cast-result-3 c = search needs
 
--- src/pieces.rt:24:1
 returns : tie.Need-returns
 returns c = flags-or (c .args .seven) (c .args .six) (c .args .five)
 

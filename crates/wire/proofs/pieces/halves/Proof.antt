@@ -9,7 +9,6 @@ use Rattle.wire.proofs.pieces.halves.Tie as tie
 use Rattle.wire.proofs.pieces.halves.Reads as reads
 use Rattle.wire.proofs.pieces.halves.Lts as lts
 
--- src/pieces.rt:31:1
 returns : tie.Need-returns
 returns c =
     let b = c .args .b in

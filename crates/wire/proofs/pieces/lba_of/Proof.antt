@@ -8,15 +8,12 @@ use Rattle.wire.proofs.pieces.lba_of.Reads as reads
 use Rattle.wire.proofs.pieces.lba_of.Lts as lts
 use Rattle.bits.proofs.le.Reads as le-reads
 
--- src/pieces.rt:40:6
 le-requires : tie.Need-le-requires
 le-requires c κs = search needs
 
--- src/pieces.rt:40:33
 le-requires-2 : tie.Need-le-requires-2
 le-requires-2 c κs = search needs
 
--- src/pieces.rt:37:1
 returns : tie.Need-returns
 returns c =
     let hi = c .before .le .ensures in

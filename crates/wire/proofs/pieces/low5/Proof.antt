@@ -5,11 +5,9 @@ use Rattle.wire.proofs.pieces.low5.Tie as tie
 use Rattle.wire.proofs.pieces.low5.Reads as reads
 use Rattle.wire.proofs.pieces.low5.Lts as lts
 
--- src/pieces.rt:57:5
 cast-result : tie.Need-cast-result
 cast-result c = fits-mask (c .args .x) 5 tt
 
--- src/pieces.rt:54:1
 returns : tie.Need-returns
 returns c = and-mask (c .args .x) 5
 

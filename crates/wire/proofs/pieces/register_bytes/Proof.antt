@@ -6,51 +6,39 @@ use Rattle.wire.proofs.pieces.register_bytes.Reads as reads
 use Rattle.wire.proofs.pieces.register_bytes.Lts as lts
 use Rattle.bits.proofs.byte.Reads as byte-reads
 
--- src/pieces.rt:82:17
 cast-count : tie.Need-cast-count
 cast-count c = search needs
 
--- src/pieces.rt:89:9
 byte-requires : tie.Need-byte-requires
 byte-requires c κs = search needs
 
--- src/pieces.rt:90:9
 byte-requires-2 : tie.Need-byte-requires-2
 byte-requires-2 c κs = search needs
 
--- src/pieces.rt:91:9
 byte-requires-3 : tie.Need-byte-requires-3
 byte-requires-3 c κs = search needs
 
--- src/pieces.rt:93:9
 byte-requires-4 : tie.Need-byte-requires-4
 byte-requires-4 c κs = search needs
 
--- src/pieces.rt:94:9
 byte-requires-5 : tie.Need-byte-requires-5
 byte-requires-5 c κs = search needs
 
--- src/pieces.rt:95:9
 byte-requires-6 : tie.Need-byte-requires-6
 byte-requires-6 c κs = search needs
 
--- src/pieces.rt:97:9
 byte-requires-7 : tie.Need-byte-requires-7
 byte-requires-7 c κs = search needs
 
--- src/pieces.rt:98:9
 byte-requires-8 : tie.Need-byte-requires-8
 byte-requires-8 c κs = search needs
 
--- src/pieces.rt:101:9
 byte-requires-9 : tie.Need-byte-requires-9
 byte-requires-9 c κs = search needs
 
--- src/pieces.rt:102:9
 byte-requires-10 : tie.Need-byte-requires-10
 byte-requires-10 c κs = search needs
 
--- src/pieces.rt:70:1
 returns : tie.Need-returns
 unfolding registerBytes
 returns c = cc

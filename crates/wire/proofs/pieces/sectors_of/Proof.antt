@@ -9,7 +9,6 @@ use Rattle.wire.proofs.pieces.sectors_of.Tie as tie
 use Rattle.wire.proofs.pieces.sectors_of.Reads as reads
 use Rattle.wire.proofs.pieces.sectors_of.Lts as lts
 
--- src/pieces.rt:62:1
 returns : tie.Need-returns
 unfolding pick
 returns c =
@@ -18,7 +17,6 @@ returns c =
     let g : a .high < 2 ^ 8 = search needs in
     rw (← shl-or 8 8 32 (lit≤ tt) g f, eq-eqb _ 0 (c .if1 .taken))
 
--- src/pieces.rt:62:1
 returns-2 : tie.Need-returns-2
 unfolding pick
 returns-2 c =

@@ -6,7 +6,6 @@ use Rattle.wire.proofs.pieces.task_fits.Tie as tie
 use Rattle.wire.proofs.pieces.task_fits.Reads as reads
 use Rattle.wire.proofs.pieces.task_fits.Lts as lts
 
--- src/writing.rt:43:1
 returns : tie.Need-returns
 returns c =
     let t = c .before .args .t in

@@ -7,23 +7,18 @@ use Rattle.bits.proofs.le.Reads as le-reads
 use Rattle.wire.proofs.pieces.byte_of.Reads as byte-of-reads
 use Rattle.wire.proofs.pieces.lba_of.Reads as lba-of-reads
 
--- src/pieces.rt:48:14
 lba-of-requires : tie.Need-lba-of-requires
 lba-of-requires c κs = search needs
 
--- src/pieces.rt:49:17
 byte-of-requires : tie.Need-byte-of-requires
 byte-of-requires c κs = search needs
 
--- src/pieces.rt:50:16
 le-requires : tie.Need-le-requires
 le-requires c κs = search needs
 
--- src/pieces.rt:50:16
 cast-t5 : tie.Need-cast-t5
 cast-t5 c = search needs
 
--- src/pieces.rt:44:1
 returns : tie.Need-returns
 returns c = cc
 

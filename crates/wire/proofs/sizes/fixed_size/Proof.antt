@@ -6,42 +6,34 @@ use Rattle.wire.proofs.sizes.fixed_size.Tie as tie
 use Rattle.wire.proofs.sizes.fixed_size.Reads as reads
 use Rattle.wire.proofs.sizes.fixed_size.Lts as lts
 
--- src/reading.rt:18:1
 returns : tie.Need-returns
 unfolding fixedSize pick
 returns c = rw (c .match .keys1)
 
--- src/reading.rt:18:1
 returns-2 : tie.Need-returns-2
 unfolding fixedSize pick
 returns-2 c = rw (c .match .keys2)
 
--- src/reading.rt:18:1
 returns-3 : tie.Need-returns-3
 unfolding fixedSize pick
 returns-3 c = rw (c .match .keys3)
 
--- src/reading.rt:18:1
 returns-4 : tie.Need-returns-4
 unfolding fixedSize pick
 returns-4 c = rw (c .match .keys4)
 
--- src/reading.rt:18:1
 returns-5 : tie.Need-returns-5
 unfolding fixedSize pick
 returns-5 c = rw (c .match .keys5)
 
--- src/reading.rt:18:1
 returns-6 : tie.Need-returns-6
 unfolding fixedSize pick
 returns-6 c = rw (c .match .keys6)
 
--- src/reading.rt:18:1
 returns-7 : tie.Need-returns-7
 unfolding fixedSize pick
 returns-7 c = rw (c .match .keys7)
 
--- src/reading.rt:18:1
 returns-8 : tie.Need-returns-8
 unfolding fixedSize pick
 returns-8 c =

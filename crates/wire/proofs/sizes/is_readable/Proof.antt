@@ -10,24 +10,19 @@ use Rattle.wire.proofs.sizes.behind_head.Reads as behind-head-reads
 use Rattle.wire.proofs.sizes.fixed_size.Reads as fixed-size-reads
 use Rattle.wire.proofs.sizes.payload_size.Reads as payload-size-reads
 
--- src/sizes.rt:41:29
 behind-head-requires : tie.Need-behind-head-requires
 behind-head-requires c κs = search needs
 
--- src/sizes.rt:41:9
 payload-size-requires : tie.Need-payload-size-requires
 payload-size-requires c κs = search needs
 
--- src/sizes.rt:41:9
 returns : tie.Need-returns
 unfolding readable pick
 returns c = rw (c .before .before .if1 .taken, ← c .before .behind-head .ensures) (c .payload-size .ensures)
 
--- src/sizes.rt:43:9
 fixed-size-requires : tie.Need-fixed-size-requires
 fixed-size-requires c κs = search needs
 
--- src/sizes.rt:37:1
 returns-2 : tie.Need-returns-2
 unfolding readable pick
 returns-2 c = rw (ne-eqb (c .before .before .args .kind) 0x46 (c .before .if1 .left), ← c .fixed-size .ensures)

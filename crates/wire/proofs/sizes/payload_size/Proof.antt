@@ -4,7 +4,6 @@ use Rattle.wire.proofs.sizes.payload_size.Tie as tie
 use Rattle.wire.proofs.sizes.payload_size.Reads as reads
 use Rattle.wire.proofs.sizes.payload_size.Lts as lts
 
--- src/reading.rt:34:1
 returns : tie.Need-returns
 returns c = rw (and-mask (c .args .n) 2)
 

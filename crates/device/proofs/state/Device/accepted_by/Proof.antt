@@ -7,19 +7,15 @@ use Rattle.device.proofs.state.Device.accepted_by.Lts as lts
 use Rattle.bits.proofs.with_bit.Reads as with-bit-reads
 use Rattle.states.proofs.with_entry.Reads as with-entry-reads
 
--- src/after.rt:39:19
 cast-tag : tie.Need-cast-tag
 cast-tag c = search needs
 
--- src/after.rt:40:13
 with-entry-requires : tie.Need-with-entry-requires
 with-entry-requires c κs = search needs
 
--- src/after.rt:41:13
 with-bit-requires : tie.Need-with-bit-requires
 with-bit-requires c κs = search needs
 
--- src/after.rt:34:5
 returns : tie.Need-returns
 unfolding acceptedBy
 returns c = rw (c .before .before .with-entry .ensures, c .before .with-bit .ensures)

@@ -10,37 +10,29 @@ use Rattle.device.proofs.state.Device.renewed.Reads as renewed-reads
 use Rattle.replies.proofs.emit.Reads as emit-reads
 use Rattle.ladders.proofs.comreset_number.Reads as comreset-number-reads
 
--- src/resets.rt:29:13
 contradicts-requires : tie.Need-contradicts-requires
 contradicts-requires c κs = search needs
 
--- src/resets.rt:30:13
 comreset-number-requires : tie.Need-comreset-number-requires
 comreset-number-requires c κs = search needs
 
--- src/resets.rt:32:13
 returns : tie.Need-returns
 returns c =
     let a = c .before .before .before .before .args in
     comreset-refused (a .self) (now (a .reply)) (c .before .comreset-number .result) (rw (c .before .before .contradicts .ensures) at (c .before .comreset-number .ensures)) (c .if1 .taken)
 
--- src/resets.rt:41:76
 slice-aggregate-emit : tie.Need-slice-aggregate-emit
 slice-aggregate-emit c = search needs
 
--- src/resets.rt:41:13
 emit-requires : tie.Need-emit-requires
 emit-requires c κs = search needs
 
--- src/resets.rt:42:13
 renewed-requires : tie.Need-renewed-requires
 renewed-requires c κs = search needs
 
--- src/resets.rt:26:5
 same-length : tie.Need-same-length
 same-length c = search needs
 
--- src/resets.rt:26:5
 returns-2 : tie.Need-returns-2
 returns-2 c =
     let a = c .before .before .before .before .before .before .before .before .before .before .before .before .args in

@@ -6,11 +6,9 @@ use Rattle.device.proofs.state.Device.contradicts.Reads as reads
 use Rattle.device.proofs.state.Device.contradicts.Lts as lts
 use Rattle.states.proofs.contradicts.Reads as contradicts-reads
 
--- src/state.rt:90:9
 contradicts-requires : tie.Need-contradicts-requires
 contradicts-requires c κs = search needs
 
--- src/state.rt:82:5
 returns : tie.Need-returns
 unfolding contradictoryDevice
 returns c = c .contradicts .ensures

@@ -14,28 +14,22 @@ use Rattle.device.proofs.state.Device.contradicts.Reads as contradicts-
 use Rattle.pages.proofs.row_of.Reads as row-of-reads
 use Rattle.ladders.proofs.counter_number.Reads as counter-number-reads
 
--- src/counter.rt:33:13
 contradicts-requires : tie.Need-contradicts-requires
 contradicts-requires c κs = search needs
 
--- src/counter.rt:36:13
 counter-number-requires : tie.Need-counter-number-requires
 counter-number-requires c κs = search needs
 
--- src/counter.rt:37:13
 row-of-requires : tie.Need-row-of-requires
 row-of-requires c κs = search needs
 
--- src/counter.rt:38:13
 shown-requires : tie.Need-shown-requires
 shown-requires c κs = search needs
 
--- src/counter.rt:40:13
 returns : tie.Need-returns
 unfolding counterOf pick
 returns c = counter-given _ _ _ (rw (← c .before .before .before .before .before .contradicts .ensures, ← c .before .before .before .counter-number .ensures, not-true (eqb (c .before .before .before .counter-number .result) 0) (c .if1 .taken)))
 
--- src/counter.rt:30:5
 returns-2 : tie.Need-returns-2
 unfolding counterOf shownFor pick
 returns-2 c = counter-given _ _ _ (rw (← c .before .before .before .before .before .contradicts .ensures, ← c .before .before .before .counter-number .ensures, not-false (eqb (c .before .before .before .counter-number .result) 0) (c .if1 .left), ← c .before .before .row-of .ensures) (c .before .shown .ensures))

@@ -9,23 +9,18 @@ use Rattle.device.proofs.after.after.Reads as after-reads
 use Rattle.replies.proofs.emit.Reads as emit-reads
 use Rattle.rules.proofs.number_of.Reads as number-of-reads
 
--- src/calls.rt:58:13
 emit-requires : tie.Need-emit-requires
 emit-requires c κs = search needs
 
--- src/calls.rt:59:13
 number-of-requires : tie.Need-number-of-requires
 number-of-requires c κs = search needs
 
--- src/calls.rt:60:13
 after-requires : tie.Need-after-requires
 after-requires c κs = search needs
 
--- src/calls.rt:51:5
 same-length : tie.Need-same-length
 same-length c = search needs
 
--- src/calls.rt:51:5
 returns : tie.Need-returns
 returns c =
     let a = c .before .before .before .before .before .before .before .before .before .before .args in

@@ -6,15 +6,12 @@ use Rattle.device.proofs.state.Device.facts.Lts as lts
 use Rattle.device.proofs.state.Device.contradicts.Reads as contradicts-reads
 use Rattle.states.proofs.entry_of.Reads as entry-of-reads
 
--- src/calls.rt:17:13
 contradicts-requires : tie.Need-contradicts-requires
 contradicts-requires c κs = search needs
 
--- src/calls.rt:21:13
 entry-of-requires : tie.Need-entry-of-requires
 entry-of-requires c κs = search needs
 
--- src/calls.rt:14:5
 returns : tie.Need-returns
 returns c = rw (c .before .before .before .before .contradicts .ensures, c .entry-of .ensures)
 

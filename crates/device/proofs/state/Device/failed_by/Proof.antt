@@ -9,28 +9,22 @@ use Rattle.device.proofs.events.counted.Reads as counted-reads
 use Rattle.device.proofs.state.Device.halt_with.Reads as halt-with-reads
 use Rattle.wire.proofs.flag.Reads as flag-reads
 
--- src/after.rt:118:12
 flag-requires : tie.Need-flag-requires
 flag-requires c κs = search needs
 
--- src/after.rt:119:20
 counted-requires : tie.Need-counted-requires
 counted-requires c κs = search needs
 
--- src/after.rt:119:13
 halt-with-requires : tie.Need-halt-with-requires
 halt-with-requires c κs = search needs
 
--- src/after.rt:119:13
 returns : tie.Need-returns
 unfolding failedBy pick
 returns c = rw (← c .before .before .before .flag .ensures, c .before .before .if1 .taken, ← c .before .counted .ensures) (c .halt-with .ensures)
 
--- src/after.rt:121:9
 halt-with-requires-2 : tie.Need-halt-with-requires-2
 halt-with-requires-2 c κs = search needs
 
--- src/after.rt:115:5
 returns-2 : tie.Need-returns-2
 unfolding failedBy pick
 returns-2 c = rw (← c .before .before .flag .ensures, c .before .if1 .left) (c .halt-with2 .ensures)

@@ -13,19 +13,15 @@ use Rattle.device.proofs.state.Device.done.Reads as done-reads
 use Rattle.device.proofs.state.Device.facts.Reads as facts-reads
 use Rattle.rules.proofs.finish_act.Reads as finish-act-reads
 
--- src/calls.rt:108:13
 facts-requires : tie.Need-facts-requires
 facts-requires c κs = search needs
 
--- src/calls.rt:110:13
 finish-act-requires : tie.Need-finish-act-requires
 finish-act-requires c κs = search needs
 
--- src/calls.rt:111:31
 slice-aggregate-done : tie.Need-slice-aggregate-done
 slice-aggregate-done c = search needs
 
--- src/calls.rt:111:9
 done-requires : tie.Need-done-requires
 unfolding finishOf
 done-requires c κs =
@@ -33,11 +29,9 @@ done-requires c κs =
     let n = length (now (a .reply)) in
     roomy-act (c .before .before .finish-act .result) (finishOf (a .self) (a .set) n) n (rw (c .before .before .before .before .facts .ensures) at (c .before .before .finish-act .ensures)) (roomy-finish (a .self) (a .set) n)
 
--- src/calls.rt:105:5
 same-length : tie.Need-same-length
 same-length c = search needs
 
--- src/calls.rt:105:5
 returns : tie.Need-returns
 unfolding finishOf
 returns c =

@@ -7,11 +7,9 @@ use Rattle.device.proofs.state.Device.halt_with.Reads as reads
 use Rattle.device.proofs.state.Device.halt_with.Lts as lts
 use Rattle.device.proofs.state.fresh.Reads as fresh-reads
 
--- src/after.rt:27:13
 fresh-requires : tie.Need-fresh-requires
 fresh-requires c κs = search needs
 
--- src/after.rt:14:5
 returns : tie.Need-returns
 unfolding haltWith freshDevice
 returns c = rw (c .before .fresh .ensures)

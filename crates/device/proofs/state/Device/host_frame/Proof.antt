@@ -20,35 +20,27 @@ use Rattle.frames.proofs.read_frame.Reads as read-frame-reads
 use Rattle.rules.proofs.decide_frame.Reads as decide-frame-reads
 use Rattle.rules.proofs.keep.Reads as keep-reads
 
--- src/calls.rt:72:13
 open-tag-requires : tie.Need-open-tag-requires
 open-tag-requires c κs = search needs
 
--- src/calls.rt:73:13
 medium-wrong-requires : tie.Need-medium-wrong-requires
 medium-wrong-requires c κs = search needs
 
--- src/calls.rt:74:13
 facts-requires : tie.Need-facts-requires
 facts-requires c κs = search needs
 
--- src/calls.rt:75:13
 read-frame-requires : tie.Need-read-frame-requires
 read-frame-requires c κs = search needs
 
--- src/calls.rt:76:13
 decide-frame-requires : tie.Need-decide-frame-requires
 decide-frame-requires c κs = search needs
 
--- src/calls.rt:77:9
 keep-requires : tie.Need-keep-requires
 keep-requires c κs = search needs
 
--- src/calls.rt:78:31
 slice-aggregate-done : tie.Need-slice-aggregate-done
 slice-aggregate-done c = search needs
 
--- src/calls.rt:78:9
 done-requires : tie.Need-done-requires
 done-requires c κs =
     let a = c .before .before .before .before .before .before .before .before .before .before .before .before .before .before .args in
@@ -57,15 +49,12 @@ done-requires c κs =
     let e = host-act (a .self) (now (a .frame)) n room (c .before .before .before .before .before .before .before .before .before .before .open-tag .result) (c .before .before .before .before .before .before .before .before .before .medium-wrong .result) (c .before .before .before .before .before .before .before .before .facts .result) (c .before .before .before .before .before .before .before .read-frame .result) (c .before .before .before .before .before .before .decide-frame .result) (c .before .before .before .before .before .before .before .before .before .before .open-tag .ensures) (c .before .before .before .before .before .before .before .before .before .medium-wrong .ensures) (c .before .before .before .before .before .before .before .before .facts .ensures) (c .before .before .before .before .before .before .before .read-frame .ensures .answer) (c .before .before .before .before .before .before .decide-frame .ensures) in
     roomy-act (c .before .before .before .before .before .before .decide-frame .result) (hostAct (a .self) (now (a .frame)) n room) room e (roomy-host (a .self) (now (a .frame)) n room)
 
--- src/calls.rt:69:5
 same-length : tie.Need-same-length
 same-length c = search needs
 
--- src/calls.rt:69:5
 same-length-2 : tie.Need-same-length-2
 same-length-2 c = search needs
 
--- src/calls.rt:69:5
 returns : tie.Need-returns
 returns c =
     let a = c .before .before .before .before .before .before .before .before .before .before .before .before .before .before .before .before .before .args in

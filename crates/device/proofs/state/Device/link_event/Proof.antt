@@ -11,28 +11,22 @@ use Rattle.states.proofs.row_refused.Reads as row-refused-reads
 use Rattle.device.proofs.state.Device.contradicts.Reads as contradicts-reads
 use Rattle.ladders.proofs.link_number.Reads as link-number-reads
 
--- src/events.rt:35:13
 contradicts-requires : tie.Need-contradicts-requires
 contradicts-requires c κs = search needs
 
--- src/events.rt:36:47
 row-refused-requires : tie.Need-row-refused-requires
 row-refused-requires c κs = search needs
 
--- src/events.rt:36:13
 link-number-requires : tie.Need-link-number-requires
 link-number-requires c κs = search needs
 
--- src/events.rt:38:13
 returns : tie.Need-returns
 unfolding linkStep
 returns c = refused _ _ _ _ _ (rw (c .before .before .before .contradicts .ensures, c .before .before .row-refused .ensures) at (c .before .link-number .ensures)) refl (c .if1 .taken)
 
--- src/events.rt:44:13
 counted-requires : tie.Need-counted-requires
 counted-requires c κs = search needs
 
--- src/events.rt:31:5
 returns-2 : tie.Need-returns-2
 unfolding linkStep
 returns-2 c = taken _ _ _ _ _ (rw (c .before .before .before .before .contradicts .ensures, c .before .before .before .row-refused .ensures) at (c .before .before .link-number .ensures)) (c .counted .ensures) (c .before .if1 .left)

@@ -13,19 +13,15 @@ use Rattle.device.proofs.state.Device.done.Reads as done-reads
 use Rattle.device.proofs.state.Device.facts.Reads as facts-reads
 use Rattle.rules.proofs.media_act.Reads as media-act-reads
 
--- src/calls.rt:118:13
 facts-requires : tie.Need-facts-requires
 facts-requires c κs = search needs
 
--- src/calls.rt:119:13
 media-act-requires : tie.Need-media-act-requires
 media-act-requires c κs = search needs
 
--- src/calls.rt:120:31
 slice-aggregate-done : tie.Need-slice-aggregate-done
 slice-aggregate-done c = search needs
 
--- src/calls.rt:120:9
 done-requires : tie.Need-done-requires
 unfolding mediaOf
 done-requires c κs =
@@ -33,11 +29,9 @@ done-requires c κs =
     let n = length (now (a .reply)) in
     roomy-act (c .before .before .media-act .result) (mediaOf (a .self) (a .tag) (a .error) (a .sector) n) n (rw (c .before .before .before .facts .ensures) at (c .before .before .media-act .ensures)) (roomy-media (a .self) (a .tag) (a .error) (a .sector) n)
 
--- src/calls.rt:115:5
 same-length : tie.Need-same-length
 same-length c = search needs
 
--- src/calls.rt:115:5
 returns : tie.Need-returns
 unfolding mediaOf
 returns c =

@@ -7,16 +7,13 @@ use Rattle.device.proofs.state.Device.moved_by.Reads as reads
 use Rattle.device.proofs.state.Device.moved_by.Lts as lts
 use Rattle.states.proofs.with_entry.Reads as with-entry-reads
 
--- src/after.rt:88:13
 with-entry-requires : tie.Need-with-entry-requires
 with-entry-requires c κs = search needs
 
--- src/after.rt:92:13
 returns : tie.Need-returns
 unfolding movedBy pick
 returns c = rw (c .before .before .with-entry .ensures, c .before .if1 .taken)
 
--- src/after.rt:83:5
 returns-2 : tie.Need-returns-2
 unfolding movedBy pick
 returns-2 c = rw (c .before .with-entry .ensures, c .if1 .left)

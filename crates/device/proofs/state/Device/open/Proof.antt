@@ -15,19 +15,15 @@ use Rattle.device.proofs.state.Device.done.Reads as done-reads
 use Rattle.device.proofs.state.Device.facts.Reads as facts-reads
 use Rattle.rules.proofs.open_act.Reads as open-act-reads
 
--- src/calls.rt:85:13
 facts-requires : tie.Need-facts-requires
 facts-requires c κs = search needs
 
--- src/calls.rt:86:13
 open-act-requires : tie.Need-open-act-requires
 open-act-requires c κs = search needs
 
--- src/calls.rt:87:31
 slice-aggregate-done : tie.Need-slice-aggregate-done
 slice-aggregate-done c = search needs
 
--- src/calls.rt:87:9
 done-requires : tie.Need-done-requires
 unfolding openOf
 done-requires c κs =
@@ -35,11 +31,9 @@ done-requires c κs =
     let e : c .before .before .open-act .result ≡ openOf (a .self) (a .tag) (length (now (a .reply))) = rw (c .before .before .before .facts .ensures) at (c .before .before .open-act .ensures) in
     roomy-act (c .before .before .open-act .result) (openOf (a .self) (a .tag) (length (now (a .reply)))) (length (now (a .reply))) e (roomy-open (a .self) (a .tag) (length (now (a .reply))))
 
--- src/calls.rt:82:5
 same-length : tie.Need-same-length
 same-length c = search needs
 
--- src/calls.rt:82:5
 returns : tie.Need-returns
 unfolding openOf
 returns c =

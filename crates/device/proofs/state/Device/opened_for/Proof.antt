@@ -6,11 +6,9 @@ use Rattle.device.proofs.state.Device.opened_for.Tie as tie
 use Rattle.device.proofs.state.Device.opened_for.Reads as reads
 use Rattle.device.proofs.state.Device.opened_for.Lts as lts
 
--- src/after.rt:100:21
 add-phase : tie.Need-add-phase
 add-phase c = search needs
 
--- src/after.rt:97:5
 returns : tie.Need-returns
 unfolding openedFor
 returns c = refl

@@ -9,24 +9,19 @@ use Rattle.device.proofs.state.Device.outstanding_count.Lts as lts
 use Rattle.device.proofs.counter.ones_of.Reads as ones-of-reads
 use Rattle.device.proofs.state.Device.contradicts.Reads as contradicts-reads
 
--- src/counter.rt:56:13
 contradicts-requires : tie.Need-contradicts-requires
 contradicts-requires c κs = search needs
 
--- src/counter.rt:59:13
 returns : tie.Need-returns
 unfolding countOf pick
 returns c = count-given _ _ (rw (← c .before .contradicts .ensures, c .if1 .taken))
 
--- src/counter.rt:61:13
 ones-of-requires : tie.Need-ones-of-requires
 ones-of-requires c κs = search needs
 
--- src/counter.rt:62:24
 cast-t6 : tie.Need-cast-t6
 cast-t6 c = search needs
 
--- src/counter.rt:53:5
 returns-2 : tie.Need-returns-2
 unfolding countOf pick
 returns-2 c = count-given _ _ (rw (← c .before .before .contradicts .ensures, c .before .if1 .left, c .ones-of .ensures))

@@ -10,28 +10,22 @@ use Rattle.device.proofs.state.zeros.Reads as zeros-reads
 use Rattle.states.proofs.settings_out.Reads as settings-out-reads
 use Rattle.ladders.proofs.power_number.Reads as power-number-reads
 
--- src/state.rt:64:43
 settings-out-requires : tie.Need-settings-out-requires
 settings-out-requires c κs = search needs
 
--- src/state.rt:64:13
 power-number-requires : tie.Need-power-number-requires
 power-number-requires c κs = search needs
 
--- src/state.rt:66:17
 zeros-requires : tie.Need-zeros-requires
 zeros-requires c κs = search needs
 
--- src/state.rt:67:13
 returns : tie.Need-returns
 unfolding powerOn
 returns c = refused _ _ _ _ _ (rw (c .before .before .before .settings-out .ensures) at (c .before .before .power-number .ensures)) (c .zeros .ensures) (c .before .if1 .taken)
 
--- src/state.rt:73:13
 fresh-requires : tie.Need-fresh-requires
 fresh-requires c κs = search needs
 
--- src/state.rt:61:5
 returns-2 : tie.Need-returns-2
 unfolding powerOn
 returns-2 c = taken _ _ _ _ _ (rw (c .before .before .before .settings-out .ensures) at (c .before .before .power-number .ensures)) (c .fresh .ensures) (c .before .if1 .left)

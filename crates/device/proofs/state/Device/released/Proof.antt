@@ -5,7 +5,6 @@ use Rattle.device.proofs.state.Device.released.Tie as tie
 use Rattle.device.proofs.state.Device.released.Reads as reads
 use Rattle.device.proofs.state.Device.released.Lts as lts
 
--- src/after.rt:76:5
 returns : tie.Need-returns
 unfolding released
 returns c = refl

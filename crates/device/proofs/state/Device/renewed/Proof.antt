@@ -11,23 +11,18 @@ use Rattle.device.proofs.state.Device.renewed.Lts as lts
 use Rattle.device.proofs.state.fresh.Reads as fresh-reads
 use Rattle.ladders.proofs.bump.Reads as bump-reads
 
--- src/resets.rt:15:17
 element-copy-out-v : tie.Need-element-copy-out-v
 element-copy-out-v c = search needs
 
--- src/resets.rt:16:13
 bump-requires : tie.Need-bump-requires
 bump-requires c κs = search needs
 
--- src/resets.rt:18:9
 array-write-values : tie.Need-array-write-values
 array-write-values c = search needs
 
--- src/resets.rt:19:13
 fresh-requires : tie.Need-fresh-requires
 fresh-requires c κs = search needs
 
--- src/resets.rt:11:5
 returns : tie.Need-returns
 unfolding renewed withValue released resetHeld pick freshDevice
 returns c = rw (c .fresh .ensures, c .before .before .bump .ensures)

@@ -7,11 +7,9 @@ use Rattle.device.proofs.state.Device.reset_held.Reads as reads
 use Rattle.device.proofs.state.Device.reset_held.Lts as lts
 use Rattle.device.proofs.state.fresh.Reads as fresh-reads
 
--- src/after.rt:70:13
 fresh-requires : tie.Need-fresh-requires
 fresh-requires c κs = search needs
 
--- src/after.rt:65:5
 returns : tie.Need-returns
 unfolding resetHeld freshDevice
 returns c = rw (c .before .fresh .ensures)

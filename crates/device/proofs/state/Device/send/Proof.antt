@@ -15,27 +15,21 @@ use Rattle.device.proofs.calls.open_tag.Reads as open-tag-reads
 use Rattle.rules.proofs.send_act.Reads as send-act-reads
 use Rattle.rules.proofs.span_of.Reads as span-of-reads
 
--- src/calls.rt:94:13
 open-tag-requires : tie.Need-open-tag-requires
 open-tag-requires c κs = search needs
 
--- src/calls.rt:95:13
 medium-wrong-requires : tie.Need-medium-wrong-requires
 medium-wrong-requires c κs = search needs
 
--- src/calls.rt:96:13
 facts-requires : tie.Need-facts-requires
 facts-requires c κs = search needs
 
--- src/calls.rt:97:13
 send-act-requires : tie.Need-send-act-requires
 send-act-requires c κs = search needs
 
--- src/calls.rt:98:13
 span-of-requires : tie.Need-span-of-requires
 span-of-requires c κs = search needs
 
--- src/calls.rt:100:19
 add-end : tie.Need-add-end
 add-end c =
     let a = c .before .before .before .before .before .before .before .before .args in
@@ -45,15 +39,12 @@ add-end c =
     let h = span-known (a .self) n room (c .before .before .send-act .result) (c .before .span-of .result) e (c .before .span-of .ensures) in
     search (needs, h)
 
--- src/calls.rt:101:31
 sub-done : tie.Need-sub-done
 sub-done c = search needs
 
--- src/calls.rt:101:31
 part-done-start : tie.Need-part-done-start
 part-done-start c = search needs
 
--- src/calls.rt:101:31
 part-done-end : tie.Need-part-done-end
 part-done-end c =
     let a = c .before .before .before .before .before .before .before .before .before .args in
@@ -63,7 +54,6 @@ part-done-end c =
     let h = span-known (a .self) n room (c .before .before .before .send-act .result) (c .before .before .span-of .result) e (c .before .before .span-of .ensures) in
     search (needs, h)
 
--- src/calls.rt:101:9
 done-requires : tie.Need-done-requires
 done-requires c κs =
     let a = c .before .before .before .before .before .before .before .before .before .before .args in
@@ -72,11 +62,9 @@ done-requires c κs =
     let e = send-act (a .self) n room (c .before .before .before .before .before .before .before .open-tag .result) (c .before .before .before .before .before .before .medium-wrong .result) (c .before .before .before .before .before .facts .result) (c .before .before .before .before .send-act .result) (c .before .before .before .before .before .before .before .open-tag .ensures) (c .before .before .before .before .before .before .medium-wrong .ensures) (c .before .before .before .before .before .facts .ensures) (c .before .before .before .before .send-act .ensures) in
     roomy-act (c .before .before .before .before .send-act .result) (sendOf (a .self) n room) room e (roomy-send (a .self) n room)
 
--- src/calls.rt:91:5
 same-length : tie.Need-same-length
 same-length c = search needs
 
--- src/calls.rt:91:5
 returns : tie.Need-returns
 returns c =
     let a = c .before .before .before .before .before .before .before .before .before .before .before .before .before .args in

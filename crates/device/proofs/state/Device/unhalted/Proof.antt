@@ -5,7 +5,6 @@ use Rattle.device.proofs.state.Device.unhalted.Tie as tie
 use Rattle.device.proofs.state.Device.unhalted.Reads as reads
 use Rattle.device.proofs.state.Device.unhalted.Lts as lts
 
--- src/after.rt:47:5
 returns : tie.Need-returns
 unfolding unhalted
 returns c = refl

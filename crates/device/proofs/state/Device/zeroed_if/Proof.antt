@@ -5,12 +5,10 @@ use Rattle.device.proofs.state.Device.zeroed_if.Tie as tie
 use Rattle.device.proofs.state.Device.zeroed_if.Reads as reads
 use Rattle.device.proofs.state.Device.zeroed_if.Lts as lts
 
--- src/after.rt:60:13
 returns : tie.Need-returns
 unfolding zeroedIf pick
 returns c = rw (c .if1 .taken)
 
--- src/after.rt:54:5
 returns-2 : tie.Need-returns-2
 unfolding zeroedIf pick
 returns-2 c = rw (c .if1 .left)
