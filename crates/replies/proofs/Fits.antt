@@ -2,7 +2,7 @@
 use mathlib.Core.Path.{_≡_, refl, sym, ap, ap₂, _∙_}
 use mathlib.Core.Bool.{Bool, true, false, not, true≢false}
 use mathlib.Core.List.{List, [], _∷_, _++_, map}
-use Prim.Native.Nat.{ℕ, _*_, _^_, _<_}
+use Prim.Native.Nat.{ℕ, _^_, _<_}
 use native.Mathlib.Omega.{arith}
 use lib.ListN.{length, take, drop}
 use lib.Seq.{take-at}
@@ -22,13 +22,14 @@ use Rattle.pages.specs.Rows.{keepsBoth}
 use Rattle.pages.specs.Made11.{page11}
 use Rattle.pages.proofs.Trip10.{length-10}
 use Rattle.pages.proofs.Bytes11.{page-length}
-use Rattle.states.specs.State.{placedBytes, taskIn}
+use Rattle.states.specs.State.{placedBytes, taskIn, wholeOf}
 use Rattle.states.specs.declared.shapes.Echo.{Echo}
 use Rattle.states.specs.declared.shapes.ErrorRecord.{ErrorRecord}
+use Rattle.replies.specs.declared.shown.Shown.{Shown}
 use Rattle.rules.specs.declared.acts.Act.{Act}
-use Rattle.rules.specs.declared.acts.Act.the-variants.{Refuse, Nothing, Answer, Halt, Accept, Log10, Log11, Reset, Release, Zero, Keep, Open, Send, Finish, Media}
+use Rattle.rules.specs.declared.acts.Act.the-variants.{Refuse, Nothing, Answer, Halt, Accept, Log10, Log11, Reset, Release, Zero, Keep, Open, Send, Finish, Media, Count, Renew}
 use Rattle.replies.specs.Replies.{register, activateIf, pioReply, logOf, page10Of, page11Of, logReplies, repliesOf, sentBytes, sentAll, Sends}
-use Rattle.replies.specs.Fit.{Fitting, Fit}
+use Rattle.replies.proofs.Fit.{Fitting, Fit}
 
 -- frames that fit are all sent
 pub all-sent : (fs : List Sent) → Fitting fs → sentAll fs ≡ joined (map encode fs)
@@ -58,10 +59,11 @@ unfolding Fitting pick fits
 log-fits true task page t e = (refl, (pio-fits task t, (page-fits page e, tt)))
 log-fits false task page t e = (pio-fits task t, (page-fits page e, tt))
 
-page10-long : (r : ErrorRecord) → fits10 (logOf r) ≡ true → length (page10Of r) ≡ 512
+-- a page has 512 bytes
+pub page10-long : (r : ErrorRecord) → fits10 (logOf r) ≡ true → length (page10Of r) ≡ 512
 page10-long r h = ap length (pick-yes (fits10 (logOf r)) (page10 (logOf r)) [] h) ∙ length-10 (logOf r)
 
-page11-long : (mask : ℕ) (values : List ℕ) → keepsBoth mask ≡ true → length (page11Of mask values) ≡ 512
+pub page11-long : (mask : ℕ) (values : List ℕ) → keepsBoth mask ≡ true → length (page11Of mask values) ≡ 512
 page11-long mask values h = ap length (pick-yes (keepsBoth mask) (page11 mask values) [] h) ∙ page-length mask values
 
 activate-fits : (on : Bool) → Fitting (activateIf on)
@@ -83,38 +85,40 @@ unfolding Neat pick
 activate-neat true = (off, tt)
 activate-neat false = tt
 
-module _ (r : ErrorRecord) (mask : ℕ) (values part : List ℕ) where
+module _ (s : Shown) (part : List ℕ) where
   -- by the act
-  pub replies-fit : (a : Act) → Fit r mask part a → Fitting (repliesOf r mask values part a)
+  pub replies-fit : (a : Act) → Fit s part a → Fitting (repliesOf s part a)
   unfolding Fit Fitting repliesOf fits
   replies-fit (Refuse n) h = tt
   replies-fit Nothing h = tt
   replies-fit (Answer b) h = (register-fits true 0x41 (b .error) (b .task) (omega arith) (h .0) (h .1), tt)
   replies-fit (Halt f) h = (register-fits true 0x41 (f .error) (taskIn (f .echo)) (omega arith) (h .0) (echo-fits (f .echo) (h .1)), tt)
   replies-fit (Accept q) h = (register-fits false 0x40 0 (taskIn (q .entry .echo)) (omega arith) (omega arith) (echo-fits (q .entry .echo) h), tt)
-  replies-fit (Log10 l) h = log-fits (l .also) (l .task) (page10Of r) (h .0) (page10-long r (h .1))
-  replies-fit (Log11 l) h = log-fits false (l .task) (page11Of mask values) (h .0) (page11-long mask values (h .1))
+  replies-fit (Log10 task) h = log-fits (s .halted) task (page10Of (s .errors)) (h .0) (page10-long (s .errors) (h .1))
+  replies-fit (Log11 l) h = log-fits false (l .task) (page11Of (s .settings .mask) (s .values)) (h .0) (page11-long (s .settings .mask) (s .values) (h .1))
   replies-fit Reset h = tt
   replies-fit Release h = (refl, tt)
   replies-fit Zero h = tt
   replies-fit (Keep m) h = activate-fits (not (m .last))
   replies-fit (Open q) h =
-      let most : 512 * q .entry .count < 2 ^ 32 = omega (arith, h .1) in
-      (rw (lt-ltb (q .tag) (2 ^ 32) (h .0), lt-ltb (512 * q .entry .count) (2 ^ 32) most), activate-fits (q .entry .write))
+      let most : wholeOf (q .entry .count) < 2 ^ 32 = omega arith in
+      (rw (lt-ltb (q .tag) (2 ^ 32) h, lt-ltb (wholeOf (q .entry .count)) (2 ^ 32) most), activate-fits (q .entry .write))
   replies-fit (Send m) h = (h, tt)
   replies-fit (Finish set) h = (rw (lt-ltb set (2 ^ 32) h), tt)
   replies-fit (Media f) h = (rw (lt-ltb (f .error) 256 h), tt)
+  replies-fit (Count r) h = tt
+  replies-fit Renew h = (refl, tt)
 
   -- a data frame comes last
-  pub replies-neat : (a : Act) → Neat (repliesOf r mask values part a)
+  pub replies-neat : (a : Act) → Neat (repliesOf s part a)
   unfolding Neat repliesOf
   replies-neat (Refuse n) = tt
   replies-neat Nothing = tt
   replies-neat (Answer x) = (off, tt)
   replies-neat (Halt x) = (off, tt)
   replies-neat (Accept x) = (off, tt)
-  replies-neat (Log10 l) = log-neat (l .also) (l .task) (page10Of r)
-  replies-neat (Log11 l) = log-neat false (l .task) (page11Of mask values)
+  replies-neat (Log10 task) = log-neat (s .halted) task (page10Of (s .errors))
+  replies-neat (Log11 l) = log-neat false (l .task) (page11Of (s .settings .mask) (s .values))
   replies-neat Reset = tt
   replies-neat Release = (off, tt)
   replies-neat Zero = tt
@@ -123,6 +127,8 @@ module _ (r : ErrorRecord) (mask : ℕ) (values part : List ℕ) where
   replies-neat (Send m) = (λ _. refl, tt)
   replies-neat (Finish x) = (off, tt)
   replies-neat (Media x) = (off, tt)
+  replies-neat (Count r) = tt
+  replies-neat Renew = (off, tt)
 
 -- cut by kind and length, the replies in the buffer are the frames that were sent
 pub cut-replies : (fs : List Sent) (d : List ℕ) (n : ℕ) (d′ : List ℕ) → Fitting fs → Neat fs → Sends fs d n d′ → cut (take n d′) ≡ map encode fs

@@ -1,6 +1,5 @@
 pub mod Sending
-pub mod Elses
-pub mod Tied
-pub mod Small
+pub mod Fit
 pub mod Fits
 pub mod Repeats
+pub mod Tied

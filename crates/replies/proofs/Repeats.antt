@@ -8,7 +8,7 @@ use Rattle.wire.specs.declared.pieces.Task.{Task}
 use Rattle.frames.specs.Write.{Sent}
 use Rattle.frames.specs.declared.shapes.HostReg.{HostReg}
 use Rattle.rules.specs.Decide.{bad, fault, tagAsked, entryFor}
-use Rattle.states.specs.declared.shapes.ErrorRecord.{ErrorRecord}
+use Rattle.replies.specs.declared.shown.Shown.{Shown}
 use Rattle.rules.specs.declared.acts.Act.the-variants.{Accept}
 use Rattle.states.proofs.EchoLaws.{echo-task}
 use Rattle.replies.specs.Replies.{good, badReply, repliesOf}
@@ -16,18 +16,18 @@ use Rattle.replies.specs.Replies.{good, badReply, repliesOf}
 abbrev one : Sent → List Sent
 one f = f ∷ []
 
-module _ (r : ErrorRecord) (mask : ℕ) (values part : List ℕ) (h : HostReg) where
+module _ (s : Shown) (part : List ℕ) (h : HostReg) where
   -- bad without a halt
-  pub bad-repeats : (e : ℕ) → repliesOf r mask values part (bad h e) ≡ badReply e (h .task) ∷ []
+  pub bad-repeats : (e : ℕ) → repliesOf s part (bad h e) ≡ badReply e (h .task) ∷ []
   unfolding repliesOf
   bad-repeats e = refl
 
   -- bad with a halt
-  pub fault-repeats : (nq : Bool) (t e : ℕ) → taskFits (h .task) ≡ true → repliesOf r mask values part (fault h nq t e) ≡ badReply e (h .task) ∷ []
+  pub fault-repeats : (nq : Bool) (t e : ℕ) → taskFits (h .task) ≡ true → repliesOf s part (fault h nq t e) ≡ badReply e (h .task) ∷ []
   unfolding repliesOf
   fault-repeats nq t e f = ap (λ (x : Task). one (badReply e x)) (echo-task (h .task) f)
 
   -- good
-  pub accept-repeats : taskFits (h .task) ≡ true → repliesOf r mask values part (Accept (record { tag = tagAsked h; entry = entryFor h })) ≡ good (h .task) ∷ []
+  pub accept-repeats : taskFits (h .task) ≡ true → repliesOf s part (Accept (record { tag = tagAsked h; entry = entryFor h })) ≡ good (h .task) ∷ []
   unfolding repliesOf
   accept-repeats f = ap (λ (x : Task). one (good x)) (echo-task (h .task) f)

@@ -2,8 +2,7 @@
 use mathlib.Core.Path.{_≡_}
 use mathlib.Core.Bool.{Bool, true, false, not}
 use mathlib.Core.List.{List, [], _∷_, _++_, map}
-use Prim.Native.Nat.{ℕ, _*_}
-use lib.Dec.{leb}
+use Prim.Native.Nat.{ℕ}
 use lib.ListN.{length}
 use Rattle.bits.specs.Pick.{pick}
 use Rattle.bits.specs.Laid.{laid}
@@ -14,11 +13,12 @@ use Rattle.pages.specs.Page10.{page10, fits10}
 use Rattle.pages.specs.Rows.{keepsBoth}
 use Rattle.pages.specs.Made11.{page11}
 use Rattle.pages.specs.declared.page10.ErrorLog.{ErrorLog}
-use Rattle.states.specs.State.{taskIn}
+use Rattle.states.specs.State.{taskIn, wholeOf}
 use Rattle.states.specs.declared.shapes.ErrorRecord.{ErrorRecord}
+use Rattle.replies.specs.declared.shown.Shown.{Shown}
 use Rattle.rules.specs.declared.acts.Queued.{Queued}
 use Rattle.rules.specs.declared.acts.Act.{Act}
-use Rattle.rules.specs.declared.acts.Act.the-variants.{Refuse, Nothing, Answer, Halt, Accept, Log10, Log11, Reset, Release, Zero, Keep, Open, Send, Finish, Media}
+use Rattle.rules.specs.declared.acts.Act.the-variants.{Refuse, Nothing, Answer, Halt, Accept, Log10, Log11, Reset, Release, Zero, Keep, Open, Send, Finish, Media, Count, Renew}
 
 -- a device register reply
 abbrev pub register : Bool → ℕ → ℕ → Task → Sent
@@ -47,7 +47,7 @@ pioReply task = pio (record { interrupt = true; «to_host» = true; status = 0x4
 -- DMA Setup: A 0, I 0, offset 0, whole byte count; D 1 to the host
 abbrev pub setupReply : Queued → Sent
 setupReply q =
-    setup (record { auto = false; interrupt = false; «to_host» = not (q .entry .write); tag = q .tag; offset = 0; count = 512 * q .entry .count })
+    setup (record { auto = false; interrupt = false; «to_host» = not (q .entry .write); tag = q .tag; offset = 0; count = wholeOf (q .entry .count) })
 
 -- finish: A1h, I 1, status 40h, error 0, SActive the set
 abbrev pub finishReply : ℕ → Sent
@@ -87,43 +87,27 @@ logReplies on task page = sweepIf on ++ pioReply task ∷ payload page ∷ []
 abbrev pub openReplies : Queued → List Sent
 openReplies q = (setupReply q ∷ []) ++ activateIf (q .entry .write)
 
--- the replies of an act; `part` is what of the medium it sends
-unfoldable pub repliesOf : ErrorRecord → ℕ → List ℕ → List ℕ → Act → List Sent
-repliesOf r mask values part (Refuse n) = []
-repliesOf r mask values part Nothing = []
-repliesOf r mask values part (Answer b) = badReply (b .error) (b .task) ∷ []
-repliesOf r mask values part (Halt f) = badReply (f .error) (taskIn (f .echo)) ∷ []
-repliesOf r mask values part (Accept q) = good (taskIn (q .entry .echo)) ∷ []
-repliesOf r mask values part (Log10 l) = logReplies (l .also) (l .task) (page10Of r)
-repliesOf r mask values part (Log11 l) = logReplies false (l .task) (page11Of mask values)
-repliesOf r mask values part Reset = []
-repliesOf r mask values part Release = signature ∷ []
-repliesOf r mask values part Zero = []
-repliesOf r mask values part (Keep m) = activateIf (not (m .last))
-repliesOf r mask values part (Open q) = openReplies q
-repliesOf r mask values part (Send m) = payload part ∷ []
-repliesOf r mask values part (Finish set) = finishReply set ∷ []
-repliesOf r mask values part (Media f) = mediaReply (f .error) ∷ []
+-- the replies of an act; `part` is what of the medium it sends, and the rest is looked up in what the state shows
+unfoldable pub repliesOf : Shown → List ℕ → Act → List Sent
+repliesOf s part (Refuse n) = []
+repliesOf s part Nothing = []
+repliesOf s part (Answer b) = badReply (b .error) (b .task) ∷ []
+repliesOf s part (Halt f) = badReply (f .error) (taskIn (f .echo)) ∷ []
+repliesOf s part (Accept q) = good (taskIn (q .entry .echo)) ∷ []
+repliesOf s part (Log10 task) = logReplies (s .halted) task (page10Of (s .errors))
+repliesOf s part (Log11 l) = logReplies false (l .task) (page11Of (s .settings .mask) (s .values))
+repliesOf s part Reset = []
+repliesOf s part Release = signature ∷ []
+repliesOf s part Zero = []
+repliesOf s part (Keep m) = activateIf (not (m .last))
+repliesOf s part (Open q) = openReplies q
+repliesOf s part (Send m) = payload part ∷ []
+repliesOf s part (Finish set) = finishReply set ∷ []
+repliesOf s part (Media f) = mediaReply (f .error) ∷ []
+repliesOf s part (Count r) = []
+repliesOf s part Renew = signature ∷ []
 
--- a count that a command can have, so that its bytes can be counted; that a taken call's is one is `roomy-open`
-unfoldable pub sized : Act → Bool
-sized (Refuse n) = true
-sized Nothing = true
-sized (Answer b) = true
-sized (Halt f) = true
-sized (Accept q) = true
-sized (Log10 l) = true
-sized (Log11 l) = true
-sized Reset = true
-sized Release = true
-sized Zero = true
-sized (Keep m) = true
-sized (Open q) = leb (q .entry .count) 65536
-sized (Send m) = true
-sized (Finish set) = true
-sized (Media f) = true
-
--- what cannot be written is not sent; that every reply of a taken call can be is `whole-host` and its like
+-- what cannot be written is not sent; that every reply of a taken call can be is `whole`
 unfoldable pub sentBytes : Sent → List ℕ
 sentBytes f = pick (fits f) (encode f) []
 

@@ -1,14 +1,14 @@
 // The replies of an act, one behind the other, each in the room that the last one left.
 ghost use mathlib.Core.Path.{_≡_};
-ghost use mathlib.Core.Bool.{true, false, _&&_};
+ghost use mathlib.Core.Bool.{true, false};
 ghost use mathlib.Core.List.{[], _∷_};
 ghost use Prim.Native.Nat.{_+_, _≤_};
 ghost use lib.Dec.{leb};
 ghost use lib.ListN.{length};
 ghost use Rattle.bits.specs.Pick.{pick};
 ghost use Rattle.frames.specs.Write.{payload, setBits};
-ghost use Rattle.replies.specs.Replies.{register, signature, sweepIf, activateIf, pioReply, setupReply, openReplies, logReplies, page10Of, page11Of, repliesOf, sized, Sends};
-use crate::shown::is_sized;
+ghost use Rattle.replies.specs.Replies.{register, signature, sweepIf, activateIf, pioReply, setupReply, openReplies, logReplies, page10Of, page11Of, repliesOf, Sends};
+use crate::shown::Shown;
 use crate::shown::log_of;
 use frames::DevReg;
 use frames::DmaSetup;
@@ -82,7 +82,6 @@ fn put_activate_if(reply: &mut [u8], on: bool) -> usize
 
 fn put_setup(reply: &mut [u8], q: Queued) -> usize
     requires { ⌜ 28 ≤ length (now reply) ⌝ }
-    requires { ⌜ q .entry .count ≤ 65536 ⌝ }
     ensures bytes { λ r. ⌜ Sends (setupReply q ∷ []) (now (reply .entry)) r (now (reply .exit)) ⌝ }
     ensures most { λ r. ⌜ r ≤ 28 ⌝ }
 {
@@ -95,7 +94,7 @@ fn put_setup(reply: &mut [u8], q: Queued) -> usize
             to_host: !entry.write,
             tag: q.tag as u32,
             offset: 0,
-            count: (Settings::SECTOR_SIZE as u32) * entry.count,
+            count: states::whole_of(entry.count),
         },
     );
     w.len
@@ -104,7 +103,6 @@ fn put_setup(reply: &mut [u8], q: Queued) -> usize
 // DMA Setup, and for a write an Activate.
 fn put_open(reply: &mut [u8], q: Queued) -> usize
     requires { ⌜ 8196 ≤ length (now reply) ⌝ }
-    requires { ⌜ q .entry .count ≤ 65536 ⌝ }
     ensures { λ r. ⌜ Sends (openReplies q) (now (reply .entry)) r (now (reply .exit)) ⌝ }
 {
     let first = put_setup(reply, q);
@@ -209,17 +207,9 @@ fn put_log11(reply: &mut [u8], task: Task, mask: u16, values: [u32; 16]) -> usiz
     put_log(reply, false, task, &page[..n])
 }
 
-fn send(
-    reply: &mut [u8],
-    act: Act,
-    r: ErrorRecord,
-    mask: u16,
-    values: [u32; 16],
-    part: &[u8],
-) -> usize
+fn send(reply: &mut [u8], act: Act, shown: Shown, part: &[u8]) -> usize
     requires { ⌜ 8196 ≤ length (now reply) ⌝ }
-    requires { ⌜ sized act ≡ true ⌝ }
-    ensures { λ n. ⌜ Sends (repliesOf r mask values (now (part .entry)) act) (now (reply .entry)) n (now (reply .exit)) ⌝ }
+    ensures { λ n. ⌜ Sends (repliesOf shown (now (part .entry)) act) (now (reply .entry)) n (now (reply .exit)) ⌝ }
 {
     match act {
         Act::Refuse(_) => 0,
@@ -237,13 +227,15 @@ fn send(
             let echo = entry.echo;
             put_register(reply, false, 0x40, 0, states::task_in(echo))
         }
-        Act::Log10(l) => {
-            let task = l.task;
-            put_log10(reply, l.also, task, r)
+        Act::Log10(task) => {
+            let errors = shown.errors;
+            put_log10(reply, shown.halted, task, errors)
         }
         Act::Log11(l) => {
             let task = l.task;
-            put_log11(reply, task, mask, values)
+            let settings = shown.settings;
+            let values = shown.values;
+            put_log11(reply, task, settings.mask, values)
         }
         Act::Reset => 0,
         Act::Release => put_signature(reply),
@@ -253,25 +245,17 @@ fn send(
         Act::Send(_) => put_part(reply, part),
         Act::Finish(set) => put_bits(reply, 0x40, 0, set),
         Act::Media(f) => put_bits(reply, 0x41, f.error, 0),
+        Act::Count(_) => 0,
+        Act::Renew => put_signature(reply),
     }
 }
 
 // The replies of an act; none where the buffer has not the room that every call asks for.
-pub fn emit(
-    reply: &mut [u8],
-    act: Act,
-    r: ErrorRecord,
-    mask: u16,
-    values: [u32; 16],
-    part: &[u8],
-) -> usize
-    ensures { λ n. ⌜ Sends (pick (leb 8196 (length (now (reply .entry))) && sized act) (repliesOf r mask values (now (part .entry)) act) []) (now (reply .entry)) n (now (reply .exit)) ⌝ }
+pub fn emit(reply: &mut [u8], act: Act, shown: Shown, part: &[u8]) -> usize
+    ensures { λ n. ⌜ Sends (pick (leb 8196 (length (now (reply .entry)))) (repliesOf shown (now (part .entry)) act) []) (now (reply .entry)) n (now (reply .exit)) ⌝ }
 {
     if reply.len() < Settings::REPLY_SIZE {
         return 0;
     }
-    if !is_sized(act) {
-        return 0;
-    }
-    send(reply, act, r, mask, values, part)
+    send(reply, act, shown, part)
 }

@@ -3,3 +3,4 @@ mod emitting;
 mod shown;
 
 pub use emitting::emit;
+pub use shown::Shown;

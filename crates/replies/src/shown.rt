@@ -1,11 +1,18 @@
 // What an act's replies show, over plain values.
 ghost use mathlib.Core.Path.{_≡_};
-ghost use Rattle.replies.specs.Replies.{sized, logOf};
+ghost use Rattle.replies.specs.Replies.{logOf};
 use pages::ErrorLog;
-use rules::Act;
 use states::ErrorRecord;
 use states::Settings;
 use wire::Task;
+
+// What replies show of the state.
+pub struct Shown {
+    pub halted: bool,
+    pub settings: Settings,
+    pub errors: ErrorRecord,
+    pub values: [u32; 16],
+}
 
 // The record as page 10h shows it.
 pub fn log_of(r: ErrorRecord) -> ErrorLog
@@ -34,15 +41,4 @@ pub fn log_of(r: ErrorRecord) -> ErrorLog
         error: 0,
         task,
     }
-}
-
-// Whether a phase is opened for no more sectors than a command can have.
-pub fn is_sized(act: Act) -> bool
-    ensures { λ r. ⌜ r ≡ sized act ⌝ }
-{
-    let Act::Open(q) = act else {
-        return true;
-    };
-    let entry = q.entry;
-    entry.count <= Settings::CAPACITY_LIMIT
 }

@@ -1,4 +1,3 @@
-use Rattle.replies.proofs.Elses.{open-most}
 use denote.Ref.{now}
 use Rattle.replies.specs.Replies.{repliesOf}
 use Rattle.replies.proofs.Sending.{sends-none}
@@ -81,7 +80,7 @@ enum-known-act-7 : tie.Need-enum-known-act-7
 enum-known-act-7 c = search needs
 
 put-open-requires : tie.Need-put-open-requires
-put-open-requires c κs = (search needs, open-most (c .before .before .before .before .before .before .args .act) _ (c .before .before .act7 .given .1) (c .before .before .before .before .before .before .pre .1))
+put-open-requires c κs = search needs
 
 enum-told-6 : tie.Need-enum-told-6
 enum-told-6 c = search needs
@@ -100,6 +99,15 @@ enum-known-act-9 c = search needs
 
 put-bits-requires-2 : tie.Need-put-bits-requires-2
 put-bits-requires-2 c κs = search needs
+
+enum-told-7 : tie.Need-enum-told-7
+enum-told-7 c = search needs
+
+enum-told-8 : tie.Need-enum-told-8
+enum-told-8 c = search needs
+
+put-signature-requires-2 : tie.Need-put-signature-requires-2
+put-signature-requires-2 c κs = search needs
 
 returns : tie.Need-returns
 unfolding repliesOf
@@ -142,7 +150,7 @@ same-length-5 c = search needs
 
 returns-7 : tie.Need-returns-7
 unfolding repliesOf
-returns-7 c = rw (c .before .before .before .before .before .before .act5 .given .1) (c .before .before .put-log11 .ensures)
+returns-7 c = rw (c .before .before .before .before .before .before .before .before .act5 .given .1) (c .before .before .put-log11 .ensures)
 
 returns-8 : tie.Need-returns-8
 unfolding repliesOf
@@ -194,6 +202,17 @@ returns-15 : tie.Need-returns-15
 unfolding repliesOf
 returns-15 c = rw (c .before .before .before .before .before .act9 .given .1) (c .before .before .put-bits2 .ensures)
 
+returns-16 : tie.Need-returns-16
+unfolding repliesOf
+returns-16 c = rw (c .enum-told7 .given .1) (sends-none (now (c .before .before .before .before .args .reply)))
+
+same-length-12 : tie.Need-same-length-12
+same-length-12 c = search needs
+
+returns-17 : tie.Need-returns-17
+unfolding repliesOf
+returns-17 c = rw (c .before .before .before .before .enum-told8 .given .1) (c .before .before .put-signature2 .ensures)
+
 pub send-spec : {M : Type 1} → statement M
 send-spec =
     tie.close
@@ -226,6 +245,9 @@ send-spec =
     put-bits-requires
     enum-known-act-9
     put-bits-requires-2
+    enum-told-7
+    enum-told-8
+    put-signature-requires-2
     returns
     returns-2
     same-length
@@ -251,4 +273,7 @@ send-spec =
     same-length-10
     returns-14
     same-length-11
-    returns-15)
+    returns-15
+    returns-16
+    same-length-12
+    returns-17)
