@@ -5,16 +5,13 @@ use lib.Dec.{eqb, ltb, lit<}
 use Prim.Native.Nat.{ℕ}
 use Rattle.bits.specs.Pick.{pick}
 use Rattle.bits.proofs.Firsts as firsts
-use Rattle.ladders.specs.Ladders.{comresetLadder}
-use Rattle.device.specs.Reset.{renewed, comresetStep}
 use Rattle.bits.specs.Bit.{bitIn}
 use Rattle.states.specs.Clauses.{flowBad, recordBad, phaseIdle, contradictory}
 use Rattle.bits.proofs.Picks.{by-test, or-right}
 use Rattle.rules.specs.declared.acts.Fault.{Fault}
 use Rattle.device.specs.Device.{contradictoryDevice}
 use Rattle.states.specs.declared.shapes.Flow.{Flow}
-use Rattle.device.specs.Events.{withValue}
-use Rattle.device.specs.After.{withFlow, haltWith, unhalted, zeroedIf, resetHeld, released, failedBy}
+use Rattle.device.specs.After.{withValue, withFlow, haltWith, unhalted, zeroedIf, resetHeld, released, failedBy, renewed}
 use Rattle.device.specs.declared.state.Device.{Device}
 use Rattle.device.proofs.Never.{fresh-table, fresh-rows}
 use Rattle.device.proofs.Keeping.{counted-good, first-kept, resets-kept, rest-good, rows-good, settings-good}
@@ -84,12 +81,6 @@ failed-good d f h tag nq =
     (λ _. halt-good d f h tag nq)
 
 -- SRST and release together, and one link reset more
-renewed-good : (d : Device) → contradictoryDevice d ≡ false → contradictoryDevice (renewed d) ≡ false
+pub renewed-good : (d : Device) → contradictoryDevice d ≡ false → contradictoryDevice (renewed d) ≡ false
 unfolding renewed released resetHeld
 renewed-good d h = counted-good (released (resetHeld d)) 9 (released-good (resetHeld d) (reset-held-good d h)) (resets-kept d h)
-
--- COMRESET
-pub never-contradicts-comreset : (d : Device) (room : ℕ) → comresetStep d room .refusal ≡ 0 → contradictoryDevice (comresetStep d room .state) ≡ false
-unfolding comresetStep pick
-never-contradicts-comreset d room z =
-    rw z (renewed-good d (firsts.first-exactly (comresetLadder (contradictoryDevice d) (ltb room 8196)) tt .none .0 z 0 (lit< tt)))

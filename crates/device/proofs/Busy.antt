@@ -13,7 +13,7 @@ use Rattle.states.specs.Clauses.{aboveDepth, pastCapacity, countZero, otherTag,
 use Rattle.states.specs.declared.shapes.Entry.{Entry}
 use Rattle.rules.specs.Facts.{leftOf}
 use Rattle.device.specs.Device.{contradictoryDevice}
-use Rattle.device.specs.Calls.{openTag}
+use Rattle.device.specs.FactsOf.{openTag}
 use Rattle.device.specs.declared.state.Device.{Device}
 use Rattle.device.proofs.Parts.{tag-good, flow-good}
 use Rattle.device.proofs.Flows.{phase-busy}

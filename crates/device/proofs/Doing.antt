@@ -1,91 +1,183 @@
--- An act that is done: its replies are all sent, its number is given, its state is handed back. Assumes nothing.
+-- From an act that is done to the contract: its replies are all sent, its number is given, its state is handed back. Assumes nothing.
 use mathlib.Core.Path.{_≡_, refl, sym, ap, subst, _∙_}
-use mathlib.Core.Bool.{Bool, _&&_}
+use mathlib.Core.Bool.{Bool, true, false}
 use mathlib.Core.List.{List, []}
-use Prim.Native.Nat.{ℕ, _+_, _-_, _≤_}
+use Prim.Native.Nat.{ℕ, zero, suc, _+_, _-_, _≤_}
 use native.Mathlib.Omega.{arith}
 use borrow.Rule.Slice.PartMut.{midOf}
 use lib.Dec.{leb}
-use lib.ListN.{length}
+use lib.ListN.{length, take, drop}
 use Rattle.bits.specs.Pick.{pick}
 use Rattle.bits.specs.Laid.{laid}
 use Rattle.bits.proofs.Picks.{by-test, pick-yes}
 use Rattle.frames.specs.Write.{Sent}
 use Rattle.frames.specs.Read.{readFrame}
 use Rattle.frames.specs.declared.shapes.Frame.{Frame}
-use Rattle.rules.specs.Decide.{decideOf}
-use Rattle.rules.specs.Events.{sendAct}
-use Rattle.rules.specs.Taking.{numberOf, spanOf}
+use Rattle.rules.specs.Call.{Call, hostFrame, openPhase, sendData, finishTags, mediaError, linkEvent, comReset}
+use Rattle.rules.specs.Tests.{tests, someUnready}
+use Rattle.rules.specs.Act.{does, act, heardAct}
+use Rattle.rules.specs.Taking.{numberOf, Touch, leaves, sends, stores, touchOf, spanOf, partOf, stored, keptBy, keptIn}
 use Rattle.rules.specs.declared.taking.Span.{Span}
 use Rattle.rules.specs.declared.facts.Facts.{Facts}
-use Rattle.states.specs.declared.shapes.ErrorRecord.{ErrorRecord}
 use Rattle.rules.specs.declared.acts.Act.{Act}
-use Rattle.rules.specs.declared.acts.Act.the-variants.{Refuse, Nothing, Answer, Halt, Accept, Log10, Log11, Reset, Release, Zero, Keep, Open, Send, Finish, Media}
-use Rattle.replies.specs.Replies.{repliesOf, sized, sentAll, Sends}
+use Rattle.rules.proofs.Cases.{act-cases}
+use Rattle.rules.proofs.Ruled as by
+use Rattle.replies.specs.Replies.{repliesOf, sentAll, Sends}
+use Rattle.replies.proofs.Sending.{sends-none}
+use Rattle.device.specs.Lent.{Lent, lent, gave, frameIn}
+use Rattle.device.specs.FactsOf.{openTag, mediumWrong, factsWith, factsOf}
 use Rattle.device.specs.After.{afterOf}
-use Rattle.device.specs.Step.{Answered}
-use Rattle.device.specs.Calls.{factsOf, openTag, mediumWrong, stepBy, Roomy, hostAct, sendOf, partOf, sendStep}
-use Rattle.device.proofs.Rooms.{span-within}
+use Rattle.device.specs.Step.{shown, actOf, Given}
 use Rattle.device.specs.declared.state.Device.{Device}
 use Rattle.device.specs.declared.state.Outcome.{Outcome}
+use Rattle.device.proofs.Rooms.{Replying, roomy, span-within}
 
-module _ (r : ErrorRecord) (mask : ℕ) (values part : List ℕ) where
-  -- a refusal has no replies, and any other act has the room for its own
-  roomy-replies : (a : Act) (n : ℕ) → Roomy a n → pick (leb 8196 n && sized a) (repliesOf r mask values part a) [] ≡ repliesOf r mask values part a
-  unfolding numberOf repliesOf
-  roomy-replies (Refuse k) n h = by-test (λ (x : List Sent). x ≡ []) (leb 8196 n && sized (Refuse k)) [] [] (λ _. refl) (λ _. refl)
-  roomy-replies Nothing n h = pick-yes (leb 8196 n && sized Nothing) (repliesOf r mask values part Nothing) [] (h refl)
-  roomy-replies (Answer x) n h = pick-yes (leb 8196 n && sized (Answer x)) (repliesOf r mask values part (Answer x)) [] (h refl)
-  roomy-replies (Halt x) n h = pick-yes (leb 8196 n && sized (Halt x)) (repliesOf r mask values part (Halt x)) [] (h refl)
-  roomy-replies (Accept x) n h = pick-yes (leb 8196 n && sized (Accept x)) (repliesOf r mask values part (Accept x)) [] (h refl)
-  roomy-replies (Log10 x) n h = pick-yes (leb 8196 n && sized (Log10 x)) (repliesOf r mask values part (Log10 x)) [] (h refl)
-  roomy-replies (Log11 x) n h = pick-yes (leb 8196 n && sized (Log11 x)) (repliesOf r mask values part (Log11 x)) [] (h refl)
-  roomy-replies Reset n h = pick-yes (leb 8196 n && sized Reset) (repliesOf r mask values part Reset) [] (h refl)
-  roomy-replies Release n h = pick-yes (leb 8196 n && sized Release) (repliesOf r mask values part Release) [] (h refl)
-  roomy-replies Zero n h = pick-yes (leb 8196 n && sized Zero) (repliesOf r mask values part Zero) [] (h refl)
-  roomy-replies (Keep x) n h = pick-yes (leb 8196 n && sized (Keep x)) (repliesOf r mask values part (Keep x)) [] (h refl)
-  roomy-replies (Open x) n h = pick-yes (leb 8196 n && sized (Open x)) (repliesOf r mask values part (Open x)) [] (h refl)
-  roomy-replies (Send x) n h = pick-yes (leb 8196 n && sized (Send x)) (repliesOf r mask values part (Send x)) [] (h refl)
-  roomy-replies (Finish x) n h = pick-yes (leb 8196 n && sized (Finish x)) (repliesOf r mask values part (Finish x)) [] (h refl)
-  roomy-replies (Media x) n h = pick-yes (leb 8196 n && sized (Media x)) (repliesOf r mask values part (Media x)) [] (h refl)
+-- a refusal has no replies, and any other act has the room for its own
+pub room-replies : (d : Device) (part : List ℕ) (n : ℕ) (a : Act) → (numberOf a ≡ 0 → leb 8196 n ≡ true) → pick (leb 8196 n) (repliesOf (shown d) part a) [] ≡ repliesOf (shown d) part a
+unfolding repliesOf
+room-replies d part n =
+    act-cases (λ (x : Act). (numberOf x ≡ 0 → leb 8196 n ≡ true) → pick (leb 8196 n) (repliesOf (shown d) part x) [] ≡ repliesOf (shown d) part x)
+    (λ k h. by-test (λ (x : List Sent). x ≡ []) (leb 8196 n) [] [] (λ _. refl) (λ _. refl))
+    (λ x e h. pick-yes (leb 8196 n) (repliesOf (shown d) part x) [] (h e))
 
-pub done-answered : (d s : Device) (part : List ℕ) (a : Act) (b b′ : List ℕ) (n len : ℕ) → Roomy a (length b) → n ≡ numberOf a → s ≡ afterOf d a
-    → Sends (pick (leb 8196 (length b) && sized a) (repliesOf (d .errors) (d .settings .mask) (d .values) part a) []) b len b′
-    → Answered (stepBy d part a) b (record { state = s; refusal = n; len = len }) b′
-done-answered d s part a b b′ n len h e q w =
-    let z = roomy-replies (d .errors) (d .settings .mask) (d .values) part a (length b) h in
+-- an act that is the call's, done
+pub given-by : (d : Device) (l : Lent) (a : Act) (part m′ b′ : List ℕ) (r : Outcome) → a ≡ actOf d l → part ≡ partOf (spanOf a) (l .medium) → m′ ≡ keptIn a (frameIn (l .call)) (l .medium)
+    → r .state ≡ afterOf d a → r .refusal ≡ numberOf a → Sends (repliesOf (shown d) part a) (l .buffer) (r .len) b′ → Given d l (gave r m′ b′)
+given-by d l a part m′ b′ r e p m s n w =
+    let fs : repliesOf (shown d) part a ≡ repliesOf (shown d) (partOf (spanOf (actOf d l)) (l .medium)) (actOf d l) =
+    ap (λ (q : List ℕ). repliesOf (shown d) q a) p ∙ ap (λ (x : Act). repliesOf (shown d) (partOf (spanOf x) (l .medium)) x) e in
     record {
-      state = q;
-      refusal = e;
-      len = w .len ∙ ap (λ (fs : List Sent). length (sentAll fs)) z;
-      reply = w .bytes ∙ ap (λ (fs : List Sent). laid (sentAll fs) b) z;
+      state = s ∙ ap (afterOf d) e;
+      refusal = n ∙ ap numberOf e;
+      len = w .len ∙ ap (λ (x : List Sent). length (sentAll x)) fs;
+      reply = w .bytes ∙ ap (λ (x : List Sent). laid (sentAll x) (l .buffer)) fs;
+      medium = m ∙ ap (λ (x : Act). keptIn x (frameIn (l .call)) (l .medium)) e;
     }
 
--- the act that a call comes to
-pub by-act : (d : Device) (part : List ℕ) (a a′ : Act) (b b′ : List ℕ) (r : Outcome) → a ≡ a′ → Answered (stepBy d part a) b r b′ → Answered (stepBy d part a′) b r b′
-by-act d part a a′ b b′ r e w = subst (λ (x : Act). Answered (stepBy d part x) b r b′) e w
+-- ---- what is sent of the medium, and what stays of it
 
-pub roomy-act : (a a′ : Act) (n : ℕ) → a ≡ a′ → Roomy a′ n → Roomy a n
-roomy-act a a′ n e h = subst (λ (x : Act). Roomy x n) (sym e) h
+none-dropped : (n : ℕ) → drop {A = ℕ} n [] ≡ []
+none-dropped zero = refl
+none-dropped (suc n) = refl
 
--- a host frame's act, and a send's, from what the code works out one by one
-pub host-act : (d : Device) (f : List ℕ) (n room tag : ℕ) (wrong : Bool) (v : Facts) (g : Frame) (a : Act) → tag ≡ openTag (d .flow .phase) → wrong ≡ mediumWrong (d .settings .capacity) n
-    → v ≡ factsOf d tag wrong room → g ≡ readFrame f → a ≡ decideOf v g → a ≡ hostAct d f n room
-unfolding hostAct
-host-act d f n room tag wrong v g a p q r s e = e ∙ rw (r, p, q, s)
+none-taken : (n : ℕ) → take {A = ℕ} n [] ≡ []
+none-taken zero = refl
+none-taken (suc n) = refl
 
-pub send-act : (d : Device) (n room tag : ℕ) (wrong : Bool) (v : Facts) (a : Act) → tag ≡ openTag (d .flow .phase) → wrong ≡ mediumWrong (d .settings .capacity) n → v ≡ factsOf d tag wrong room
-    → a ≡ sendAct v → a ≡ sendOf d n room
-unfolding sendOf
-send-act d n room tag wrong v a p q r e = e ∙ rw (r, p, q)
+-- of a medium that was not lent nothing is sent
+pub part-none : (s : Span) → [] ≡ partOf s []
+part-none s = sym (ap (take (s .size)) (none-dropped (s .at)) ∙ none-taken (s .size))
+
+kept-by-none : (t : Touch) → [] ≡ keptBy t [] []
+unfolding stored pick
+kept-by-none leaves = refl
+kept-by-none (sends k) = refl
+kept-by-none (stores k) = refl
+
+-- and nothing is left of it
+pub kept-none : (a : Act) → [] ≡ keptIn a [] []
+kept-none a = kept-by-none (touchOf a)
+
+-- a call that is lent no medium, done
+pub given-without : (d : Device) (c : Call) (b : List ℕ) (a : Act) (b′ : List ℕ) (r : Outcome) → frameIn c ≡ [] → a ≡ actOf d (lent c [] b)
+    → r .state ≡ afterOf d a → r .refusal ≡ numberOf a → Sends (repliesOf (shown d) [] a) b (r .len) b′ → Given d (lent c [] b) (gave r [] b′)
+given-without d c b a b′ r f e s n w = given-by d (lent c [] b) a [] [] b′ r e (part-none (spanOf a)) (kept-none a ∙ ap (λ (x : List ℕ). keptIn a x []) (sym f)) s n w
+
+-- a host frame sends nothing of the medium
+pub heard-unsent : (v : Facts) (m : List ℕ) {f : Frame} {a : Act} → by.Heard v f a → [] ≡ partOf (spanOf a) m
+unfolding touchOf
+heard-unsent v m (by.srst h c s) = refl
+heard-unsent v m (by.release h c s x) = refl
+heard-unsent v m (by.nothing h c s x) = refl
+heard-unsent v m (by.rule1 h c x) = refl
+heard-unsent v m (by.rule2 h c x) = refl
+heard-unsent v m (by.rule3 h c x) = refl
+heard-unsent v m (by.rule4 h c x u y) = refl
+heard-unsent v m (by.other-halted h c x) = refl
+heard-unsent v m (by.other-busy h c x) = refl
+heard-unsent v m (by.page10 h c e p) = refl
+heard-unsent v m (by.page11 h c x e p) = refl
+heard-unsent v m (by.other-bad h c x e) = refl
+heard-unsent v m (by.due n p w s) = refl
+heard-unsent v m (by.bist b) = refl
+
+ruled-unsent : (v : Facts) (m : List ℕ) {f : List ℕ} {a : Act} → by.Ruled v (hostFrame f) a → [] ≡ partOf (spanOf a) m
+unfolding touchOf
+ruled-unsent v m (by.refused c n h e) = refl
+ruled-unsent v m (by.host f a g w s h) = heard-unsent v m h
+
+pub host-unsent : (d : Device) (f m b : List ℕ) → [] ≡ partOf (spanOf (actOf d (lent (hostFrame f) m b))) m
+unfolding actOf
+host-unsent d f m b = ruled-unsent (factsOf d (lent (hostFrame f) m b)) m (by.ruled (factsOf d (lent (hostFrame f) m b)) (hostFrame f))
+
+-- a send leaves the medium
+ruled-left : (v : Facts) (m : List ℕ) {a : Act} → by.Ruled v sendData a → m ≡ keptIn a [] m
+unfolding touchOf
+ruled-left v m (by.refused c n h e) = refl
+ruled-left v m (by.sent g w s p r) = refl
+
+pub send-left : (d : Device) (m b : List ℕ) → m ≡ keptIn (actOf d (lent sendData m b)) [] m
+unfolding actOf
+send-left d m b = ruled-left (factsOf d (lent sendData m b)) m (by.ruled (factsOf d (lent sendData m b)) sendData)
+
+-- a link event replies nothing
+ruled-silent : (d : Device) (v : Facts) {r : ℕ} {a : Act} → by.Ruled v (linkEvent r) a → Sends (repliesOf (shown d) [] a) [] 0 []
+unfolding repliesOf
+ruled-silent d v (by.refused c n h e) = sends-none []
+ruled-silent d v (by.linked r g x) = sends-none []
+
+pub link-silent : (d : Device) (r : ℕ) (a : Act) → a ≡ actOf d (lent (linkEvent r) [] []) → Sends (repliesOf (shown d) [] a) [] 0 []
+unfolding actOf
+link-silent d r a e = subst (λ (x : Act). Sends (repliesOf (shown d) [] x) [] 0 []) (sym e) (ruled-silent d (factsOf d (lent (linkEvent r) [] [])) (by.ruled (factsOf d (lent (linkEvent r) [] [])) (linkEvent r)))
+
+-- ---- the act of each call reads no more than it is handed
+
+module _ (d : Device) where
+  -- a host frame's act, and a send's, from what the code works out one by one
+  pub host-act : (f m b : List ℕ) (tag : ℕ) (wrong : Bool) (v : Facts) (g : Frame) (a : Act) → tag ≡ openTag (d .flow .phase) → wrong ≡ mediumWrong (d .settings .capacity) (length m)
+      → v ≡ factsWith d tag wrong false (length b) → g ≡ readFrame f → a ≡ heardAct v g → a ≡ actOf d (lent (hostFrame f) m b)
+  unfolding actOf act tests does
+  host-act f m b tag wrong v g a p q r s e = e ∙ rw (r, p, q, s)
+
+  pub open-act : (t : ℕ) (b : List ℕ) (v : Facts) (a : Act) → v ≡ factsWith d t false false (length b) → a ≡ act v (openPhase t) → a ≡ actOf d (lent (openPhase t) [] b)
+  unfolding actOf act tests does
+  open-act t b v a r e = e ∙ rw r
+
+  pub send-act : (m b : List ℕ) (tag : ℕ) (wrong : Bool) (v : Facts) (a : Act) → tag ≡ openTag (d .flow .phase) → wrong ≡ mediumWrong (d .settings .capacity) (length m)
+      → v ≡ factsWith d tag wrong false (length b) → a ≡ act v sendData → a ≡ actOf d (lent sendData m b)
+  unfolding actOf
+  send-act m b tag wrong v a p q r e = e ∙ rw (r, p, q)
+
+  pub finish-act : (s : ℕ) (b : List ℕ) (some : Bool) (v : Facts) (a : Act) → some ≡ someUnready (d .entries) (d .flow .outstanding) s → v ≡ factsWith d 32 false some (length b)
+      → a ≡ act v (finishTags s) → a ≡ actOf d (lent (finishTags s) [] b)
+  unfolding actOf act tests does
+  finish-act s b some v a q r e = e ∙ rw (r, q)
+
+  pub media-act : (t e s : ℕ) (b : List ℕ) (v : Facts) (a : Act) → v ≡ factsWith d t false false (length b) → a ≡ act v (mediaError t e s) → a ≡ actOf d (lent (mediaError t e s) [] b)
+  unfolding actOf act tests does
+  media-act t e s b v a r q = q ∙ rw r
+
+  pub link-act : (k : ℕ) (v : Facts) (a : Act) → v ≡ factsWith d 32 false false 0 → a ≡ act v (linkEvent k) → a ≡ actOf d (lent (linkEvent k) [] [])
+  unfolding actOf act tests does
+  link-act k v a r e = e ∙ rw r
+
+  pub comreset-act : (b : List ℕ) (v : Facts) (a : Act) → v ≡ factsWith d 32 false false (length b) → a ≡ act v comReset → a ≡ actOf d (lent comReset [] b)
+  unfolding actOf act tests does
+  comreset-act b v a r e = e ∙ rw r
+
+-- ---- what a call needs before its act is done
+
+-- room, where the act is the call's
+pub has-room : (d : Device) (l : Lent) (a : Act) → Replying (l .call) → a ≡ actOf d l → numberOf a ≡ 0 → leb 8196 (length (l .buffer)) ≡ true
+has-room d l a p e z = roomy d l p (sym (ap numberOf e) ∙ z)
+
+-- a place in the medium
+pub span-known : (d : Device) (m b : List ℕ) (a : Act) (s : Span) → a ≡ actOf d (lent sendData m b) → s ≡ spanOf a → s .at + s .size ≤ length m
+span-known d m b a s e q = rw (q, e) (span-within d m b)
 
 -- what of the medium the code sends
-pub span-known : (d : Device) (n room : ℕ) (a : Act) (s : Span) → a ≡ sendOf d n room → s ≡ spanOf a → s .at + s .size ≤ n
-span-known d n room a s e q = rw (q, e) (span-within d n room)
-
-pub sent-part : (d : Device) (m b b′ : List ℕ) (a : Act) (s : Span) (r : Outcome) → a ≡ sendOf d (length m) (length b) → s ≡ spanOf a
-    → Answered (stepBy d (midOf (s .at) ((s .at + s .size) - s .at) m) a) b r b′ → Answered (sendStep d m (length b)) b r b′
-sent-part d m b b′ a s r e q w =
+pub sent-part : (m : List ℕ) (a : Act) (s : Span) → s ≡ spanOf a → midOf (s .at) ((s .at + s .size) - s .at) m ≡ partOf (spanOf a) m
+sent-part m a s q =
     let k : (s .at + s .size) - s .at ≡ s .size = omega arith in
-    let w′ : Answered (stepBy d (partOf s m) a) b r b′ = rw k at w in
-    subst (λ (x : Act). Answered (stepBy d (partOf (spanOf x) m) x) b r b′) e (subst (λ (x : Span). Answered (stepBy d (partOf x m) a) b r b′) q w′)
+    let w : midOf (s .at) ((s .at + s .size) - s .at) m ≡ partOf s m = rw k refl in
+    w ∙ ap (λ (x : Span). partOf x m) q

@@ -1,13 +1,15 @@
 -- What each change of the state does, said of its parts; and how long the record stays. Assumes nothing.
 use mathlib.Core.Path.{_≡_, refl}
 use mathlib.Core.Bool.{Bool, true, false, true≢false}
+use lib.Dec.{leb}
 use lib.ListN.{replicate}
 use Rattle.bits.specs.Pick.{pick}
+use Rattle.bits.proofs.Picks.{by-test}
 use Rattle.states.specs.State.{blankRecord}
 use Rattle.rules.specs.declared.acts.Fault.{Fault}
 use Rattle.rules.specs.declared.acts.Act.{Act}
-use Rattle.rules.specs.declared.acts.Act.the-variants.{Refuse, Nothing, Answer, Halt, Accept, Log10, Log11, Reset, Release, Zero, Keep, Open, Send, Finish, Media}
-use Rattle.device.specs.After.{haltWith, unhalted, zeroedIf, resetHeld, released, acceptedBy, movedBy, openedFor, finishedBy, afterOf}
+use Rattle.rules.specs.declared.acts.Act.the-variants.{Refuse, Nothing, Answer, Halt, Accept, Log10, Log11, Reset, Release, Zero, Keep, Open, Send, Finish, Media, Count, Renew}
+use Rattle.device.specs.After.{withValue, haltWith, unhalted, zeroedIf, resetHeld, released, acceptedBy, movedBy, openedFor, finishedBy, afterOf}
 use Rattle.device.specs.declared.state.Device.{Device}
 
 -- halt: every outstanding command is given up, an open phase closes, the error record is set
@@ -52,10 +54,12 @@ newRecord (Open x) = false
 newRecord (Send x) = false
 newRecord (Finish x) = false
 newRecord (Media x) = true
+newRecord (Count x) = false
+newRecord Renew = true
 
 -- the record stays until the next halt or reset
 pub record-stays : (d : Device) (a : Act) → newRecord a ≡ false → afterOf d a .errors ≡ d .errors
-unfolding newRecord afterOf unhalted zeroedIf released acceptedBy movedBy openedFor finishedBy
+unfolding newRecord afterOf withValue unhalted zeroedIf released acceptedBy movedBy openedFor finishedBy
 record-stays d (Refuse n) h = refl
 record-stays d Nothing h = refl
 record-stays d (Answer x) h = refl
@@ -71,3 +75,5 @@ record-stays d (Open x) h = refl
 record-stays d (Send x) h = refl
 record-stays d (Finish x) h = refl
 record-stays d (Media x) h = absurd (true≢false h)
+record-stays d (Count x) h = by-test (λ (y : Device). y .errors ≡ d .errors) (leb 16 x) d _ (λ _. refl) (λ _. refl)
+record-stays d Renew h = absurd (true≢false h)

@@ -17,16 +17,17 @@ use Rattle.states.specs.State.{taskIn, echoOf}
 use Rattle.states.specs.Table.{someBelow, tab, placed, cleared}
 use Rattle.states.specs.Clauses.{movedBad, settingsOut, busyBad, idleBad, entryBad, tableBad, flowBad, recordBad, rowsBad, contradictory}
 use Rattle.rules.specs.Facts.{advancedBy, moveOf}
-use Rattle.rules.specs.Decide.{queuedAct, logPage, otherAct, controlAct, registerAct, dataAct, bistAct, kindAct, decideOf}
-use Rattle.rules.specs.Events.{decided, openAct, sendAct, someUnready, finishAct, failing, mediaAct}
-use Rattle.rules.specs.Taking.{numberOf, spanOf}
+use Rattle.rules.specs.Tests.{wrongKind, wrongTime, wrongSize, someUnready, tests}
+use Rattle.rules.specs.Decide.{queuedAct, logPage, otherAct, controlAct, registerAct, frameAct}
+use Rattle.rules.specs.Act.{failing, does, decided, act}
+use Rattle.rules.specs.Taking.{numberOf, touchOf}
 use Rattle.replies.specs.Replies.{repliesOf}
 use Rattle.device.specs.Device.{contradictoryDevice, freshDevice}
-use Rattle.device.specs.Events.{withValue}
-use Rattle.device.specs.After.{haltWith, acceptedBy, unhalted, movedBy, openedFor, finishedBy, failedBy, afterOf}
-use Rattle.device.specs.Calls.{openTag, hostAct, openOf, sendOf, finishOf, mediaOf}
+use Rattle.device.specs.After.{withValue, haltWith, acceptedBy, unhalted, movedBy, openedFor, finishedBy, failedBy, afterOf}
+use Rattle.device.specs.FactsOf.{openTag}
+use Rattle.device.specs.Step.{actOf}
 use Rattle.device.specs.Example.{Hold, examples as all}
 
 pub examples : Hold all
-unfolding Hold all pick firstOf joined registerBytes fixedSize readable byKind readFrame bitsBytes setupBytes encode sumTo sum256 sealed ids idAt entriesFrom entries someOf howMany page10 fits10 damaged valueIn readCounter toldCounter rowBytes rowsTo openTo page11 taskIn echoOf someBelow tab placed cleared settingsOut busyBad idleBad entryBad tableBad flowBad recordBad rowsBad contradictory advancedBy moveOf queuedAct logPage otherAct controlAct registerAct dataAct bistAct kindAct decideOf decided openAct sendAct someUnready finishAct failing mediaAct numberOf spanOf repliesOf contradictoryDevice freshDevice withValue haltWith acceptedBy unhalted movedBy openedFor finishedBy failedBy afterOf openTag hostAct openOf sendOf finishOf mediaOf movedBad
+unfolding Hold all pick firstOf joined registerBytes fixedSize readable byKind readFrame bitsBytes setupBytes encode sumTo sum256 sealed ids idAt entriesFrom entries someOf howMany page10 fits10 damaged valueIn readCounter toldCounter rowBytes rowsTo openTo page11 taskIn echoOf someBelow tab placed cleared settingsOut busyBad idleBad entryBad tableBad flowBad recordBad rowsBad contradictory advancedBy moveOf queuedAct logPage otherAct controlAct registerAct frameAct wrongKind wrongTime wrongSize tests does decided act someUnready failing numberOf touchOf actOf repliesOf contradictoryDevice freshDevice withValue haltWith acceptedBy unhalted movedBy openedFor finishedBy failedBy afterOf openTag movedBad
 examples = (refl, (refl, (refl, (refl, (refl, (refl, (refl, (refl, (refl, (refl, (refl, (refl, (refl, (refl, (refl, tt)))))))))))))))

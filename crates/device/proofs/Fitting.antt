@@ -4,19 +4,17 @@ use mathlib.Core.Bool.{Bool, true, false, not, _&&_, _||_}
 use mathlib.Core.List.{List, [], _∷_}
 use Prim.Native.Nat.{ℕ, zero, suc, _-_, _<_}
 use native.Mathlib.Omega.{arith}
-use lib.Dec.{ltb, eqb, lit<}
+use lib.Dec.{eqb}
 use lib.ListN.{length, getD}
 use borrow.Author.Tests.{lt-ltb, ltb-true, ltb-false, not-false}
 use Rattle.bits.specs.Pick.{pick}
 use Rattle.bits.specs.Little.{byteOf, Bytes}
-use Rattle.bits.proofs.Firsts as firsts
 use Rattle.bits.proofs.Picks.{by-test, and-left, or-left, or-right}
 use Rattle.wire.specs.Piece.{taskFits, below}
 use Rattle.wire.specs.Size.{readable}
 use Rattle.wire.specs.declared.pieces.Task.{Task}
 use Rattle.wire.proofs.TaskLaws.{task-fits}
 use Rattle.frames.specs.Read.{hostOf, deviceOf, bitsOf, setupOf, pioOf, byKind, readFrame}
-use Rattle.frames.specs.declared.shapes.HostReg.{HostReg}
 use Rattle.frames.specs.declared.shapes.Frame.{Frame}
 use Rattle.frames.specs.declared.shapes.Frame.the-variants as fs
 use Rattle.pages.specs.Page10.{fits10}
@@ -24,21 +22,15 @@ use Rattle.pages.specs.Rows.{keepsBoth}
 use Rattle.pages.specs.declared.page10.ErrorLog.{ErrorLog}
 use Rattle.states.specs.State.{placedBytes, taskIn, echoOf}
 use Rattle.states.specs.Clauses.{tagTooLarge, tagUnderNq, blankNotZero, recordBad}
-use Rattle.ladders.specs.Ladders.{lentLadder}
-use Rattle.rules.specs.Facts.{leftOf, moveOf}
-use Rattle.rules.specs.Decide.{queuedAct, otherAct, controlAct, registerAct, dataAct, bistAct, kindAct}
 use Rattle.rules.specs.declared.facts.Facts.{Facts}
 use Rattle.rules.specs.declared.acts.Act.{Act}
-use Rattle.rules.specs.declared.acts.Act.the-variants.{Refuse, Zero, Keep}
-use Rattle.rules.proofs.Leaves.{control-all, queued-all, other-all}
-use Rattle.rules.proofs.Numbers.{lent-none, lent-is}
+use Rattle.rules.proofs.Ruled as by
 use Rattle.replies.specs.Replies.{logOf}
-use Rattle.replies.specs.Fit.{Fit}
+use Rattle.replies.proofs.Fit.{Fit}
 use Rattle.device.specs.Device.{contradictoryDevice}
-use Rattle.device.specs.Sized.{SizedRecord}
-use Rattle.device.specs.Calls.{factsOf, openTag, mediumWrong, hostAct, hostStep}
+use Rattle.device.specs.Step.{shown}
+use Rattle.device.proofs.Sized.{SizedRecord}
 use Rattle.device.specs.declared.state.Device.{Device}
-use Rattle.device.proofs.Keeping.{both-kept}
 use Rattle.device.proofs.Parts.{record-good}
 
 -- ---- bytes
@@ -101,7 +93,7 @@ ReadFits fs.Bist = Unit
 ReadFits (fs.Pio x) = Unit
 ReadFits fs.Refused = Unit
 
-read-fits : (l : List ℕ) → Bytes l → ReadFits (readFrame l)
+pub read-fits : (l : List ℕ) → Bytes l → ReadFits (readFrame l)
 unfolding ReadFits readFrame byKind
 read-fits l b =
     let k = getD l 0 0 in
@@ -123,50 +115,20 @@ read-fits l b =
     (λ _. by-test ReadFits (eqb k 0x46) (fs.Data (length l - 4)) fs.Refused (λ _. tt) (λ _. tt)))))))))
     (λ _. tt)
 
-module _ (d : Device) (v : Facts) (log10 : fits10 (logOf (d .errors)) ≡ true) (log11 : keepsBoth (d .settings .mask) ≡ true) where
-  abbrev Fits : Act → Type 0
-  Fits a = Fit (d .errors) (d .settings .mask) [] a
-
-  register-fits : (h : HostReg) → taskFits (h .task) ≡ true → Fits (registerAct v h)
-  unfolding registerAct Fit
-  register-fits h t =
-      let four : 4 < 256 = omega arith in
-      let ten : 16 < 256 = omega arith in
-      let b = echo-bytes (h .task) t in
-      let queued : Bool = eqb (h .command) 0x60 || eqb (h .command) 0x61 in
-      let wrong : Bool = v .flow .held || not (eqb (v .flow .phase) 0) in
-      let commands : Act = pick queued (queuedAct v h) (otherAct v h) in
-      by-test Fits (not (h .«command_bit»)) (controlAct v h) (pick wrong (Refuse 5) commands) (λ _. control-all Fits v h tt tt tt)
-      (λ _. by-test Fits wrong (Refuse 5) commands (λ _. tt)
-      (λ _. by-test Fits queued (queuedAct v h) (otherAct v h) (λ _. queued-all Fits v h (four, t) (four, b) (ten, b) b) (λ _. other-all Fits v h (four, t) (four, b) (t, log10) (t, log11))))
-
-  data-fits : (n : ℕ) → Fits (dataAct v n)
-  unfolding dataAct Fit
-  data-fits n =
-      let wrong : Bool = ltb (leftOf (v .entry)) n in
-      let kept : Act = Keep (moveOf (v .flow) (v .entry) n) in
-      by-test Fits (eqb (v .flow .phase) 0 || not (v .entry .write)) (Refuse 5) (pick wrong (Refuse 6) kept) (λ _. tt) (λ _. by-test Fits wrong (Refuse 6) kept (λ _. tt) (λ _. tt))
-
-  bist-fits : Fits (bistAct v)
-  unfolding bistAct Fit
-  bist-fits = by-test Fits (not (eqb (v .flow .phase) 0)) (Refuse 5) Zero (λ _. tt) (λ _. tt)
-
-  kind-fits : (f : Frame) → ReadFits f → Fits (kindAct v f)
-  unfolding kindAct Fit ReadFits
-  kind-fits (fs.Host h) r = register-fits h r
-  kind-fits (fs.Device x) r = tt
-  kind-fits (fs.Bits x) r = tt
-  kind-fits (fs.Setup x) r = tt
-  kind-fits fs.Activate r = tt
-  kind-fits (fs.Data n) r = data-fits n
-  kind-fits fs.Bist r = bist-fits
-  kind-fits (fs.Pio x) r = tt
-  kind-fits fs.Refused r = tt
-
-pub host-fits : (d : Device) (f : List ℕ) (n room : ℕ) → Bytes f → SizedRecord d → hostStep d f n room .refusal ≡ 0 → Fit (d .errors) (d .settings .mask) [] (hostAct d f n room)
-unfolding hostAct
-host-fits d f n room b s z =
-    let v = factsOf d (openTag (d .flow .phase)) (mediumWrong (d .settings .capacity) n) room in
-    let l = lent-none v (readFrame f) z in
-    let good = firsts.first-exactly (lentLadder (v .contradicts) (v .medium) (v .short)) tt .none .0 l 0 (lit< tt) in
-    rw (lent-is v (readFrame f) l) (kind-fits d v (record-fits d s good) (both-kept d good) (readFrame f) (read-fits f b))
+-- a host frame that is not turned down
+pub heard-fits : (d : Device) (v : Facts) → fits10 (logOf (d .errors)) ≡ true → keepsBoth (d .settings .mask) ≡ true → {f : Frame} {a : Act} → ReadFits f → by.Heard v f a → Fit (shown d) [] a
+unfolding Fit ReadFits
+heard-fits d v ten eleven r (by.srst h c s) = tt
+heard-fits d v ten eleven r (by.release h c s x) = tt
+heard-fits d v ten eleven r (by.nothing h c s x) = tt
+heard-fits d v ten eleven r (by.rule1 h c x) = (omega arith, r)
+heard-fits d v ten eleven r (by.rule2 h c x) = (omega arith, echo-bytes (h .task) r)
+heard-fits d v ten eleven r (by.rule3 h c x) = (omega arith, echo-bytes (h .task) r)
+heard-fits d v ten eleven r (by.rule4 h c x u y) = echo-bytes (h .task) r
+heard-fits d v ten eleven r (by.other-halted h c x) = (omega arith, r)
+heard-fits d v ten eleven r (by.other-busy h c x) = (omega arith, echo-bytes (h .task) r)
+heard-fits d v ten eleven r (by.page10 h c e p) = (r, ten)
+heard-fits d v ten eleven r (by.page11 h c x e p) = (r, eleven)
+heard-fits d v ten eleven r (by.other-bad h c x e) = (omega arith, r)
+heard-fits d v ten eleven r (by.due n p w s) = tt
+heard-fits d v ten eleven r (by.bist b) = tt

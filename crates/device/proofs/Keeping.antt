@@ -13,11 +13,10 @@ use Rattle.bits.proofs.Firsts as firsts
 use Rattle.bits.proofs.Picks.{tested, and-left, and-right, or-left, or-right}
 use Rattle.pages.specs.Rows.{kept, keepsBoth}
 use Rattle.ladders.specs.Counts.{bumped}
-use Rattle.ladders.specs.Ladders.{linkLadder}
 use Rattle.states.specs.Clauses.{settingsOut, tableBad, flowBad, recordBad, rowBadAt, rowsBad, contradictory, rowRefused}
 use Rattle.states.proofs.TableLaws.{some-never, some-absent}
 use Rattle.device.specs.Device.{contradictoryDevice}
-use Rattle.device.specs.Events.{withValue, linkStep}
+use Rattle.device.specs.After.{withValue}
 use Rattle.device.specs.declared.state.Device.{Device}
 
 -- another value at a row that is kept
@@ -79,15 +78,3 @@ counted-good d row h k =
     (λ (x : leb 16 row ≡ true). rw x h)
     (λ (x : leb 16 row ≡ false). rw (x, rest-good d h) (kept-rows (d .settings .mask) (d .values) row (bumped (getD (d .values) row 0) 1) k (rows-good d h)))
     (tested (leb 16 row))
-
--- link event
-pub never-contradicts-link : (d : Device) (row : ℕ) → linkStep d row .refusal ≡ 0 → contradictoryDevice (linkStep d row .state) ≡ false
-unfolding linkStep pick
-never-contradicts-link d row z =
-    let none = firsts.first-exactly (linkLadder (contradictoryDevice d) (rowRefused (d .settings .mask) row)) tt .none .0 z in
-    let refused = none 1 (lit< tt) in
-    rw z
-    (counted-good d row (none 0 (lit< tt))
-    (not-false (kept (d .settings .mask) row)
-    (or-right (ltb 15 row) (not (kept (d .settings .mask) row))
-    (or-right (eqb row 0 || eqb row 9) (ltb 15 row || not (kept (d .settings .mask) row)) refused))))

@@ -1,6 +1,6 @@
+pub mod Sized
 pub mod Outcomes
 pub mod Never
-pub mod Renewing
 pub mod Keeping
 pub mod Parts
 pub mod Acts
@@ -9,10 +9,9 @@ pub mod Flows
 pub mod Retagging
 pub mod Changes
 pub mod Entering
-pub mod NeverEvents
-pub mod NeverHost
-pub mod Opens
 pub mod Busy
+pub mod NeverCalls
+pub mod Opens
 pub mod Rooms
 pub mod Doing
 pub mod Exactly

@@ -21,7 +21,7 @@ use Rattle.states.specs.Clauses.{aboveDepth, pastCapacity, countZero, otherTag,
 use Rattle.states.specs.declared.shapes.Settings.{Settings}
 use Rattle.states.specs.declared.shapes.Entry.{Entry}
 use Rattle.device.specs.Device.{contradictoryDevice}
-use Rattle.device.specs.Sized.{Sized}
+use Rattle.device.proofs.Sized.{Sized}
 use Rattle.device.specs.Ones.{openEntry, openEntries}
 use Rattle.device.specs.declared.state.Device.{Device}
 use Rattle.device.proofs.Parts.{tag-good}

@@ -20,19 +20,23 @@ use Rattle.frames.specs.declared.shapes.Frame.the-variants as fs
 use Rattle.states.specs.Table.{entryOf}
 use Rattle.states.specs.declared.shapes.Entry.{Entry}
 use Rattle.rules.specs.Facts.{leftOf, placeOf, moveOf}
-use Rattle.rules.specs.HostTests.{wrongKind, wrongTime, wrongSize, hostTests}
-use Rattle.rules.specs.Decide.{dataAct, kindAct, decideOf}
-use Rattle.rules.specs.Taking.{stored, keptIn}
+use Rattle.rules.specs.Call.{hostFrame}
+use Rattle.rules.specs.Tests.{wrongKind, wrongTime, wrongSize, frameTests, tests}
+use Rattle.rules.specs.Decide.{frameAct}
+use Rattle.rules.specs.Act.{does, decided, act}
+use Rattle.rules.specs.Taking.{touchOf, stored, keptIn}
 use Rattle.rules.specs.declared.facts.Facts.{Facts}
 use Rattle.rules.specs.declared.acts.Move.{Move}
 use Rattle.rules.specs.declared.acts.Act.{Act}
 use Rattle.rules.specs.declared.acts.Act.the-variants.{Keep}
-use Rattle.rules.proofs.Numbers.{lent-none, lent-is, host-number}
+use Rattle.rules.proofs.Numbers.{not-refused, decided-is, act-number}
 use Rattle.device.specs.Device.{contradictoryDevice}
-use Rattle.device.specs.Calls.{factsOf, openTag, mediumWrong, hostAct, hostStep}
+use Rattle.device.specs.Lent.{lent}
+use Rattle.device.specs.FactsOf.{openTag, mediumWrong, factsOf}
+use Rattle.device.specs.Step.{actOf, step}
 use Rattle.device.specs.declared.state.Device.{Device}
 use Rattle.device.proofs.Rooms.{move-within}
-use Rattle.device.proofs.Exactly.{first-exactly-host}
+use Rattle.device.proofs.Exactly.{first-exactly}
 
 -- 46h is read as data if its payload has a right size, and else refused
 data-read : (f : List ℕ) → getD f 0 0 ≡ 0x46 → payloadSize (length f - 4) ≡ true → readFrame f ≡ fs.Data (length f - 4)
@@ -42,11 +46,6 @@ data-read f k p = rw (k, p)
 data-refused : (f : List ℕ) → getD f 0 0 ≡ 0x46 → payloadSize (length f - 4) ≡ false → readFrame f ≡ fs.Refused
 unfolding readFrame readable byKind pick
 data-refused f k p = rw (k, p)
-
--- data that is not refused is kept
-data-kept : (v : Facts) (n : ℕ) → wrongTime v (fs.Data n) ≡ false → wrongSize v (fs.Data n) ≡ false → dataAct v n ≡ Keep (moveOf (v .flow) (v .entry) n)
-unfolding dataAct wrongTime wrongSize pick
-data-kept v n t s = rw (t, s)
 
 -- where there is room, the payload stands there whole
 stored-whole : (at size : ℕ) (f m : List ℕ) → 4 ≤ length f → length f - 4 ≡ size → at + size ≤ length m
@@ -58,57 +57,64 @@ stored-whole at size f m h e w =
     rw (le-leb 4 (length f) h, le-leb at (length m) (omega arith))
     (ap (λ (x : List ℕ). take at m ++ x) (over-yes (drop 4 f) (drop at m) (omega arith) ∙ ap (λ (x : List ℕ). drop 4 f ++ x) (ap (λ (k : ℕ). drop k (drop at m)) long ∙ drop-drop size at m)))
 
--- what is known of a host data frame that was taken, with a medium of n bytes
-pub record Taken46 (d : Device) (f : List ℕ) (n room : ℕ) : Type 0 where
-  pub good : contradictoryDevice d ≡ false
-  pub medium : mediumWrong (d .settings .capacity) n ≡ false
-  pub phase : eqb (d .flow .phase) 0 ≡ false
-  pub some : 4 ≤ length f - 4
-  pub most : length f - 4 ≤ leftOf (entryOf (d .entries) (openTag (d .flow .phase)))
-  pub act : hostAct d f n room ≡ Keep (moveOf (d .flow) (entryOf (d .entries) (openTag (d .flow .phase))) (length f - 4))
+module _ (d : Device) (f m b : List ℕ) where
+  -- what the device makes of the frame
+  abbrev done : Act
+  done = actOf d (lent (hostFrame f) m b)
 
-pub taken-46 : (d : Device) (f : List ℕ) (n room : ℕ) → getD f 0 0 ≡ 0x46 → hostStep d f n room .refusal ≡ 0 → Taken46 d f n room
-unfolding hostAct wrongKind wrongTime wrongSize kindAct
-taken-46 d f n room kind z =
-    let v = factsOf d (openTag (d .flow .phase)) (mediumWrong (d .settings .capacity) n) room in
-    let k = length f - 4 in
-    let none = first-exactly-host d f n room .none .0 z in
-    ⊎-elim
-    (λ (p : payloadSize k ≡ true).
-    let r = data-read f kind p in
-    let time : wrongTime v (fs.Data k) ≡ false = rw r at (none 4 (lit< tt)) in
-    let size : wrongSize v (fs.Data k) ≡ false = rw r at (none 5 (lit< tt)) in
-    record {
-      good = none 0 (lit< tt);
-      medium = none 1 (lit< tt);
-      phase = or-left (eqb (d .flow .phase) 0) (not (v .entry .write)) time;
-      some = leb-true 4 k (and-left (leb 4 k) (leb k 8192) (and-left (leb 4 k && leb k 8192) (eqb (k % 4) 0) p));
-      most = ltb-false (leftOf (v .entry)) k size;
-      act = lent-is v (readFrame f) (lent-none v (readFrame f) z) ∙ ap (kindAct v) r ∙ data-kept v k time size;
-    })
-    (λ (p : payloadSize k ≡ false). absurd (true≢false (sym (ap wrongKind (data-refused f kind p)) ∙ none 3 (lit< tt))))
-    (tested (payloadSize k))
+  -- the entry of the open phase
+  abbrev e : Entry
+  e = entryOf (d .entries) (openTag (d .flow .phase))
 
--- its payload stands whole at the command's next place, and every other byte of the medium is as it was
-pub data-kept-whole : (d : Device) (f m : List ℕ) (room : ℕ) → Taken46 d f (length m) room
-    → let e : Entry = entryOf (d .entries) (openTag (d .flow .phase)) in
-    (length (drop 4 f) ≤ leftOf e) × (keptIn (hostAct d f (length m) room) f m ≡ take (placeOf e) m ++ (drop 4 f ++ drop (placeOf e + length (drop 4 f)) m))
-unfolding keptIn moveOf
-data-kept-whole d f m room t =
-    let n = length f - 4 in
-    let k : Move = moveOf (d .flow) (entryOf (d .entries) (openTag (d .flow .phase))) n in
-    let most = t .most in
-    let some = t .some in
-    let due : n ≡ k .size = omega arith in
-    let within = move-within d (t .good) (t .phase) n (length m) (t .medium) in
-    let long = length-drop 4 f in
-    (omega arith, ap (λ (a : Act). keptIn a f m) (t .act) ∙ stored-whole (k .at) (k .size) f m (omega arith) due within ∙ ap (λ (s : ℕ). take (k .at) m ++ (drop 4 f ++ drop (k .at + s) m)) (sym (long ∙ due)))
+  -- what is known of a host data frame that was taken
+  pub record Taken46 : Type 0 where
+    pub good : contradictoryDevice d ≡ false
+    pub medium : mediumWrong (d .settings .capacity) (length m) ≡ false
+    pub phase : eqb (d .flow .phase) 0 ≡ false
+    pub some : 4 ≤ length f - 4
+    pub most : length f - 4 ≤ leftOf e
+    pub act : done ≡ Keep (moveOf (d .flow) e (length f - 4))
 
--- the number of a host data frame of a right size, in a write phase, where nothing before 6 is wrong
-pub six-by-left : (d : Device) (f : List ℕ) (n room : ℕ) → getD f 0 0 ≡ 0x46 → payloadSize (length f - 4) ≡ true → contradictoryDevice d ≡ false → mediumWrong (d .settings .capacity) n ≡ false → ltb room 8196 ≡ false
-    → eqb (d .flow .phase) 0 ≡ false → entryOf (d .entries) (openTag (d .flow .phase)) .write ≡ true
-    → hostStep d f n room .refusal ≡ pick (ltb (leftOf (entryOf (d .entries) (openTag (d .flow .phase)))) (length f - 4)) 6 0
-unfolding hostAct wrongKind wrongTime wrongSize firstOf pick
-six-by-left d f n room kind p c w s o u =
-    let v = factsOf d (openTag (d .flow .phase)) (mediumWrong (d .settings .capacity) n) room in
-    host-number v (readFrame f) ∙ ap (λ (r : Frame). firstOf (hostTests v r)) (data-read f kind p) ∙ rw (c, w, s, o, u) refl
+  pub taken-46 : getD f 0 0 ≡ 0x46 → step d (lent (hostFrame f) m b) .refusal ≡ 0 → Taken46
+  unfolding actOf act tests does wrongKind wrongTime wrongSize frameAct
+  taken-46 kind z =
+      let v = factsOf d (lent (hostFrame f) m b) in
+      let k = length f - 4 in
+      let none = first-exactly d (lent (hostFrame f) m b) .none .0 z in
+      ⊎-elim
+      (λ (p : payloadSize k ≡ true).
+      let r = data-read f kind p in
+      let time : wrongTime v (fs.Data k) ≡ false = rw r at (none 4 (lit< tt)) in
+      let size : wrongSize v (fs.Data k) ≡ false = rw r at (none 5 (lit< tt)) in
+      let first = firstOf (frameTests v (readFrame f)) in
+      record {
+        good = none 0 (lit< tt);
+        medium = none 1 (lit< tt);
+        phase = or-left (eqb (d .flow .phase) 0) (not (v .entry .write)) time;
+        some = leb-true 4 k (and-left (leb 4 k) (leb k 8192) (and-left (leb 4 k && leb k 8192) (eqb (k % 4) 0) p));
+        most = ltb-false (leftOf (v .entry)) k size;
+        act = decided-is first (frameAct v (readFrame f)) (not-refused first (frameAct v (readFrame f)) z) ∙ ap (frameAct v) r;
+      })
+      (λ (p : payloadSize k ≡ false). absurd (true≢false (sym (ap wrongKind (data-refused f kind p)) ∙ none 3 (lit< tt))))
+      (tested (payloadSize k))
+
+  -- its payload stands whole at the command's next place, and every other byte of the medium is as it was
+  pub data-kept-whole : Taken46 → (length (drop 4 f) ≤ leftOf e) × (keptIn done f m ≡ take (placeOf e) m ++ (drop 4 f ++ drop (placeOf e + length (drop 4 f)) m))
+  unfolding touchOf moveOf
+  data-kept-whole t =
+      let n = length f - 4 in
+      let k : Move = moveOf (d .flow) e n in
+      let most = t .most in
+      let some = t .some in
+      let due : n ≡ k .size = omega arith in
+      let within = move-within d (t .good) (t .phase) n (length m) (t .medium) in
+      let long = length-drop 4 f in
+      (omega arith, ap (λ (a : Act). keptIn a f m) (t .act) ∙ stored-whole (k .at) (k .size) f m (omega arith) due within ∙ ap (λ (s : ℕ). take (k .at) m ++ (drop 4 f ++ drop (k .at + s) m)) (sym (long ∙ due)))
+
+  -- the number of a host data frame of a right size, in a write phase, where nothing before 6 is wrong
+  pub six-by-left : getD f 0 0 ≡ 0x46 → payloadSize (length f - 4) ≡ true → contradictoryDevice d ≡ false → mediumWrong (d .settings .capacity) (length m) ≡ false → ltb (length b) 8196 ≡ false
+      → eqb (d .flow .phase) 0 ≡ false → e .write ≡ true → step d (lent (hostFrame f) m b) .refusal ≡ pick (ltb (leftOf e) (length f - 4)) 6 0
+  unfolding actOf tests wrongKind wrongTime wrongSize firstOf pick
+  six-by-left kind p c w s o u =
+      let v = factsOf d (lent (hostFrame f) m b) in
+      act-number v (hostFrame f) ∙ ap (λ (r : Frame). firstOf (frameTests v r)) (data-read f kind p) ∙ rw (c, w, s, o, u) refl

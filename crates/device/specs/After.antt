@@ -2,7 +2,8 @@
 use mathlib.Core.Bool.{Bool, true, false}
 use mathlib.Core.List.{List}
 use Prim.Native.Nat.{ℕ, _+_}
-use lib.ListN.{replicate}
+use lib.Dec.{leb}
+use lib.ListN.{getD, set, replicate}
 use Rattle.bits.specs.Pick.{pick}
 use Rattle.bits.specs.Bit.{bitIn, withBitIn, clearIn}
 use Rattle.states.specs.State.{zeroEntry, blankRecord}
@@ -10,13 +11,21 @@ use Rattle.states.specs.Table.{placed, cleared}
 use Rattle.states.specs.declared.shapes.Flow.{Flow}
 use Rattle.states.specs.declared.shapes.Entry.{Entry}
 use Rattle.states.specs.declared.shapes.ErrorRecord.{ErrorRecord}
+use Rattle.ladders.specs.Counts.{bumped}
 use Rattle.rules.specs.declared.acts.Fault.{Fault}
 use Rattle.rules.specs.declared.acts.Queued.{Queued}
 use Rattle.rules.specs.declared.acts.Move.{Move}
 use Rattle.rules.specs.declared.acts.Act.{Act}
-use Rattle.rules.specs.declared.acts.Act.the-variants.{Refuse, Nothing, Answer, Halt, Accept, Log10, Log11, Reset, Release, Zero, Keep, Open, Send, Finish, Media}
-use Rattle.device.specs.Events.{withValues, withValue}
+use Rattle.rules.specs.declared.acts.Act.the-variants.{Refuse, Nothing, Answer, Halt, Accept, Log10, Log11, Reset, Release, Zero, Keep, Open, Send, Finish, Media, Count, Renew}
 use Rattle.device.specs.declared.state.Device.{Device}
+
+-- the state with other counters
+abbrev pub withValues : Device → List ℕ → Device
+withValues d values = record { settings = d .settings; flow = d .flow; entries = d .entries; errors = d .errors; values = values }
+
+-- one event more at a row
+unfoldable pub withValue : Device → ℕ → Device
+withValue d row = pick (leb 16 row) d (withValues d (set (d .values) row (bumped (getD (d .values) row 0) 1)))
 
 -- the same settings and counters, nothing outstanding, no phase open
 abbrev pub emptied : Device → Bool → Bool → ErrorRecord → Device
@@ -78,15 +87,19 @@ finishedBy d set =
 unfoldable pub failedBy : Device → Fault → Device
 failedBy d f = haltWith (pick (bitIn 8 (f .error) 7) (withValue d 0) d) f
 
--- by the act
+-- COMRESET: as SRST and release together, counter 00Ah + 1 (row 9), counters kept
+unfoldable pub renewed : Device → Device
+renewed d = withValue (released (resetHeld d)) 9
+
+-- by the act; a link event adds one to its row's counter
 unfoldable pub afterOf : Device → Act → Device
 afterOf d (Refuse n) = d
 afterOf d Nothing = d
 afterOf d (Answer b) = d
 afterOf d (Halt f) = haltWith d f
 afterOf d (Accept q) = acceptedBy d q
-afterOf d (Log10 l) = unhalted d
-afterOf d (Log11 l) = zeroedIf d (l .also)
+afterOf d (Log10 task) = unhalted d
+afterOf d (Log11 l) = zeroedIf d (l .zero)
 afterOf d Reset = resetHeld d
 afterOf d Release = released d
 afterOf d Zero = zeroedIf d true
@@ -95,3 +108,5 @@ afterOf d (Open q) = openedFor d (q .tag)
 afterOf d (Send m) = movedBy d m
 afterOf d (Finish set) = finishedBy d set
 afterOf d (Media f) = failedBy d f
+afterOf d (Count row) = withValue d row
+afterOf d Renew = renewed d

@@ -1,5 +1,6 @@
 -- The proved examples P1 to P11: pages and replies of the machine's own calls. Assumes nothing.
 use mathlib.Core.Path.{_≡_}
+use mathlib.Core.Bool.{false}
 use mathlib.Core.List.{List, [], _∷_, map}
 use Prim.Native.Nat.{ℕ, _*_}
 use lib.ListN.{getD, take, drop, replicate}
@@ -11,8 +12,11 @@ use Rattle.pages.specs.declared.page11.Counter.{Counter}
 use Rattle.states.specs.State.{blankRecord}
 use Rattle.replies.specs.Replies.{page10Of, page11Of}
 use Rattle.device.specs.Device.{freshDevice}
-use Rattle.device.specs.Step.{Step}
-use Rattle.device.specs.Calls.{hostStep, openStep, sendStep, finishStep, mediaStep}
+use Rattle.device.specs.Step.{Step, stepBy, step}
+use Rattle.rules.specs.Call.{hostFrame, openPhase, sendData, finishTags, mediaError}
+use Rattle.rules.specs.Act.{act}
+use Rattle.device.specs.Lent.{lent}
+use Rattle.device.specs.FactsOf.{openTag, factsWith}
 use Rattle.device.specs.declared.state.Device.{Device}
 
 -- one example: its number in 01, what the definitions give, and what 01 says
@@ -48,9 +52,13 @@ queuedRead count sector tag =
     0x27 ∷ 0x80 ∷ 0x60 ∷ count ∷ getD (leBytes 3 sector) 0 0 ∷ getD (leBytes 3 sector) 1 0 ∷ getD (leBytes 3 sector) 2 0 ∷ 0x40
     ∷ 0 ∷ 0 ∷ 0 ∷ 0 ∷ 8 * tag ∷ 0 ∷ 0 ∷ 0 ∷ 0 ∷ 0 ∷ 0 ∷ 0 ∷ []
 
--- what a host frame comes to with the whole medium and room enough
+-- the smallest reply buffer that will do
+abbrev pub room : List ℕ
+room = replicate 8196 0
+
+-- what a host frame comes to with a medium of the right length and room enough
 abbrev pub asked : Device → List ℕ → Step
-asked d f = hostStep d f (512 * d .settings .capacity) 8196
+asked d f = stepBy d (lent (hostFrame f) [] room) (act (factsWith d (openTag (d .flow .phase)) false false 8196) (hostFrame f))
 
 -- READ LOG EXT of page 10h
 abbrev pub readLog10 : List ℕ
@@ -62,11 +70,11 @@ reading = asked (fresh 256) (queuedRead 8 0x60 5) .state
 
 -- its media error: tag 5, error 40h, sector 64h
 abbrev pub failed : Step
-failed = mediaStep reading 5 0x40 0x64 8196
+failed = step reading (lent (mediaError 5 0x40 0x64) [] room)
 
 -- reads of a sector each with tags 0 and 5, both sent
 abbrev pub sentWith : Device → ℕ → Device
-sentWith d tag = sendStep (openStep d tag 8196 .state) (replicate 512 0) 8196 .state
+sentWith d tag = step (step d (lent (openPhase tag) [] room) .state) (lent sendData (replicate 512 0) room) .state
 
 -- of a device of one sector
 abbrev pub bothSent : Device
@@ -85,11 +93,11 @@ unfoldable pub examples : List Example
 examples =
     record { number = 1; given = lastByte (page10Of blankRecord); wanted = 0x80 ∷ [] }
     ∷ record { number = 2; given = lastByte (page10Of (failed .state .errors)); wanted = 0xAE ∷ [] }
-    ∷ record { number = 3; given = replyBytes (finishStep bothSent 0x21 8196); wanted = 0xA1 ∷ 0x40 ∷ 0x40 ∷ 0x00 ∷ 0x21 ∷ 0x00 ∷ 0x00 ∷ 0x00 ∷ [] }
+    ∷ record { number = 3; given = replyBytes (step bothSent (lent (finishTags 0x21) [] room)); wanted = 0xA1 ∷ 0x40 ∷ 0x40 ∷ 0x00 ∷ 0x21 ∷ 0x00 ∷ 0x00 ∷ 0x00 ∷ [] }
     ∷ record { number = 4; given = take 8 (replyBytes (asked (failed .state) readLog10)); wanted = 0xA1 ∷ 0x00 ∷ 0x40 ∷ 0x00 ∷ 0xFF ∷ 0xFF ∷ 0xFF ∷ 0xFF ∷ [] }
     ∷ record { number = 5; given = replyBytes failed; wanted = 0xA1 ∷ 0x40 ∷ 0x41 ∷ 0x40 ∷ 0x00 ∷ 0x00 ∷ 0x00 ∷ 0x00 ∷ [] }
-    ∷ record { number = 6; given = take 1 (drop 1 (replyBytes (openStep reading 5 8196))); wanted = 0x20 ∷ [] }
-    ∷ record { number = 6; given = take 4 (drop 20 (replyBytes (openStep reading 5 8196))); wanted = 0x00 ∷ 0x10 ∷ 0x00 ∷ 0x00 ∷ [] }
+    ∷ record { number = 6; given = take 1 (drop 1 (replyBytes (step reading (lent (openPhase 5) [] room)))); wanted = 0x20 ∷ [] }
+    ∷ record { number = 6; given = take 4 (drop 20 (replyBytes (step reading (lent (openPhase 5) [] room)))); wanted = 0x00 ∷ 0x10 ∷ 0x00 ∷ 0x00 ∷ [] }
     ∷ record { number = 7; given = lastByte twoRows; wanted = 0xB2 ∷ [] }
     ∷ record { number = 7; given = said (readCounter twoRows 0x001); wanted = 0 ∷ 0 ∷ [] }
     ∷ record { number = 7; given = said (readCounter twoRows 0x00A); wanted = 0 ∷ 3 ∷ [] }

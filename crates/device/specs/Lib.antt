@@ -1,10 +1,9 @@
 pub mod Device
-pub mod Events
-pub mod Step
+pub mod Lent
+pub mod FactsOf
+pub mod DataDue
 pub mod After
-pub mod Reset
-pub mod Calls
+pub mod Step
 pub mod Counter
-pub mod Sized
 pub mod Ones
 pub mod Example

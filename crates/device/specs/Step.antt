@@ -5,19 +5,52 @@ use Prim.Native.Nat.{ℕ}
 use lib.ListN.{length}
 use Rattle.bits.specs.Laid.{laid}
 use Rattle.frames.specs.Write.{Sent}
-use Rattle.replies.specs.Replies.{sentAll}
+use Rattle.rules.specs.Act.{act}
+use Rattle.rules.specs.Taking.{numberOf, spanOf, partOf, keptIn}
+use Rattle.rules.specs.declared.acts.Act.{Act}
+use Rattle.replies.specs.Replies.{repliesOf, sentAll}
+use Rattle.replies.specs.declared.shown.Shown.{Shown}
+use Rattle.device.specs.Lent.{Lent, Gave, frameIn}
+use Rattle.device.specs.FactsOf.{factsOf}
+use Rattle.device.specs.After.{afterOf}
 use Rattle.device.specs.declared.state.Device.{Device}
-use Rattle.device.specs.declared.state.Outcome.{Outcome}
 
--- the state, the refusal, and the replies as frames
+-- the state, the refusal, the replies as frames, and the medium
 pub record Step : Type 0 where
   pub state : Device
   pub refusal : ℕ
   pub frames : List Sent
+  pub medium : List ℕ
 
--- what a call answers with the reply buffer b, and what that then holds
-pub record Answered (s : Step) (b : List ℕ) (r : Outcome) (b′ : List ℕ) : Type 0 where
-  pub state : r .state ≡ s .state
-  pub refusal : r .refusal ≡ s .refusal
-  pub len : r .len ≡ length (sentAll (s .frames))
-  pub reply : b′ ≡ laid (sentAll (s .frames)) b
+-- what replies show of a device
+abbrev pub shown : Device → Shown
+shown d = record { halted = d .flow .halted; settings = d .settings; errors = d .errors; values = d .values }
+
+-- what an act leaves behind, with what was lent
+abbrev pub stepBy : Device → Lent → Act → Step
+stepBy d l a = record {
+  state = afterOf d a;
+  refusal = numberOf a;
+  frames = repliesOf (shown d) (partOf (spanOf a) (l .medium)) a;
+  medium = keptIn a (frameIn (l .call)) (l .medium);
+}
+
+-- what a call makes the device do
+unfoldable pub actOf : Device → Lent → Act
+actOf d l = act (factsOf d l) (l .call)
+
+-- what a call leaves behind
+abbrev pub step : Device → Lent → Step
+step d l = stepBy d l (actOf d l)
+
+-- the bytes of a step's replies, which follow one another
+abbrev pub bytesOf : Step → List ℕ
+bytesOf s = sentAll (s .frames)
+
+-- the one contract of the calls: state, refusal and length of the replies, the replies in front of the buffer and the rest as it was, and the medium
+pub record Given (d : Device) (l : Lent) (g : Gave) : Type 0 where
+  pub state : g .outcome .state ≡ step d l .state
+  pub refusal : g .outcome .refusal ≡ step d l .refusal
+  pub len : g .outcome .len ≡ length (bytesOf (step d l))
+  pub reply : g .buffer ≡ laid (bytesOf (step d l)) (l .buffer)
+  pub medium : g .medium ≡ step d l .medium

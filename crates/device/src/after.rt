@@ -1,7 +1,6 @@
 // The state after an act.
 ghost use mathlib.Core.Path.{_≡_};
-ghost use Rattle.device.specs.After.{haltWith, acceptedBy, unhalted, zeroedIf, resetHeld, released, movedBy, openedFor, finishedBy, failedBy, afterOf};
-use crate::events::counted;
+ghost use Rattle.device.specs.After.{withValue, haltWith, acceptedBy, unhalted, zeroedIf, resetHeld, released, movedBy, openedFor, finishedBy, failedBy, renewed, afterOf};
 use crate::state::Device;
 use crate::state::fresh;
 use rules::Act;
@@ -9,6 +8,20 @@ use rules::Fault;
 use rules::Move;
 use rules::Queued;
 use states::ErrorRecord;
+
+// One row's counter has one event more.
+fn counted(mut d: Device, row: u8) -> Device
+    ensures { λ r. ⌜ r ≡ withValue d row ⌝ }
+{
+    if 16 <= row {
+        return d;
+    }
+    let i = row as usize;
+    let v = d.values[i];
+    let next = ladders::bump(v, 1);
+    d.values[i] = next;
+    d
+}
 
 impl Device {
     fn halt_with(mut self, f: Fault) -> Device
@@ -113,6 +126,19 @@ impl Device {
         self
     }
 
+    fn renewed(mut self) -> Device
+        ensures { λ r. ⌜ r ≡ renewed self ⌝ }
+    {
+        let settings = self.settings;
+        let v = self.values[9];
+        let next = ladders::bump(v, 1);
+        let mut values = self.values;
+        values[9] = next;
+        let mut state = fresh(settings);
+        state.values = values;
+        state
+    }
+
     fn failed_by(self, f: Fault) -> Device
         ensures { λ r. ⌜ r ≡ failedBy self f ⌝ }
     {
@@ -134,7 +160,7 @@ pub fn after(d: Device, act: Act) -> Device
         Act::Halt(f) => d.halt_with(f),
         Act::Accept(q) => d.accepted_by(q),
         Act::Log10(_) => d.unhalted(),
-        Act::Log11(l) => d.zeroed_if(l.also),
+        Act::Log11(l) => d.zeroed_if(l.zero),
         Act::Reset => d.reset_held(),
         Act::Release => d.released(),
         Act::Zero => d.zeroed_if(true),
@@ -143,5 +169,7 @@ pub fn after(d: Device, act: Act) -> Device
         Act::Send(m) => d.moved_by(m),
         Act::Finish(set) => d.finished_by(set),
         Act::Media(f) => d.failed_by(f),
+        Act::Count(row) => counted(d, row),
+        Act::Renew => d.renewed(),
     }
 }

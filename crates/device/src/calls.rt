@@ -1,13 +1,26 @@
-// The calls that an act decides: host frame, open, send, finish, media error.
+// The calls that a device answers after power-on: each comes to an act, and the act says the rest.
 ghost use mathlib.Core.Path.{_≡_};
+ghost use mathlib.Core.Bool.{true};
+ghost use mathlib.Core.List.{[]};
+ghost use Prim.Native.Nat.{min};
+ghost use lib.Dec.{leb};
 ghost use lib.ListN.{length};
-ghost use Rattle.device.specs.Step.{Answered};
-ghost use Rattle.device.specs.Calls.{factsOf, openTag, mediumWrong, Roomy, stepBy, Hosted, openStep, sendStep, finishStep, mediaStep};
+ghost use Rattle.rules.specs.Call.{hostFrame, openPhase, sendData, finishTags, mediaError, linkEvent, comReset};
+ghost use Rattle.rules.specs.Facts.{leftOf};
+ghost use Rattle.rules.specs.Taking.{numberOf};
+ghost use Rattle.replies.specs.Replies.{repliesOf, Sends};
+ghost use Rattle.device.specs.Lent.{lent, gave};
+ghost use Rattle.device.specs.FactsOf.{openTag, mediumWrong, factsWith};
+ghost use Rattle.device.specs.DataDue.{dataDue};
+ghost use Rattle.device.specs.After.{afterOf};
+ghost use Rattle.device.specs.Step.{shown, Given};
 use crate::after::after;
 use crate::state::Device;
 use crate::state::Outcome;
+use replies::Shown;
 use rules::Act;
 use rules::Facts;
+use states::Entry;
 
 // The tag of the open phase, or one that has no entry.
 fn open_tag(phase: u32) -> u32
@@ -26,10 +39,21 @@ fn medium_wrong(capacity: u32, n: usize) -> bool
     !(n == Device::SECTOR_SIZE * (capacity as usize))
 }
 
+// min(8,192, what is left) bytes.
+fn due_of(e: Entry) -> usize
+    ensures { λ r. ⌜ r ≡ min 8192 (leftOf e) ⌝ }
+{
+    let left = rules::left_of(e) as usize;
+    if Device::FRAME_SIZE <= left {
+        return Device::FRAME_SIZE;
+    }
+    left
+}
+
 impl Device {
     // What a decision looks at.
-    fn facts(self, tag: u32, medium: bool, room: usize) -> Facts
-        ensures { λ r. ⌜ r ≡ factsOf self tag medium room ⌝ }
+    fn facts(self, tag: u32, wrong: bool, some: bool, room: usize) -> Facts
+        ensures { λ r. ⌜ r ≡ factsWith self tag wrong some room ⌝ }
     {
         let contradicts = self.contradicts();
         let settings = self.settings;
@@ -38,23 +62,40 @@ impl Device {
         let entry = states::entry_of(entries, tag);
         Facts {
             contradicts,
-            medium,
-            short: room < Device::REPLY_SIZE,
+            medium_wrong: wrong,
+            reply_short: room < Device::REPLY_SIZE,
+            link_busy: !(flow.phase == 0),
             settings,
             flow,
             entry,
+            unready: some,
+        }
+    }
+
+    // What replies show.
+    fn shown(self) -> Shown
+        ensures { λ r. ⌜ r ≡ shown self ⌝ }
+    {
+        let settings = self.settings;
+        let errors = self.errors;
+        let values = self.values;
+        Shown {
+            halted: self.flow.halted,
+            settings,
+            errors,
+            values,
         }
     }
 
     // The act is done: replies, then the state.
     fn done(self, reply: &mut [u8], act: Act, part: &[u8]) -> Outcome
-        requires { ⌜ Roomy act (length (now reply)) ⌝ }
-        ensures { λ r. ⌜ Answered (stepBy self (now (part .entry)) act) (now (reply .entry)) r (now (reply .exit)) ⌝ }
+        requires { ⌜ (numberOf act ≡ 0 → leb 8196 (length (now reply)) ≡ true) ⌝ }
+        ensures state { λ r. ⌜ r .state ≡ afterOf self act ⌝ }
+        ensures refusal { λ r. ⌜ r .refusal ≡ numberOf act ⌝ }
+        ensures reply { λ r. ⌜ Sends (repliesOf (shown self) (now (part .entry)) act) (now (reply .entry)) (r .len) (now (reply .exit)) ⌝ }
     {
-        let errors = self.errors;
-        let mask = self.settings.mask;
-        let values = self.values;
-        let len = replies::emit(reply, act, errors, mask, values, part);
+        let shown = self.shown();
+        let len = replies::emit(reply, act, shown, part);
         let refusal = rules::number_of(act);
         let state = after(self, act);
         Outcome {
@@ -66,33 +107,33 @@ impl Device {
 
     // Host frame: 27h, 46h or 58h.
     pub fn host_frame(mut self, frame: &[u8], medium: &mut [u8], reply: &mut [u8]) -> Outcome
-        ensures { λ r. ⌜ Hosted self (now (frame .entry)) (now (medium .entry)) (now (reply .entry)) r (now (medium .exit)) (now (reply .exit)) ⌝ }
+        ensures { λ r. ⌜ Given self (lent (hostFrame (now (frame .entry))) (now (medium .entry)) (now (reply .entry))) (gave r (now (medium .exit)) (now (reply .exit))) ⌝ }
     {
         let tag = open_tag(self.flow.phase);
         let wrong = medium_wrong(self.settings.capacity, medium.len());
-        let facts = self.facts(tag, wrong, reply.len());
+        let facts = self.facts(tag, wrong, false, reply.len());
         let f = frames::read_frame(frame);
-        let act = rules::decide_frame(facts, f);
+        let act = rules::frame_act(facts, f);
         rules::keep(medium, act, frame);
         self.done(reply, act, b"")
     }
 
     // Open a phase for a tag.
     pub fn open(mut self, tag: u8, reply: &mut [u8]) -> Outcome
-        ensures { λ r. ⌜ Answered (openStep self tag (length (now (reply .entry)))) (now (reply .entry)) r (now (reply .exit)) ⌝ }
+        ensures { λ r. ⌜ Given self (lent (openPhase tag) [] (now (reply .entry))) (gave r [] (now (reply .exit))) ⌝ }
     {
-        let facts = self.facts(tag as u32, false, reply.len());
+        let facts = self.facts(tag as u32, false, false, reply.len());
         let act = rules::open_act(facts, tag);
         self.done(reply, act, b"")
     }
 
     // Send, in a read phase: one data frame.
     pub fn send(mut self, medium: &[u8], reply: &mut [u8]) -> Outcome
-        ensures { λ r. ⌜ Answered (sendStep self (now (medium .entry)) (length (now (reply .entry)))) (now (reply .entry)) r (now (reply .exit)) ⌝ }
+        ensures { λ r. ⌜ Given self (lent sendData (now (medium .entry)) (now (reply .entry))) (gave r (now (medium .entry)) (now (reply .exit))) ⌝ }
     {
         let tag = open_tag(self.flow.phase);
         let wrong = medium_wrong(self.settings.capacity, medium.len());
-        let facts = self.facts(tag, wrong, reply.len());
+        let facts = self.facts(tag, wrong, false, reply.len());
         let act = rules::send_act(facts);
         let span = rules::span_of(act);
         let at = span.at;
@@ -102,20 +143,59 @@ impl Device {
 
     // Finish a set of tags.
     pub fn finish(mut self, set: u32, reply: &mut [u8]) -> Outcome
-        ensures { λ r. ⌜ Answered (finishStep self set (length (now (reply .entry)))) (now (reply .entry)) r (now (reply .exit)) ⌝ }
+        ensures { λ r. ⌜ Given self (lent (finishTags set) [] (now (reply .entry))) (gave r [] (now (reply .exit))) ⌝ }
     {
-        let facts = self.facts(Device::DEPTH_LIMIT, false, reply.len());
         let entries = self.entries;
-        let act = rules::finish_act(facts, entries, set);
+        let some = rules::some_unready(entries, self.flow.outstanding, set);
+        let facts = self.facts(Device::DEPTH_LIMIT, false, some, reply.len());
+        let act = rules::finish_act(facts, set);
         self.done(reply, act, b"")
     }
 
     // Media error at a sector of a tag's command.
     pub fn media_error(mut self, tag: u8, error: u8, sector: u32, reply: &mut [u8]) -> Outcome
-        ensures { λ r. ⌜ Answered (mediaStep self tag error sector (length (now (reply .entry)))) (now (reply .entry)) r (now (reply .exit)) ⌝ }
+        ensures { λ r. ⌜ Given self (lent (mediaError tag error sector) [] (now (reply .entry))) (gave r [] (now (reply .exit))) ⌝ }
     {
-        let facts = self.facts(tag as u32, false, reply.len());
+        let facts = self.facts(tag as u32, false, false, reply.len());
         let act = rules::media_act(facts, tag, error, sector);
         self.done(reply, act, b"")
+    }
+
+    // Link event: adds one to that counter.
+    pub fn link_event(mut self, row: u8) -> Outcome
+        ensures { λ r. ⌜ Given self (lent (linkEvent row) [] []) (gave r [] []) ⌝ }
+    {
+        let facts = self.facts(Device::DEPTH_LIMIT, false, false, 0);
+        let act = rules::link_act(facts, row);
+        let refusal = rules::number_of(act);
+        let state = after(self, act);
+        Outcome {
+            state,
+            refusal,
+            len: 0,
+        }
+    }
+
+    // COMRESET: as SRST and release together, and one link reset more.
+    pub fn comreset(mut self, reply: &mut [u8]) -> Outcome
+        ensures { λ r. ⌜ Given self (lent comReset [] (now (reply .entry))) (gave r [] (now (reply .exit))) ⌝ }
+    {
+        let facts = self.facts(Device::DEPTH_LIMIT, false, false, reply.len());
+        let act = rules::comreset_act(facts);
+        self.done(reply, act, b"")
+    }
+
+    // The length of the host data that is due, or 4 if no write phase is open.
+    pub fn data_due(self) -> usize
+        ensures { λ r. ⌜ r ≡ dataDue self ⌝ }
+    {
+        let phase = self.flow.phase;
+        let entries = self.entries;
+        let entry = states::entry_of(entries, open_tag(phase));
+        let due = due_of(entry);
+        if !(phase == 0) & entry.write {
+            return due;
+        }
+        4
     }
 }

@@ -2,8 +2,6 @@
 mod after;
 mod calls;
 mod counter;
-mod events;
-mod resets;
 mod state;
 
 pub use state::Device;

@@ -1,5 +1,6 @@
 pub mod Elses
 pub mod ActElses
+pub mod Cases
 pub mod StoreLaws
 pub mod Numbers
 pub mod Ruled

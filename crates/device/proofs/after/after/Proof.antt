@@ -4,6 +4,7 @@ use Rattle.device.proofs.after.after.Statement.{statement}
 use Rattle.device.proofs.after.after.Tie as tie
 use Rattle.device.proofs.after.after.Reads as reads
 use Rattle.device.proofs.after.after.Lts as lts
+use Rattle.device.proofs.after.counted.Reads as counted-reads
 use Rattle.device.proofs.state.Device.accepted_by.Reads as accepted-by-reads
 use Rattle.device.proofs.state.Device.failed_by.Reads as failed-by-reads
 use Rattle.device.proofs.state.Device.finished_by.Reads as finished-by-reads
@@ -11,6 +12,7 @@ use Rattle.device.proofs.state.Device.halt_with.Reads as halt-with-read
 use Rattle.device.proofs.state.Device.moved_by.Reads as moved-by-reads
 use Rattle.device.proofs.state.Device.opened_for.Reads as opened-for-reads
 use Rattle.device.proofs.state.Device.released.Reads as released-reads
+use Rattle.device.proofs.state.Device.renewed.Reads as renewed-reads
 use Rattle.device.proofs.state.Device.reset_held.Reads as reset-held-reads
 use Rattle.device.proofs.state.Device.unhalted.Reads as unhalted-reads
 use Rattle.device.proofs.state.Device.zeroed_if.Reads as zeroed-if-reads
@@ -96,6 +98,18 @@ enum-known-act-8 c = search needs
 failed-by-requires : tie.Need-failed-by-requires
 failed-by-requires c κs = search needs
 
+enum-known-act-9 : tie.Need-enum-known-act-9
+enum-known-act-9 c = search needs
+
+counted-requires : tie.Need-counted-requires
+counted-requires c κs = search needs
+
+enum-told-8 : tie.Need-enum-told-8
+enum-told-8 c = search needs
+
+renewed-requires : tie.Need-renewed-requires
+renewed-requires c κs = search needs
+
 returns : tie.Need-returns
 unfolding afterOf
 returns c = rw (c .enum-told .given .1)
@@ -156,6 +170,14 @@ returns-15 : tie.Need-returns-15
 unfolding afterOf
 returns-15 c = rw (c .before .before .act8 .given .1) (c .failed-by .ensures)
 
+returns-16 : tie.Need-returns-16
+unfolding afterOf
+returns-16 c = rw (c .before .before .act9 .given .1) (c .counted .ensures)
+
+returns-17 : tie.Need-returns-17
+unfolding afterOf
+returns-17 c = rw (c .before .enum-told8 .given .1) (c .renewed .ensures)
+
 pub after-spec : {M : Type 1} → statement M
 after-spec =
     tie.close
@@ -187,6 +209,10 @@ after-spec =
     finished-by-requires
     enum-known-act-8
     failed-by-requires
+    enum-known-act-9
+    counted-requires
+    enum-told-8
+    renewed-requires
     returns
     returns-2
     returns-3
@@ -201,4 +227,6 @@ after-spec =
     returns-12
     returns-13
     returns-14
-    returns-15)
+    returns-15
+    returns-16
+    returns-17)

@@ -3,7 +3,7 @@ use Prim.Native.Nat.{_-_}
 use lib.Dec.{eqb}
 use borrow.Author.Tests.{eq-eqb, ne-eqb}
 use Rattle.bits.proofs.Picks.{pick-yes, pick-no}
-use Rattle.device.specs.Calls.{openTag}
+use Rattle.device.specs.FactsOf.{openTag}
 use borrow.Author.Needs.{needs}
 use Rattle.device.proofs.calls.open_tag.Statement.{statement}
 use Rattle.device.proofs.calls.open_tag.Tie as tie

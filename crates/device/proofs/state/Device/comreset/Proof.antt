@@ -1,52 +1,50 @@
 use denote.Ref.{now}
-use Rattle.device.proofs.Renewing.{comreset-refused, comreset-done}
+use mathlib.Core.Path.{refl}
+use mathlib.Core.List.{[]}
+use Rattle.rules.specs.Call.{comReset}
+use Rattle.device.specs.Lent.{lent}
+use Rattle.device.proofs.Doing.{has-room, given-without, comreset-act}
 use borrow.Author.Needs.{needs}
 use Rattle.device.proofs.state.Device.comreset.Statement.{statement}
 use Rattle.device.proofs.state.Device.comreset.Tie as tie
 use Rattle.device.proofs.state.Device.comreset.Reads as reads
 use Rattle.device.proofs.state.Device.comreset.Lts as lts
-use Rattle.device.proofs.state.Device.contradicts.Reads as contradicts-reads
-use Rattle.device.proofs.state.Device.renewed.Reads as renewed-reads
-use Rattle.replies.proofs.emit.Reads as emit-reads
-use Rattle.ladders.proofs.comreset_number.Reads as comreset-number-reads
+use Rattle.device.proofs.state.Device.done.Reads as done-reads
+use Rattle.device.proofs.state.Device.facts.Reads as facts-reads
+use Rattle.rules.proofs.comreset_act.Reads as comreset-act-reads
 
-contradicts-requires : tie.Need-contradicts-requires
-contradicts-requires c κs = search needs
+facts-requires : tie.Need-facts-requires
+facts-requires c κs = search needs
 
-comreset-number-requires : tie.Need-comreset-number-requires
-comreset-number-requires c κs = search needs
+comreset-act-requires : tie.Need-comreset-act-requires
+comreset-act-requires c κs = search needs
 
-returns : tie.Need-returns
-returns c =
-    let a = c .before .before .before .before .args in
-    comreset-refused (a .self) (now (a .reply)) (c .before .comreset-number .result) (rw (c .before .before .contradicts .ensures) at (c .before .comreset-number .ensures)) (c .if1 .taken)
+slice-aggregate-done : tie.Need-slice-aggregate-done
+slice-aggregate-done c = search needs
 
-slice-aggregate-emit : tie.Need-slice-aggregate-emit
-slice-aggregate-emit c = search needs
-
-emit-requires : tie.Need-emit-requires
-emit-requires c κs = search needs
-
-renewed-requires : tie.Need-renewed-requires
-renewed-requires c κs = search needs
+done-requires : tie.Need-done-requires
+done-requires c κs =
+    let a = c .before .before .before .before .before .args in
+    let e = comreset-act (a .self)  (now (a .reply)) (c .before .before .before .facts .result) (c .before .before .comreset-act .result) (c .before .before .before .facts .ensures) (c .before .before .comreset-act .ensures) in
+    has-room (a .self) (lent comReset [] (now (a .reply))) (c .before .before .comreset-act .result) tt e
 
 same-length : tie.Need-same-length
 same-length c = search needs
 
-returns-2 : tie.Need-returns-2
-returns-2 c =
-    let a = c .before .before .before .before .before .before .before .before .before .before .before .before .args in
-    comreset-done (a .self) (c .renewed .result) _ _ _ (now (a .reply)) (c .before .before .before .emit .last .0) (c .before .before .before .before .before .before .before .before .before .comreset-number .result) (c .before .before .before .emit .result) (rw (c .before .before .before .before .before .before .before .before .before .before .contradicts .ensures) at (c .before .before .before .before .before .before .before .before .before .comreset-number .ensures)) (c .before .before .before .before .before .before .before .before .if1 .left) (c .renewed .ensures) (c .before .before .before .emit .ensures)
+returns : tie.Need-returns
+returns c =
+    let a = c .before .before .before .before .before .before .before .before .args in
+    let e = comreset-act (a .self)  (now (a .reply)) (c .before .before .before .before .before .before .facts .result) (c .before .before .before .before .before .comreset-act .result) (c .before .before .before .before .before .before .facts .ensures) (c .before .before .before .before .before .comreset-act .ensures) in
+    let w = c .before .before .done .ensures in
+    given-without (a .self) comReset (now (a .reply)) (c .before .before .before .before .before .comreset-act .result) (c .before .before .done .last .1 .0) (c .before .before .done .result) refl e (w .0) (w .1 .0) (w .1 .1)
 
 pub comreset-spec : {M : Type 1} → statement M
 comreset-spec =
     tie.close
     (tie.spec
-    contradicts-requires
-    comreset-number-requires
-    returns
-    slice-aggregate-emit
-    emit-requires
-    renewed-requires
+    facts-requires
+    comreset-act-requires
+    slice-aggregate-done
+    done-requires
     same-length
-    returns-2)
+    returns)

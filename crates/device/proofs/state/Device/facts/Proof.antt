@@ -13,7 +13,7 @@ entry-of-requires : tie.Need-entry-of-requires
 entry-of-requires c κs = search needs
 
 returns : tie.Need-returns
-returns c = rw (c .before .before .before .before .contradicts .ensures, c .entry-of .ensures)
+returns c = rw (c .before .before .before .before .before .contradicts .ensures, c .before .entry-of .ensures)
 
 pub facts-spec : {M : Type 1} → statement M
 facts-spec = tie.close (tie.spec contradicts-requires entry-of-requires returns)

@@ -1,23 +1,22 @@
 use denote.Ref.{now}
-use lib.ListN.{length}
-use mathlib.Core.Path.{_≡_, ap, _∙_}
+use mathlib.Core.Path.{sym, ap, _∙_}
 use mathlib.Core.List.{[]}
-use Rattle.rules.specs.Taking.{keptIn}
+use Rattle.rules.specs.Call.{hostFrame}
+use Rattle.rules.specs.Taking.{spanOf, partOf}
 use Rattle.rules.specs.declared.acts.Act.{Act}
-use Rattle.device.specs.Calls.{hostAct}
-use Rattle.device.proofs.Doing.{by-act, roomy-act, host-act}
-use Rattle.device.proofs.Rooms.{roomy-host}
+use Rattle.device.specs.Lent.{lent}
+use Rattle.device.proofs.Doing.{has-room, given-by, host-unsent, host-act}
 use borrow.Author.Needs.{needs}
 use Rattle.device.proofs.state.Device.host_frame.Statement.{statement}
 use Rattle.device.proofs.state.Device.host_frame.Tie as tie
 use Rattle.device.proofs.state.Device.host_frame.Reads as reads
 use Rattle.device.proofs.state.Device.host_frame.Lts as lts
-use Rattle.device.proofs.state.Device.done.Reads as done-reads
-use Rattle.device.proofs.state.Device.facts.Reads as facts-reads
 use Rattle.device.proofs.calls.medium_wrong.Reads as medium-wrong-reads
 use Rattle.device.proofs.calls.open_tag.Reads as open-tag-reads
+use Rattle.device.proofs.state.Device.done.Reads as done-reads
+use Rattle.device.proofs.state.Device.facts.Reads as facts-reads
 use Rattle.frames.proofs.read_frame.Reads as read-frame-reads
-use Rattle.rules.proofs.decide_frame.Reads as decide-frame-reads
+use Rattle.rules.proofs.frame_act.Reads as frame-act-reads
 use Rattle.rules.proofs.keep.Reads as keep-reads
 
 open-tag-requires : tie.Need-open-tag-requires
@@ -32,8 +31,8 @@ facts-requires c κs = search needs
 read-frame-requires : tie.Need-read-frame-requires
 read-frame-requires c κs = search needs
 
-decide-frame-requires : tie.Need-decide-frame-requires
-decide-frame-requires c κs = search needs
+frame-act-requires : tie.Need-frame-act-requires
+frame-act-requires c κs = search needs
 
 keep-requires : tie.Need-keep-requires
 keep-requires c κs = search needs
@@ -44,10 +43,8 @@ slice-aggregate-done c = search needs
 done-requires : tie.Need-done-requires
 done-requires c κs =
     let a = c .before .before .before .before .before .before .before .before .before .before .before .before .before .before .args in
-    let n = length (now (a .medium)) in
-    let room = length (now (a .reply)) in
-    let e = host-act (a .self) (now (a .frame)) n room (c .before .before .before .before .before .before .before .before .before .before .open-tag .result) (c .before .before .before .before .before .before .before .before .before .medium-wrong .result) (c .before .before .before .before .before .before .before .before .facts .result) (c .before .before .before .before .before .before .before .read-frame .result) (c .before .before .before .before .before .before .decide-frame .result) (c .before .before .before .before .before .before .before .before .before .before .open-tag .ensures) (c .before .before .before .before .before .before .before .before .before .medium-wrong .ensures) (c .before .before .before .before .before .before .before .before .facts .ensures) (c .before .before .before .before .before .before .before .read-frame .ensures .answer) (c .before .before .before .before .before .before .decide-frame .ensures) in
-    roomy-act (c .before .before .before .before .before .before .decide-frame .result) (hostAct (a .self) (now (a .frame)) n room) room e (roomy-host (a .self) (now (a .frame)) n room)
+    let e = host-act (a .self) (now (a .frame)) (now (a .medium)) (now (a .reply)) (c .before .before .before .before .before .before .before .before .before .before .open-tag .result) (c .before .before .before .before .before .before .before .before .before .medium-wrong .result) (c .before .before .before .before .before .before .before .before .facts .result) (c .before .before .before .before .before .before .before .read-frame .result) (c .before .before .before .before .before .before .frame-act .result) (c .before .before .before .before .before .before .before .before .before .before .open-tag .ensures) (c .before .before .before .before .before .before .before .before .before .medium-wrong .ensures) (c .before .before .before .before .before .before .before .before .facts .ensures) (c .before .before .before .before .before .before .before .read-frame .ensures .answer) (c .before .before .before .before .before .before .frame-act .ensures) in
+    has-room (a .self) (lent (hostFrame (now (a .frame))) (now (a .medium)) (now (a .reply))) (c .before .before .before .before .before .before .frame-act .result) tt e
 
 same-length : tie.Need-same-length
 same-length c = search needs
@@ -58,13 +55,9 @@ same-length-2 c = search needs
 returns : tie.Need-returns
 returns c =
     let a = c .before .before .before .before .before .before .before .before .before .before .before .before .before .before .before .before .before .args in
-    let n = length (now (a .medium)) in
-    let room = length (now (a .reply)) in
-    let e = host-act (a .self) (now (a .frame)) n room (c .before .before .before .before .before .before .before .before .before .before .before .before .before .open-tag .result) (c .before .before .before .before .before .before .before .before .before .before .before .before .medium-wrong .result) (c .before .before .before .before .before .before .before .before .before .before .before .facts .result) (c .before .before .before .before .before .before .before .before .before .before .read-frame .result) (c .before .before .before .before .before .before .before .before .before .decide-frame .result) (c .before .before .before .before .before .before .before .before .before .before .before .before .before .open-tag .ensures) (c .before .before .before .before .before .before .before .before .before .before .before .before .medium-wrong .ensures) (c .before .before .before .before .before .before .before .before .before .before .before .facts .ensures) (c .before .before .before .before .before .before .before .before .before .before .read-frame .ensures .answer) (c .before .before .before .before .before .before .before .before .before .decide-frame .ensures) in
-    record {
-      answered = by-act (a .self) [] (c .before .before .before .before .before .before .before .before .before .decide-frame .result) (hostAct (a .self) (now (a .frame)) n room) (now (a .reply)) (c .before .before .done .last .1 .0) (c .before .before .done .result) e (c .before .before .done .ensures);
-      medium = c .before .before .before .before .before .before .before .keep .ensures ∙ ap (λ (x : Act). keptIn x (now (a .frame)) (now (a .medium))) e;
-    }
+    let e = host-act (a .self) (now (a .frame)) (now (a .medium)) (now (a .reply)) (c .before .before .before .before .before .before .before .before .before .before .before .before .before .open-tag .result) (c .before .before .before .before .before .before .before .before .before .before .before .before .medium-wrong .result) (c .before .before .before .before .before .before .before .before .before .before .before .facts .result) (c .before .before .before .before .before .before .before .before .before .before .read-frame .result) (c .before .before .before .before .before .before .before .before .before .frame-act .result) (c .before .before .before .before .before .before .before .before .before .before .before .before .before .open-tag .ensures) (c .before .before .before .before .before .before .before .before .before .before .before .before .medium-wrong .ensures) (c .before .before .before .before .before .before .before .before .before .before .before .facts .ensures) (c .before .before .before .before .before .before .before .before .before .before .read-frame .ensures .answer) (c .before .before .before .before .before .before .before .before .before .frame-act .ensures) in
+    let w = c .before .before .done .ensures in
+    given-by (a .self) (lent (hostFrame (now (a .frame))) (now (a .medium)) (now (a .reply))) (c .before .before .before .before .before .before .before .before .before .frame-act .result) [] (c .before .before .before .before .before .before .before .keep .last .0) (c .before .before .done .last .1 .0) (c .before .before .done .result) e (host-unsent (a .self) (now (a .frame)) (now (a .medium)) (now (a .reply)) ∙ ap (λ (x : Act). partOf (spanOf x) (now (a .medium))) (sym e)) (c .before .before .before .before .before .before .before .keep .ensures) (w .0) (w .1 .0) (w .1 .1)
 
 pub host-frame-spec : {M : Type 1} → statement M
 host-frame-spec =
@@ -74,7 +67,7 @@ host-frame-spec =
     medium-wrong-requires
     facts-requires
     read-frame-requires
-    decide-frame-requires
+    frame-act-requires
     keep-requires
     slice-aggregate-done
     done-requires

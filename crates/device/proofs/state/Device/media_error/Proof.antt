@@ -1,9 +1,9 @@
 use denote.Ref.{now}
-use lib.ListN.{length}
+use mathlib.Core.Path.{refl}
 use mathlib.Core.List.{[]}
-use Rattle.device.specs.Calls.{mediaOf}
-use Rattle.device.proofs.Doing.{by-act, roomy-act}
-use Rattle.device.proofs.Rooms.{roomy-media}
+use Rattle.rules.specs.Call.{mediaError}
+use Rattle.device.specs.Lent.{lent}
+use Rattle.device.proofs.Doing.{has-room, given-without, media-act}
 use borrow.Author.Needs.{needs}
 use Rattle.device.proofs.state.Device.media_error.Statement.{statement}
 use Rattle.device.proofs.state.Device.media_error.Tie as tie
@@ -23,20 +23,20 @@ slice-aggregate-done : tie.Need-slice-aggregate-done
 slice-aggregate-done c = search needs
 
 done-requires : tie.Need-done-requires
-unfolding mediaOf
 done-requires c κs =
     let a = c .before .before .before .before .before .args in
-    let n = length (now (a .reply)) in
-    roomy-act (c .before .before .media-act .result) (mediaOf (a .self) (a .tag) (a .error) (a .sector) n) n (rw (c .before .before .before .facts .ensures) at (c .before .before .media-act .ensures)) (roomy-media (a .self) (a .tag) (a .error) (a .sector) n)
+    let e = media-act (a .self) (a .tag) (a .error) (a .sector) (now (a .reply)) (c .before .before .before .facts .result) (c .before .before .media-act .result) (c .before .before .before .facts .ensures) (c .before .before .media-act .ensures) in
+    has-room (a .self) (lent (mediaError (a .tag) (a .error) (a .sector)) [] (now (a .reply))) (c .before .before .media-act .result) tt e
 
 same-length : tie.Need-same-length
 same-length c = search needs
 
 returns : tie.Need-returns
-unfolding mediaOf
 returns c =
     let a = c .before .before .before .before .before .before .before .before .args in
-    by-act (a .self) [] (c .before .before .before .before .before .media-act .result) (mediaOf (a .self) (a .tag) (a .error) (a .sector) (length (now (a .reply)))) (now (a .reply)) (c .before .before .done .last .1 .0) (c .before .before .done .result) (rw (c .before .before .before .before .before .before .facts .ensures) at (c .before .before .before .before .before .media-act .ensures)) (c .before .before .done .ensures)
+    let e = media-act (a .self) (a .tag) (a .error) (a .sector) (now (a .reply)) (c .before .before .before .before .before .before .facts .result) (c .before .before .before .before .before .media-act .result) (c .before .before .before .before .before .before .facts .ensures) (c .before .before .before .before .before .media-act .ensures) in
+    let w = c .before .before .done .ensures in
+    given-without (a .self) (mediaError (a .tag) (a .error) (a .sector)) (now (a .reply)) (c .before .before .before .before .before .media-act .result) (c .before .before .done .last .1 .0) (c .before .before .done .result) refl e (w .0) (w .1 .0) (w .1 .1)
 
 pub media-error-spec : {M : Type 1} → statement M
 media-error-spec =

@@ -1,11 +1,9 @@
-use lib.ListN.{length}
-use mathlib.Core.Path.{_≡_}
-use mathlib.Core.List.{[]}
-use Rattle.device.specs.Calls.{openOf}
-use Rattle.device.proofs.Doing.{by-act, roomy-act}
 use denote.Ref.{now}
-use mathlib.Core.Path.{_∙_}
-use Rattle.device.proofs.Rooms.{roomy-open}
+use mathlib.Core.Path.{refl}
+use mathlib.Core.List.{[]}
+use Rattle.rules.specs.Call.{openPhase}
+use Rattle.device.specs.Lent.{lent}
+use Rattle.device.proofs.Doing.{has-room, given-without, open-act}
 use borrow.Author.Needs.{needs}
 use Rattle.device.proofs.state.Device.open.Statement.{statement}
 use Rattle.device.proofs.state.Device.open.Tie as tie
@@ -25,20 +23,20 @@ slice-aggregate-done : tie.Need-slice-aggregate-done
 slice-aggregate-done c = search needs
 
 done-requires : tie.Need-done-requires
-unfolding openOf
 done-requires c κs =
     let a = c .before .before .before .before .before .args in
-    let e : c .before .before .open-act .result ≡ openOf (a .self) (a .tag) (length (now (a .reply))) = rw (c .before .before .before .facts .ensures) at (c .before .before .open-act .ensures) in
-    roomy-act (c .before .before .open-act .result) (openOf (a .self) (a .tag) (length (now (a .reply)))) (length (now (a .reply))) e (roomy-open (a .self) (a .tag) (length (now (a .reply))))
+    let e = open-act (a .self) (a .tag) (now (a .reply)) (c .before .before .before .facts .result) (c .before .before .open-act .result) (c .before .before .before .facts .ensures) (c .before .before .open-act .ensures) in
+    has-room (a .self) (lent (openPhase (a .tag)) [] (now (a .reply))) (c .before .before .open-act .result) tt e
 
 same-length : tie.Need-same-length
 same-length c = search needs
 
 returns : tie.Need-returns
-unfolding openOf
 returns c =
     let a = c .before .before .before .before .before .before .before .before .args in
-    by-act (a .self) [] (c .before .before .before .before .before .open-act .result) (openOf (a .self) (a .tag) (length (now (a .reply)))) (now (a .reply)) (c .before .before .done .last .1 .0) (c .before .before .done .result) (rw (c .before .before .before .before .before .before .facts .ensures) at (c .before .before .before .before .before .open-act .ensures)) (c .before .before .done .ensures)
+    let e = open-act (a .self) (a .tag) (now (a .reply)) (c .before .before .before .before .before .before .facts .result) (c .before .before .before .before .before .open-act .result) (c .before .before .before .before .before .before .facts .ensures) (c .before .before .before .before .before .open-act .ensures) in
+    let w = c .before .before .done .ensures in
+    given-without (a .self) (openPhase (a .tag)) (now (a .reply)) (c .before .before .before .before .before .open-act .result) (c .before .before .done .last .1 .0) (c .before .before .done .result) refl e (w .0) (w .1 .0) (w .1 .1)
 
 pub open-spec : {M : Type 1} → statement M
 open-spec =

@@ -1,8 +1,6 @@
 use Rattle.bits.specs.Pick.{pick}
-use Rattle.device.specs.Events.{withValue}
-use Rattle.device.specs.After.{released, resetHeld}
+use Rattle.device.specs.After.{withValue, released, resetHeld, renewed}
 use Rattle.device.specs.Device.{freshDevice}
-use Rattle.device.specs.Reset.{renewed}
 use borrow.Author.Needs.{needs}
 use Rattle.device.proofs.state.Device.renewed.Statement.{statement}
 use Rattle.device.proofs.state.Device.renewed.Tie as tie

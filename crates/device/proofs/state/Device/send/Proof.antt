@@ -1,17 +1,20 @@
 use denote.Ref.{now}
-use lib.ListN.{length}
-use Rattle.device.specs.Calls.{sendOf}
-use Rattle.device.proofs.Doing.{roomy-act, send-act, span-known, sent-part}
-use Rattle.device.proofs.Rooms.{roomy-send}
+use mathlib.Core.Path.{sym, ap, _∙_}
+use mathlib.Core.List.{[]}
+use Rattle.rules.specs.Call.{sendData}
+use Rattle.rules.specs.Taking.{spanOf, partOf, keptIn}
+use Rattle.rules.specs.declared.acts.Act.{Act}
+use Rattle.device.specs.Lent.{lent}
+use Rattle.device.proofs.Doing.{has-room, given-by, send-left, send-act, span-known, sent-part}
 use borrow.Author.Needs.{needs}
 use Rattle.device.proofs.state.Device.send.Statement.{statement}
 use Rattle.device.proofs.state.Device.send.Tie as tie
 use Rattle.device.proofs.state.Device.send.Reads as reads
 use Rattle.device.proofs.state.Device.send.Lts as lts
-use Rattle.device.proofs.state.Device.done.Reads as done-reads
-use Rattle.device.proofs.state.Device.facts.Reads as facts-reads
 use Rattle.device.proofs.calls.medium_wrong.Reads as medium-wrong-reads
 use Rattle.device.proofs.calls.open_tag.Reads as open-tag-reads
+use Rattle.device.proofs.state.Device.done.Reads as done-reads
+use Rattle.device.proofs.state.Device.facts.Reads as facts-reads
 use Rattle.rules.proofs.send_act.Reads as send-act-reads
 use Rattle.rules.proofs.span_of.Reads as span-of-reads
 
@@ -33,10 +36,8 @@ span-of-requires c κs = search needs
 add-end : tie.Need-add-end
 add-end c =
     let a = c .before .before .before .before .before .before .before .before .args in
-    let n = length (now (a .medium)) in
-    let room = length (now (a .reply)) in
-    let e = send-act (a .self) n room (c .before .before .before .before .before .open-tag .result) (c .before .before .before .before .medium-wrong .result) (c .before .before .before .facts .result) (c .before .before .send-act .result) (c .before .before .before .before .before .open-tag .ensures) (c .before .before .before .before .medium-wrong .ensures) (c .before .before .before .facts .ensures) (c .before .before .send-act .ensures) in
-    let h = span-known (a .self) n room (c .before .before .send-act .result) (c .before .span-of .result) e (c .before .span-of .ensures) in
+    let e = send-act (a .self) (now (a .medium)) (now (a .reply)) (c .before .before .before .before .before .open-tag .result) (c .before .before .before .before .medium-wrong .result) (c .before .before .before .facts .result) (c .before .before .send-act .result) (c .before .before .before .before .before .open-tag .ensures) (c .before .before .before .before .medium-wrong .ensures) (c .before .before .before .facts .ensures) (c .before .before .send-act .ensures) in
+    let h = span-known (a .self) (now (a .medium)) (now (a .reply)) (c .before .before .send-act .result) (c .before .span-of .result) e (c .before .span-of .ensures) in
     search (needs, h)
 
 sub-done : tie.Need-sub-done
@@ -48,19 +49,15 @@ part-done-start c = search needs
 part-done-end : tie.Need-part-done-end
 part-done-end c =
     let a = c .before .before .before .before .before .before .before .before .before .args in
-    let n = length (now (a .medium)) in
-    let room = length (now (a .reply)) in
-    let e = send-act (a .self) n room (c .before .before .before .before .before .before .open-tag .result) (c .before .before .before .before .before .medium-wrong .result) (c .before .before .before .before .facts .result) (c .before .before .before .send-act .result) (c .before .before .before .before .before .before .open-tag .ensures) (c .before .before .before .before .before .medium-wrong .ensures) (c .before .before .before .before .facts .ensures) (c .before .before .before .send-act .ensures) in
-    let h = span-known (a .self) n room (c .before .before .before .send-act .result) (c .before .before .span-of .result) e (c .before .before .span-of .ensures) in
+    let e = send-act (a .self) (now (a .medium)) (now (a .reply)) (c .before .before .before .before .before .before .open-tag .result) (c .before .before .before .before .before .medium-wrong .result) (c .before .before .before .before .facts .result) (c .before .before .before .send-act .result) (c .before .before .before .before .before .before .open-tag .ensures) (c .before .before .before .before .before .medium-wrong .ensures) (c .before .before .before .before .facts .ensures) (c .before .before .before .send-act .ensures) in
+    let h = span-known (a .self) (now (a .medium)) (now (a .reply)) (c .before .before .before .send-act .result) (c .before .before .span-of .result) e (c .before .before .span-of .ensures) in
     search (needs, h)
 
 done-requires : tie.Need-done-requires
 done-requires c κs =
     let a = c .before .before .before .before .before .before .before .before .before .before .args in
-    let n = length (now (a .medium)) in
-    let room = length (now (a .reply)) in
-    let e = send-act (a .self) n room (c .before .before .before .before .before .before .before .open-tag .result) (c .before .before .before .before .before .before .medium-wrong .result) (c .before .before .before .before .before .facts .result) (c .before .before .before .before .send-act .result) (c .before .before .before .before .before .before .before .open-tag .ensures) (c .before .before .before .before .before .before .medium-wrong .ensures) (c .before .before .before .before .before .facts .ensures) (c .before .before .before .before .send-act .ensures) in
-    roomy-act (c .before .before .before .before .send-act .result) (sendOf (a .self) n room) room e (roomy-send (a .self) n room)
+    let e = send-act (a .self) (now (a .medium)) (now (a .reply)) (c .before .before .before .before .before .before .before .open-tag .result) (c .before .before .before .before .before .before .medium-wrong .result) (c .before .before .before .before .before .facts .result) (c .before .before .before .before .send-act .result) (c .before .before .before .before .before .before .before .open-tag .ensures) (c .before .before .before .before .before .before .medium-wrong .ensures) (c .before .before .before .before .before .facts .ensures) (c .before .before .before .before .send-act .ensures) in
+    has-room (a .self) (lent sendData (now (a .medium)) (now (a .reply))) (c .before .before .before .before .send-act .result) tt e
 
 same-length : tie.Need-same-length
 same-length c = search needs
@@ -68,10 +65,9 @@ same-length c = search needs
 returns : tie.Need-returns
 returns c =
     let a = c .before .before .before .before .before .before .before .before .before .before .before .before .before .args in
-    let n = length (now (a .medium)) in
-    let room = length (now (a .reply)) in
-    let e = send-act (a .self) n room (c .before .before .before .before .before .before .before .before .before .before .open-tag .result) (c .before .before .before .before .before .before .before .before .before .medium-wrong .result) (c .before .before .before .before .before .before .before .before .facts .result) (c .before .before .before .before .before .before .before .send-act .result) (c .before .before .before .before .before .before .before .before .before .before .open-tag .ensures) (c .before .before .before .before .before .before .before .before .before .medium-wrong .ensures) (c .before .before .before .before .before .before .before .before .facts .ensures) (c .before .before .before .before .before .before .before .send-act .ensures) in
-    sent-part (a .self) (now (a .medium)) (now (a .reply)) (c .before .before .done .last .1 .0) (c .before .before .before .before .before .before .before .send-act .result) (c .before .before .before .before .before .before .span-of .result) (c .before .before .done .result) e (c .before .before .before .before .before .before .span-of .ensures) (c .before .before .done .ensures)
+    let e = send-act (a .self) (now (a .medium)) (now (a .reply)) (c .before .before .before .before .before .before .before .before .before .before .open-tag .result) (c .before .before .before .before .before .before .before .before .before .medium-wrong .result) (c .before .before .before .before .before .before .before .before .facts .result) (c .before .before .before .before .before .before .before .send-act .result) (c .before .before .before .before .before .before .before .before .before .before .open-tag .ensures) (c .before .before .before .before .before .before .before .before .before .medium-wrong .ensures) (c .before .before .before .before .before .before .before .before .facts .ensures) (c .before .before .before .before .before .before .before .send-act .ensures) in
+    let w = c .before .before .done .ensures in
+    given-by (a .self) (lent sendData (now (a .medium)) (now (a .reply))) (c .before .before .before .before .before .before .before .send-act .result) _ (now (a .medium)) (c .before .before .done .last .1 .0) (c .before .before .done .result) e (sent-part (now (a .medium)) (c .before .before .before .before .before .before .before .send-act .result) (c .before .before .before .before .before .before .span-of .result) (c .before .before .before .before .before .before .span-of .ensures)) (send-left (a .self) (now (a .medium)) (now (a .reply)) ∙ ap (λ (x : Act). keptIn x [] (now (a .medium))) (sym e)) (w .0) (w .1 .0) (w .1 .1)
 
 pub send-spec : {M : Type 1} → statement M
 send-spec =

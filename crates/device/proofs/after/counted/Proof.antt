@@ -1,11 +1,11 @@
 use borrow.Author.Tests.{le-leb, lt-leb}
 use Rattle.bits.specs.Pick.{pick}
-use Rattle.device.specs.Events.{withValue}
+use Rattle.device.specs.After.{withValue}
 use borrow.Author.Needs.{needs}
-use Rattle.device.proofs.events.counted.Statement.{statement}
-use Rattle.device.proofs.events.counted.Tie as tie
-use Rattle.device.proofs.events.counted.Reads as reads
-use Rattle.device.proofs.events.counted.Lts as lts
+use Rattle.device.proofs.after.counted.Statement.{statement}
+use Rattle.device.proofs.after.counted.Tie as tie
+use Rattle.device.proofs.after.counted.Reads as reads
+use Rattle.device.proofs.after.counted.Lts as lts
 use Rattle.ladders.proofs.bump.Reads as bump-reads
 
 returns : tie.Need-returns

@@ -1,0 +1,64 @@
+-- What a decision looks at, of a device and of what is lent to a call. Assumes nothing.
+use mathlib.Core.Bool.{Bool, false, not}
+use Prim.Native.Nat.{ℕ, _-_, _*_}
+use lib.Dec.{eqb, ltb}
+use lib.ListN.{length}
+use Rattle.bits.specs.Pick.{pick}
+use Rattle.states.specs.Table.{entryOf}
+use Rattle.rules.specs.Call.{Call, hostFrame, openPhase, sendData, finishTags, mediaError, linkEvent, comReset}
+use Rattle.rules.specs.Tests.{someUnready}
+use Rattle.rules.specs.declared.facts.Facts.{Facts}
+use Rattle.device.specs.Device.{contradictoryDevice}
+use Rattle.device.specs.Lent.{Lent}
+use Rattle.device.specs.declared.state.Device.{Device}
+
+-- the tag of the open phase; while none is open 32, which has no entry
+unfoldable pub openTag : ℕ → ℕ
+openTag phase = pick (eqb phase 0) 32 (phase - 1)
+
+-- 2: medium length wrong; it is 512 × capacity
+abbrev pub mediumWrong : ℕ → ℕ → Bool
+mediumWrong capacity n = not (eqb n (512 * capacity))
+
+-- a phase is open on the link: what 5 for commands and BIST and 8 read, and nothing else
+abbrev pub linkBusy : Device → Bool
+linkBusy d = not (eqb (d .flow .phase) 0)
+
+-- the tests of 1, 2 (the call says) and 3 (reply buffer under 8,196), the entry of a tag, and whether a set has an unready tag
+abbrev pub factsWith : Device → ℕ → Bool → Bool → ℕ → Facts
+factsWith d tag wrong some room = record {
+  contradicts = contradictoryDevice d;
+  «medium_wrong» = wrong;
+  «reply_short» = ltb room 8196;
+  «link_busy» = linkBusy d;
+  settings = d .settings;
+  flow = d .flow;
+  entry = entryOf (d .entries) tag;
+  unready = some;
+}
+
+-- the tag whose entry a call is about: its own, or that of the open phase; 32 for none
+abbrev pub tagMeant : ℕ → Call → ℕ
+tagMeant phase (hostFrame f) = openTag phase
+tagMeant phase (openPhase t) = t
+tagMeant phase sendData = openTag phase
+tagMeant phase (finishTags s) = 32
+tagMeant phase (mediaError t e s) = t
+tagMeant phase (linkEvent r) = 32
+tagMeant phase comReset = 32
+
+-- a call names a set with an unready tag
+abbrev pub unreadyIn : Device → Call → Bool
+unreadyIn d (hostFrame f) = false
+unreadyIn d (openPhase t) = false
+unreadyIn d sendData = false
+unreadyIn d (finishTags s) = someUnready (d .entries) (d .flow .outstanding) s
+unreadyIn d (mediaError t e s) = false
+unreadyIn d (linkEvent r) = false
+unreadyIn d comReset = false
+
+-- what a call's decision looks at
+abbrev pub factsOf : Device → Lent → Facts
+factsOf d l =
+    factsWith d (tagMeant (d .flow .phase) (l .call)) (mediumWrong (d .settings .capacity) (length (l .medium)))
+    (unreadyIn d (l .call)) (length (l .buffer))

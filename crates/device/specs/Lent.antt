@@ -1,0 +1,46 @@
+-- A call with what is lent to it, and what came back. Assumes nothing.
+use mathlib.Core.List.{List, []}
+use Prim.Native.Nat.{ℕ, _^_, _<_}
+use Rattle.bits.specs.Little.{Bytes}
+use Rattle.rules.specs.Call.{Call, hostFrame, openPhase, sendData, finishTags, mediaError, linkEvent, comReset}
+use Rattle.device.specs.declared.state.Outcome.{Outcome}
+
+-- a call with what is lent to it: any medium, any reply buffer; what a call is not lent has no bytes
+pub record Lent : Type 0 where
+  pub call : Call
+  pub medium : List ℕ
+  pub buffer : List ℕ
+
+-- a call with the medium and the reply buffer lent to it
+abbrev pub lent : Call → List ℕ → List ℕ → Lent
+lent c m b = record { call = c; medium = m; buffer = b }
+
+-- what came back: the outcome, and what medium and reply buffer then hold
+pub record Gave : Type 0 where
+  pub outcome : Outcome
+  pub medium : List ℕ
+  pub buffer : List ℕ
+
+-- an outcome with what medium and reply buffer then hold
+abbrev pub gave : Outcome → List ℕ → List ℕ → Gave
+gave r m b = record { outcome = r; medium = m; buffer = b }
+
+-- the bytes of a host frame; of any other call none
+abbrev pub frameIn : Call → List ℕ
+frameIn (hostFrame f) = f
+frameIn (openPhase t) = []
+frameIn sendData = []
+frameIn (finishTags s) = []
+frameIn (mediaError t e s) = []
+frameIn (linkEvent r) = []
+frameIn comReset = []
+
+-- what the types of the arguments give: a frame is of bytes, an error is a byte, a set has 32 bits
+abbrev pub Typed : Call → Type 0
+Typed (hostFrame f) = Bytes f
+Typed (openPhase t) = Unit
+Typed sendData = Unit
+Typed (finishTags s) = s < 2 ^ 32
+Typed (mediaError t e s) = e < 256
+Typed (linkEvent r) = Unit
+Typed comReset = Unit
