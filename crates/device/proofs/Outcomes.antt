@@ -6,8 +6,8 @@ use lib.Dec.{eqb}
 use mathlib.Core.List.{List}
 use Rattle.bits.specs.Pick.{pick}
 use Rattle.bits.proofs.Tying.{same}
-use Rattle.device.specs.Lent.{Lent, gave}
-use Rattle.device.specs.Step.{Given}
+use Rattle.device.specs.Lent.{gave}
+use Rattle.device.specs.Step.{Step, Gives}
 use borrow.Author.Tests.{not-true, not-false}
 use Rattle.device.specs.declared.state.Device.{Device}
 use Rattle.device.specs.declared.state.Outcome.{Outcome}
@@ -27,7 +27,7 @@ taken n m r old new e s t = rw (← e, not-false (eqb n 0) t, s)
 same-outcome : {d d′ : Device} {n n′ l l′ : ℕ} → d ≡ d′ → n ≡ n′ → l ≡ l′ → _≡_ {A = Outcome} (record { state = d; refusal = n; len = l }) (record { state = d′; refusal = n′; len = l′ })
 same-outcome p q r = cc
 
--- a call has one answer, whatever was lent to it
-pub given-once : (d : Device) (l : Lent) (r r′ : Outcome) (m m′ b b′ : List ℕ) → Given d l (gave r m b) → Given d l (gave r′ m′ b′) → (r ≡ r′) × ((m ≡ m′) × (b ≡ b′))
-given-once d l r r′ m m′ b b′ p q =
+-- a step has one answer
+pub given-once : (s : Step) (b : List ℕ) (r r′ : Outcome) (m m′ x x′ : List ℕ) → Gives s b (gave r m x) → Gives s b (gave r′ m′ x′) → (r ≡ r′) × ((m ≡ m′) × (x ≡ x′))
+given-once s b r r′ m m′ x x′ p q =
     (same-outcome (same (p .state) (q .state)) (same (p .refusal) (q .refusal)) (same (p .len) (q .len)), (same (p .medium) (q .medium), same (p .reply) (q .reply)))

@@ -47,10 +47,14 @@ step d l = stepBy d l (actOf d l)
 abbrev pub bytesOf : Step → List ℕ
 bytesOf s = sentAll (s .frames)
 
--- the one contract of the calls: state, refusal and length of the replies, the replies in front of the buffer and the rest as it was, and the medium
-pub record Given (d : Device) (l : Lent) (g : Gave) : Type 0 where
-  pub state : g .outcome .state ≡ step d l .state
-  pub refusal : g .outcome .refusal ≡ step d l .refusal
-  pub len : g .outcome .len ≡ length (bytesOf (step d l))
-  pub reply : g .buffer ≡ laid (bytesOf (step d l)) (l .buffer)
-  pub medium : g .medium ≡ step d l .medium
+-- what came back is what a step s leaves behind, with the reply buffer b: state, refusal and length of the replies, the replies in front of the buffer and the rest as it was, and the medium
+pub record Gives (s : Step) (b : List ℕ) (g : Gave) : Type 0 where
+  pub state : g .outcome .state ≡ s .state
+  pub refusal : g .outcome .refusal ≡ s .refusal
+  pub len : g .outcome .len ≡ length (bytesOf s)
+  pub reply : g .buffer ≡ laid (bytesOf s) b
+  pub medium : g .medium ≡ s .medium
+
+-- the one contract of the calls
+abbrev pub Given : Device → Lent → Gave → Type 0
+Given d l g = Gives (step d l) (l .buffer) g
