@@ -1,15 +1,17 @@
 -- What each change of the state does, said of its parts; and how long the record stays. Assumes nothing.
 use mathlib.Core.Path.{_≡_, refl}
 use mathlib.Core.Bool.{Bool, true, false, true≢false}
-use lib.Dec.{leb}
+use Prim.Native.Nat.{ℕ}
+use lib.Dec.{leb, eqb}
 use lib.ListN.{replicate}
 use Rattle.bits.specs.Pick.{pick}
+use Rattle.bits.specs.Bit.{bitIn}
 use Rattle.bits.proofs.Picks.{by-test}
 use Rattle.states.specs.State.{blankRecord}
 use Rattle.rules.specs.declared.acts.Fault.{Fault}
 use Rattle.rules.specs.declared.acts.Act.{Act}
 use Rattle.rules.specs.declared.acts.Act.the-variants.{Refuse, Nothing, Answer, Halt, Accept, Log10, Log11, Reset, Release, Zero, Keep, Open, Send, Finish, Media, Count, Renew}
-use Rattle.device.specs.After.{withValue, haltWith, unhalted, zeroedIf, resetHeld, released, acceptedBy, movedBy, openedFor, finishedBy, afterOf}
+use Rattle.device.specs.After.{withValue, haltWith, unhalted, zeroedIf, resetHeld, released, acceptedBy, movedBy, openedFor, finishedBy, failedBy, renewed, afterOf}
 use Rattle.device.specs.declared.state.Device.{Device}
 
 -- halt: every outstanding command is given up, an open phase closes, the error record is set
@@ -77,3 +79,82 @@ record-stays d (Finish x) h = refl
 record-stays d (Media x) h = absurd (true≢false h)
 record-stays d (Count x) h = by-test (λ (y : Device). y .errors ≡ d .errors) (leb 16 x) d _ (λ _. refl) (λ _. refl)
 record-stays d Renew h = absurd (true≢false h)
+
+-- one more event at a row changes no setting
+raised-settings : (d : Device) (row : ℕ) → withValue d row .settings ≡ d .settings
+unfolding withValue
+raised-settings d row = by-test (λ (x : Device). x .settings ≡ d .settings) (leb 16 row) d _ (λ _. refl) (λ _. refl)
+
+-- nor does a media error
+failed-settings : (d : Device) (f : Fault) → (b : Bool) → haltWith (pick b (withValue d 0) d) f .settings ≡ d .settings
+unfolding haltWith pick
+failed-settings d f true = raised-settings d 0
+failed-settings d f false = refl
+
+-- no act changes a setting
+pub act-settings : (d : Device) (a : Act) → afterOf d a .settings ≡ d .settings
+unfolding afterOf haltWith acceptedBy unhalted resetHeld released movedBy openedFor finishedBy failedBy zeroedIf renewed
+act-settings d (Refuse n) = refl
+act-settings d Nothing = refl
+act-settings d (Answer b) = refl
+act-settings d (Halt f) = refl
+act-settings d (Accept q) = refl
+act-settings d (Log10 l) = refl
+act-settings d (Log11 l) = refl
+act-settings d Reset = refl
+act-settings d Release = refl
+act-settings d Zero = refl
+act-settings d (Keep m) = refl
+act-settings d (Open q) = refl
+act-settings d (Send m) = refl
+act-settings d (Finish set) = refl
+act-settings d (Media f) = failed-settings d f (bitIn 8 (f .error) 7)
+act-settings d (Count row) = raised-settings d row
+act-settings d Renew = raised-settings (released (resetHeld d)) 9
+
+-- an act is an open
+unfoldable pub isOpen : Act → Bool
+isOpen (Refuse n) = false
+isOpen Nothing = false
+isOpen (Answer b) = false
+isOpen (Halt f) = false
+isOpen (Accept q) = false
+isOpen (Log10 l) = false
+isOpen (Log11 l) = false
+isOpen Reset = false
+isOpen Release = false
+isOpen Zero = false
+isOpen (Keep m) = false
+isOpen (Open q) = true
+isOpen (Send m) = false
+isOpen (Finish set) = false
+isOpen (Media f) = false
+isOpen (Count row) = false
+isOpen Renew = false
+
+-- what moves closes a phase, or leaves it
+still : (last : Bool) (phase : ℕ) → eqb (pick last 0 phase) 0 ≡ false → eqb phase 0 ≡ false
+unfolding pick
+still true phase e = absurd (true≢false e)
+still false phase e = e
+
+-- a phase is open after an act only if one was open before it, or the act is an open
+pub opens-only : (d : Device) (a : Act) → eqb (afterOf d a .flow .phase) 0 ≡ false → isOpen a ≡ false → eqb (d .flow .phase) 0 ≡ false
+unfolding afterOf haltWith acceptedBy unhalted resetHeld released movedBy openedFor finishedBy failedBy zeroedIf renewed isOpen withValue pick
+opens-only d (Refuse n) p e = p
+opens-only d Nothing p e = p
+opens-only d (Answer b) p e = p
+opens-only d (Halt f) p e = absurd (true≢false p)
+opens-only d (Accept q) p e = p
+opens-only d (Log10 l) p e = p
+opens-only d (Log11 l) p e = p
+opens-only d Reset p e = absurd (true≢false p)
+opens-only d Release p e = p
+opens-only d Zero p e = p
+opens-only d (Keep m) p e = still (m .last) (d .flow .phase) p
+opens-only d (Open q) p e = absurd (true≢false e)
+opens-only d (Send m) p e = still (m .last) (d .flow .phase) p
+opens-only d (Finish set) p e = p
+opens-only d (Media f) p e = absurd (true≢false p)
+opens-only d (Count row) p e = by-test (λ (x : Device). eqb (x .flow .phase) 0 ≡ false → eqb (d .flow .phase) 0 ≡ false) (leb 16 row) d _ (λ _ q. q) (λ _ q. q) p
+opens-only d Renew p e = absurd (true≢false p)

@@ -51,7 +51,7 @@ pub byte-small : (x k : ℕ) → byteOf x k < 256
 byte-small x k = omega arith
 
 -- a command's bytes are bytes
-echo-bytes : (t : Task) → taskFits t ≡ true → Bytes (placedBytes (echoOf t))
+pub echo-bytes : (t : Task) → taskFits t ≡ true → Bytes (placedBytes (echoOf t))
 unfolding echoOf
 echo-bytes t h =
     let z : 0 < 256 = omega arith in

@@ -20,6 +20,8 @@ pub mod Counting
 pub mod Tied
 pub mod Examples
 pub mod Fitting
+pub mod Widths
+pub mod Widening
 pub mod Sending
 pub mod Storing
 pub mod Moves

@@ -18,9 +18,10 @@ use Rattle.states.specs.declared.shapes.Settings.{Settings}
 use Rattle.device.specs.Counter.{counterTests, counterOf}
 use Rattle.device.specs.declared.state.Device.{Device}
 use Rattle.device.proofs.Keeping.{settings-good}
-use Rattle.history.specs.Calls.{Event}
+use Rattle.history.specs.Event.{Event}
 use Rattle.history.specs.Counted.{toldAt, toldFor}
-use Rattle.history.specs.Run.{Lent, AllTyped, runFrom, history}
+use Rattle.device.specs.Lent.{Lent}
+use Rattle.history.specs.Run.{AllTyped, runFrom, history}
 use Rattle.history.proofs.Tally.{Tells, Counting}
 use Rattle.history.proofs.Pages.{Masked}
 use Rattle.history.proofs.Counters.{counting-true, masked-true}

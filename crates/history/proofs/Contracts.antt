@@ -11,8 +11,9 @@ use Rattle.device.specs.Reset.{comresetStep}
 use Rattle.device.specs.Calls.{hostAct, hostStep, openStep, sendStep, finishStep, mediaStep}
 use Rattle.device.specs.declared.state.Device.{Device}
 use Rattle.device.specs.declared.state.Outcome.{Outcome}
-use Rattle.history.specs.Calls.{Event}
-use Rattle.history.specs.Run.{Lent, Gave, give, gives, result, Done, done, event, Run, run, runFrom, history}
+use Rattle.history.specs.Event.{Event}
+use Rattle.device.specs.Lent.{Lent, Gave, gave}
+use Rattle.history.specs.Run.{result, Done, done, event, Run, run, runFrom, history}
 use Rattle.history.specs.Allowed.{Allowed, hosted, opened, sent, finished, failed, linked, reset, Follows, newestFirst, final, lents, historyOf, Began}
 
 same-gave : {d d′ : Device} {n n′ l l′ : ℕ} {m m′ b b′ : List ℕ} → d ≡ d′ → n ≡ n′ → l ≡ l′ → m ≡ m′ → b ≡ b′
@@ -28,13 +29,13 @@ linked-only p q r = cc
 
 -- a contract allows just what the definitions give
 pub only : {d : Device} {a : Lent} {g : Gave} → Allowed d a g → g ≡ result d a
-only {d} (hosted κs f m b r m′ b′ p) = answered-only (hostStep d (now f) (length (now m)) (length (now b))) (keptIn (hostAct d (now f) (length (now m)) (length (now b))) (now f) (now m)) (now b) (give r m′ b′) (p .answered) (p .medium)
-only {d} (opened κs t b r m b′ p) = answered-only (openStep d t (length (now b))) m (now b) (give r m b′) p refl
-only {d} (sent κs m b r b′ p) = answered-only (sendStep d (now m) (length (now b))) (now m) (now b) (give r (now m) b′) p refl
-only {d} (finished κs s b r m b′ p) = answered-only (finishStep d s (length (now b))) m (now b) (give r m b′) p refl
-only {d} (failed κs t e s b r m b′ p) = answered-only (mediaStep d t e s (length (now b))) m (now b) (give r m b′) p refl
+only {d} (hosted κs f m b r m′ b′ p) = answered-only (hostStep d (now f) (length (now m)) (length (now b))) (keptIn (hostAct d (now f) (length (now m)) (length (now b))) (now f) (now m)) (now b) (gave r m′ b′) (p .answered) (p .medium)
+only {d} (opened κs t b r m b′ p) = answered-only (openStep d t (length (now b))) m (now b) (gave r m b′) p refl
+only {d} (sent κs m b r b′ p) = answered-only (sendStep d (now m) (length (now b))) (now m) (now b) (gave r (now m) b′) p refl
+only {d} (finished κs s b r m b′ p) = answered-only (finishStep d s (length (now b))) m (now b) (gave r m b′) p refl
+only {d} (failed κs t e s b r m b′ p) = answered-only (mediaStep d t e s (length (now b))) m (now b) (gave r m b′) p refl
 only {d} (linked row r m b p) = linked-only p refl refl
-only {d} (reset κs b r m b′ p) = answered-only (comresetStep d (length (now b))) m (now b) (give r m b′) p refl
+only {d} (reset κs b r m b′ p) = answered-only (comresetStep d (length (now b))) m (now b) (gave r m b′) p refl
 
 -- a sequence that the contracts allow is the run of the definitions over what was lent
 pub follows-run : (xs : List Done) (d : Device) (h : List Done) → Follows d xs → run d h (lents xs) ≡ record { state = final d xs; calls = newestFirst h xs }

@@ -3,10 +3,11 @@ use mathlib.Core.List.{List}
 use Rattle.states.specs.declared.shapes.Settings.{Settings}
 use Rattle.device.specs.declared.state.Device.{Device}
 use Rattle.device.specs.declared.state.Outcome.{Outcome}
-use Rattle.history.specs.Calls.{Event}
+use Rattle.history.specs.Event.{Event}
 use Rattle.history.specs.Demand3.{Demand3}
 use Rattle.history.specs.Told.{Told}
-use Rattle.history.specs.Run.{Lent, Done, AllTyped, runFrom, history}
+use Rattle.device.specs.Lent.{Lent}
+use Rattle.history.specs.Run.{Done, AllTyped, runFrom, history}
 use Rattle.history.specs.Allowed.{final, lents, historyOf, Began}
 use Rattle.history.proofs.Counters.{counters-tell}
 use Rattle.history.proofs.Runs.{demand3-fates, demand3-data, demand3-sactive, demand3-waiting, demand3-depth, demand3-single, demand3-manners}

@@ -17,22 +17,22 @@ use Rattle.frames.specs.declared.shapes.Frame.{Frame}
 use Rattle.frames.specs.declared.shapes.Frame.the-variants as fs
 use Rattle.states.specs.State.{echoOf}
 use Rattle.states.specs.declared.shapes.Echo.{Echo}
-use Rattle.states.specs.declared.shapes.ErrorRecord.{ErrorRecord}
-use Rattle.rules.specs.Facts.{leftOf, moveOf}
-use Rattle.rules.specs.Decide.{bad, fault, queuedAct, logPage, pageAsked, otherAct, controlAct, registerAct, dataAct, bistAct, kindAct, lentOf, decideOf}
+use Rattle.rules.specs.Decide.{logPage, pageAsked}
 use Rattle.rules.specs.Taking.{numberOf}
 use Rattle.rules.specs.declared.facts.Facts.{Facts}
-use Rattle.rules.specs.declared.acts.Log.{Log}
+use Rattle.rules.specs.declared.acts.CountersRead.{CountersRead}
+use Rattle.rules.specs.declared.acts.Move.{Move}
 use Rattle.rules.specs.declared.acts.Act.{Act}
-use Rattle.rules.specs.declared.acts.Act.the-variants.{Refuse, Log10, Log11, Zero, Keep}
-use Rattle.rules.proofs.Leaves.{control-all, queued-all}
+use Rattle.rules.specs.declared.acts.Act.the-variants.{Log10, Log11, Keep}
+use Rattle.rules.proofs.Ruled as by
 use Rattle.replies.specs.Replies.{repliesOf}
+use Rattle.replies.specs.declared.shown.Shown.{Shown}
 use Rattle.device.proofs.Never.{and-never}
 use Rattle.history.specs.Replied.{some, isPio}
 use Rattle.history.specs.Logs.{readsLog, frameReads}
 use Rattle.history.specs.Counted.{frameZeroes}
 use Rattle.history.proofs.Tally.{stay, wipe, wipes, raises}
-use Rattle.history.proofs.Impact.{effectOf}
+use Rattle.history.proofs.Impact.{effectOf, OnRow}
 
 -- some frame of these is a 5Fh
 abbrev pub pioIn : List Sent → Bool
@@ -40,13 +40,14 @@ pioIn sent = some isPio (map seen sent)
 
 -- the act is a read of page 11h
 pub record Logs (a : Act) : Type 0 where
-  pub log : Log
+  pub log : CountersRead
   pub is : a ≡ Log11 log
 
 -- of a frame that is read as f: it zeroes exactly if its act does, raises no row, and a page that answers a read of 11h is page 11h
 pub record Hears (f : Frame) (paged : Bool) (a : Act) : Type 0 where
   pub zeroed : eqb (numberOf a) 0 && frameZeroes paged f ≡ wipes (effectOf a)
   pub rowless : (k : ℕ) → raises k (effectOf a) ≡ false
+  pub on : OnRow a
   pub shown : paged ≡ true → frameReads 0x11 f ≡ true → Logs a
 
 -- ---- the page that a command names
@@ -108,107 +109,56 @@ unfolding pick
 wipe-rowless k true = refl
 wipe-rowless k false = refl
 
--- ---- each kind of host frame
+-- ---- each rule
 
-module _ (r : ErrorRecord) (mask : ℕ) (values : List ℕ) where
+-- a frame that is answered with no page, and zeroes nothing
+none-heard : (f : Frame) (a : Act) → frameZeroes false f ≡ false → wipes (effectOf a) ≡ false → ((k : ℕ) → raises k (effectOf a) ≡ false) → OnRow a → numberOf a ≡ 0 → Hears f false a
+none-heard f a z w r o n = record { zeroed = rw n (z ∙ sym w); rowless = r; on = o; shown = λ p _. absurd (false≢true p) }
+
+module _ (s : Shown) where
   -- of an act, with the replies that it sends
-  abbrev pub Heard : Frame → Act → Type 0
-  Heard f a = Hears f (pioIn (repliesOf r mask values [] a)) a
+  abbrev pub HeardBy : Frame → Act → Type 0
+  HeardBy f a = Hears f (pioIn (repliesOf s [] a)) a
 
-  -- an other command
-  other-heard : (v : Facts) (h : HostReg) → h .«command_bit» ≡ true → Heard (fs.Host h) (otherAct v h)
-  unfolding otherAct numberOf repliesOf some pick
-  other-heard v h c =
-      let P : Act → Type 0 = Heard (fs.Host h) in
-      let ten : Act = Log10 (record { also = v .flow .halted; task = h .task }) in
-      let eleven : Act = Log11 (record { also = bitIn 8 (h .features) 0; task = h .task }) in
-      let fourth : Act = pick (eqb (pageAsked h) 0x11) eleven (bad h 0x04) in
-      let third : Act = pick (eqb (pageAsked h) 0x10) ten fourth in
-      let no : P (bad h 0x04) = record { zeroed = refl; rowless = λ k. refl; shown = λ p _. absurd (false≢true p) } in
-      by-test P (v .flow .halted && not (eqb (pageAsked h) 0x10)) (bad h 0x04) (pick (not (eqb (v .flow .outstanding) 0)) (fault h true 0 0x04) third) (λ _. no)
-      (λ _.
-      by-test P (not (eqb (v .flow .outstanding) 0)) (fault h true 0 0x04) third (λ _. record { zeroed = refl; rowless = λ k. refl; shown = λ p _. absurd (false≢true p) })
-      (λ _.
-      by-test P (eqb (pageAsked h) 0x10) ten fourth
-      (λ t. record {
-        zeroed = ten-zeroes (pioIn (repliesOf r mask values [] ten)) (readsLog 0x11 h) (bitIn 8 (h .features) 0) (reads-ten h t);
-        rowless = λ k. refl;
-        shown = λ _ q. absurd (false≢true (sym (reads-ten h t) ∙ q));
-      })
-      (λ _.
-      by-test P (eqb (pageAsked h) 0x11) eleven (bad h 0x04)
-      (λ t. record {
-        zeroed = eleven-zeroes (readsLog 0x11 h) (bitIn 8 (h .features) 0) (reads-page 0x11 h refl c t);
-        rowless = λ k. wipe-rowless k (bitIn 8 (h .features) 0);
-        shown = λ _ _. record { log = record { also = bitIn 8 (h .features) 0; task = h .task }; is = refl };
-      })
-      (λ _. no))))
+  -- host data, whatever follows it
+  data-heard : (n : ℕ) (m : Move) → HeardBy (fs.Data n) (Keep m)
+  unfolding numberOf OnRow
+  data-heard n m = record { zeroed = refl; rowless = λ k. refl; on = tt; shown = λ _ q. absurd (false≢true q) }
 
-  -- a register frame
-  register-heard : (v : Facts) (h : HostReg) → Heard (fs.Host h) (registerAct v h)
-  unfolding registerAct numberOf repliesOf some
-  register-heard v h =
-      let P : Act → Type 0 = Heard (fs.Host h) in
-      let queued : Bool = eqb (h .command) 0x60 || eqb (h .command) 0x61 in
-      let third : Act = pick queued (queuedAct v h) (otherAct v h) in
-      let wrong : Bool = v .flow .held || not (eqb (v .flow .phase) 0) in
-      by-test P (not (h .«command_bit»)) (controlAct v h) (pick wrong (Refuse 5) third)
-      (λ _.
-      control-all P v h (record { zeroed = refl; rowless = λ k. refl; shown = λ p _. absurd (false≢true p) }) (record { zeroed = refl; rowless = λ k. refl; shown = λ p _. absurd (false≢true p) })
-      (record { zeroed = refl; rowless = λ k. refl; shown = λ p _. absurd (false≢true p) }))
-      (λ c.
-      by-test P wrong (Refuse 5) third (λ _. record { zeroed = refl; rowless = λ k. refl; shown = λ p _. absurd (false≢true p) })
-      (λ _.
-      by-test P queued (queuedAct v h) (otherAct v h)
-      (λ _.
-      queued-all P v h (record { zeroed = refl; rowless = λ k. refl; shown = λ p _. absurd (false≢true p) }) (record { zeroed = refl; rowless = λ k. refl; shown = λ p _. absurd (false≢true p) })
-      (record { zeroed = refl; rowless = λ k. refl; shown = λ p _. absurd (false≢true p) }) (record { zeroed = refl; rowless = λ k. refl; shown = λ p _. absurd (false≢true p) }))
-      (λ _. other-heard v h (not-false (h .«command_bit») c))))
+  -- page 10h
+  ten-heard : (h : HostReg) → eqb (pageAsked h) 0x10 ≡ true → HeardBy (fs.Host h) (Log10 (h .task))
+  unfolding numberOf OnRow
+  ten-heard h t = record {
+    zeroed = ten-zeroes (pioIn (repliesOf s [] (Log10 (h .task)))) (readsLog 0x11 h) (bitIn 8 (h .features) 0) (reads-ten h t);
+    rowless = λ k. refl;
+    on = tt;
+    shown = λ _ q. absurd (false≢true (sym (reads-ten h t) ∙ q));
+  }
 
-  -- host data
-  data-heard : (v : Facts) (n : ℕ) → Heard (fs.Data n) (dataAct v n)
-  unfolding dataAct numberOf
-  data-heard v n =
-      let P : Act → Type 0 = Heard (fs.Data n) in
-      let kept : Act = Keep (moveOf (v .flow) (v .entry) n) in
-      let long : Bool = ltb (leftOf (v .entry)) n in
-      by-test P (eqb (v .flow .phase) 0 || not (v .entry .write)) (Refuse 5) (pick long (Refuse 6) kept) (λ _. record { zeroed = refl; rowless = λ k. refl; shown = λ _ q. absurd (false≢true q) })
-      (λ _.
-      by-test P long (Refuse 6) kept (λ _. record { zeroed = refl; rowless = λ k. refl; shown = λ _ q. absurd (false≢true q) })
-      (λ _. record { zeroed = refl; rowless = λ k. refl; shown = λ _ q. absurd (false≢true q) }))
+  -- page 11h
+  eleven-heard : (h : HostReg) → h .«command_bit» ≡ true → eqb (pageAsked h) 0x11 ≡ true → HeardBy (fs.Host h) (Log11 (record { zero = bitIn 8 (h .features) 0; task = h .task }))
+  unfolding numberOf OnRow repliesOf some pick
+  eleven-heard h c t = record {
+    zeroed = eleven-zeroes (readsLog 0x11 h) (bitIn 8 (h .features) 0) (reads-page 0x11 h refl c t);
+    rowless = λ k. wipe-rowless k (bitIn 8 (h .features) 0);
+    on = tt;
+    shown = λ _ _. record { log = record { zero = bitIn 8 (h .features) 0; task = h .task }; is = refl };
+  }
 
-  -- BIST Activate
-  bist-heard : (v : Facts) → Heard fs.Bist (bistAct v)
-  unfolding bistAct numberOf
-  bist-heard v =
-      by-test (Heard fs.Bist) (not (eqb (v .flow .phase) 0)) (Refuse 5) Zero (λ _. record { zeroed = refl; rowless = λ k. refl; shown = λ _ q. absurd (false≢true q) })
-      (λ _. record { zeroed = refl; rowless = λ k. refl; shown = λ _ q. absurd (false≢true q) })
-
-  -- a kind that no host sends, or no frame at all
-  wrong-heard : (f : Frame) → Heard f (Refuse 4)
-  unfolding numberOf repliesOf some
-  wrong-heard f = record { zeroed = refl; rowless = λ k. refl; shown = λ p _. absurd (false≢true p) }
-
-  -- any frame
-  kind-heard : (v : Facts) (f : Frame) → Heard f (kindAct v f)
-  unfolding kindAct
-  kind-heard v (fs.Host h) = register-heard v h
-  kind-heard v (fs.Device f) = wrong-heard (fs.Device f)
-  kind-heard v (fs.Bits f) = wrong-heard (fs.Bits f)
-  kind-heard v (fs.Setup f) = wrong-heard (fs.Setup f)
-  kind-heard v fs.Activate = wrong-heard fs.Activate
-  kind-heard v (fs.Data n) = data-heard v n
-  kind-heard v fs.Bist = bist-heard v
-  kind-heard v (fs.Pio f) = wrong-heard (fs.Pio f)
-  kind-heard v fs.Refused = wrong-heard fs.Refused
-
-  -- a frame that a number refuses zeroes nothing
-  refused-heard : (n : ℕ) (f : Frame) → eqb n 0 ≡ false → Heard f (Refuse n)
-  unfolding numberOf repliesOf some
-  refused-heard n f e = record { zeroed = rw e; rowless = λ k. refl; shown = λ p _. absurd (false≢true p) }
-
-  -- what is decided of any host frame is what the history reads of it
-  pub host-heard : (v : Facts) (f : Frame) → Heard f (decideOf v f)
-  unfolding decideOf
-  host-heard v f =
-      by-test (Heard f) (not (eqb (lentOf v) 0)) (Refuse (lentOf v)) (kindAct v f) (λ t. refused-heard (lentOf v) f (not-true (eqb (lentOf v) 0) t)) (λ _. kind-heard v f)
+  -- a host frame that is not turned down
+  pub heard-heard : (v : Facts) {f : Frame} {a : Act} → by.Heard v f a → HeardBy f a
+  unfolding numberOf OnRow repliesOf some
+  heard-heard v (by.srst h c x) = none-heard _ _ refl refl (λ k. refl) tt refl
+  heard-heard v (by.release h c x y) = none-heard _ _ refl refl (λ k. refl) tt refl
+  heard-heard v (by.nothing h c x y) = none-heard _ _ refl refl (λ k. refl) tt refl
+  heard-heard v (by.rule1 h c x) = none-heard _ _ refl refl (λ k. refl) tt refl
+  heard-heard v (by.rule2 h c x) = none-heard _ _ refl refl (λ k. refl) tt refl
+  heard-heard v (by.rule3 h c x) = none-heard _ _ refl refl (λ k. refl) tt refl
+  heard-heard v (by.rule4 h c x u y) = none-heard _ _ refl refl (λ k. refl) tt refl
+  heard-heard v (by.other-halted h c x) = none-heard _ _ refl refl (λ k. refl) tt refl
+  heard-heard v (by.other-busy h c x) = none-heard _ _ refl refl (λ k. refl) tt refl
+  heard-heard v (by.page10 h c e p) = ten-heard h p
+  heard-heard v (by.page11 h c x e p) = eleven-heard h (c .command) p
+  heard-heard v (by.other-bad h c x e) = none-heard _ _ refl refl (λ k. refl) tt refl
+  heard-heard v (by.due n p w y) = data-heard n _
+  heard-heard v (by.bist x) = record { zeroed = refl; rowless = λ k. refl; on = tt; shown = λ _ q. absurd (false≢true q) }

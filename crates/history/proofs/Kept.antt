@@ -1,144 +1,94 @@
--- What a host frame leaves in the medium: its data at the place of the open phase, whole, and every other byte as it was. Assumes nothing.
+-- What a call leaves in the medium: host data at the place of the open phase, whole, and every other byte as it was. Assumes nothing.
 use mathlib.Core.Path.{_≡_, refl, sym, ap, subst, _∙_}
-use mathlib.Core.Bool.{true, false, not, _&&_, _||_}
-use mathlib.Core.List.{List, [], _++_}
+use mathlib.Core.Bool.{Bool, true, false}
+use mathlib.Core.List.{List, []}
 use Prim.Native.Nat.{ℕ, _+_, _-_}
 use native.Mathlib.Omega.{arith}
-use lib.Dec.{eqb, ltb, leb, lit<}
-use lib.ListN.{length, getD, take, drop, length-drop}
+use lib.Dec.{eqb}
+use lib.ListN.{length, getD, drop, length-drop}
 use borrow.Author.Tests.{eqb-true, eqb-false}
 use Rattle.bits.specs.Pick.{pick}
-use Rattle.bits.specs.Bit.{bitIn}
-use Rattle.bits.proofs.Picks.{by-test, or-left}
-use Rattle.wire.specs.Piece.{srstOf}
+use Rattle.bits.proofs.Picks.{by-test}
 use Rattle.frames.specs.Read.{readFrame}
 use Rattle.frames.proofs.ReadLaws.{DataRead, read-data}
-use Rattle.frames.specs.declared.shapes.HostReg.{HostReg}
 use Rattle.frames.specs.declared.shapes.Frame.{Frame}
 use Rattle.frames.specs.declared.shapes.Frame.the-variants as fs
-use Rattle.rules.specs.HostTests.{wrongTime}
+use Rattle.rules.specs.Call.{Call, hostFrame, openPhase, sendData, finishTags, mediaError, linkEvent, comReset}
 use Rattle.rules.specs.Facts.{placeOf, moveOf}
-use Rattle.rules.specs.Decide.{bad, fault, tagAsked, countAsked, entryFor, pageAsked, queuedAct, otherAct, controlAct, registerAct, bistAct, kindAct, decideOf, lentOf}
-use Rattle.rules.specs.Taking.{numberOf, keptIn}
+use Rattle.rules.specs.Taking.{numberOf, touchOf, keptIn}
 use Rattle.rules.specs.declared.facts.Facts.{Facts}
 use Rattle.rules.specs.declared.acts.Act.{Act}
-use Rattle.rules.specs.declared.acts.Act.the-variants.{Refuse, Nothing, Accept, Log10, Log11, Reset, Release, Zero}
-use Rattle.device.specs.Calls.{factsOf, openTag, mediumWrong, hostAct}
+use Rattle.rules.proofs.Ruled as by
+use Rattle.device.specs.Lent.{Lent, lent, frameIn}
+use Rattle.device.specs.FactsOf.{factsOf}
+use Rattle.device.specs.DataDue.{phaseEntry}
+use Rattle.device.specs.Step.{actOf, step}
 use Rattle.device.specs.declared.state.Device.{Device}
-use Rattle.device.proofs.Refusals.{refused-keeps-medium}
-use Rattle.device.proofs.Exactly.{first-exactly-host}
+use Rattle.device.proofs.Refusals.{refused-keeps}
 use Rattle.device.proofs.Rooms.{move-within}
-use Rattle.device.proofs.Storing.{taken-46, data-kept-whole}
+use Rattle.device.proofs.Storing.{Taken46, taken-46, data-kept-whole}
 use Rattle.history.specs.Replied.{dataIn}
-use Rattle.history.proofs.Placed.{LeftAt, EndsIn, left-none, ends-none, phaseEntry}
+use Rattle.history.specs.Asked.{callBrings}
+use Rattle.history.proofs.Placed.{LeftAt, EndsIn, left-none, ends-none}
 
-module _ (v : Facts) (f m : List ℕ) where
-  -- an act that leaves the medium
-  abbrev Leaves : Act → Type 0
-  Leaves a = keptIn a f m ≡ m
+-- the bytes l stand in what is left of the medium m at a place, and end within it
+pub record Lies (at : ℕ) (m left l : List ℕ) : Type 0 where
+  pub left-at : LeftAt at m left l
+  pub ends-in : EndsIn at m l
 
-  module _ (h : HostReg) where
-    -- a queued command leaves the medium
-    queued-leaves : Leaves (queuedAct v h)
-    unfolding queuedAct keptIn
-    queued-leaves =
-        by-test Leaves (v .flow .halted) (bad h 0x04) _ (λ _. refl)
-        (λ _. by-test Leaves (leb (v .settings .depth) (tagAsked h) || bitIn 32 (v .flow .outstanding) (tagAsked h)) (fault h false (tagAsked h) 0x04) _ (λ _. refl)
-        (λ _. by-test Leaves (ltb (v .settings .capacity) (h .task .lba + countAsked h)) (fault h false (tagAsked h) 0x10) (Accept (record { tag = tagAsked h; entry = entryFor h }))
-        (λ _. refl) (λ _. refl)))
+-- no bytes, and the medium as it was
+nowhere-lies : (at : ℕ) (m : List ℕ) → Lies at m m []
+nowhere-lies at m = record { left-at = left-none at m m [] refl refl; ends-in = ends-none at m [] refl }
 
-    -- any other command
-    other-leaves : Leaves (otherAct v h)
-    unfolding otherAct keptIn
-    other-leaves =
-        by-test Leaves (v .flow .halted && not (eqb (pageAsked h) 0x10)) (bad h 0x04) _ (λ _. refl)
-        (λ _. by-test Leaves (not (eqb (v .flow .outstanding) 0)) (fault h true 0 0x04) _ (λ _. refl)
-        (λ _. by-test Leaves (eqb (pageAsked h) 0x10) (Log10 (record { also = v .flow .halted; task = h .task })) _ (λ _. refl)
-        (λ _. by-test Leaves (eqb (pageAsked h) 0x11) (Log11 (record { also = bitIn 8 (h .features) 0; task = h .task })) (bad h 0x04) (λ _. refl) (λ _. refl))))
+-- host data that was taken
+data-lies : (d : Device) (f m b : List ℕ) → Taken46 d f m b → Lies (placeOf (phaseEntry d)) m (keptIn (actOf d (lent (hostFrame f) m b)) f m) (drop 4 f)
+unfolding moveOf
+data-lies d f m b t =
+    let size = data-kept-whole d f m b t .0 in
+    let ends = move-within d (t .good) (t .phase) (length f - 4) (length m) (t .medium) in
+    let long = length-drop 4 f in
+    record { left-at = data-kept-whole d f m b t .1; ends-in = λ _. omega (arith, size, ends, long) }
 
-    -- a control frame
-    control-leaves : Leaves (controlAct v h)
-    unfolding controlAct keptIn
-    control-leaves =
-        by-test Leaves (srstOf (h .control)) Reset _ (λ _. refl) (λ _. by-test Leaves (v .flow .held) Release Nothing (λ _. refl) (λ _. refl))
+-- a host frame that is not turned down, as it was read
+heard-lies : (d : Device) (f m b : List ℕ) (v : Facts) {r : Frame} {a : Act} → DataRead (getD f 0 0) f r → actOf d (lent (hostFrame f) m b) ≡ a → numberOf (actOf d (lent (hostFrame f) m b)) ≡ 0 → by.Heard v r a
+    → Lies (placeOf (phaseEntry d)) m (keptIn a f m) (dataIn f r)
+unfolding touchOf
+heard-lies d f m b v k q z (by.srst h c s) = nowhere-lies _ m
+heard-lies d f m b v k q z (by.release h c s x) = nowhere-lies _ m
+heard-lies d f m b v k q z (by.nothing h c s x) = nowhere-lies _ m
+heard-lies d f m b v k q z (by.rule1 h c x) = nowhere-lies _ m
+heard-lies d f m b v k q z (by.rule2 h c x) = nowhere-lies _ m
+heard-lies d f m b v k q z (by.rule3 h c x) = nowhere-lies _ m
+heard-lies d f m b v k q z (by.rule4 h c x u y) = nowhere-lies _ m
+heard-lies d f m b v k q z (by.other-halted h c x) = nowhere-lies _ m
+heard-lies d f m b v k q z (by.other-busy h c x) = nowhere-lies _ m
+heard-lies d f m b v k q z (by.page10 h c e p) = nowhere-lies _ m
+heard-lies d f m b v k q z (by.page11 h c x e p) = nowhere-lies _ m
+heard-lies d f m b v k q z (by.other-bad h c x e) = nowhere-lies _ m
+heard-lies d f m b v k q z (by.due n p w s) = subst (λ (a : Act). Lies (placeOf (phaseEntry d)) m (keptIn a f m) (drop 4 f)) q (data-lies d f m b (taken-46 d f m b (k .0) z))
+heard-lies d f m b v k q z (by.bist x) = nowhere-lies _ m
 
-    -- a register frame
-    register-leaves : Leaves (registerAct v h)
-    unfolding registerAct keptIn
-    register-leaves =
-        by-test Leaves (not (h .«command_bit»)) (controlAct v h) _ (λ _. control-leaves)
-        (λ _. by-test Leaves (v .flow .held || not (eqb (v .flow .phase) 0)) (Refuse 5) _ (λ _. refl)
-        (λ _. by-test Leaves (eqb (h .command) 0x60 || eqb (h .command) 0x61) (queuedAct v h) (otherAct v h) (λ _. queued-leaves) (λ _. other-leaves)))
+-- a call that was decided
+ruled-lies : (d : Device) (m b : List ℕ) {c : Call} {a : Act} → actOf d (lent c m b) ≡ a → numberOf (actOf d (lent c m b)) ≡ 0 → by.Ruled (factsOf d (lent c m b)) c a
+    → Lies (placeOf (phaseEntry d)) m (keptIn a (frameIn c) m) (callBrings c)
+unfolding touchOf numberOf
+ruled-lies d m b q z (by.refused c n h e) = absurd (h (sym (ap numberOf q) ∙ z))
+ruled-lies d m b q z (by.host f a g w s h) = heard-lies d f m b (factsOf d (lent (hostFrame f) m b)) (read-data f) q z h
+ruled-lies d m b q z (by.opened u g s o p e) = nowhere-lies _ m
+ruled-lies d m b q z (by.sent g w s p r) = nowhere-lies _ m
+ruled-lies d m b q z (by.finished u g s p e r) = nowhere-lies _ m
+ruled-lies d m b q z (by.failed u e x g s o y w) = nowhere-lies _ m
+ruled-lies d m b q z (by.linked r g x) = nowhere-lies _ m
+ruled-lies d m b q z (by.renewed g s) = nowhere-lies _ m
 
-  -- BIST Activate
-  bist-leaves : Leaves (bistAct v)
-  unfolding bistAct keptIn
-  bist-leaves = by-test Leaves (not (eqb (v .flow .phase) 0)) (Refuse 5) Zero (λ _. refl) (λ _. refl)
+-- a taken call
+taken-lies : (d : Device) (l : Lent) → step d l .refusal ≡ 0 → Lies (placeOf (phaseEntry d)) (l .medium) (step d l .medium) (callBrings (l .call))
+unfolding actOf
+taken-lies d l z = ruled-lies d (l .medium) (l .buffer) refl z (by.ruled (factsOf d l) (l .call))
 
-  -- a frame of a kind whose act leaves the medium
-  decide-leaves : (r : Frame) → Leaves (kindAct v r) → Leaves (decideOf v r)
-  unfolding decideOf keptIn
-  decide-leaves r k = by-test Leaves (not (eqb (lentOf v) 0)) (Refuse (lentOf v)) (kindAct v r) (λ _. refl) (λ _. k)
-
-module _ (d : Device) (f m : List ℕ) (room : ℕ) where
-  -- what the frame makes the device do
-  abbrev act : Act
-  act = hostAct d f (length m) room
-
-  -- where the next byte of the open phase's command stands
-  abbrev place : ℕ
-  place = placeOf (phaseEntry d)
-
-  -- what the decision looks at
-  abbrev v : Facts
-  v = factsOf d (openTag (d .flow .phase)) (mediumWrong (d .settings .capacity) (length m)) room
-
-  -- a frame without data
-  unkept : (r : Frame) → readFrame f ≡ r → keptIn (kindAct v r) f m ≡ m → LeftAt place m (keptIn act f m) []
-  unfolding hostAct
-  unkept r e k = left-none place m (keptIn act f m) [] refl (ap (λ (x : Frame). keptIn (decideOf v x) f m) e ∙ decide-leaves v f m r k)
-
-  -- a taken host frame, as it was read
-  taken-left : numberOf act ≡ 0 → (r : Frame) → readFrame f ≡ r → LeftAt place m (keptIn act f m) (dataIn f r)
-  unfolding kindAct keptIn moveOf
-  taken-left z (fs.Host h) e = unkept (fs.Host h) e (register-leaves v f m h)
-  taken-left z (fs.Device x) e = unkept (fs.Device x) e refl
-  taken-left z (fs.Bits x) e = unkept (fs.Bits x) e refl
-  taken-left z (fs.Setup x) e = unkept (fs.Setup x) e refl
-  taken-left z fs.Activate e = unkept fs.Activate e refl
-  taken-left z (fs.Data n) e =
-      data-kept-whole d f m room (taken-46 d f (length m) room (subst (DataRead (getD f 0 0) f) e (read-data f) .0) z) .1
-  taken-left z fs.Bist e = unkept fs.Bist e (bist-leaves v f m)
-  taken-left z (fs.Pio x) e = unkept (fs.Pio x) e refl
-  taken-left z fs.Refused e = unkept fs.Refused e refl
-
-  -- a host frame: what it brought stands at the next byte of the open phase's command, and the medium is otherwise as it was
-  pub host-left : LeftAt place m (keptIn act f m) (pick (eqb (numberOf act) 0) (dataIn f (readFrame f)) [])
-  host-left =
-      by-test (LeftAt place m (keptIn act f m)) (eqb (numberOf act) 0) (dataIn f (readFrame f)) []
-      (λ t. taken-left (eqb-true (numberOf act) 0 t) (readFrame f) refl)
-      (λ n. left-none place m (keptIn act f m) [] refl (refused-keeps-medium act f m (eqb-false (numberOf act) 0 n)))
-
-  -- what a taken host frame brought, as it was read, ends within the medium
-  taken-within : numberOf act ≡ 0 → (r : Frame) → readFrame f ≡ r → EndsIn place m (dataIn f r)
-  unfolding moveOf wrongTime
-  taken-within z (fs.Host h) e = ends-none place m [] refl
-  taken-within z (fs.Device x) e = ends-none place m [] refl
-  taken-within z (fs.Bits x) e = ends-none place m [] refl
-  taken-within z (fs.Setup x) e = ends-none place m [] refl
-  taken-within z fs.Activate e = ends-none place m [] refl
-  taken-within z (fs.Data n) e =
-      let none = first-exactly-host d f (length m) room .none .0 z in
-      let time : wrongTime v (fs.Data n) ≡ false = rw e at (none 4 (lit< tt)) in
-      let size = data-kept-whole d f m room (taken-46 d f (length m) room (subst (DataRead (getD f 0 0) f) e (read-data f) .0) z) .0 in
-      let ends = move-within d (none 0 (lit< tt)) (or-left (eqb (d .flow .phase) 0) (not (v .entry .write)) time) (length f - 4) (length m) (none 1 (lit< tt)) in
-      let long = length-drop 4 f in
-      λ _. omega (arith, size, ends, long)
-  taken-within z fs.Bist e = ends-none place m [] refl
-  taken-within z (fs.Pio x) e = ends-none place m [] refl
-  taken-within z fs.Refused e = ends-none place m [] refl
-
-  -- a host frame: what it brought ends within the medium
-  pub host-within : EndsIn place m (pick (eqb (numberOf act) 0) (dataIn f (readFrame f)) [])
-  host-within =
-      by-test (EndsIn place m) (eqb (numberOf act) 0) (dataIn f (readFrame f)) [] (λ t. taken-within (eqb-true (numberOf act) 0 t) (readFrame f) refl) (λ _. ends-none place m [] refl)
+-- every call: what it brought stands at the next byte of the open phase's command, and the medium is otherwise as it was
+pub call-lies : (d : Device) (l : Lent) → Lies (placeOf (phaseEntry d)) (l .medium) (step d l .medium) (pick (eqb (step d l .refusal) 0) (callBrings (l .call)) [])
+call-lies d l =
+    by-test (Lies (placeOf (phaseEntry d)) (l .medium) (step d l .medium)) (eqb (step d l .refusal) 0) (callBrings (l .call)) []
+    (λ t. taken-lies d l (eqb-true (step d l .refusal) 0 t))
+    (λ n. subst (λ (x : List ℕ). Lies (placeOf (phaseEntry d)) (l .medium) x []) (sym (refused-keeps d l (eqb-false (step d l .refusal) 0 n) .medium)) (nowhere-lies _ (l .medium)))

@@ -31,8 +31,6 @@ pub mod Marked
 pub mod Shaped
 pub mod Pages
 pub mod Shown
-pub mod Widths
-pub mod Widening
 pub mod Counters
 pub mod Asked11
 pub mod Soundness

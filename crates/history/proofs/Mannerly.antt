@@ -27,14 +27,16 @@ use Rattle.device.specs.Reset.{comresetStep, comresetNumber}
 use Rattle.device.specs.declared.state.Device.{Device}
 use Rattle.device.proofs.Never.{and-never}
 use Rattle.device.proofs.Sending.{Whole}
-use Rattle.history.specs.Calls.{Call, Event, taken}
+use Rattle.rules.specs.Call.{Call}
+use Rattle.history.specs.Event.{Event, taken}
 use Rattle.history.specs.Asked.{Asked, quiet, frameAsks, callAsks, asks}
 use Rattle.history.specs.Logs.{frameReads, callReads}
 use Rattle.history.specs.Replied.{frames, some, isPio, setBitsIn, collect, faultyIn, paged}
 use Rattle.history.specs.Seen.{Seen, seen}
 use Rattle.history.specs.Shapes.{kindOf, OneOf, callReplies}
 use Rattle.history.specs.Manners.{TellsError, Mannered, Spoken}
-use Rattle.history.specs.Run.{lend, gives, done, event}
+use Rattle.device.specs.Lent.{lent}
+use Rattle.history.specs.Run.{done, event}
 use Rattle.history.proofs.Views.{pageIn, view}
 use Rattle.history.proofs.Frames.{Read, read-frames, read-page, read-step}
 use Rattle.history.proofs.Hearing.{pioIn}
@@ -140,11 +142,11 @@ asked-as x t = rw t
 
 -- of a step
 pub mannered-step : (d : Device) (s : Step) (c : Call) (m b left : List ℕ) (h : List Seen) → Whole s → ((s .refusal ≡ 0 → ⊥) → s .frames ≡ [])
-    → let x : Event = event (done (lend c m b) (gives s left b)) in
+    → let x : Event = event (done (lent c m b) (gives s left b)) in
     (s .refusal ≡ 0 → CallShaped c (s .frames)) → Polite (seen x) h → Spoken x c → (seen x .sweeps ≡ true → (callReads 0x10 c && pioIn (s .frames) ≡ true) × TellsError (readLog (pageIn (s .frames)))) → (pioIn (s .frames) ≡ true → callReads 0x10 c || callReads 0x11 c ≡ true) → Mannered x h
 unfolding sentAll joined some collect pick seen
 mannered-step d s c m b left h w keep shape p spoken swept asked =
-    let x : Event = event (done (lend c m b) (gives s left b)) in
+    let x : Event = event (done (lent c m b) (gives s left b)) in
     let r : Read x (s .frames) = read-step s c m b left w in
     let seen-as : frames x ≡ map trip.seen (s .frames) = read-frames x (s .frames) r in
     let pages : paged x ≡ pioIn (s .frames) = ap (some isPio) seen-as in

@@ -23,7 +23,7 @@ use Rattle.rules.specs.declared.acts.Act.{Act}
 use Rattle.rules.specs.declared.acts.Act.the-variants.{Open, Send, Finish, Media}
 use Rattle.rules.proofs.Numbers.{not-refused, decided-is}
 use Rattle.replies.specs.Replies.{repliesOf}
-use Rattle.device.specs.Sized.{SizedRecord}
+use Rattle.device.proofs.Sized.{SizedRecord}
 use Rattle.device.specs.Step.{Step}
 use Rattle.device.specs.Events.{linkStep}
 use Rattle.device.specs.Reset.{comresetStep}
@@ -31,13 +31,15 @@ use Rattle.device.specs.Calls.{factsOf, openTag, mediumWrong, hostAct, hostStep
 use Rattle.device.specs.declared.state.Device.{Device}
 use Rattle.device.proofs.Sending.{Whole}
 use Rattle.device.proofs.Refusals.{refused-keeps, refused-keeps-comreset}
-use Rattle.history.specs.Calls.{Call, hostFrame, openPhase, sendData, finishTags, mediaError, linkEvent, comReset, Event}
+use Rattle.rules.specs.Call.{Call, hostFrame, openPhase, sendData, finishTags, mediaError, linkEvent, comReset}
+use Rattle.history.specs.Event.{Event}
 use Rattle.history.specs.Asked.{quiet, callAsks, asks}
 use Rattle.history.specs.Replied.{some, isPio, setBitsIn, collect, faultyIn, frames}
 use Rattle.history.specs.Seen.{Seen, seen}
 use Rattle.history.specs.Shapes.{kindOf}
 use Rattle.history.specs.Manners.{Mannered, Spoken}
-use Rattle.history.specs.Run.{lend, Typed, gives, resultFor, done, event}
+use Rattle.device.specs.Lent.{lent, Typed}
+use Rattle.history.specs.Run.{done, event, result}
 use Rattle.history.proofs.Core.{Inv}
 use Rattle.history.proofs.Views.{view, is-silent, is-finish, is-failed}
 use Rattle.history.proofs.Frames.{Read, read-frames, read-step, always-host, always-open, always-send, always-finish, always-media, always-comreset}
@@ -55,14 +57,14 @@ quiet-finishes t = is-silent quiet refl .finishes t
 
 -- a step without an A1h finishes nothing
 meek-finishes : (s : Step) (c : Call) (m b left : List ℕ) → Whole s → ((s .refusal ≡ 0 → ⊥) → s .frames ≡ []) → bitsIn (s .frames) ≡ []
-    → (t : ℕ) → seen (event (done (lend c m b) (gives s left b))) .finishes t ≡ false
+    → (t : ℕ) → seen (event (done (lent c m b) (gives s left b))) .finishes t ≡ false
 meek-finishes s c m b left w keep e t = by-view (λ (x : Seen). x .finishes t ≡ false) s c m b left w (λ _. none-finished _ (s .frames) e t) (λ n. (keep n, quiet-finishes t))
 
 -- of a device event that sends no page: no sweep, no page
 module _ (d : Device) (s : Step) (c : Call) (m b : List ℕ) (h : List Seen) (w : Whole s) (keep : (s .refusal ≡ 0 → ⊥) → s .frames ≡ []) (ask : callAsks c .command ≡ false) (page : pioIn (s .frames) ≡ false) where
-  event-mannered : (s .refusal ≡ 0 → CallShaped c (s .frames)) → Polite (seen (event (done (lend c m b) (gives s m b)))) h → Spoken (event (done (lend c m b) (gives s m b))) c → Mannered (event (done (lend c m b) (gives s m b))) h
+  event-mannered : (s .refusal ≡ 0 → CallShaped c (s .frames)) → Polite (seen (event (done (lent c m b) (gives s m b)))) h → Spoken (event (done (lent c m b) (gives s m b))) c → Mannered (event (done (lent c m b) (gives s m b))) h
   event-mannered shape p spoken =
-      mannered-step d s c m b m h w keep shape p spoken (λ y. absurd (false≢true (sym (no-sweep (event (done (lend c m b) (gives s m b))) ask) ∙ y))) (λ y. absurd (false≢true (sym page ∙ y)))
+      mannered-step d s c m b m h w keep shape p spoken (λ y. absurd (false≢true (sym (no-sweep (event (done (lent c m b) (gives s m b))) ask) ∙ y))) (λ y. absurd (false≢true (sym page ∙ y)))
 
 -- an A1h that answers a command is among its replies
 swept-bits : (x : Event) (rs : List Sent) → Read x rs → seen x .sweeps ≡ true → someBits rs ≡ true
@@ -94,11 +96,11 @@ media-says d f n z =
     (sym (decided-is n (Media f) z)) (is-failed _ refl refl .fails, is-failed _ refl refl .finishes)
 
 -- a link event says nothing
-link-mannered : (d : Device) (row : ℕ) (m b : List ℕ) (h : List Seen) → Polite (seen (event (done (lend (linkEvent row) m b) (resultFor d m b (linkEvent row))))) h
-    → Mannered (event (done (lend (linkEvent row) m b) (resultFor d m b (linkEvent row)))) h
+link-mannered : (d : Device) (row : ℕ) (m b : List ℕ) (h : List Seen) → Polite (seen (event (done (lent (linkEvent row) m b) (resultFor d m b (linkEvent row))))) h
+    → Mannered (event (done (lent (linkEvent row) m b) (resultFor d m b (linkEvent row)))) h
 unfolding linkStep some collect view
 link-mannered d row m b h p =
-    let x : Event = event (done (lend (linkEvent row) m b) (resultFor d m b (linkEvent row))) in
+    let x : Event = event (done (lent (linkEvent row) m b) (resultFor d m b (linkEvent row))) in
     let none : frames x ≡ [] = read-frames x [] (link-read d row m b) in
     record {
       silent = λ _. refl;
@@ -117,12 +119,12 @@ link-mannered d row m b h p =
 
 -- every call
 pub mannered : (d : Device) (c : Call) (m b : List ℕ) (h : List Seen) → Typed c → SizedRecord d → Marked d → Inv (d .flow .outstanding) (d .flow .halted) h
-    → Mannered (event (done (lend c m b) (resultFor d m b c))) h
+    → Mannered (event (done (lent c m b) (resultFor d m b c))) h
 unfolding hostAct openOf openAct sendOf sendAct finishOf finishAct mediaOf mediaAct
 mannered d (hostFrame f) m b h t s marked i =
     let k : Step = hostStep d f (length m) (length b) in
     let left = keptIn (hostAct d f (length m) (length b)) f m in
-    let x : Event = event (done (lend (hostFrame f) m b) (gives k left b)) in
+    let x : Event = event (done (lent (hostFrame f) m b) (gives k left b)) in
     let w = always-host d f (length m) (length b) t s in
     let keep : (k .refusal ≡ 0 → ⊥) → k .frames ≡ [] = λ n. refused-keeps d [] (hostAct d f (length m) (length b)) n .frames in
     let v = factsOf d (openTag (d .flow .phase)) (mediumWrong (d .settings .capacity) (length m)) (length b) in

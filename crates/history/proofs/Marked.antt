@@ -17,19 +17,17 @@ use Rattle.pages.specs.declared.page10.Page10.the-variants.{Fields}
 use Rattle.pages.proofs.Trip10.{length-10, sums-to-zero}
 use Rattle.states.specs.declared.shapes.Settings.{Settings}
 use Rattle.rules.specs.declared.acts.Act.{Act}
-use Rattle.rules.specs.declared.acts.Act.the-variants.{Refuse, Nothing, Answer, Halt, Accept, Log10, Log11, Reset, Release, Zero, Keep, Open, Send, Finish, Media}
+use Rattle.rules.specs.declared.acts.Act.the-variants.{Refuse, Nothing, Answer, Halt, Accept, Log10, Log11, Reset, Release, Zero, Keep, Open, Send, Finish, Media, Count, Renew}
 use Rattle.replies.specs.Replies.{logOf, page10Of}
-use Rattle.device.specs.Sized.{SizedRecord}
+use Rattle.device.proofs.Sized.{SizedRecord}
 use Rattle.device.specs.Device.{contradictoryDevice, freshDevice, zeroDevice, powerNumber, powerOn}
-use Rattle.device.specs.Events.{withValue, linkNumber, linkStep}
-use Rattle.device.specs.After.{haltWith, acceptedBy, unhalted, zeroedIf, resetHeld, released, movedBy, openedFor, finishedBy, failedBy, afterOf}
-use Rattle.device.specs.Reset.{renewed, comresetNumber, comresetStep}
+use Rattle.device.specs.After.{withValue, renewed, haltWith, acceptedBy, unhalted, zeroedIf, resetHeld, released, movedBy, openedFor, finishedBy, failedBy, afterOf}
+use Rattle.device.specs.Step.{actOf, step}
 use Rattle.device.specs.declared.state.Device.{Device}
 use Rattle.device.proofs.Fitting.{record-fits}
-use Rattle.history.specs.Calls.{Call, hostFrame, openPhase, sendData, finishTags, mediaError, linkEvent, comReset}
 use Rattle.history.specs.Replied.{errIn}
 use Rattle.history.specs.Manners.{TellsError}
-use Rattle.history.specs.Run.{Lent, result}
+use Rattle.device.specs.Lent.{Lent}
 
 -- while halted the record is set
 abbrev pub Marked : Device → Type 0
@@ -37,9 +35,14 @@ Marked d = d .flow .halted ≡ true → d .errors .set ≡ true
 
 -- ---- every call keeps it
 
+-- one more event at a row
+raised-marked : (d : Device) (row : ℕ) → Marked d → Marked (withValue d row)
+unfolding withValue
+raised-marked d row k = by-test Marked (leb 16 row) d _ (λ _. k) (λ _. k)
+
 -- an act
 act-marked : (d : Device) (a : Act) → Marked d → Marked (afterOf d a)
-unfolding afterOf haltWith acceptedBy unhalted zeroedIf resetHeld released movedBy openedFor finishedBy failedBy
+unfolding afterOf haltWith acceptedBy unhalted zeroedIf resetHeld released movedBy openedFor finishedBy failedBy renewed
 act-marked d (Refuse n) k = k
 act-marked d Nothing k = k
 act-marked d (Answer b) k = k
@@ -55,33 +58,12 @@ act-marked d (Open q) k = k
 act-marked d (Send m) k = k
 act-marked d (Finish set) k = k
 act-marked d (Media f) k = λ _. refl
-
--- one more event at a row
-raised-marked : (d : Device) (row : ℕ) → Marked d → Marked (withValue d row)
-unfolding withValue
-raised-marked d row k = by-test Marked (leb 16 row) d _ (λ _. k) (λ _. k)
-
-link-marked : (d : Device) (row : ℕ) → Marked d → Marked (linkStep d row .state)
-unfolding linkStep
-link-marked d row k = by-test Marked (eqb (linkNumber d row) 0) (withValue d row) d (λ _. raised-marked d row k) (λ _. k)
-
-comreset-marked : (d : Device) (room : ℕ) → Marked d → Marked (comresetStep d room .state)
-unfolding comresetStep renewed released resetHeld
-comreset-marked d room k =
-    by-test Marked (eqb (comresetNumber d room) 0) (renewed d) d (λ _. raised-marked (released (resetHeld d)) 9 (λ h. absurd (false≢true h))) (λ _. k)
-
-marked-call : (d : Device) (m b : List ℕ) (c : Call) → Marked d → Marked (result d (record { call = c; medium = m; buffer = b }) .outcome .state)
-marked-call d m b (hostFrame f) k = act-marked d _ k
-marked-call d m b (openPhase t) k = act-marked d _ k
-marked-call d m b sendData k = act-marked d _ k
-marked-call d m b (finishTags s) k = act-marked d _ k
-marked-call d m b (mediaError t e s) k = act-marked d _ k
-marked-call d m b (linkEvent r) k = link-marked d r k
-marked-call d m b comReset k = comreset-marked d (length b) k
+act-marked d (Count row) k = raised-marked d row k
+act-marked d Renew k = raised-marked (released (resetHeld d)) 9 (λ h. absurd (false≢true h))
 
 -- every call
-pub marked-step : (d : Device) (a : Lent) → Marked d → Marked (result d a .outcome .state)
-marked-step d a k = marked-call d (a .medium) (a .buffer) (a .call) k
+pub marked-step : (d : Device) (l : Lent) → Marked d → Marked (step d l .state)
+marked-step d l k = act-marked d (actOf d l) k
 
 -- power-on, refused or not
 pub marked-start : (s : Settings) → Marked (powerOn s .state)

@@ -8,7 +8,7 @@ use lib.Dec.{ltb}
 use borrow.Author.Tests.{ltb-true}
 use Rattle.bits.specs.Little.{Bytes}
 use Rattle.bits.proofs.Picks.{and-left, and-right}
-use Rattle.history.specs.Calls.{Call, hostFrame, openPhase, sendData, finishTags, mediaError, linkEvent, comReset}
+use Rattle.rules.specs.Call.{Call, hostFrame, openPhase, sendData, finishTags, mediaError, linkEvent, comReset}
 use Rattle.bits.specs.First.{firstOf}
 use Rattle.bits.specs.Laid.{over}
 use Rattle.bits.specs.Pick.{pick}
@@ -41,7 +41,8 @@ use Rattle.history.specs.Counted.{countedIn}
 use Rattle.history.specs.Example.{story, tagsFrom, linesOf, calls, Shown}
 use Rattle.history.specs.Fates.{commands, outstandingAt, finishedAt, givenUpAt, droppedAt, total, totalWith, howMany}
 use Rattle.history.specs.Replied.{collect, some, payloads}
-use Rattle.history.specs.Run.{run, Lent, Typed, AllTyped}
+use Rattle.device.specs.Lent.{Lent, Typed}
+use Rattle.history.specs.Run.{run, AllTyped}
 use Rattle.history.specs.Seen.{seen, begun}
 use Rattle.history.specs.Waits.{waits, sactive, before, since}
 

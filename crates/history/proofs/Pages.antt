@@ -4,11 +4,10 @@ use mathlib.Core.Bool.{Bool, true, false, _&&_, false≢true}
 use mathlib.Core.List.{List, [], _∷_, map, append-nil}
 use Prim.Native.Nat.{ℕ, _<_}
 use native.Mathlib.Omega.{arith}
-use lib.Dec.{ltb, lit<}
-use lib.ListN.{length, getD}
+use lib.Dec.{ltb}
+use lib.ListN.{getD}
 use borrow.Author.Tests.{eqb-true, ltb-false}
 use Rattle.bits.specs.Pick.{pick}
-use Rattle.bits.proofs.Firsts as firsts
 use Rattle.bits.proofs.Picks.{pick-yes, pick-no, and-left, and-right, or-left, or-right}
 use Rattle.wire.specs.declared.pieces.Task.{Task}
 use Rattle.frames.specs.Write.{payload, encode}
@@ -22,25 +21,28 @@ use Rattle.pages.specs.declared.rows.Place.the-variants.{Row, Nowhere}
 use Rattle.pages.specs.declared.page11.Counter.the-variants.{Value, Absent}
 use Rattle.pages.proofs.RowLaws.{row-found, row-only, row-missing}
 use Rattle.pages.proofs.Trip11.{unkept-absent, kept-reads}
-use Rattle.ladders.specs.Ladders.{lentLadder}
-use Rattle.rules.specs.Taking.{numberOf}
+use Rattle.rules.specs.Taking.{numberOf, spanOf, partOf}
 use Rattle.rules.specs.declared.acts.Act.{Act}
-use Rattle.rules.proofs.Numbers.{lent-none}
+use Rattle.rules.proofs.Ruled as by
 use Rattle.replies.specs.Replies.{pioReply, page11Of, logReplies, repliesOf}
 use Rattle.device.specs.Device.{contradictoryDevice}
-use Rattle.device.specs.Calls.{factsOf, openTag, mediumWrong, hostAct, hostStep}
 use Rattle.device.specs.declared.state.Device.{Device}
 use Rattle.states.specs.Clauses.{settingsOut}
 use Rattle.device.proofs.Keeping.{settings-good, both-kept}
-use Rattle.history.specs.Calls.{Call, hostFrame, openPhase, sendData, finishTags, mediaError, linkEvent, comReset, Event, taken}
+use Rattle.rules.specs.Call.{Call, hostFrame}
+use Rattle.history.specs.Event.{Event, taken}
 use Rattle.history.specs.Replied.{pieces, frames, some, isPio, payloads, page}
 use Rattle.history.specs.Logs.{callReads}
 use Rattle.history.specs.Replied.{paged}
 use Rattle.history.specs.Counted.{sends11, toldAt, toldFor}
-use Rattle.history.specs.Run.{Lent}
+use Rattle.device.specs.Lent.{Lent, lent}
+use Rattle.device.specs.FactsOf.{factsOf}
+use Rattle.device.specs.Step.{shown, actOf, step}
+use Rattle.device.proofs.Doing.{heard-unsent}
 use Rattle.history.proofs.Tally.{Tells, Counting, tells-small}
-use Rattle.history.proofs.Hearing.{Logs, host-heard}
-use Rattle.history.proofs.Counts.{lent, eventOf, RepliesFor, Replies}
+use Rattle.history.proofs.Hearing.{pioIn, Logs, heard-heard}
+use Rattle.history.proofs.Counts.{eventOf, Replies}
+use Rattle.history.proofs.Frames.{Read, read-frames}
 
 -- ---- what the reader gives of a page made of counters that tell a history
 
@@ -100,59 +102,41 @@ Masked mask d = settingsOut (d .settings) ≡ false → d .settings .mask ≡ ma
 abbrev pub Shows : ℕ → Event → List Event → Type 0
 Shows mask e h = sends11 e ≡ true → (number : ℕ) → noNumber number ≡ false → readCounter (page e) number ≡ toldFor mask h number
 
--- a call that asks for no page 11h
-unasked : (mask : ℕ) (e : Event) (h : List Event) → callReads 0x11 (e .call) ≡ false → Shows mask e h
-unasked mask e h n s =
-    absurd (false≢true (sym n ∙ and-right (paged e) (callReads 0x11 (e .call)) (and-right (taken e) (paged e && callReads 0x11 (e .call)) s)))
-
--- the page of a host frame whose act is a read of page 11h
-shown-page : (d : Device) (e : Event) (h : List Event) (a : Act) → contradictoryDevice d ≡ false → Counting d h → Logs a
-    → pieces e ≡ map encode (repliesOf (d .errors) (d .settings .mask) (d .values) [] a) → frames e ≡ map seen (repliesOf (d .errors) (d .settings .mask) (d .values) [] a)
-    → (number : ℕ) → noNumber number ≡ false → readCounter (page e) number ≡ toldFor (d .settings .mask) h number
+-- the page of a call whose act is a read of page 11h
+shown-page : (d : Device) (l : Lent) (h : List Event) (a : Act) → contradictoryDevice d ≡ false → Counting d h → Logs a → Read (eventOf d l) (repliesOf (shown d) (partOf (spanOf a) (l .medium)) a)
+    → (number : ℕ) → noNumber number ≡ false → readCounter (page (eventOf d l)) number ≡ toldFor (d .settings .mask) h number
 unfolding repliesOf pick
-shown-page d e h a g i w p q number n =
+shown-page d l h a g i w r number n =
     let mask = d .settings .mask in
-    let l = w .log in
-    let x : pieces e ≡ map encode (logReplies false (l .task) (page11Of mask (d .values))) =
-    p ∙ ap (λ (y : Act). map encode (repliesOf (d .errors) mask (d .values) [] y)) (w .is) in
-    let z : frames e ≡ map seen (logReplies false (l .task) (page11Of mask (d .values))) =
-    q ∙ ap (λ (y : Act). map seen (repliesOf (d .errors) mask (d .values) [] y)) (w .is) in
-    ap (λ (y : List ℕ). readCounter y number) (page-is e (l .task) (page11Of mask (d .values)) x z ∙ pick-yes (keepsBoth mask) (page11 mask (d .values)) [] (both-kept d g))
+    let k = w .log in
+    let e = eventOf d l in
+    let fs = logReplies false (k .task) (page11Of mask (d .values)) in
+    let q : Read e fs = subst (λ (x : Act). Read e (repliesOf (shown d) (partOf (spanOf x) (l .medium)) x)) (w .is) r in
+    ap (λ (y : List ℕ). readCounter y number) (page-is e (k .task) (page11Of mask (d .values)) (q .cuts) (read-frames e fs q) ∙ pick-yes (keepsBoth mask) (page11 mask (d .values)) [] (both-kept d g))
     ∙ page-tells mask (d .values) h i number n
 
--- a taken host frame came to a state that does not contradict itself
-taken-good : (d : Device) (f : List ℕ) (n room : ℕ) → hostStep d f n room .refusal ≡ 0 → contradictoryDevice d ≡ false
-unfolding hostAct
-taken-good d f n room z =
-    let v = factsOf d (openTag (d .flow .phase)) (mediumWrong (d .settings .capacity) n) room in
-    firsts.first-exactly (lentLadder (contradictoryDevice d) (mediumWrong (d .settings .capacity) n) (ltb room 8196)) tt .none .0 (lent-none v (readFrame f) z) 0 (lit< tt)
-
--- a host frame
-shows-host : (mask : ℕ) (d : Device) (m b f : List ℕ) (h : List Event) → Masked mask d → Counting d h
-    → pieces (eventOf d (lent m b (hostFrame f))) ≡ map encode (hostStep d f (length m) (length b) .frames)
-    → frames (eventOf d (lent m b (hostFrame f))) ≡ map seen (hostStep d f (length m) (length b) .frames) → Shows mask (eventOf d (lent m b (hostFrame f))) h
-unfolding hostAct
-shows-host mask d m b f h k i p q s number n =
-    let e : Event = eventOf d (lent m b (hostFrame f)) in
-    let a : Act = hostAct d f (length m) (length b) in
-    let v = factsOf d (openTag (d .flow .phase)) (mediumWrong (d .settings .capacity) (length m)) (length b) in
-    let t = eqb-true (numberOf a) 0 (and-left (taken e) (paged e && callReads 0x11 (hostFrame f)) s) in
-    let u = and-right (taken e) (paged e && callReads 0x11 (hostFrame f)) s in
-    let c = taken-good d f (length m) (length b) t in
-    let w = host-heard (d .errors) (d .settings .mask) (d .values) v (readFrame f) .shown
-    (sym (ap (some isPio) q) ∙ and-left (paged e) (callReads 0x11 (hostFrame f)) u) (and-right (paged e) (callReads 0x11 (hostFrame f)) u) in
-    shown-page d e h a c i w p q number n ∙ ap (λ (x : ℕ). toldFor x h number) (k (settings-good d c))
-
--- by what the call is
-shows-call : (mask : ℕ) (d : Device) (m b : List ℕ) (h : List Event) (c : Call) → Masked mask d → Counting d h → RepliesFor d m b c → Shows mask (eventOf d (lent m b c)) h
-shows-call mask d m b h (hostFrame f) k i q = shows-host mask d m b f h k i (q .0) (q .1)
-shows-call mask d m b h (openPhase t) k i q = unasked mask (eventOf d (lent m b (openPhase t))) h refl
-shows-call mask d m b h sendData k i q = unasked mask (eventOf d (lent m b sendData)) h refl
-shows-call mask d m b h (finishTags x) k i q = unasked mask (eventOf d (lent m b (finishTags x))) h refl
-shows-call mask d m b h (mediaError t e x) k i q = unasked mask (eventOf d (lent m b (mediaError t e x))) h refl
-shows-call mask d m b h (linkEvent r) k i q = unasked mask (eventOf d (lent m b (linkEvent r))) h refl
-shows-call mask d m b h comReset k i q = unasked mask (eventOf d (lent m b comReset)) h refl
+-- a taken call that reads page 11h and is answered with a page: its act is such a read
+ruled-logs : (d : Device) (m b : List ℕ) {c : Call} {a : Act} → by.Ruled (factsOf d (lent c m b)) c a → numberOf a ≡ 0 → pioIn (repliesOf (shown d) (partOf (spanOf a) m) a) ≡ true → callReads 0x11 c ≡ true
+    → (contradictoryDevice d ≡ false) × Logs a
+unfolding numberOf
+ruled-logs d m b (by.refused c n h e) z p q = absurd (h z)
+ruled-logs d m b (by.host f a g w s h) z p q =
+    let v = factsOf d (lent (hostFrame f) m b) in
+    (g, heard-heard (shown d) v h .shown (ap (λ (x : List ℕ). pioIn (repliesOf (shown d) x a)) (heard-unsent v m h) ∙ p) q)
+ruled-logs d m b (by.opened u g s o x e) z p q = absurd (false≢true q)
+ruled-logs d m b (by.sent g w s x r) z p q = absurd (false≢true q)
+ruled-logs d m b (by.finished u g s x e r) z p q = absurd (false≢true q)
+ruled-logs d m b (by.failed u e x g s o y w) z p q = absurd (false≢true q)
+ruled-logs d m b (by.linked r g x) z p q = absurd (false≢true q)
+ruled-logs d m b (by.renewed g s) z p q = absurd (false≢true q)
 
 -- every call: a page 11h in its replies shows what the history before it tells
-pub counters-step : (mask : ℕ) (d : Device) (a : Lent) (h : List Event) → Masked mask d → Counting d h → Replies d a → Shows mask (eventOf d a) h
-counters-step mask d a h k i q = shows-call mask d (a .medium) (a .buffer) h (a .call) k i q
+pub counters-step : (mask : ℕ) (d : Device) (l : Lent) (h : List Event) → Masked mask d → Counting d h → Replies d l → Shows mask (eventOf d l) h
+unfolding actOf
+counters-step mask d l h k i r s number n =
+    let e : Event = eventOf d l in
+    let t = eqb-true (step d l .refusal) 0 (and-left (taken e) (paged e && callReads 0x11 (l .call)) s) in
+    let u = and-right (taken e) (paged e && callReads 0x11 (l .call)) s in
+    let w = ruled-logs d (l .medium) (l .buffer) (by.ruled (factsOf d l) (l .call)) t
+    (sym (ap (some isPio) (read-frames e (step d l .frames) r)) ∙ and-left (paged e) (callReads 0x11 (l .call)) u) (and-right (paged e) (callReads 0x11 (l .call)) u) in
+    shown-page d l h (actOf d l) (w .0) i (w .1) r number n ∙ ap (λ (x : ℕ). toldFor x h number) (k (settings-good d (w .0)))

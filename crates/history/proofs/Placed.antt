@@ -5,32 +5,30 @@ use mathlib.Core.List.{List, [], _∷_, _++_, append-nil}
 use Prim.Native.Nat.{ℕ, zero, suc, _+_, _≤_, _<_}
 use native.Mathlib.Nat.{add-zero}
 use native.Mathlib.Omega.{arith}
-use lib.Dec.{eqb}
 use lib.ListN.{length, take, drop, take-append-drop}
 use Rattle.bits.specs.Pick.{pick}
-use Rattle.bits.specs.First.{firstOf}
 use Rattle.bits.proofs.Picks.{by-test}
 use Rattle.wire.specs.declared.pieces.Task.{Task}
-use Rattle.frames.specs.Write.{Sent}
-use Rattle.states.specs.declared.shapes.Entry.{Entry}
-use Rattle.states.specs.declared.shapes.ErrorRecord.{ErrorRecord}
+use Rattle.replies.specs.declared.shown.Shown.{Shown}
 use Rattle.rules.specs.Facts.{placeOf, moveOf}
-use Rattle.rules.specs.Events.{decided, sendTests, sendAct}
-use Rattle.rules.specs.Taking.{spanOf}
-use Rattle.rules.specs.declared.facts.Facts.{Facts}
+use Rattle.rules.specs.Call.{Call, hostFrame}
+use Rattle.rules.specs.Taking.{touchOf, spanOf, partOf}
+use Rattle.rules.proofs.Ruled as by
 use Rattle.rules.specs.declared.acts.Queued.{Queued}
 use Rattle.rules.specs.declared.acts.Move.{Move}
 use Rattle.rules.specs.declared.acts.Act.{Act}
-use Rattle.rules.specs.declared.acts.Act.the-variants.{Refuse, Nothing, Answer, Halt, Accept, Log10, Log11, Reset, Release, Zero, Keep, Open, Send, Finish, Media}
-use Rattle.replies.specs.Replies.{repliesOf, signature, setupReply, logReplies, activateIf, page10Of, page11Of}
-use Rattle.device.specs.Reset.{comresetStep, comresetNumber}
-use Rattle.device.specs.Calls.{factsOf, openTag, mediumWrong, partOf, sendOf, sendStep}
+use Rattle.rules.specs.declared.acts.Act.the-variants.{Refuse, Nothing, Answer, Halt, Accept, Log10, Log11, Reset, Release, Zero, Keep, Open, Send, Finish, Media, Count, Renew}
+use Rattle.replies.specs.Replies.{repliesOf, setupReply, logReplies, activateIf, page10Of, page11Of}
+use Rattle.device.specs.Lent.{Lent, lent}
+use Rattle.device.specs.FactsOf.{factsOf}
+use Rattle.device.specs.DataDue.{phaseEntry}
+use Rattle.device.specs.Step.{shown, actOf, step}
+use Rattle.device.proofs.Doing.{heard-unsent}
 use Rattle.device.specs.declared.state.Device.{Device}
-use Rattle.history.specs.Calls.{Event}
+use Rattle.history.specs.Event.{Event}
 use Rattle.history.specs.Asked.{brought}
 use Rattle.history.specs.Replied.{some, sent}
 use Rattle.history.proofs.Views.{sentIn}
-use Rattle.history.proofs.Moving.{entryAt}
 
 -- the bytes l are what the medium m holds from a place on
 abbrev pub SentFrom : ℕ → List ℕ → List ℕ → Type 0
@@ -95,33 +93,25 @@ setup-none q true = refl
 setup-none q false = refl
 
 -- an act that is given no part of the medium sends none
-pub no-part : (e : ErrorRecord) (mask : ℕ) (values : List ℕ) (a : Act) → sentIn (repliesOf e mask values [] a) ≡ []
+pub no-part : (s : Shown) (a : Act) → sentIn (repliesOf s [] a) ≡ []
 unfolding repliesOf some pick
-no-part e mask values (Refuse n) = refl
-no-part e mask values Nothing = refl
-no-part e mask values (Answer b) = refl
-no-part e mask values (Halt f) = refl
-no-part e mask values (Accept q) = refl
-no-part e mask values (Log10 l) = log-none (l .also) (l .task) (page10Of e)
-no-part e mask values (Log11 l) = log-none false (l .task) (page11Of mask values)
-no-part e mask values Reset = refl
-no-part e mask values Release = refl
-no-part e mask values Zero = refl
-no-part e mask values (Keep m) = active-none (not (m .last))
-no-part e mask values (Open q) = setup-none q (q .entry .write)
-no-part e mask values (Send m) = refl
-no-part e mask values (Finish set) = refl
-no-part e mask values (Media f) = refl
-
--- COMRESET sends none
-pub reset-none : (d : Device) (room : ℕ) → sentIn (comresetStep d room .frames) ≡ []
-unfolding comresetStep some pick
-reset-none d room = by-test (λ (l : List Sent). sentIn l ≡ []) (eqb (comresetNumber d room) 0) (signature ∷ []) [] (λ _. refl) (λ _. refl)
-
--- no frame, no data
-pub no-frame : sentIn [] ≡ []
-unfolding some pick
-no-frame = refl
+no-part s (Refuse n) = refl
+no-part s Nothing = refl
+no-part s (Answer b) = refl
+no-part s (Halt f) = refl
+no-part s (Accept q) = refl
+no-part s (Log10 task) = log-none (s .halted) task (page10Of (s .errors))
+no-part s (Log11 l) = log-none false (l .task) (page11Of (s .settings .mask) (s .values))
+no-part s Reset = refl
+no-part s Release = refl
+no-part s Zero = refl
+no-part s (Keep m) = active-none (not (m .last))
+no-part s (Open q) = setup-none q (q .entry .write)
+no-part s (Send m) = refl
+no-part s (Finish set) = refl
+no-part s (Media f) = refl
+no-part s (Count r) = refl
+no-part s Renew = refl
 
 -- ---- data to the host
 
@@ -132,21 +122,24 @@ take-short (suc n) [] = refl
 take-short (suc n) (x ∷ l) = ap (λ (y : List ℕ). x ∷ y) (take-short n l)
 
 -- a part of the medium, sent as a data frame
-part-sent : (e : ErrorRecord) (mask : ℕ) (values m : List ℕ) (k : Move) → SentFrom (k .at) m (sentIn (repliesOf e mask values (partOf (spanOf (Send k)) m) (Send k)))
-unfolding repliesOf spanOf some pick
-part-sent e mask values m k = rw (append-nil (take (k .size) (drop (k .at) m))) (take-short (k .size) (drop (k .at) m))
+part-sent : (s : Shown) (m : List ℕ) (k : Move) → SentFrom (k .at) m (sentIn (repliesOf s (partOf (spanOf (Send k)) m) (Send k)))
+unfolding repliesOf touchOf some pick
+part-sent s m k = rw (append-nil (take (k .size) (drop (k .at) m))) (take-short (k .size) (drop (k .at) m))
 
--- the entry of the open phase
-abbrev pub phaseEntry : Device → Entry
-phaseEntry d = entryAt d (openTag (d .flow .phase))
+-- a call that was decided: what it sends of the medium stood at the next byte of the open phase's command
+ruled-sent : (d : Device) (m b : List ℕ) {c : Call} {a : Act} → by.Ruled (factsOf d (lent c m b)) c a → SentFrom (placeOf (phaseEntry d)) m (sentIn (repliesOf (shown d) (partOf (spanOf a) m) a))
+unfolding touchOf moveOf
+ruled-sent d m b (by.refused c n h e) = sent-none (placeOf (phaseEntry d)) m _ (no-part (shown d) _)
+ruled-sent d m b (by.host f a g w s h) =
+    sent-none (placeOf (phaseEntry d)) m _ (ap (λ (p : List ℕ). sentIn (repliesOf (shown d) p a)) (sym (heard-unsent (factsOf d (lent (hostFrame f) m b)) m h)) ∙ no-part (shown d) a)
+ruled-sent d m b (by.opened u g s o p e) = sent-none (placeOf (phaseEntry d)) m _ (no-part (shown d) _)
+ruled-sent d m b (by.sent g w s p r) = part-sent (shown d) m (moveOf (d .flow) (phaseEntry d) 8192)
+ruled-sent d m b (by.finished u g s p e r) = sent-none (placeOf (phaseEntry d)) m _ (no-part (shown d) _)
+ruled-sent d m b (by.failed u e x g s o y w) = sent-none (placeOf (phaseEntry d)) m _ (no-part (shown d) _)
+ruled-sent d m b (by.linked r g x) = sent-none (placeOf (phaseEntry d)) m _ (no-part (shown d) _)
+ruled-sent d m b (by.renewed g s) = sent-none (placeOf (phaseEntry d)) m _ (no-part (shown d) _)
 
--- send: what the medium holds at the next byte of the open phase's command
-pub send-sent : (d : Device) (m : List ℕ) (room : ℕ) → SentFrom (placeOf (phaseEntry d)) m (sentIn (sendStep d m room .frames))
-unfolding sendOf sendAct decided moveOf spanOf
-send-sent d m room =
-    let v : Facts = factsOf d (openTag (d .flow .phase)) (mediumWrong (d .settings .capacity) (length m)) room in
-    let n : ℕ = firstOf (sendTests v) in
-    by-test (λ (a : Act). SentFrom (placeOf (phaseEntry d)) m (sentIn (repliesOf (d .errors) (d .settings .mask) (d .values) (partOf (spanOf a) m) a)))
-    (not (eqb n 0)) (Refuse n) (Send (moveOf (d .flow) (phaseEntry d) 8192))
-    (λ _. sent-none (placeOf (phaseEntry d)) m _ (no-part (d .errors) (d .settings .mask) (d .values) (Refuse n)))
-    (λ _. part-sent (d .errors) (d .settings .mask) (d .values) m (moveOf (d .flow) (phaseEntry d) 8192))
+-- every call
+pub call-sent : (d : Device) (l : Lent) → SentFrom (placeOf (phaseEntry d)) (l .medium) (sentIn (step d l .frames))
+unfolding actOf
+call-sent d l = ruled-sent d (l .medium) (l .buffer) (by.ruled (factsOf d l) (l .call))

@@ -15,11 +15,12 @@ use Rattle.states.specs.declared.shapes.Settings.{Settings}
 use Rattle.device.specs.Device.{powerOn, freshDevice, zeroDevice, powerNumber}
 use Rattle.device.specs.declared.state.Device.{Device}
 use Rattle.device.proofs.Opens.{ones-most}
-use Rattle.history.specs.Calls.{Event}
+use Rattle.history.specs.Event.{Event}
 use Rattle.history.specs.Seen.{seen}
 use Rattle.history.specs.Fates.{one, total}
 use Rattle.history.specs.Demand3.{Fates, Ranges, Contents, Sactive, Waiting, Depth, Single, Manners}
-use Rattle.history.specs.Run.{Lent, Done, done, event, result, Typed, AllTyped, run, runFrom, history}
+use Rattle.device.specs.Lent.{Lent, Typed}
+use Rattle.history.specs.Run.{Done, done, event, result, AllTyped, run, runFrom, history}
 use Rattle.history.proofs.Class.{Class}
 use Rattle.history.proofs.Steps.{comes}
 use Rattle.history.proofs.Fated.{AllLone, lone, lone-step, lone-none, fates}
@@ -28,8 +29,8 @@ use Rattle.history.proofs.Table.{Tracked, tracked-start, tracked-step, 
 use Rattle.history.proofs.Contents.{moves}
 use Rattle.history.proofs.Manners.{mannered}
 use Rattle.history.proofs.Marked.{Marked, marked-step, marked-start}
-use Rattle.history.proofs.Widths.{Wide}
-use Rattle.history.proofs.Widening.{wide-step, wide-start}
+use Rattle.device.proofs.Widths.{Wide}
+use Rattle.device.proofs.Widening.{wide-step, wide-start}
 use Rattle.history.proofs.Soundness.{Sound, sound-power, sound-step}
 
 -- the state and the history, held together
@@ -49,16 +50,16 @@ unfolding Contents Manners
 held-step s d a h t i =
     let d′ : Device = result d a .outcome .state in
     let x : Event = event (done a (result d a)) in
-    let c : Class d (seen x) d′ = comes d (a .call) (a .medium) (a .buffer) t (i .wide .sized) in
+    let c : Class d (seen x) d′ = comes d a t (i .wide .sized) in
     record {
       wide = wide-step d a t (i .wide);
       marked = marked-step d a (i .marked);
-      sound = sound-step s d (a .call) (a .medium) (a .buffer) t (i .sound);
+      sound = sound-step s d a t (i .sound);
       inv = keeps d d′ (seen x) (map seen h) (i .inv) c;
       lone = lone-step (seen x) (map seen h) (lone c) (i .lone);
       tracked = tracked-step d d′ (seen x) (map seen h) (i .tracked) c;
-      contents = (moves d (a .call) (a .medium) (a .buffer) (map seen h) t (i .wide .sized) (i .tracked) (inv-number (i .inv)), i .contents);
-      manners = (mannered d (a .call) (a .medium) (a .buffer) (map seen h) t (i .wide .sized) (i .marked) (i .inv), i .manners);
+      contents = (moves d a (map seen h) t (i .wide .sized) (i .tracked) (inv-number (i .inv)), i .contents);
+      manners = (mannered d a (map seen h) t (i .wide .sized) (i .marked) (i .inv), i .manners);
     }
 
 -- power-on

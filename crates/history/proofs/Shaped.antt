@@ -33,7 +33,7 @@ use Rattle.replies.specs.Replies.{repliesOf, setupReply, signature, logReplies}
 use Rattle.device.specs.Reset.{comresetStep}
 use Rattle.device.specs.Calls.{factsOf, openTag, mediumWrong, hostAct, hostStep, openOf, openStep, partOf, sendOf, sendStep, finishOf, finishStep, mediaOf, mediaStep}
 use Rattle.device.specs.declared.state.Device.{Device}
-use Rattle.history.specs.Calls.{Call, hostFrame, openPhase, sendData, finishTags, mediaError, comReset}
+use Rattle.rules.specs.Call.{Call, hostFrame, openPhase, sendData, finishTags, mediaError, comReset}
 use Rattle.history.specs.Asked.{Asked, dataAsks, frameAsks, callAsks}
 use Rattle.history.specs.Replied.{some, errIn, registerIn, collect, faultyIn}
 use Rattle.history.specs.Shapes.{kindOf, OneOf, commandReplies, frameReplies, callReplies}

@@ -12,9 +12,11 @@ use Rattle.states.specs.declared.shapes.Settings.{Settings}
 use Rattle.device.specs.Device.{freshDevice, powerNumber, powerOn}
 use Rattle.device.specs.declared.state.Device.{Device}
 use Rattle.history.specs.Demand3.{Counters}
-use Rattle.history.specs.Run.{Lent, Done, done, event, result, Typed, AllTyped, run, runFrom, history}
+use Rattle.device.specs.Lent.{Lent, Typed}
+use Rattle.history.specs.Run.{Done, done, event, result, AllTyped, run, runFrom, history}
 use Rattle.history.proofs.Tally.{Counting, counting-start}
-use Rattle.history.proofs.Impact.{settings-stay}
+use Rattle.device.specs.Step.{actOf}
+use Rattle.device.proofs.Effects.{act-settings}
 use Rattle.history.proofs.Counts.{Replies, counting-step}
 use Rattle.history.proofs.Pages.{Masked, counters-step}
 
@@ -28,7 +30,7 @@ masked-start s =
 -- and no call changes them
 pub masked-step : (mask : ℕ) (d : Device) (a : Lent) → Masked mask d → Masked mask (result d a .outcome .state)
 masked-step mask d a k =
-    let e = settings-stay d (a .medium) (a .buffer) (a .call) in
+    let e = act-settings d (actOf d a) in
     λ o. ap (λ (s : Settings). s .mask) e ∙ k (rw e at o)
 
 -- nor does a run

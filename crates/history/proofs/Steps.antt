@@ -1,35 +1,37 @@
 -- Every call, taken or refused, comes to one of the ten kinds, seen from its call and its reply bytes. Assumes nothing.
 use mathlib.Core.Path.{_≡_, refl, sym, ap, subst, _∙_}
-use mathlib.Core.Bool.{Bool, true, false}
+use mathlib.Core.Bool.{Bool, true, false, not}
 use mathlib.Core.List.{List, []}
 use mathlib.Core.Logic.{⊎-elim}
 use Prim.Native.Nat.{ℕ}
 use lib.Dec.{eqb}
 use lib.ListN.{length}
-use borrow.Author.Tests.{eqb-true, eqb-false, ne-eqb}
+use borrow.Author.Tests.{eqb-true, eqb-false, ne-eqb, not-false}
 use Rattle.bits.specs.Pick.{pick}
 use Rattle.bits.proofs.Picks.{tested}
-use Rattle.wire.specs.Cut.{cut, cutTo}
-use Rattle.rules.specs.Taking.{keptIn, spanOf}
-use Rattle.replies.specs.Fit.{Fitting}
-use Rattle.device.specs.Sized.{SizedRecord}
-use Rattle.device.specs.Step.{Step}
-use Rattle.device.specs.Events.{linkStep}
-use Rattle.device.specs.Reset.{comresetStep}
-use Rattle.device.specs.Calls.{hostAct, hostStep, openOf, openStep, partOf, sendOf, sendStep, finishOf, finishStep, mediaOf, mediaStep}
+use Rattle.frames.specs.Read.{readFrame}
+use Rattle.frames.proofs.ReadLaws.{read-data}
+use Rattle.rules.specs.Call.{Call, hostFrame, openPhase, sendData, finishTags, mediaError, linkEvent, comReset}
+use Rattle.rules.specs.Taking.{numberOf, spanOf, partOf}
+use Rattle.rules.specs.declared.acts.Act.{Act}
+use Rattle.rules.proofs.Ruled as by
+use Rattle.device.specs.Lent.{Lent, lent, Typed}
+use Rattle.device.specs.FactsOf.{mediumWrong, factsOf}
+use Rattle.device.specs.Step.{actOf, step}
 use Rattle.device.specs.declared.state.Device.{Device}
-use Rattle.device.proofs.Sending.{Whole}
-use Rattle.device.proofs.Refusals.{Keeps, refused-keeps, refused-keeps-comreset}
-use Rattle.history.specs.Calls.{Call, hostFrame, openPhase, sendData, finishTags, mediaError, linkEvent, comReset, Event, taken}
-use Rattle.history.specs.Asked.{quiet, callAsks, asks}
+use Rattle.device.proofs.Sized.{SizedRecord}
+use Rattle.device.proofs.Doing.{heard-unsent}
+use Rattle.device.proofs.Refusals.{refused-keeps}
+use Rattle.history.specs.Event.{Event}
+use Rattle.history.specs.Asked.{quiet, callAsks, frameAsks, asks}
 use Rattle.history.specs.Seen.{Seen, seen}
-use Rattle.history.specs.Run.{lend, Lent, Typed, gives, resultFor, done, event}
+use Rattle.history.specs.Run.{result, done, event}
 use Rattle.history.proofs.Class.{Class, plain}
 use Rattle.history.proofs.Views.{view, is-silent, silent-unbegun}
-use Rattle.history.proofs.Frames.{Read, read-seen, read-step, always-host, always-open, always-send, always-finish, always-media, always-comreset}
-use Rattle.history.proofs.Changes.{same}
-use Rattle.history.proofs.Hosts.{host-comes}
-use Rattle.history.proofs.Events.{open-comes, send-comes, finish-comes, media-comes, link-comes, comreset-comes}
+use Rattle.history.proofs.Frames.{Read, read-seen, read-step}
+use Rattle.history.proofs.Changes.{same, busy-calm}
+use Rattle.history.proofs.Hosts.{Comes, heard-comes}
+use Rattle.history.proofs.Events.{opened-comes, send-comes, finished-comes, failed-comes, counted-comes, renewed-comes}
 
 -- what is asked, taken and refused
 asks-taken : (x : Event) → x .refusal ≡ 0 → asks x ≡ callAsks (x .call)
@@ -41,63 +43,42 @@ unfolding pick
 asks-refused x n = rw (ne-eqb (x .refusal) 0 n)
 
 -- nothing happens in a refused call
-pub nothing-seen : (d d′ : Device) → d′ ≡ d → Class d (view quiet []) d′
+nothing-seen : (d d′ : Device) → d′ ≡ d → Class d (view quiet []) d′
 nothing-seen d d′ e = rw e (plain (is-silent quiet refl) (silent-unbegun quiet) (same d))
 
--- what holds of what is seen of a step, by whether it is refused
-pub by-view : (P : Seen → Type 0) (s : Step) (c : Call) (m b left : List ℕ) → Whole s → (s .refusal ≡ 0 → P (view (callAsks c) (s .frames)))
-    → ((s .refusal ≡ 0 → ⊥) → (s .frames ≡ []) × P (view quiet [])) → P (seen (event (done (lend c m b) (gives s left b))))
-by-view P s c m b left w go keep =
-    let x : Event = event (done (lend c m b) (gives s left b)) in
-    let r : Read x (s .frames) = read-step s c m b left w in
-    ⊎-elim
-    (λ (t : eqb (s .refusal) 0 ≡ true).
-    let z = eqb-true (s .refusal) 0 t in
-    subst P (sym (read-seen x (s .frames) r (callAsks c) (asks-taken x z))) (go z))
-    (λ (f : eqb (s .refusal) 0 ≡ false).
-    let n = eqb-false (s .refusal) 0 f in
-    let k = keep n in
-    subst P (sym (read-seen x (s .frames) r quiet (asks-refused x n) ∙ ap (view quiet) (k .0))) (k .1))
-    (tested (eqb (s .refusal) 0))
+module _ (d : Device) (l : Lent) (t : Typed (l .call)) (s : SizedRecord d) where
+  abbrev x : Event
+  x = event (done l (result d l))
 
--- its kind
-stepped : (d : Device) (s : Step) (c : Call) (m b left : List ℕ) → Whole s → (s .refusal ≡ 0 → Class d (view (callAsks c) (s .frames)) (s .state)) → ((s .refusal ≡ 0 → ⊥) → Keeps d s)
-    → Class d (seen (event (done (lend c m b) (gives s left b)))) (s .state)
-stepped d s c m b left w go keep =
-    by-view (λ (e : Seen). Class d e (s .state)) s c m b left w go (λ n. (keep n .frames, nothing-seen d (s .state) (keep n .state)))
+  -- what holds of what is seen of a call, by whether it is refused
+  pub by-view : (P : Seen → Type 0) → (step d l .refusal ≡ 0 → P (view (callAsks (l .call)) (step d l .frames))) → ((step d l .refusal ≡ 0 → ⊥) → P (view quiet [])) → P (seen x)
+  by-view P go keep =
+      let r : Read x (step d l .frames) = read-step d l t s in
+      ⊎-elim
+      (λ (y : eqb (step d l .refusal) 0 ≡ true).
+      let z = eqb-true (step d l .refusal) 0 y in
+      subst P (sym (read-seen x (step d l .frames) r (callAsks (l .call)) (asks-taken x z))) (go z))
+      (λ (y : eqb (step d l .refusal) 0 ≡ false).
+      let n = eqb-false (step d l .refusal) 0 y in
+      subst P (sym (read-seen x (step d l .frames) r quiet (asks-refused x n) ∙ ap (view quiet) (refused-keeps d l n .frames))) (keep n))
+      (tested (eqb (step d l .refusal) 0))
 
--- a link event replies nothing
-pub link-read : (d : Device) (row : ℕ) (m b : List ℕ) → Read (event (done (lend (linkEvent row) m b) (resultFor d m b (linkEvent row)))) []
-unfolding linkStep cut cutTo Fitting
-link-read d row m b = record { cuts = refl; fitting = tt }
-
-pick-same : {A : Type 0} (b : Bool) (x : A) → pick b x x ≡ x
-unfolding pick
-pick-same true x = refl
-pick-same false x = refl
-
--- and nothing is seen of it
-pub link-seen : (d : Device) (row : ℕ) (m b : List ℕ) → seen (event (done (lend (linkEvent row) m b) (resultFor d m b (linkEvent row)))) ≡ view quiet []
-link-seen d row m b =
-    let x : Event = event (done (lend (linkEvent row) m b) (resultFor d m b (linkEvent row))) in
-    read-seen x [] (link-read d row m b) quiet (pick-same (taken x) quiet)
+-- a call that was decided
+ruled-comes : (d : Device) (m b : List ℕ) {c : Call} {a : Act} → Typed c → by.Ruled (factsOf d (lent c m b)) c a → numberOf a ≡ 0 → Comes d (partOf (spanOf a) m) (callAsks c) a
+unfolding numberOf
+ruled-comes d m b t (by.refused c n h e) z = absurd (h z)
+ruled-comes d m b t (by.host f a g w s h) z =
+    subst (λ (p : List ℕ). Comes d p (frameAsks (readFrame f)) a) (heard-unsent (factsOf d (lent (hostFrame f) m b)) m h)
+    (heard-comes d g (mediumWrong (d .settings .capacity) (length m)) false (length b) _ f (read-data f) h)
+ruled-comes d m b t (by.opened u g s o p e) z = opened-comes d _ u g o (eqb-true (d .flow .phase) 0 (not-false (eqb (d .flow .phase) 0) p)) e
+ruled-comes d m b t (by.sent g w s p r) z = send-comes d m g w p r
+ruled-comes d m b t (by.finished u g s p e r) z = finished-comes d _ u g t (eqb-true (d .flow .phase) 0 (not-false (eqb (d .flow .phase) 0) p)) e r
+ruled-comes d m b t (by.failed u e y g s o x w) z = failed-comes d _ _ (busy-calm d g u o)
+ruled-comes d m b t (by.linked r g y) z = counted-comes d _ r
+ruled-comes d m b t (by.renewed g s) z = renewed-comes d _
 
 -- every call
-pub comes : (d : Device) (c : Call) (m b : List ℕ) → Typed c → SizedRecord d
-    → Class d (seen (event (done (lend c m b) (resultFor d m b c)))) (resultFor d m b c .outcome .state)
-comes d (hostFrame f) m b t s =
-    stepped d (hostStep d f (length m) (length b)) (hostFrame f) m b (keptIn (hostAct d f (length m) (length b)) f m) (always-host d f (length m) (length b) t s) (host-comes d f (length m) (length b))
-    (λ n. refused-keeps d [] (hostAct d f (length m) (length b)) n)
-comes d (openPhase tag) m b t s =
-    stepped d (openStep d tag (length b)) (openPhase tag) m b m (always-open d tag (length b)) (open-comes d tag (length b)) (λ n. refused-keeps d [] (openOf d tag (length b)) n)
-comes d sendData m b t s =
-    stepped d (sendStep d m (length b)) sendData m b m (always-send d m (length b)) (send-comes d m (length b))
-    (λ n. refused-keeps d (partOf (spanOf (sendOf d (length m) (length b))) m) (sendOf d (length m) (length b)) n)
-comes d (finishTags set) m b t s =
-    stepped d (finishStep d set (length b)) (finishTags set) m b m (always-finish d set (length b) t) (finish-comes d set (length b) t) (λ n. refused-keeps d [] (finishOf d set (length b)) n)
-comes d (mediaError tag e sector) m b t s =
-    stepped d (mediaStep d tag e sector (length b)) (mediaError tag e sector) m b m (always-media d tag e sector (length b) t) (media-comes d tag e sector (length b))
-    (λ n. refused-keeps d [] (mediaOf d tag e sector (length b)) n)
-comes d (linkEvent row) m b t s = subst (λ (e : Seen). Class d e (linkStep d row .state)) (sym (link-seen d row m b)) (link-comes d row)
-comes d comReset m b t s =
-    stepped d (comresetStep d (length b)) comReset m b m (always-comreset d (length b)) (comreset-comes d (length b)) (λ n. refused-keeps-comreset d (length b) n)
+pub comes : (d : Device) (l : Lent) → Typed (l .call) → SizedRecord d → Class d (seen (event (done l (result d l)))) (step d l .state)
+unfolding actOf
+comes d l t s =
+    by-view d l t s (λ (e : Seen). Class d e (step d l .state)) (ruled-comes d (l .medium) (l .buffer) t (by.ruled (factsOf d l) (l .call))) (λ n. nothing-seen d (step d l .state) (refused-keeps d l n .state))

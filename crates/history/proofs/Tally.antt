@@ -15,7 +15,7 @@ use Rattle.ladders.specs.Counts.{bumped}
 use Rattle.states.specs.declared.shapes.Settings.{Settings}
 use Rattle.device.specs.Device.{freshDevice, powerOn, powerNumber}
 use Rattle.device.specs.declared.state.Device.{Device}
-use Rattle.history.specs.Calls.{Event}
+use Rattle.history.specs.Event.{Event}
 use Rattle.history.specs.Counted.{zeroes, raisesRow, countedIn, told}
 
 -- what a call does to the counters: nothing; one more at a row; all zeroed

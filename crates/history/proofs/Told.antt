@@ -9,7 +9,8 @@ use Rattle.device.specs.Device.{contradictoryDevice}
 use Rattle.device.specs.Counter.{countOf}
 use Rattle.device.specs.declared.state.Device.{Device}
 use Rattle.states.specs.declared.shapes.Settings.{Settings}
-use Rattle.history.specs.Run.{Lent, AllTyped, runFrom, history}
+use Rattle.device.specs.Lent.{Lent}
+use Rattle.history.specs.Run.{AllTyped, runFrom, history}
 use Rattle.history.specs.Told.{ToldOutstanding, ToldWaits, ToldCounters, ToldAsked, ToldDepth, ToldCount, ToldConsistent}
 use Rattle.history.proofs.Core.{inv-waits, inv-number, inv-total}
 use Rattle.history.proofs.Counters.{counting-true}

@@ -15,7 +15,7 @@ use Rattle.frames.specs.declared.shapes.DmaSetup.{DmaSetup}
 use Rattle.frames.specs.declared.shapes.PioSetup.{PioSetup}
 use Rattle.frames.specs.declared.shapes.Frame.{Frame}
 use Rattle.frames.proofs.RoundTrip.{read-encoded}
-use Rattle.replies.specs.Fit.{Fitting}
+use Rattle.replies.proofs.Fit.{Fitting}
 use Rattle.replies.specs.Replies.{activateIf}
 use Rattle.device.proofs.Never.{and-never}
 use Rattle.history.specs.Asked.{Asked, quiet, dataAsks, resetAsks}

@@ -8,25 +8,27 @@ use Rattle.states.specs.declared.shapes.Settings.{Settings}
 use Rattle.device.specs.declared.state.Device.{Device}
 use Rattle.device.specs.declared.state.Outcome.{Outcome}
 use Rattle.device.proofs.state.Device as calls
-use Rattle.history.specs.Calls.{Call, hostFrame, openPhase, sendData, finishTags, mediaError, linkEvent, comReset, Event}
-use Rattle.history.specs.Run.{Lent, lend, Gave, give, Done, event}
+use Rattle.rules.specs.Call.{Call, hostFrame, openPhase, sendData, finishTags, mediaError, linkEvent, comReset}
+use Rattle.history.specs.Event.{Event}
+use Rattle.device.specs.Lent.{Lent, lent, Gave, gave}
+use Rattle.history.specs.Run.{Done, event}
 
 -- one call of the state d, as it may go: each case is a public function of the device, and what it holds is that function's own contract, its `Post`; what the function is not lent stays as it was
 pub data Allowed (d : Device) : Lent → Gave → Type 0 where
   hosted : (κs : Lfts 3) (f m b : RefT (List ℕ)) (r : Outcome) (m′ b′ : List ℕ)
-      → Allows calls.host_frame.ended calls.host_frame.Reads.Post κs (d, (f, (m, (b, tt)))) r (tt, (tt, (m′, (b′, tt)))) → Allowed d (lend (hostFrame (now f)) (now m) (now b)) (give r m′ b′)
+      → Allows calls.host_frame.ended calls.host_frame.Reads.Post κs (d, (f, (m, (b, tt)))) r (tt, (tt, (m′, (b′, tt)))) → Allowed d (lent (hostFrame (now f)) (now m) (now b)) (gave r m′ b′)
   opened : (κs : Lfts 1) (t : ℕ) (b : RefT (List ℕ)) (r : Outcome) (m b′ : List ℕ)
-      → Allows calls.open.ended calls.open.Reads.Post κs (d, (t, (b, tt))) r (tt, (tt, (b′, tt))) → Allowed d (lend (openPhase t) m (now b)) (give r m b′)
+      → Allows calls.open.ended calls.open.Reads.Post κs (d, (t, (b, tt))) r (tt, (tt, (b′, tt))) → Allowed d (lent (openPhase t) m (now b)) (gave r m b′)
   sent : (κs : Lfts 2) (m b : RefT (List ℕ)) (r : Outcome) (b′ : List ℕ)
-      → Allows calls.send.ended calls.send.Reads.Post κs (d, (m, (b, tt))) r (tt, (tt, (b′, tt))) → Allowed d (lend sendData (now m) (now b)) (give r (now m) b′)
+      → Allows calls.send.ended calls.send.Reads.Post κs (d, (m, (b, tt))) r (tt, (tt, (b′, tt))) → Allowed d (lent sendData (now m) (now b)) (gave r (now m) b′)
   finished : (κs : Lfts 1) (s : ℕ) (b : RefT (List ℕ)) (r : Outcome) (m b′ : List ℕ)
-      → Allows calls.finish.ended calls.finish.Reads.Post κs (d, (s, (b, tt))) r (tt, (tt, (b′, tt))) → Allowed d (lend (finishTags s) m (now b)) (give r m b′)
+      → Allows calls.finish.ended calls.finish.Reads.Post κs (d, (s, (b, tt))) r (tt, (tt, (b′, tt))) → Allowed d (lent (finishTags s) m (now b)) (gave r m b′)
   failed : (κs : Lfts 1) (t e s : ℕ) (b : RefT (List ℕ)) (r : Outcome) (m b′ : List ℕ)
-      → Allows calls.media_error.ended calls.media_error.Reads.Post κs (d, (t, (e, (s, (b, tt))))) r (tt, (tt, (tt, (tt, (b′, tt))))) → Allowed d (lend (mediaError t e s) m (now b)) (give r m b′)
+      → Allows calls.media_error.ended calls.media_error.Reads.Post κs (d, (t, (e, (s, (b, tt))))) r (tt, (tt, (tt, (tt, (b′, tt))))) → Allowed d (lent (mediaError t e s) m (now b)) (gave r m b′)
   linked : (row : ℕ) (r : Outcome) (m b : List ℕ)
-      → Allows calls.link_event.ended calls.link_event.Reads.Post tt (d, (row, tt)) r (tt, (tt, tt)) → Allowed d (lend (linkEvent row) m b) (give r m b)
+      → Allows calls.link_event.ended calls.link_event.Reads.Post tt (d, (row, tt)) r (tt, (tt, tt)) → Allowed d (lent (linkEvent row) m b) (gave r m b)
   reset : (κs : Lfts 1) (b : RefT (List ℕ)) (r : Outcome) (m b′ : List ℕ)
-      → Allows calls.comreset.ended calls.comreset.Reads.Post κs (d, (b, tt)) r (tt, (b′, tt)) → Allowed d (lend comReset m (now b)) (give r m b′)
+      → Allows calls.comreset.ended calls.comreset.Reads.Post κs (d, (b, tt)) r (tt, (b′, tt)) → Allowed d (lent comReset m (now b)) (gave r m b′)
 
 -- a sequence of results, the oldest first, each allowed by its call's contract, each given the state that the last returned
 unfoldable pub Follows : Device → List Done → Type 0

@@ -13,7 +13,8 @@ use Rattle.pages.specs.declared.rows.Place.{Place}
 use Rattle.pages.specs.declared.rows.Place.the-variants.{Row, Nowhere}
 use Rattle.pages.specs.declared.page11.Counter.{Counter}
 use Rattle.pages.specs.declared.page11.Counter.the-variants.{Value, Absent}
-use Rattle.history.specs.Calls.{Call, hostFrame, openPhase, sendData, finishTags, mediaError, linkEvent, comReset, Event, taken}
+use Rattle.rules.specs.Call.{Call, hostFrame, openPhase, sendData, finishTags, mediaError, linkEvent, comReset}
+use Rattle.history.specs.Event.{Event, taken}
 use Rattle.history.specs.Replied.{paged}
 use Rattle.history.specs.Logs.{readsLog, callReads}
 

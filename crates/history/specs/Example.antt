@@ -10,7 +10,8 @@ use Rattle.pages.specs.Page11.{readCounter}
 use Rattle.pages.specs.declared.page11.Counter.{Counter}
 use Rattle.pages.specs.declared.page11.Counter.the-variants.{Value, Absent}
 use Rattle.device.specs.Device.{powerOn}
-use Rattle.history.specs.Calls.{Call, hostFrame, openPhase, sendData, finishTags, mediaError, comReset, Event}
+use Rattle.rules.specs.Call.{Call, hostFrame, openPhase, sendData, finishTags, mediaError, comReset}
+use Rattle.history.specs.Event.{Event}
 use Rattle.history.specs.Replied.{pieces, page, sent}
 use Rattle.history.specs.Asked.{brought}
 use Rattle.history.specs.Seen.{Seen, seen, flows}
@@ -18,7 +19,8 @@ use Rattle.history.specs.Fates.{Command, commands, ownTag, outstanding, 
 use Rattle.history.specs.Waits.{sactive, waits, givenUpThere, badSince}
 use Rattle.history.specs.Carried.{flow, span, carried}
 use Rattle.history.specs.Counted.{sends11, toldFor}
-use Rattle.history.specs.Run.{Lent, AllTyped, history}
+use Rattle.device.specs.Lent.{Lent, lent}
+use Rattle.history.specs.Run.{AllTyped, history}
 
 -- depth 32, one sector, rows 0 and 9 kept
 abbrev pub settings : Settings
@@ -33,8 +35,8 @@ abbrev pub halves : ℕ → ℕ → List ℕ
 halves a b = replicate 256 a ++ replicate 256 b
 
 -- a call, lent a medium and the smallest reply buffer that will do
-abbrev pub lent : List ℕ → Call → Lent
-lent medium call = record { call = call; medium = medium; buffer = replicate 8196 0 }
+abbrev pub lentRoom : List ℕ → Call → Lent
+lentRoom medium call = lent call medium (replicate 8196 0)
 
 -- a queued command of one sector, sector 0: its code and its tag
 abbrev pub queued : ℕ → ℕ → Call
@@ -61,7 +63,7 @@ lastCalls = mediaError 3 0x84 0 ∷ queued 0x60 4 ∷ readLog 0x10 ∷ queued 0x
 
 -- all calls, the oldest first: the medium holds 5 until the write has brought 7, and then its other half until it has brought 8
 abbrev pub calls : List Lent
-calls = map (lent (sector 5)) firstCalls ++ (lent (halves 7 5) (hostData 8) ∷ map (lent (halves 7 8)) lastCalls)
+calls = map (lentRoom (sector 5)) firstCalls ++ (lentRoom (halves 7 5) (hostData 8) ∷ map (lentRoom (halves 7 8)) lastCalls)
 
 -- what the outside saw of the run, the newest event first
 unfoldable pub story : List Event

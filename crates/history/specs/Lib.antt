@@ -1,4 +1,4 @@
-pub mod Calls
+pub mod Event
 pub mod Replied
 pub mod Asked
 pub mod Logs

@@ -8,7 +8,8 @@ use Rattle.bits.specs.Bit.{bitIn}
 use Rattle.pages.specs.Page10.{readLog}
 use Rattle.pages.specs.declared.page10.Page10.{Page10}
 use Rattle.pages.specs.declared.page10.Page10.the-variants.{Fields, Refused}
-use Rattle.history.specs.Calls.{Call, hostFrame, openPhase, sendData, finishTags, mediaError, linkEvent, comReset, Event, taken}
+use Rattle.rules.specs.Call.{Call, hostFrame, openPhase, sendData, finishTags, mediaError, linkEvent, comReset}
+use Rattle.history.specs.Event.{Event, taken}
 use Rattle.history.specs.Asked.{asks}
 use Rattle.history.specs.Logs.{callReads}
 use Rattle.history.specs.Replied.{frames, some, errIn, registerIn, collect, faultyIn, paged, page}

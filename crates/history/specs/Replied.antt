@@ -13,7 +13,7 @@ use Rattle.frames.specs.declared.shapes.DmaSetup.{DmaSetup}
 use Rattle.frames.specs.declared.shapes.PioSetup.{PioSetup}
 use Rattle.frames.specs.declared.shapes.Frame.{Frame}
 use Rattle.frames.specs.declared.shapes.Frame.the-variants.{Host, Device, Bits, Setup, Activate, Data, Bist, Pio, Refused}
-use Rattle.history.specs.Calls.{Event}
+use Rattle.history.specs.Event.{Event}
 
 -- the replies, each as its bytes
 abbrev pub pieces : Event → List (List ℕ)

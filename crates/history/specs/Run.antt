@@ -1,68 +1,19 @@
 -- Runs of the definitions: any sequence of calls of the device, each given the state that the last one returned. Assumes nothing.
 use mathlib.Core.List.{List, [], _∷_, map}
-use Prim.Native.Nat.{ℕ, _^_, _<_}
+use Prim.Native.Nat.{ℕ}
 use lib.ListN.{length, take}
 use Rattle.bits.specs.Laid.{laid}
-use Rattle.bits.specs.Little.{Bytes}
-use Rattle.rules.specs.Taking.{keptIn}
-use Rattle.replies.specs.Replies.{sentAll}
 use Rattle.states.specs.declared.shapes.Settings.{Settings}
 use Rattle.device.specs.Device.{powerOn}
-use Rattle.device.specs.Events.{linkStep}
-use Rattle.device.specs.Step.{Step}
-use Rattle.device.specs.Reset.{comresetStep}
-use Rattle.device.specs.Calls.{hostAct, hostStep, openStep, sendStep, finishStep, mediaStep}
+use Rattle.device.specs.Lent.{Lent, Gave, gave, Typed}
+use Rattle.device.specs.Step.{step, bytesOf}
 use Rattle.device.specs.declared.state.Device.{Device}
-use Rattle.device.specs.declared.state.Outcome.{Outcome}
-use Rattle.history.specs.Calls.{Call, hostFrame, openPhase, sendData, finishTags, mediaError, linkEvent, comReset, Event}
+use Rattle.history.specs.Event.{Event}
 
--- a call with what is lent to it: any medium, any reply buffer
-pub record Lent : Type 0 where
-  pub call : Call
-  pub medium : List ℕ
-  pub buffer : List ℕ
-
--- a call with the medium and the reply buffer lent to it
-abbrev pub lend : Call → List ℕ → List ℕ → Lent
-lend c m b = record { call = c; medium = m; buffer = b }
-
--- what came back: the outcome, and what medium and reply buffer then hold
-pub record Gave : Type 0 where
-  pub outcome : Outcome
-  pub medium : List ℕ
-  pub buffer : List ℕ
-
--- an outcome with what medium and reply buffer then hold
-abbrev pub give : Outcome → List ℕ → List ℕ → Gave
-give r m b = record { outcome = r; medium = m; buffer = b }
-
--- what the types of the arguments give: a frame is of bytes, an error is a byte, a set has 32 bits
-abbrev pub Typed : Call → Type 0
-Typed (hostFrame f) = Bytes f
-Typed (openPhase t) = Unit
-Typed sendData = Unit
-Typed (finishTags s) = s < 2 ^ 32
-Typed (mediaError t e s) = e < 256
-Typed (linkEvent r) = Unit
-Typed comReset = Unit
-
--- what a step gives: its frames in front of the reply buffer, and the rest as it was
-abbrev pub gives : Step → List ℕ → List ℕ → Gave
-gives s m b = record { outcome = record { state = s .state; refusal = s .refusal; len = length (sentAll (s .frames)) }; medium = m; buffer = laid (sentAll (s .frames)) b }
-
--- what the definitions give
-abbrev pub resultFor : Device → List ℕ → List ℕ → Call → Gave
-resultFor d m b (hostFrame f) = gives (hostStep d f (length m) (length b)) (keptIn (hostAct d f (length m) (length b)) f m) b
-resultFor d m b (openPhase t) = gives (openStep d t (length b)) m b
-resultFor d m b sendData = gives (sendStep d m (length b)) m b
-resultFor d m b (finishTags s) = gives (finishStep d s (length b)) m b
-resultFor d m b (mediaError t e s) = gives (mediaStep d t e s (length b)) m b
-resultFor d m b (linkEvent r) = record { outcome = linkStep d r; medium = m; buffer = b }
-resultFor d m b comReset = gives (comresetStep d (length b)) m b
-
--- of a call with what was lent
+-- what the definitions give: the step, its frames in front of the reply buffer, and the rest as it was
 abbrev pub result : Device → Lent → Gave
-result d a = resultFor d (a .medium) (a .buffer) (a .call)
+result d l =
+    gave (record { state = step d l .state; refusal = step d l .refusal; len = length (bytesOf (step d l)) }) (step d l .medium) (laid (bytesOf (step d l)) (l .buffer))
 
 -- one call as it went
 pub record Done : Type 0 where

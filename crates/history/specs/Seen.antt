@@ -8,7 +8,7 @@ use Rattle.bits.specs.Bit.{bitIn}
 use Rattle.frames.specs.declared.shapes.SetBits.{SetBits}
 use Rattle.frames.specs.declared.shapes.DmaSetup.{DmaSetup}
 use Rattle.frames.specs.declared.shapes.Frame.{Frame}
-use Rattle.history.specs.Calls.{Event}
+use Rattle.history.specs.Event.{Event}
 use Rattle.history.specs.Asked.{Asked, asks}
 use Rattle.history.specs.Replied.{frames, some, errIn, registerIn, setBitsIn, setupIn, collect, sent}
 

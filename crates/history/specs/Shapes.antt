@@ -9,7 +9,8 @@ use Rattle.wire.specs.Piece.{srstOf}
 use Rattle.frames.specs.Read.{readFrame}
 use Rattle.frames.specs.declared.shapes.Frame.{Frame}
 use Rattle.frames.specs.declared.shapes.Frame.the-variants.{Host, Device, Bits, Setup, Activate, Data, Bist, Pio, Refused}
-use Rattle.history.specs.Calls.{Call, hostFrame, openPhase, sendData, finishTags, mediaError, linkEvent, comReset, Event}
+use Rattle.rules.specs.Call.{Call, hostFrame, openPhase, sendData, finishTags, mediaError, linkEvent, comReset}
+use Rattle.history.specs.Event.{Event}
 use Rattle.history.specs.Replied.{frames}
 
 -- the kind of a frame, as its type byte; 0 stands for one that the reader refuses

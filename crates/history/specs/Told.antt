@@ -14,7 +14,7 @@ use Rattle.states.specs.declared.shapes.Settings.{Settings}
 use Rattle.device.specs.Device.{contradictoryDevice, powerOn, zeroDevice}
 use Rattle.device.specs.declared.state.Device.{Device}
 use Rattle.device.proofs.state.Device as calls
-use Rattle.history.specs.Calls.{Event}
+use Rattle.history.specs.Event.{Event}
 use Rattle.history.specs.Seen.{seen}
 use Rattle.history.specs.Fates.{one, total, totalWith}
 use Rattle.history.specs.Waits.{waits}

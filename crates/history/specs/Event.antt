@@ -3,20 +3,7 @@ use mathlib.Core.Bool.{Bool}
 use mathlib.Core.List.{List}
 use Prim.Native.Nat.{ℕ}
 use lib.Dec.{eqb}
-
--- a host frame as its bytes, or a device event
-pub data Call : Type 0 where
-  hostFrame : List ℕ → Call
-  -- tag
-  openPhase : ℕ → Call
-  sendData : Call
-  -- set of tags
-  finishTags : ℕ → Call
-  -- tag, error byte, sector
-  mediaError : ℕ → ℕ → ℕ → Call
-  -- row
-  linkEvent : ℕ → Call
-  comReset : Call
+use Rattle.rules.specs.Call.{Call}
 
 -- one call: the medium lent to it, its refusal (0 = taken), the bytes of its replies, and the medium as it left it
 pub record Event : Type 0 where

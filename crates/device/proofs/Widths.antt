@@ -16,9 +16,9 @@ use Rattle.states.specs.Table.{entryOf, placed, cleared}
 use Rattle.states.specs.declared.shapes.Echo.{Echo}
 use Rattle.states.specs.declared.shapes.Entry.{Entry}
 use Rattle.states.proofs.TableLaws.{length-tab, getD-placed, getD-cleared}
-use Rattle.rules.specs.Events.{failing}
-use Rattle.device.specs.Sized.{SizedRecord}
+use Rattle.rules.specs.Act.{failing}
+use Rattle.device.proofs.Sized.{SizedRecord}
 use Rattle.device.specs.declared.state.Device.{Device}
 
 -- nine bytes of a command are bytes
 abbrev pub Small : Echo → Type 0
