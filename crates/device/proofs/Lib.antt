@@ -14,6 +14,7 @@ pub mod NeverCalls
 pub mod Opens
 pub mod Rooms
 pub mod Doing
+pub mod Lending
 pub mod Exactly
 pub mod Refusals
 pub mod Counting
@@ -23,5 +24,6 @@ pub mod Fitting
 pub mod Sending
 pub mod Storing
 pub mod Moves
+pub mod Due
 pub mod Effects
 pub mod Zeros
