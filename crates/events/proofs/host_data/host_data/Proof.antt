@@ -1,4 +1,3 @@
-use native.Mathlib.Omega.{arith}
 use Rattle.events.proofs.Frames.{due-within, hosted-front}
 use borrow.Author.Needs.{needs}
 use Rattle.events.proofs.host_data.host_data.Statement.{statement}
