@@ -14,6 +14,7 @@ pub mod NeverCalls
 pub mod Opens
 pub mod Rooms
 pub mod Doing
+pub mod Lending
 pub mod Exactly
 pub mod Refusals
 pub mod Counting
@@ -25,5 +26,6 @@ pub mod Widening
 pub mod Sending
 pub mod Storing
 pub mod Moves
+pub mod Due
 pub mod Effects
 pub mod Zeros

@@ -17,9 +17,9 @@ use Rattle.events.specs.Stops.{isStop, notWhole, stopsAt, startOut}
 use Rattle.events.specs.declared.kinds.Length.{Length}
 use Rattle.events.specs.declared.kinds.Length.the-variants.{Bytes, Unknown}
 use Rattle.events.specs.declared.kinds.Next.{Next}
-use Rattle.events.specs.declared.kinds.Next.the-variants.{Event, Stop, End}
+use Rattle.events.specs.declared.kinds.Next.the-variants.{Whole, Stop, End}
 
-picked : (b : Bool) (n : ℕ) → isStop (pick b (Event n) Stop) ≡ not b
+picked : (b : Bool) (n : ℕ) → isStop (pick b (Whole n) Stop) ≡ not b
 unfolding pick isStop
 picked true n = refl
 picked false n = refl

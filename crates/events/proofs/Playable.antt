@@ -12,88 +12,99 @@ use borrow.Author.Tests.{leb-true, eqb-true, eq-eqb}
 use Rattle.bits.specs.Pick.{pick}
 use Rattle.wire.specs.Size.{fixedSize}
 use Rattle.bits.proofs.Picks.{tested, by-test, pick-no}
+use Rattle.device.specs.declared.state.Device.{Device}
 use Rattle.events.specs.Kinds.{bodyLength, misplaced, wholeOf, nextOf, fitsLength, isEvent}
-use Rattle.events.specs.Calls.{byKind, callOf}
-use Rattle.events.specs.Stops.{isNothing, noCall}
+use Rattle.events.specs.Calls.{byKind, eventOf, callsOf, callsFor}
+use Rattle.events.specs.Stops.{isNone, noCall}
 use Rattle.events.specs.declared.kinds.Length.{Length}
 use Rattle.events.specs.declared.kinds.Length.the-variants.{Bytes, Unknown}
 use Rattle.events.specs.declared.kinds.Next.{Next}
-use Rattle.events.specs.declared.kinds.Next.the-variants.{Event, Stop, End}
-use Rattle.events.specs.declared.calls.Call.{Call}
+use Rattle.events.specs.declared.kinds.Next.the-variants.{Whole, Stop, End}
+use Rattle.events.specs.declared.events.Event.{Event}
+use Rattle.events.specs.declared.events.Event.the-variants.{Nothing}
 
--- one kind more: its call is one, or the rest of the kinds decides
-kind : (b : Bool) (x y : Call) (u v : Length) (n : ℕ) → isNothing x ≡ false → (fitsLength v n ≡ true → isNothing y ≡ false) → fitsLength (pick b u v) n ≡ true → isNothing (pick b x y) ≡ false
-unfolding pick
-kind true x y u v n p q f = p
-kind false x y u v n p q f = q f
-
--- a kind other than 00h whose body has its length has a call
-has-call : (k : ℕ) (e : List ℕ) (n : ℕ) → eqb k 0x00 ≡ false → fitsLength (bodyLength k) n ≡ true → isNothing (byKind k e) ≡ false
-unfolding bodyLength byKind isNothing fitsLength
-has-call k e n z f =
-    kind (eqb k 0x01) _ _ (Bytes 1) _ n refl
-    (kind (eqb k 0x02) _ _ (Bytes 0) _ n refl
-    (kind (eqb k 0x03) _ _ (Bytes 4) _ n refl
-    (kind (eqb k 0x04) _ _ (Bytes 6) _ n refl
-    (kind (eqb k 0x05) _ _ (Bytes 1) _ n refl
-    (kind (eqb k 0x06) _ _ (Bytes 0) _ n refl
-    (kind (eqb k 0x07) _ _ (Bytes 1) _ n refl
-    (kind (eqb k 0x27) _ _ (Bytes (fixedSize 0x27 - 1)) _ n refl
-    (kind (eqb k 0x58) _ _ (Bytes (fixedSize 0x58 - 1)) Unknown n refl
-    (λ h. absurd (false≢true h))))))))))
-    (sym (ap (λ (x : Length). fitsLength x n) (pick-no (eqb k 0x00) (Bytes 7) _ z)) ∙ f)
-
-settings-none : (k : ℕ) (e : List ℕ) → eqb k 0x00 ≡ true → isNothing (byKind k e) ≡ eqb k 0x00
-unfolding byKind isNothing pick
-settings-none k e z = rw (eqb-true k 0x00 z) refl
+settings-nothing : (k : ℕ) (e : List ℕ) → eqb k 0x00 ≡ true → byKind k e ≡ Nothing
+unfolding byKind pick
+settings-nothing k e z = rw (eqb-true k 0x00 z) refl
 
 fits : (e : List ℕ) → isEvent e ≡ true → fitsLength (bodyLength (getD e 0 0)) (length e) ≡ true
 unfolding isEvent
 fits e h = h
-
-broken : (e : List ℕ) → isEvent e ≡ false → isNothing (callOf e) ≡ noCall e
-unfolding callOf pick isNothing
-broken e h = rw h refl
-
-whole : (e : List ℕ) → isEvent e ≡ true → isNothing (callOf e) ≡ noCall e
-unfolding callOf pick
-whole e h =
-    let k = getD e 0 0 in
-    rw h (⊎-elim (λ (z : eqb k 0x00 ≡ true). settings-none k e z) (λ (z : eqb k 0x00 ≡ false). has-call k e (length e) z (fits e h) ∙ sym z) (tested (eqb k 0x00)))
-
--- 24 is given exactly to what is no event, and to settings, which have their own call
-pub no-call-exactly : (e : List ℕ) → isNothing (callOf e) ≡ noCall e
-no-call-exactly e = ⊎-elim (λ (h : isEvent e ≡ true). whole e h) (λ (h : isEvent e ≡ false). broken e h) (tested (isEvent e))
-
--- an event that is ahead has a call
-Ready : List ℕ → Next → Type 0
-Ready l (Event n) = isNothing (callOf (take n l)) ≡ false
-Ready l Stop = Unit {0}
-Ready l End = Unit {0}
-
-whole-ready : (k : Length) (l : List ℕ) → ((n : ℕ) → fitsLength k n ≡ true → n ≤ length l → 1 ≤ n → isNothing (callOf (take n l)) ≡ false) → Ready l (wholeOf k (length l))
-unfolding wholeOf Ready fitsLength
-whole-ready (Bytes m) l f = by-test (Ready l) (leb (m + 1) (length l)) (Event (m + 1)) Stop (λ h. f (m + 1) (eq-eqb (m + 1) (m + 1) refl) (leb-true _ _ h) (omega arith)) (λ h. tt)
-whole-ready Unknown l f = tt
 
 head-take : (l : List ℕ) (n : ℕ) → 1 ≤ n → getD (take n l) 0 0 ≡ getD l 0 0
 head-take l zero h = absurd (omega arith)
 head-take [] (suc n) h = refl
 head-take (x ∷ l) (suc n) h = refl
 
-part-call : (l : List ℕ) (n : ℕ) → eqb (getD l 0 0) 0x00 ≡ false → fitsLength (bodyLength (getD l 0 0)) n ≡ true → n ≤ length l → 1 ≤ n → isNothing (callOf (take n l)) ≡ false
-unfolding isEvent
-part-call l n z f h o = no-call-exactly (take n l) ∙ rw (length-take-le n l h) (rw (head-take l n o) (rw f (rw z refl)))
+module _ (d : Device) where
+  -- what bytes e ask for makes no call
+  abbrev Idle : List ℕ → Event → Bool
+  Idle e x = isNone (callsOf d e x)
 
-next-ready : (l : List ℕ) → Ready l (nextOf false l)
-unfolding nextOf misplaced Ready pick
-next-ready l =
-    let k = getD l 0 0 in
-    by-test (Ready l) (eqb (length l) 0) (pick false Stop End) (pick (misplaced false k) Stop (wholeOf (bodyLength k) (length l)))
-    (λ h. tt)
-    (λ h. by-test (Ready l) (misplaced false k) Stop (wholeOf (bodyLength k) (length l)) (λ m. tt) (λ m. whole-ready (bodyLength k) l (λ n f le o. part-call l n m f le o)))
+  -- one kind more: what it asks for makes a call, or the rest of the kinds decides
+  kind : (e : List ℕ) (b : Bool) (x y : Event) (u v : Length) (n : ℕ) → Idle e x ≡ false → (fitsLength v n ≡ true → Idle e y ≡ false) → fitsLength (pick b u v) n ≡ true → Idle e (pick b x y) ≡ false
+  unfolding pick
+  kind e true x y u v n p q f = p
+  kind e false x y u v n p q f = q f
 
--- a run plays what it comes to: 24 is never given there
-pub run-plays : (l : List ℕ) (n : ℕ) → nextOf false l ≡ Event n → isNothing (callOf (take n l)) ≡ false
-unfolding Ready
-run-plays l n e = rw e at (next-ready l)
+  -- a kind other than 00h whose body has its length makes a call
+  has-call : (k : ℕ) (e : List ℕ) (n : ℕ) → eqb k 0x00 ≡ false → fitsLength (bodyLength k) n ≡ true → Idle e (byKind k e) ≡ false
+  unfolding bodyLength byKind callsOf isNone fitsLength
+  has-call k e n z f =
+      kind e (eqb k 0x01) _ _ (Bytes 1) _ n refl
+      (kind e (eqb k 0x02) _ _ (Bytes 0) _ n refl
+      (kind e (eqb k 0x03) _ _ (Bytes 4) _ n refl
+      (kind e (eqb k 0x04) _ _ (Bytes 6) _ n refl
+      (kind e (eqb k 0x05) _ _ (Bytes 1) _ n refl
+      (kind e (eqb k 0x06) _ _ (Bytes 0) _ n refl
+      (kind e (eqb k 0x07) _ _ (Bytes 1) _ n refl
+      (kind e (eqb k 0x27) _ _ (Bytes (fixedSize 0x27 - 1)) _ n refl
+      (kind e (eqb k 0x58) _ _ (Bytes (fixedSize 0x58 - 1)) Unknown n refl
+      (λ h. absurd (false≢true h))))))))))
+      (sym (ap (λ (x : Length). fitsLength x n) (pick-no (eqb k 0x00) (Bytes 7) _ z)) ∙ f)
+
+  settings-none : (k : ℕ) (e : List ℕ) → eqb k 0x00 ≡ true → Idle e (byKind k e) ≡ eqb k 0x00
+  unfolding callsOf isNone
+  settings-none k e z = ap (Idle e) (settings-nothing k e z) ∙ sym z
+
+  broken : (e : List ℕ) → isEvent e ≡ false → isNone (callsFor d e) ≡ noCall e
+  unfolding eventOf callsOf pick isNone
+  broken e h = rw h refl
+
+  whole : (e : List ℕ) → isEvent e ≡ true → isNone (callsFor d e) ≡ noCall e
+  unfolding eventOf pick
+  whole e h =
+      let k = getD e 0 0 in
+      rw h (⊎-elim (λ (z : eqb k 0x00 ≡ true). settings-none k e z) (λ (z : eqb k 0x00 ≡ false). has-call k e (length e) z (fits e h) ∙ sym z) (tested (eqb k 0x00)))
+
+  -- no call is made exactly for what is no event, and for settings, which have their own call
+  pub no-call-exactly : (e : List ℕ) → isNone (callsFor d e) ≡ noCall e
+  no-call-exactly e = ⊎-elim (λ (h : isEvent e ≡ true). whole e h) (λ (h : isEvent e ≡ false). broken e h) (tested (isEvent e))
+
+  -- an event that is ahead makes a call
+  Ready : List ℕ → Next → Type 0
+  Ready l (Whole n) = isNone (callsFor d (take n l)) ≡ false
+  Ready l Stop = Unit {0}
+  Ready l End = Unit {0}
+
+  whole-ready : (k : Length) (l : List ℕ) → ((n : ℕ) → fitsLength k n ≡ true → n ≤ length l → 1 ≤ n → isNone (callsFor d (take n l)) ≡ false) → Ready l (wholeOf k (length l))
+  unfolding wholeOf Ready fitsLength
+  whole-ready (Bytes m) l f = by-test (Ready l) (leb (m + 1) (length l)) (Whole (m + 1)) Stop (λ h. f (m + 1) (eq-eqb (m + 1) (m + 1) refl) (leb-true _ _ h) (omega arith)) (λ h. tt)
+  whole-ready Unknown l f = tt
+
+  part-call : (l : List ℕ) (n : ℕ) → eqb (getD l 0 0) 0x00 ≡ false → fitsLength (bodyLength (getD l 0 0)) n ≡ true → n ≤ length l → 1 ≤ n → isNone (callsFor d (take n l)) ≡ false
+  unfolding isEvent
+  part-call l n z f h o = no-call-exactly (take n l) ∙ rw (length-take-le n l h) (rw (head-take l n o) (rw f (rw z refl)))
+
+  next-ready : (l : List ℕ) → Ready l (nextOf false l)
+  unfolding nextOf misplaced Ready pick
+  next-ready l =
+      let k = getD l 0 0 in
+      by-test (Ready l) (eqb (length l) 0) (pick false Stop End) (pick (misplaced false k) Stop (wholeOf (bodyLength k) (length l)))
+      (λ h. tt)
+      (λ h. by-test (Ready l) (misplaced false k) Stop (wholeOf (bodyLength k) (length l)) (λ m. tt) (λ m. whole-ready (bodyLength k) l (λ n f le o. part-call l n m f le o)))
+
+  -- a run plays what it comes to: 24 is never given there
+  pub run-plays : (l : List ℕ) (n : ℕ) → nextOf false l ≡ Whole n → isNone (callsFor d (take n l)) ≡ false
+  unfolding Ready
+  run-plays l n e = rw e at (next-ready l)

@@ -1,7 +1,7 @@
 -- The line of an answer is the line of its step. Assumes nothing.
 use mathlib.Core.Path.{_≡_, refl, ap, ap₂, subst, _∙_}
 use mathlib.Core.Bool.{Bool}
-use mathlib.Core.List.{List}
+use mathlib.Core.List.{List, []}
 use Prim.Native.Nat.{ℕ, _+_, _≤_}
 use native.Mathlib.Omega.{arith}
 use lib.ListN.{length, take, drop, length-append}
@@ -12,7 +12,8 @@ use Rattle.text.specs.Sheet.{Fronted}
 use Rattle.text.proofs.Writing.{fronted-once}
 use Rattle.replies.specs.Replies.{sentAll}
 use Rattle.device.specs.Device.{powerOn}
-use Rattle.device.specs.Step.{Step, Answered}
+use Rattle.device.specs.Lent.{Gave, gave}
+use Rattle.device.specs.Step.{Step, bytesOf, Gives}
 use Rattle.device.specs.declared.state.Device.{Device}
 use Rattle.device.specs.declared.state.Outcome.{Outcome}
 use Rattle.events.specs.Start.{startOf}
@@ -21,16 +22,16 @@ use Rattle.events.specs.Told.{lineFor, Tells, startStep}
 use Rattle.events.specs.declared.tells.Told.{Told}
 
 -- replies end within their buffer
-pub reply-fits : (s : Step) (b : List ℕ) (r : Outcome) (b′ : List ℕ) → Answered s b r b′ → r .len ≤ length b′
-reply-fits s b r b′ p =
-    let f = sentAll (s .frames) in
-    let l : length b′ ≡ length f + length (drop (length f) b) = ap length (p .reply) ∙ length-append f (drop (length f) b) in
+pub reply-fits : (s : Step) (b : List ℕ) (g : Gave) → Gives s b g → g .outcome .len ≤ length (g .buffer)
+reply-fits s b g p =
+    let f = bytesOf s in
+    let l : length (g .buffer) ≡ length f + length (drop (length f) b) = ap length (p .reply) ∙ length-append f (drop (length f) b) in
     let k = p .len in
     omega arith
 
 -- in front of the buffer stand the replies, and nothing else up to their length
-replies-front : (s : Step) (b : List ℕ) (r : Outcome) (b′ : List ℕ) → Answered s b r b′ → take (r .len) b′ ≡ sentAll (s .frames)
-replies-front s b r b′ p = let f = sentAll (s .frames) in ap₂ (λ (n : ℕ) (l : List ℕ). take n l) (p .len) (p .reply) ∙ take-append-seam f (drop (length f) b)
+replies-front : (s : Step) (b : List ℕ) (g : Gave) → Gives s b g → take (g .outcome .len) (g .buffer) ≡ bytesOf s
+replies-front s b g p = let f = bytesOf s in ap₂ (λ (n : ℕ) (l : List ℕ). take n l) (p .len) (p .reply) ∙ take-append-seam f (drop (length f) b)
 
 -- what is told of an answer
 abbrev pub TellsOf : Bool → ℕ → Outcome → List ℕ → List ℕ → Told → List ℕ → Type 0
@@ -38,21 +39,22 @@ TellsOf traced number out b o r o′ =
     (r .state ≡ out .state) × (r .refusal ≡ out .refusal) × Fronted (lineOf traced number (out .refusal) (out .state .flow .outstanding) (take (out .len) b)) o (r .len) o′
 
 -- is what is told of its step
-pub tells-step : (traced : Bool) (number : ℕ) (s : Step) (b : List ℕ) (out : Outcome) (b′ : List ℕ) → Answered s b out b′ → (o : List ℕ) (r : Told) (o′ : List ℕ) → TellsOf traced number out b′ o r o′ → Tells traced number s o r o′
+pub tells-step : (traced : Bool) (number : ℕ) (s : Step) (b : List ℕ) (g : Gave) → Gives s b g → (o : List ℕ) (r : Told) (o′ : List ℕ) → TellsOf traced number (g .outcome) (g .buffer) o r o′ → Tells traced number s o r o′
 unfolding lineFor
-tells-step traced number s b out b′ p o r o′ t = record {
+tells-step traced number s b g p o r o′ t = record {
   state = t .0 ∙ p .state;
   refusal = t .1 ∙ p .refusal;
   line =
       subst (λ (l : List ℕ). Fronted l o (r .len) o′)
-      (ap₂ (λ (n : ℕ) (d : Device). lineOf traced number n (d .flow .outstanding) (take (out .len) b′)) (p .refusal) (p .state) ∙ ap (lineOf traced number (s .refusal) (s .state .flow .outstanding)) (replies-front s b out b′ p))
+      (ap₂ (λ (n : ℕ) (d : Device). lineOf traced number n (d .flow .outstanding) (take (g .outcome .len) (g .buffer))) (p .refusal) (p .state)
+      ∙ ap (lineOf traced number (s .refusal) (s .state .flow .outstanding)) (replies-front s b g p))
       (t .2);
 }
 
 -- a start has no reply
-pub start-answers : (e b : List ℕ) (r : Outcome) → r ≡ startOf e → Answered (startStep e) b r b
+pub start-gives : (e b : List ℕ) (r : Outcome) → r ≡ startOf e → Gives (startStep e) b (gave r [] b)
 unfolding startOf powerOn sentAll joined
-start-answers e b r p = record { state = ap (λ (o : Outcome). o .state) p; refusal = ap (λ (o : Outcome). o .refusal) p; len = ap (λ (o : Outcome). o .len) p; reply = refl }
+start-gives e b r p = record { state = ap (λ (o : Outcome). o .state) p; refusal = ap (λ (o : Outcome). o .refusal) p; len = ap (λ (o : Outcome). o .len) p; reply = refl; medium = refl }
 
 same-told : {d d′ : Device} {n n′ l l′ : ℕ} → d ≡ d′ → n ≡ n′ → l ≡ l′ → _≡_ {A = Told} (record { state = d; refusal = n; len = l }) (record { state = d′; refusal = n′; len = l′ })
 same-told p q r = cc

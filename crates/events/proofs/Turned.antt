@@ -12,30 +12,28 @@ use Rattle.bits.specs.Pick.{pick}
 use Rattle.bits.specs.First.{Rung, firstOf, noRung, FirstExactly, fresh}
 use Rattle.bits.proofs.Firsts as firsts
 use Rattle.bits.proofs.Picks.{tested, and-left, and-right}
-use Rattle.device.proofs.Exactly.{first-exactly-open, first-exactly-send, first-exactly-finish, first-exactly-media, first-exactly-link, first-exactly-comreset, first-exactly-host}
+use Rattle.rules.specs.Call.{Call, hostFrame, openPhase, sendData, finishTags, mediaError, linkEvent, comReset}
+use Rattle.rules.specs.Tests.{tests}
+use Rattle.rules.specs.declared.facts.Facts.{Facts}
+use Rattle.device.specs.Lent.{lent}
+use Rattle.device.specs.FactsOf.{factsOf}
+use Rattle.device.specs.Step.{step}
 use Rattle.device.specs.declared.state.Device.{Device}
-use Rattle.events.specs.Calls.{callOf}
-use Rattle.events.specs.HostData.{hostData}
-use Rattle.events.specs.Played.{stepOf}
-use Rattle.events.specs.Refusals.{playTests}
-use Rattle.events.specs.Told.{eventStep}
-use Rattle.events.specs.Stops.{isNothing, noCall}
+use Rattle.device.proofs.Exactly.{first-exactly}
+use Rattle.events.specs.Calls.{callsFor}
+use Rattle.events.specs.Played.{stepFor, testsFor, eventStep, eventTests}
+use Rattle.events.specs.Stops.{isNone, noCall}
 use Rattle.events.proofs.Playable.{no-call-exactly}
-use Rattle.events.specs.declared.calls.Call.{Call}
-use Rattle.events.specs.declared.calls.Call.the-variants.{Opening, Sending, Finishing, Failing, Linking, Resetting, Hosting, Framing, Nothing}
+
+-- as its call
+first-exactly-call : (d : Device) (m b : List ℕ) (cs : List Call) → FirstExactly (testsFor d m b cs) (stepFor d m b cs .refusal)
+unfolding testsFor stepFor firstOf pick
+first-exactly-call d m b [] = firsts.first-exactly (testsFor d m b []) tt
+first-exactly-call d m b (c ∷ cs) = first-exactly d (lent c m b)
 
 -- each number of its call's row exactly when that test holds and none before it does, 0 exactly when none holds
-pub first-exactly-play : (d : Device) (e m : List ℕ) (room : ℕ) (c : Call) → FirstExactly (playTests d e m room c) (stepOf d e m room c .refusal)
-unfolding playTests stepOf firstOf pick
-first-exactly-play d e m room (Opening tag) = first-exactly-open d tag room
-first-exactly-play d e m room Sending = first-exactly-send d m room
-first-exactly-play d e m room (Finishing set) = first-exactly-finish d set room
-first-exactly-play d e m room (Failing tag error sector) = first-exactly-media d tag error sector room
-first-exactly-play d e m room (Linking row) = first-exactly-link d row
-first-exactly-play d e m room Resetting = first-exactly-comreset d room
-first-exactly-play d e m room (Hosting b) = first-exactly-host d (hostData d b) (length m) room
-first-exactly-play d e m room Framing = first-exactly-host d e (length m) room
-first-exactly-play d e m room Nothing = firsts.first-exactly (playTests d e m room Nothing) tt
+pub first-exactly-play : (d : Device) (e m b : List ℕ) → FirstExactly (eventTests d e m b) (eventStep d e m b .refusal)
+first-exactly-play d e m b = first-exactly-call d m b (callsFor d e)
 
 -- a number that no rung has is none of theirs
 not-there : (n : ℕ) (rs : List Rung) (k : ℕ) → fresh n rs ≡ true → k < length rs → n ≡ getD rs k noRung .number → ⊥
@@ -50,19 +48,23 @@ never-given rs given f x = ⊎-elim (λ (h : eqb given 24 ≡ true). absurd (los
     lost : given ≡ 24 → ⊥
     lost e = let z : given ≡ 0 = x .other (λ k l p. not-there 24 rs k f l (sym e ∙ p)) in omega arith
 
--- no call of the device gives 24
-play-24 : (d : Device) (e m : List ℕ) (room : ℕ) (c : Call) → eqb (stepOf d e m room c .refusal) 24 ≡ isNothing c
-unfolding playTests isNothing stepOf
-play-24 d e m room (Opening tag) = never-given _ _ refl (first-exactly-play d e m room (Opening tag))
-play-24 d e m room Sending = never-given _ _ refl (first-exactly-play d e m room Sending)
-play-24 d e m room (Finishing set) = never-given _ _ refl (first-exactly-play d e m room (Finishing set))
-play-24 d e m room (Failing tag error sector) = never-given _ _ refl (first-exactly-play d e m room (Failing tag error sector))
-play-24 d e m room (Linking row) = never-given _ _ refl (first-exactly-play d e m room (Linking row))
-play-24 d e m room Resetting = never-given _ _ refl (first-exactly-play d e m room Resetting)
-play-24 d e m room (Hosting b) = never-given _ _ refl (first-exactly-play d e m room (Hosting b))
-play-24 d e m room Framing = never-given _ _ refl (first-exactly-play d e m room Framing)
-play-24 d e m room Nothing = refl
+-- no call of the device has 24 in its row
+row-fresh : (v : Facts) (c : Call) → fresh 24 (tests v c) ≡ true
+unfolding tests
+row-fresh v (hostFrame f) = refl
+row-fresh v (openPhase t) = refl
+row-fresh v sendData = refl
+row-fresh v (finishTags s) = refl
+row-fresh v (mediaError t e s) = refl
+row-fresh v (linkEvent r) = refl
+row-fresh v comReset = refl
+
+-- so only what makes no call is given it
+call-24 : (d : Device) (m b : List ℕ) (cs : List Call) → eqb (stepFor d m b cs .refusal) 24 ≡ isNone cs
+unfolding stepFor isNone
+call-24 d m b [] = refl
+call-24 d m b (c ∷ cs) = never-given (tests (factsOf d (lent c m b)) c) (step d (lent c m b) .refusal) (row-fresh (factsOf d (lent c m b)) c) (first-exactly d (lent c m b))
 
 -- 24 exactly for what is no event, and for settings
-pub refused-24-exactly : (d : Device) (e m : List ℕ) (room : ℕ) → eqb (eventStep d e m room .refusal) 24 ≡ noCall e
-refused-24-exactly d e m room = play-24 d e m room (callOf e) ∙ no-call-exactly e
+pub refused-24-exactly : (d : Device) (e m b : List ℕ) → eqb (eventStep d e m b .refusal) 24 ≡ noCall e
+refused-24-exactly d e m b = call-24 d m b (callsFor d e) ∙ no-call-exactly d e

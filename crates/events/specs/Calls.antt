@@ -1,27 +1,46 @@
--- Which call of the device an event is, with which arguments. Assumes nothing.
-use mathlib.Core.List.{List}
+-- What an event asks for, and which call of the device that is. Assumes nothing.
+use mathlib.Core.List.{List, [], _∷_}
 use Prim.Native.Nat.{ℕ}
 use lib.Dec.{eqb}
 use lib.ListN.{getD}
 use Rattle.bits.specs.Pick.{pick}
 use Rattle.bits.specs.Little.{leAt}
+use Rattle.rules.specs.Call.{Call, hostFrame, openPhase, sendData, finishTags, mediaError, linkEvent, comReset}
+use Rattle.device.specs.declared.state.Device.{Device}
+use Rattle.events.specs.HostData.{hostData}
 use Rattle.events.specs.Kinds.{isEvent}
-use Rattle.events.specs.declared.calls.Call.{Call}
-use Rattle.events.specs.declared.calls.Call.the-variants.{Opening, Sending, Finishing, Failing, Linking, Resetting, Hosting, Framing, Nothing}
+use Rattle.events.specs.declared.events.Event.{Event}
+use Rattle.events.specs.declared.events.Event.the-variants.{OpenPhase, SendData, FinishTags, MediaError, LinkEvent, ComReset, HostData, HostFrame, Nothing}
 
 -- 01h open: tag. 02h send. 03h finish: mask 4. 04h media error: tag, error, sector 4. 05h link event: row. 06h COMRESET. 07h host data. 27h and 58h: the frame
-unfoldable pub byKind : ℕ → List ℕ → Call
+unfoldable pub byKind : ℕ → List ℕ → Event
 byKind k e =
-    pick (eqb k 0x01) (Opening (getD e 1 0))
-    (pick (eqb k 0x02) Sending
-    (pick (eqb k 0x03) (Finishing (leAt e 1 4))
-    (pick (eqb k 0x04) (Failing (getD e 1 0) (getD e 2 0) (leAt e 3 4))
-    (pick (eqb k 0x05) (Linking (getD e 1 0))
-    (pick (eqb k 0x06) Resetting
-    (pick (eqb k 0x07) (Hosting (getD e 1 0))
-    (pick (eqb k 0x27) Framing
-    (pick (eqb k 0x58) Framing Nothing))))))))
+    pick (eqb k 0x01) (OpenPhase (getD e 1 0))
+    (pick (eqb k 0x02) SendData
+    (pick (eqb k 0x03) (FinishTags (leAt e 1 4))
+    (pick (eqb k 0x04) (MediaError (getD e 1 0) (getD e 2 0) (leAt e 3 4))
+    (pick (eqb k 0x05) (LinkEvent (getD e 1 0))
+    (pick (eqb k 0x06) ComReset
+    (pick (eqb k 0x07) (HostData (getD e 1 0))
+    (pick (eqb k 0x27) HostFrame
+    (pick (eqb k 0x58) HostFrame Nothing))))))))
 
--- an event's call; of what is no event, and of settings, none
-unfoldable pub callOf : List ℕ → Call
-callOf e = pick (isEvent e) (byKind (getD e 0 0) e) Nothing
+-- what the bytes e ask for; what is no event asks for nothing, and so do settings
+unfoldable pub eventOf : List ℕ → Event
+eventOf e = pick (isEvent e) (byKind (getD e 0 0) e) Nothing
+
+-- the calls that this makes in the state d: one, and none for nothing; host data has the length due, and a frame is the event's bytes e themselves
+unfoldable pub callsOf : Device → List ℕ → Event → List Call
+callsOf d e (OpenPhase tag) = openPhase tag ∷ []
+callsOf d e SendData = sendData ∷ []
+callsOf d e (FinishTags set) = finishTags set ∷ []
+callsOf d e (MediaError tag error sector) = mediaError tag error sector ∷ []
+callsOf d e (LinkEvent row) = linkEvent row ∷ []
+callsOf d e ComReset = comReset ∷ []
+callsOf d e (HostData b) = hostFrame (hostData d b) ∷ []
+callsOf d e HostFrame = hostFrame e ∷ []
+callsOf d e Nothing = []
+
+-- the calls that an event e makes in the state d
+abbrev pub callsFor : Device → List ℕ → List Call
+callsFor d e = callsOf d e (eventOf e)

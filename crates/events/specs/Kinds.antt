@@ -9,7 +9,7 @@ use Rattle.wire.specs.Size.{fixedSize}
 use Rattle.events.specs.declared.kinds.Length.{Length}
 use Rattle.events.specs.declared.kinds.Length.the-variants.{Bytes, Unknown}
 use Rattle.events.specs.declared.kinds.Next.{Next}
-use Rattle.events.specs.declared.kinds.Next.the-variants.{Event, Stop, End}
+use Rattle.events.specs.declared.kinds.Next.the-variants.{Whole, Stop, End}
 
 -- a body whose length the kind fixes: 00h settings 7, 01h tag 1, 02h 0, 03h mask 4, 04h tag, error and sector 6, 05h row 1, 06h 0, 07h byte 1, 27h and 58h the frame behind its type
 unfoldable pub bodyLength : ℕ → Length
@@ -31,7 +31,7 @@ misplaced first k = pick first (not (eqb k 0x00)) (eqb k 0x00)
 
 -- a kind and its body, if so much is there; a short body and an unknown kind stop
 unfoldable pub wholeOf : Length → ℕ → Next
-wholeOf (Bytes n) have = pick (leb (n + 1) have) (Event (n + 1)) Stop
+wholeOf (Bytes n) have = pick (leb (n + 1) have) (Whole (n + 1)) Stop
 wholeOf Unknown have = Stop
 
 -- what the rest l of the input begins with, `first` saying that nothing was before it: empty input stops, a clean end does not

@@ -6,4 +6,3 @@ pub mod Played
 pub mod Lines
 pub mod Stops
 pub mod Told
-pub mod Refusals

@@ -8,12 +8,12 @@ use Rattle.wire.specs.Cut.{cut}
 use Rattle.text.specs.Digits.{decimal, hex, upper8}
 
 -- traced: = and the bytes of a reply in lower-case hex
-unfoldable pub bytesOf : Bool → List ℕ → List ℕ
-bytesOf traced p = pick traced (61 ∷ hex false p) []
+unfoldable pub traceOf : Bool → List ℕ → List ℕ
+traceOf traced p = pick traced (61 ∷ hex false p) []
 
 -- a blank, and type:length of a reply
 unfoldable pub fieldOf : Bool → List ℕ → List ℕ
-fieldOf traced p = 32 ∷ hex true (getD p 0 0 ∷ []) ++ 58 ∷ decimal (length p) ++ bytesOf traced p
+fieldOf traced p = 32 ∷ hex true (getD p 0 0 ∷ []) ++ 58 ∷ decimal (length p) ++ traceOf traced p
 
 -- those of all replies, in their order
 unfoldable pub fieldsOf : Bool → List (List ℕ) → List ℕ

@@ -1,22 +1,21 @@
 -- When a run ends with `stop`, and when its settings record is refused. Assumes nothing.
 use mathlib.Core.Bool.{Bool, true, false, not, _&&_, _||_}
-use mathlib.Core.List.{List}
+use mathlib.Core.List.{List, [], _∷_}
 use Prim.Native.Nat.{ℕ, _+_}
 use lib.Dec.{eqb, leb}
 use lib.ListN.{length, getD}
 use Rattle.states.specs.Clauses.{settingsOut}
+use Rattle.rules.specs.Call.{Call}
 use Rattle.events.specs.Kinds.{bodyLength, isEvent}
 use Rattle.events.specs.Start.{inLimit, settingsOf}
 use Rattle.events.specs.declared.kinds.Length.{Length}
 use Rattle.events.specs.declared.kinds.Length.the-variants.{Bytes, Unknown}
-use Rattle.events.specs.declared.calls.Call.{Call}
-use Rattle.events.specs.declared.calls.Call.the-variants.{Opening, Sending, Finishing, Failing, Linking, Resetting, Hosting, Framing, Nothing}
 use Rattle.events.specs.declared.kinds.Next.{Next}
-use Rattle.events.specs.declared.kinds.Next.the-variants.{Event, Stop, End}
+use Rattle.events.specs.declared.kinds.Next.the-variants.{Whole, Stop, End}
 
 -- the answer that stops
 unfoldable pub isStop : Next → Bool
-isStop (Event n) = false
+isStop (Whole n) = false
 isStop Stop = true
 isStop End = false
 
@@ -37,16 +36,9 @@ abbrev pub startOut : List ℕ → Bool
 startOut e = not (inLimit e) || settingsOut (settingsOf e)
 
 -- no call at all
-unfoldable pub isNothing : Call → Bool
-isNothing (Opening tag) = false
-isNothing Sending = false
-isNothing (Finishing set) = false
-isNothing (Failing tag error sector) = false
-isNothing (Linking row) = false
-isNothing Resetting = false
-isNothing (Hosting b) = false
-isNothing Framing = false
-isNothing Nothing = true
+unfoldable pub isNone : List Call → Bool
+isNone [] = true
+isNone (c ∷ cs) = false
 
 -- no event, so that 24 is given: kind unknown or length wrong; and settings, which have their own call
 abbrev pub noCall : List ℕ → Bool

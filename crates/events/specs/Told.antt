@@ -3,21 +3,18 @@ use mathlib.Core.Path.{_≡_}
 use mathlib.Core.Bool.{Bool}
 use mathlib.Core.List.{List, []}
 use Prim.Native.Nat.{ℕ}
-use lib.ListN.{length}
 use Rattle.bits.specs.Laid.{laid}
 use Rattle.text.specs.Sheet.{Fronted}
-use Rattle.replies.specs.Replies.{sentAll}
-use Rattle.device.specs.Step.{Step}
+use Rattle.device.specs.Step.{Step, bytesOf}
 use Rattle.device.specs.declared.state.Device.{Device}
 use Rattle.events.specs.Start.{startOf}
-use Rattle.events.specs.Calls.{callOf}
-use Rattle.events.specs.Played.{stepOf, mediumOf}
+use Rattle.events.specs.Played.{eventStep}
 use Rattle.events.specs.Lines.{lineOf}
 use Rattle.events.specs.declared.tells.Told.{Told}
 
 -- what is told of a step: its refusal, the tags outstanding after it, and its replies
 unfoldable pub lineFor : Bool → ℕ → Step → List ℕ
-lineFor traced number s = lineOf traced number (s .refusal) (s .state .flow .outstanding) (sentAll (s .frames))
+lineFor traced number s = lineOf traced number (s .refusal) (s .state .flow .outstanding) (bytesOf s)
 
 -- what is answered for a step s: its state and refusal, and its line in front of the buffer o
 pub record Tells (traced : Bool) (number : ℕ) (s : Step) (o : List ℕ) (r : Told) (o′ : List ℕ) : Type 0 where
@@ -25,16 +22,12 @@ pub record Tells (traced : Bool) (number : ℕ) (s : Step) (o : List ℕ) (r : T
   pub refusal : r .refusal ≡ s .refusal
   pub line : Fronted (lineFor traced number s) o (r .len) o′
 
--- the step of an event e, with the medium m and a reply buffer of `room` bytes
-abbrev pub eventStep : Device → List ℕ → List ℕ → ℕ → Step
-eventStep d e m room = stepOf d e m room (callOf e)
-
 -- one event, its line, and what medium, reply buffer and line buffer then hold
 pub record PlayTold (d : Device) (traced : Bool) (number : ℕ) (e m b o : List ℕ) (r : Told) (m′ b′ o′ : List ℕ) : Type 0 where
-  pub tells : Tells traced number (eventStep d e m (length b)) o r o′
-  pub medium : m′ ≡ mediumOf d e m (length b) (callOf e)
-  pub reply : b′ ≡ laid (sentAll (eventStep d e m (length b) .frames)) b
+  pub tells : Tells traced number (eventStep d e m b) o r o′
+  pub medium : m′ ≡ eventStep d e m b .medium
+  pub reply : b′ ≡ laid (bytesOf (eventStep d e m b)) b
 
--- power-on has no reply
+-- power-on has no reply, and is lent no medium
 abbrev pub startStep : List ℕ → Step
-startStep e = record { state = startOf e .state; refusal = startOf e .refusal; frames = [] }
+startStep e = record { state = startOf e .state; refusal = startOf e .refusal; frames = []; medium = [] }

@@ -8,9 +8,9 @@ pub enum Length {
     Unknown,
 }
 
-// What the rest of the input begins with: an event of so many bytes, its kind among them; what ends the run with `stop`; or its end.
+// What the rest of the input begins with: a whole event of so many bytes, its kind among them; what ends the run with `stop`; or its end.
 pub enum Next {
-    Event(usize),
+    Whole(usize),
     Stop,
     End,
 }
@@ -59,7 +59,7 @@ pub fn next_event(first: bool, rest: &[u8]) -> Next
     if rest.len() <= n {
         return Next::Stop;
     }
-    Next::Event(n + 1)
+    Next::Whole(n + 1)
 }
 
 // Whether bytes are one event: a kind and a body of its length.

@@ -2,7 +2,7 @@
 ghost use mathlib.Core.Bool.{true, false};
 ghost use Rattle.wire.specs.Cut.{cut};
 ghost use Rattle.text.specs.Sheet.{Wrote, Fronted};
-ghost use Rattle.events.specs.Lines.{bytesOf, fieldOf, fieldsOf, headOf, lineOf};
+ghost use Rattle.events.specs.Lines.{traceOf, fieldOf, fieldsOf, headOf, lineOf};
 use text::put_byte;
 use text::put_decimal;
 use text::put_hex;
@@ -19,7 +19,7 @@ fn put_head(out: &mut [u8], number: u64, refusal: u32, outstanding: u32) -> usiz
 }
 
 fn put_bytes(out: &mut [u8], at: usize, piece: &[u8], traced: bool) -> usize
-    ensures { λ r. ⌜ Wrote (bytesOf traced (now (piece .entry))) at (now (out .entry)) r (now (out .exit)) ⌝ }
+    ensures { λ r. ⌜ Wrote (traceOf traced (now (piece .entry))) at (now (out .entry)) r (now (out .exit)) ⌝ }
 {
     if traced {
         let a = put_byte(out, at, b'=');

@@ -1,43 +1,38 @@
 // One event to its call.
-ghost use mathlib.Core.Path.{_≡_};
-ghost use Rattle.events.specs.Played.{noEvent, outcomeOf, Called, Played};
-use crate::calls::Call;
-use crate::calls::call_of;
+ghost use Rattle.device.specs.Lent.{gave};
+ghost use Rattle.device.specs.Step.{Gives};
+ghost use Rattle.events.specs.Calls.{callsOf};
+ghost use Rattle.events.specs.Played.{stepFor, eventStep};
+use crate::events::Event;
+use crate::events::event_of;
 use crate::host_data::host_data;
 use device::Device;
 use device::Outcome;
 
-// What is no event changes nothing.
-fn no_event(d: Device) -> Outcome
-    ensures { λ r. ⌜ r ≡ outcomeOf (noEvent d) ⌝ }
+// A frame is handed on as it came, its kind being its first byte. What is no event changes nothing.
+fn make_call(d: Device, event: Event, bytes: &[u8], medium: &mut [u8], reply: &mut [u8]) -> Outcome
+    ensures { λ r. ⌜ Gives (stepFor d (now (medium .entry)) (now (reply .entry)) (callsOf d (now (bytes .entry)) event)) (now (reply .entry)) (gave r (now (medium .exit)) (now (reply .exit))) ⌝ }
 {
-    Outcome {
-        state: d,
-        refusal: 24,
-        len: 0,
-    }
-}
-
-// A frame is handed on as it came, its kind being its first byte.
-fn make_call(d: Device, call: Call, event: &[u8], medium: &mut [u8], reply: &mut [u8]) -> Outcome
-    ensures { λ r. ⌜ Called d (now (event .entry)) (now (medium .entry)) (now (reply .entry)) call r (now (medium .exit)) (now (reply .exit)) ⌝ }
-{
-    match call {
-        Call::Opening(tag) => d.open(tag, reply),
-        Call::Sending => d.send(medium, reply),
-        Call::Finishing(set) => d.finish(set, reply),
-        Call::Failing { tag, error, sector } => d.media_error(tag, error, sector, reply),
-        Call::Linking(row) => d.link_event(row),
-        Call::Resetting => d.comreset(reply),
-        Call::Hosting(byte) => host_data(d, byte, medium, reply),
-        Call::Framing => d.host_frame(event, medium, reply),
-        Call::Nothing => no_event(d),
+    match event {
+        Event::OpenPhase(tag) => d.open(tag, reply),
+        Event::SendData => d.send(medium, reply),
+        Event::FinishTags(set) => d.finish(set, reply),
+        Event::MediaError { tag, error, sector } => d.media_error(tag, error, sector, reply),
+        Event::LinkEvent(row) => d.link_event(row),
+        Event::ComReset => d.comreset(reply),
+        Event::HostData(byte) => host_data(d, byte, medium, reply),
+        Event::HostFrame => d.host_frame(bytes, medium, reply),
+        Event::Nothing => Outcome {
+            state: d,
+            refusal: 24,
+            len: 0,
+        },
     }
 }
 
 // The event is its kind and body; medium and reply buffer are those of the device's calls.
 pub fn play(d: Device, event: &[u8], medium: &mut [u8], reply: &mut [u8]) -> Outcome
-    ensures { λ r. ⌜ Played d (now (event .entry)) (now (medium .entry)) (now (reply .entry)) r (now (medium .exit)) (now (reply .exit)) ⌝ }
+    ensures { λ r. ⌜ Gives (eventStep d (now (event .entry)) (now (medium .entry)) (now (reply .entry))) (now (reply .entry)) (gave r (now (medium .exit)) (now (reply .exit))) ⌝ }
 {
-    make_call(d, call_of(event), event, medium, reply)
+    make_call(d, event_of(event), event, medium, reply)
 }

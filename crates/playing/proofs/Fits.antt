@@ -13,17 +13,17 @@ use Rattle.events.specs.Kinds.{nextOf, misplaced, wholeOf, bodyLength}
 use Rattle.events.specs.declared.kinds.Length.{Length}
 use Rattle.events.specs.declared.kinds.Length.the-variants.{Bytes, Unknown}
 use Rattle.events.specs.declared.kinds.Next.{Next}
-use Rattle.events.specs.declared.kinds.Next.the-variants.{Event, Stop, End}
+use Rattle.events.specs.declared.kinds.Next.the-variants.{Whole, Stop, End}
 
 -- an event that is ahead is there
 Ahead : ℕ → Next → Type 0
-Ahead n (Event k) = k ≤ n
+Ahead n (Whole k) = k ≤ n
 Ahead n Stop = Unit {0}
 Ahead n End = Unit {0}
 
 whole-ahead : (k : Length) (n : ℕ) → Ahead n (wholeOf k n)
 unfolding wholeOf Ahead
-whole-ahead (Bytes k) n = by-test (Ahead n) (leb (k + 1) n) (Event (k + 1)) Stop (λ h. leb-true _ _ h) (λ h. tt)
+whole-ahead (Bytes k) n = by-test (Ahead n) (leb (k + 1) n) (Whole (k + 1)) Stop (λ h. leb-true _ _ h) (λ h. tt)
 whole-ahead Unknown n = tt
 
 next-ahead : (first : Bool) (l : List ℕ) → Ahead (length l) (nextOf first l)
@@ -33,12 +33,12 @@ next-ahead first l =
     (λ h. by-test (Ahead (length l)) first Stop End (λ k. tt) (λ k. tt))
     (λ h. by-test (Ahead (length l)) (misplaced first (getD l 0 0)) Stop (wholeOf (bodyLength (getD l 0 0)) (length l)) (λ k. tt) (λ k. whole-ahead (bodyLength (getD l 0 0)) (length l)))
 
-pub event-fits : (first : Bool) (l : List ℕ) (n : ℕ) (r : Next) → r ≡ nextOf first l → r ≡ Event n → n ≤ length l
+pub event-fits : (first : Bool) (l : List ℕ) (n : ℕ) (r : Next) → r ≡ nextOf first l → r ≡ Whole n → n ≤ length l
 unfolding Ahead
 event-fits first l n r p q = rw (sym p ∙ q) at (next-ahead first l)
 
 -- an event that is ahead ends with what was read or before
-pub part-fits : (first : Bool) (l : List ℕ) (at end n : ℕ) (r : Next) → at ≤ end → end ≤ length l → r ≡ nextOf first (take (end - at) (drop at l)) → r ≡ Event n → at + n ≤ end
+pub part-fits : (first : Bool) (l : List ℕ) (at end n : ℕ) (r : Next) → at ≤ end → end ≤ length l → r ≡ nextOf first (take (end - at) (drop at l)) → r ≡ Whole n → at + n ≤ end
 part-fits first l at end n r h k p q =
     let f = event-fits first (take (end - at) (drop at l)) n r p q in
     omega (arith, length-take (end - at) (drop at l), length-drop at l)

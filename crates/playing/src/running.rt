@@ -75,7 +75,7 @@ fn play_on(
         let end = more.end;
         let filled = step.filled;
         match events::next_event(false, &input[at..end]) {
-            Next::Event(n) => {
+            Next::Whole(n) => {
                 let place = next_place(output, filled);
                 if place.lost {
                     complain();
@@ -128,7 +128,7 @@ fn run_over(
     let window = refill(fd, input, unread());
     let at = window.at;
     let end = window.end;
-    let Next::Event(n) = events::next_event(true, &input[at..end]) else {
+    let Next::Whole(n) = events::next_event(true, &input[at..end]) else {
         close(output, 0, true);
         return;
     };

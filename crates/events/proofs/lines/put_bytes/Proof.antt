@@ -5,7 +5,7 @@ use Rattle.bits.specs.Pick.{pick}
 use Rattle.text.specs.Sheet.{written}
 use Rattle.text.specs.Digits.{hex}
 use Rattle.text.proofs.Writing.{byte-then}
-use Rattle.events.specs.Lines.{bytesOf}
+use Rattle.events.specs.Lines.{traceOf}
 use borrow.Author.Needs.{needs}
 use Rattle.events.proofs.lines.put_bytes.Statement.{statement}
 use Rattle.events.proofs.lines.put_bytes.Tie as tie
@@ -24,11 +24,11 @@ same-length : tie.Need-same-length
 same-length c = search needs
 
 returns : tie.Need-returns
-unfolding bytesOf pick
+unfolding traceOf pick
 returns c = rw (c .before .before .before .before .before .before .before .before .if1 .taken) (byte-then 61 (hex false (now (c .before .before .before .before .before .before .before .before .before .before .before .args .piece))) _ _ _ (c .before .before .before .before .before .before .put-byte .ensures) (c .before .before .put-hex .ensures))
 
 returns-2 : tie.Need-returns-2
-unfolding bytesOf pick written
+unfolding traceOf pick written
 returns-2 c = rw (c .if1 .left) refl
 
 pub put-bytes-spec : {M : Type 1} → statement M

@@ -4,7 +4,7 @@ use lib.ListN.{length, getD}
 use mathlib.Core.Bool.{true, false}
 use Rattle.text.specs.Digits.{decimal, hex, upper8}
 use Rattle.text.proofs.Writing.{wrote-both, byte-then}
-use Rattle.events.specs.Lines.{fieldOf, bytesOf}
+use Rattle.events.specs.Lines.{fieldOf, traceOf}
 use borrow.Author.Needs.{needs}
 use Rattle.events.proofs.lines.put_field.Statement.{statement}
 use Rattle.events.proofs.lines.put_field.Tie as tie
@@ -46,7 +46,7 @@ returns c =
     let p = now (c .before .before .before .before .before .before .before .before .before .before .before .before .before .before .before .before .before .before .before .before .before .before .before .before .args .piece) in
     let k = hex true (getD p 0 0 ∷ []) in
     let n = decimal (length p) in
-    wrote-both (32 ∷ k ++ 58 ∷ n) (bytesOf (c .before .before .before .before .before .before .before .before .before .before .before .before .before .before .before .before .before .before .before .before .before .before .before .before .args .traced) p) _ _ _ (wrote-both (32 ∷ k) (58 ∷ n) _ _ _ (byte-then 32 k _ _ _ (c .before .before .before .before .before .before .before .before .before .before .before .before .before .before .before .before .before .before .before .put-byte .ensures) (rw (c .before .before .before .before .before .before .before .before .before .before .before .before .before .before .before .before .before .before .before .before .before .byte-of .ensures) at (c .before .before .before .before .before .before .before .before .before .before .before .before .before .before .put-hex .ensures))) (byte-then 58 n _ _ _ (c .before .before .before .before .before .before .before .before .before .before .put-byte2 .ensures) (c .before .before .before .before .before .before .put-decimal .ensures))) (c .before .before .put-bytes .ensures)
+    wrote-both (32 ∷ k ++ 58 ∷ n) (traceOf (c .before .before .before .before .before .before .before .before .before .before .before .before .before .before .before .before .before .before .before .before .before .before .before .before .args .traced) p) _ _ _ (wrote-both (32 ∷ k) (58 ∷ n) _ _ _ (byte-then 32 k _ _ _ (c .before .before .before .before .before .before .before .before .before .before .before .before .before .before .before .before .before .before .before .put-byte .ensures) (rw (c .before .before .before .before .before .before .before .before .before .before .before .before .before .before .before .before .before .before .before .before .before .byte-of .ensures) at (c .before .before .before .before .before .before .before .before .before .before .before .before .before .before .put-hex .ensures))) (byte-then 58 n _ _ _ (c .before .before .before .before .before .before .before .before .before .before .put-byte2 .ensures) (c .before .before .before .before .before .before .put-decimal .ensures))) (c .before .before .put-bytes .ensures)
 
 pub put-field-spec : {M : Type 1} → statement M
 put-field-spec =

@@ -11,7 +11,7 @@ play-requires : tie.Need-play-requires
 play-requires c κs = search needs
 
 tell-requires : tie.Need-tell-requires
-tell-requires c κs = reply-fits _ _ _ _ (c .before .before .before .before .before .before .play .ensures .answered)
+tell-requires c κs = reply-fits _ _ _ (c .before .before .before .before .before .before .play .ensures)
 
 same-length : tie.Need-same-length
 same-length c = search needs
@@ -25,7 +25,7 @@ same-length-3 c = search needs
 returns : tie.Need-returns
 returns c =
     let p = c .before .before .before .before .before .before .before .before .before .play .ensures in
-    record { tells = tells-step _ _ _ _ _ _ (p .answered) _ _ _ (c .before .before .tell .ensures); medium = p .medium; reply = p .answered .reply }
+    record { tells = tells-step _ _ _ _ _ p _ _ _ (c .before .before .tell .ensures); medium = p .medium; reply = p .reply }
 
 pub play-line-spec : {M : Type 1} → statement M
 play-line-spec =

@@ -1,5 +1,5 @@
 use mathlib.Core.List.{[], _∷_}
-use Rattle.events.proofs.Telling.{reply-fits, tells-step, start-answers}
+use Rattle.events.proofs.Telling.{reply-fits, tells-step, start-gives}
 use borrow.Author.Needs.{needs}
 use Rattle.events.proofs.tells.start_line.Statement.{statement}
 use Rattle.events.proofs.tells.start_line.Tie as tie
@@ -15,13 +15,13 @@ slice-aggregate-tell : tie.Need-slice-aggregate-tell
 slice-aggregate-tell c = search needs
 
 tell-requires : tie.Need-tell-requires
-tell-requires c κs = reply-fits _ _ _ _ (start-answers _ (0 ∷ []) _ (c .before .before .start .ensures))
+tell-requires c κs = reply-fits _ _ _ (start-gives _ (0 ∷ []) _ (c .before .before .start .ensures))
 
 same-length : tie.Need-same-length
 same-length c = search needs
 
 returns : tie.Need-returns
-returns c = tells-step _ _ _ (0 ∷ []) _ _ (start-answers _ (0 ∷ []) _ (c .before .before .before .before .before .start .ensures)) _ _ _ (c .before .before .tell .ensures)
+returns c = tells-step _ _ _ (0 ∷ []) _ (start-gives _ (0 ∷ []) _ (c .before .before .before .before .before .start .ensures)) _ _ _ (c .before .before .tell .ensures)
 
 pub start-line-spec : {M : Type 1} → statement M
 start-line-spec =

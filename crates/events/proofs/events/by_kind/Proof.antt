@@ -2,13 +2,13 @@ use Rattle.bits.specs.Pick.{pick}
 use mathlib.Core.Path.{ap}
 use borrow.Author.Tests.{ne-eqb}
 use Rattle.events.specs.Calls.{byKind}
-use Rattle.events.specs.declared.calls.Call.the-variants.{Opening, Finishing, Failing, Linking, Hosting}
+use Rattle.events.specs.declared.events.Event.the-variants.{OpenPhase, FinishTags, LinkEvent, HostData}
 use borrow.Author.Needs.{needs}
-use Rattle.events.proofs.calls.by_kind.Statement.{statement}
-use Rattle.events.proofs.calls.by_kind.Tie as tie
-use Rattle.events.proofs.calls.by_kind.Reads as reads
-use Rattle.events.proofs.calls.by_kind.Lts as lts
-use Rattle.events.proofs.calls.four.Reads as four-reads
+use Rattle.events.proofs.events.by_kind.Statement.{statement}
+use Rattle.events.proofs.events.by_kind.Tie as tie
+use Rattle.events.proofs.events.by_kind.Reads as reads
+use Rattle.events.proofs.events.by_kind.Lts as lts
+use Rattle.events.proofs.events.four.Reads as four-reads
 use Rattle.wire.proofs.byte_of.Reads as byte-of-reads
 
 byte-of-requires : tie.Need-byte-of-requires
@@ -34,7 +34,7 @@ byte-of-requires-5 c κs = search needs
 
 returns : tie.Need-returns
 unfolding byKind pick
-returns c = rw (c .before .match .keys1) (ap Opening (c .byte-of .ensures))
+returns c = rw (c .before .match .keys1) (ap OpenPhase (c .byte-of .ensures))
 
 returns-2 : tie.Need-returns-2
 unfolding byKind pick
@@ -42,7 +42,7 @@ returns-2 c = rw (c .match .keys2)
 
 returns-3 : tie.Need-returns-3
 unfolding byKind pick
-returns-3 c = rw (c .before .match .keys3) (ap Finishing (c .four .ensures))
+returns-3 c = rw (c .before .match .keys3) (ap FinishTags (c .four .ensures))
 
 returns-4 : tie.Need-returns-4
 unfolding byKind pick
@@ -50,7 +50,7 @@ returns-4 c = rw (c .before .before .before .match .keys4, c .before .before .by
 
 returns-5 : tie.Need-returns-5
 unfolding byKind pick
-returns-5 c = rw (c .before .match .keys5) (ap Linking (c .byte-of4 .ensures))
+returns-5 c = rw (c .before .match .keys5) (ap LinkEvent (c .byte-of4 .ensures))
 
 returns-6 : tie.Need-returns-6
 unfolding byKind pick
@@ -58,7 +58,7 @@ returns-6 c = rw (c .match .keys6)
 
 returns-7 : tie.Need-returns-7
 unfolding byKind pick
-returns-7 c = rw (c .before .match .keys7) (ap Hosting (c .byte-of5 .ensures))
+returns-7 c = rw (c .before .match .keys7) (ap HostData (c .byte-of5 .ensures))
 
 returns-8 : tie.Need-returns-8
 unfolding byKind pick

@@ -1,12 +1,12 @@
 use Rattle.bits.specs.Pick.{pick}
 use mathlib.Core.Path.{sym, _∙_}
-use Rattle.events.specs.Calls.{callOf}
+use Rattle.events.specs.Calls.{eventOf}
 use borrow.Author.Needs.{needs}
-use Rattle.events.proofs.calls.call_of.Statement.{statement}
-use Rattle.events.proofs.calls.call_of.Tie as tie
-use Rattle.events.proofs.calls.call_of.Reads as reads
-use Rattle.events.proofs.calls.call_of.Lts as lts
-use Rattle.events.proofs.calls.by_kind.Reads as by-kind-reads
+use Rattle.events.proofs.events.event_of.Statement.{statement}
+use Rattle.events.proofs.events.event_of.Tie as tie
+use Rattle.events.proofs.events.event_of.Reads as reads
+use Rattle.events.proofs.events.event_of.Lts as lts
+use Rattle.events.proofs.events.by_kind.Reads as by-kind-reads
 use Rattle.events.proofs.kinds.is_event.Reads as is-event-reads
 use Rattle.wire.proofs.byte_of.Reads as byte-of-reads
 
@@ -20,13 +20,13 @@ by-kind-requires : tie.Need-by-kind-requires
 by-kind-requires c κs = search needs
 
 returns : tie.Need-returns
-unfolding callOf pick
+unfolding eventOf pick
 returns c = rw (sym (c .before .before .before .is-event .ensures) ∙ c .before .before .if1 .taken) (rw (c .before .byte-of .ensures) at (c .by-kind .ensures))
 
 returns-2 : tie.Need-returns-2
-unfolding callOf pick
+unfolding eventOf pick
 returns-2 c = rw (sym (c .before .is-event .ensures) ∙ c .if1 .left)
 
-pub call-of-spec : {M : Type 1} → statement M
-call-of-spec =
+pub event-of-spec : {M : Type 1} → statement M
+event-of-spec =
     tie.close (tie.spec is-event-requires byte-of-requires by-kind-requires returns returns-2)
