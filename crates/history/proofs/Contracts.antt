@@ -2,17 +2,15 @@
 use mathlib.Core.Path.{_≡_, refl, sym, ap, subst, _∙_}
 use mathlib.Core.List.{List, [], _∷_, map}
 use Prim.Native.Nat.{ℕ}
-use lib.ListN.{length}
 use denote.Ref.{now}
 use Rattle.states.specs.declared.shapes.Settings.{Settings}
-use Rattle.rules.specs.Taking.{keptIn}
-use Rattle.device.specs.Step.{Step, Answered}
-use Rattle.device.specs.Reset.{comresetStep}
-use Rattle.device.specs.Calls.{hostAct, hostStep, openStep, sendStep, finishStep, mediaStep}
+use Rattle.rules.specs.Call.{openPhase, finishTags, mediaError, comReset}
+use Rattle.device.specs.Step.{Given}
+use Rattle.device.proofs.Lending.{unlent, unlent-link}
 use Rattle.device.specs.declared.state.Device.{Device}
 use Rattle.device.specs.declared.state.Outcome.{Outcome}
 use Rattle.history.specs.Event.{Event}
-use Rattle.device.specs.Lent.{Lent, Gave, gave}
+use Rattle.device.specs.Lent.{Lent, Gave}
 use Rattle.history.specs.Run.{result, Done, done, event, Run, run, runFrom, history}
 use Rattle.history.specs.Allowed.{Allowed, hosted, opened, sent, finished, failed, linked, reset, Follows, newestFirst, final, lents, historyOf, Began}
 
@@ -20,22 +18,23 @@ same-gave : {d d′ : Device} {n n′ l l′ : ℕ} {m m′ b b′ : List ℕ} �
     → _≡_ {A = Gave} (record { outcome = record { state = d; refusal = n; len = l }; medium = m; buffer = b }) (record { outcome = record { state = d′; refusal = n′; len = l′ }; medium = m′; buffer = b′ })
 same-gave p q r s t = cc
 
--- a call that replies
-answered-only : (s : Step) (m b : List ℕ) (g : Gave) → Answered s b (g .outcome) (g .buffer) → g .medium ≡ m → g ≡ gives s m b
-answered-only s m b g a e = same-gave (a .state) (a .refusal) (a .len) e (a .reply)
+-- what the one contract gives is what the definitions give
+given-only : (d : Device) (l : Lent) (g : Gave) → Given d l g → g ≡ result d l
+given-only d l g a = same-gave (a .state) (a .refusal) (a .len) (a .medium) (a .reply)
 
-linked-only : {o o′ : Outcome} {m m′ b b′ : List ℕ} → o ≡ o′ → m ≡ m′ → b ≡ b′ → _≡_ {A = Gave} (record { outcome = o; medium = m; buffer = b }) (record { outcome = o′; medium = m′; buffer = b′ })
-linked-only p q r = cc
+-- each call's own contract is the one contract; what it is not lent stays as it was
+pub allowed-given : {d : Device} {l : Lent} {g : Gave} → Allowed d l g → Given d l g
+allowed-given {d} (hosted κs f m b r m′ b′ p) = p
+allowed-given {d} (opened κs t b r m b′ p) = unlent d (openPhase t) m (now b) b′ r tt p
+allowed-given {d} (sent κs m b r b′ p) = p
+allowed-given {d} (finished κs s b r m b′ p) = unlent d (finishTags s) m (now b) b′ r tt p
+allowed-given {d} (failed κs t e s b r m b′ p) = unlent d (mediaError t e s) m (now b) b′ r tt p
+allowed-given {d} (linked row r m b p) = unlent-link d row m b r p
+allowed-given {d} (reset κs b r m b′ p) = unlent d comReset m (now b) b′ r tt p
 
 -- a contract allows just what the definitions give
-pub only : {d : Device} {a : Lent} {g : Gave} → Allowed d a g → g ≡ result d a
-only {d} (hosted κs f m b r m′ b′ p) = answered-only (hostStep d (now f) (length (now m)) (length (now b))) (keptIn (hostAct d (now f) (length (now m)) (length (now b))) (now f) (now m)) (now b) (gave r m′ b′) (p .answered) (p .medium)
-only {d} (opened κs t b r m b′ p) = answered-only (openStep d t (length (now b))) m (now b) (gave r m b′) p refl
-only {d} (sent κs m b r b′ p) = answered-only (sendStep d (now m) (length (now b))) (now m) (now b) (gave r (now m) b′) p refl
-only {d} (finished κs s b r m b′ p) = answered-only (finishStep d s (length (now b))) m (now b) (gave r m b′) p refl
-only {d} (failed κs t e s b r m b′ p) = answered-only (mediaStep d t e s (length (now b))) m (now b) (gave r m b′) p refl
-only {d} (linked row r m b p) = linked-only p refl refl
-only {d} (reset κs b r m b′ p) = answered-only (comresetStep d (length (now b))) m (now b) (gave r m b′) p refl
+pub only : {d : Device} {l : Lent} {g : Gave} → Allowed d l g → g ≡ result d l
+only {d} {l} {g} a = given-only d l g (allowed-given a)
 
 -- a sequence that the contracts allow is the run of the definitions over what was lent
 pub follows-run : (xs : List Done) (d : Device) (h : List Done) → Follows d xs → run d h (lents xs) ≡ record { state = final d xs; calls = newestFirst h xs }

@@ -26,16 +26,16 @@ use Rattle.pages.specs.Sum.{sealed, sum256, sumTo}
 use Rattle.states.specs.Clauses.{movedBad, contradictory, flowBad, settingsOut, recordBad, rowsBad, tableBad, entryBad, busyBad, idleBad}
 use Rattle.states.specs.State.{echoOf, taskIn}
 use Rattle.states.specs.Table.{someBelow, placed, tab, cleared}
-use Rattle.rules.specs.Decide.{decideOf, kindAct, registerAct, queuedAct, otherAct, logPage, dataAct}
-use Rattle.rules.specs.Events.{openAct, decided, mediaAct, failing, finishAct, someUnready, sendAct}
+use Rattle.rules.specs.Tests.{wrongKind, wrongTime, wrongSize, someUnready, tests}
+use Rattle.rules.specs.Decide.{frameAct, registerAct, queuedAct, otherAct, logPage}
+use Rattle.rules.specs.Act.{failing, does, decided, act}
 use Rattle.rules.specs.Facts.{moveOf, advancedBy}
-use Rattle.rules.specs.Taking.{numberOf, spanOf, keptIn, stored}
+use Rattle.rules.specs.Taking.{numberOf, touchOf, stored}
 use Rattle.replies.specs.Replies.{sentAll, sentBytes, repliesOf}
-use Rattle.device.specs.After.{afterOf, zeroedIf, resetHeld, movedBy, unhalted, finishedBy, failedBy, haltWith, released, openedFor, acceptedBy}
-use Rattle.device.specs.Calls.{hostAct, openTag, openOf, mediaOf, finishOf, sendOf}
+use Rattle.device.specs.After.{withValue, renewed, afterOf, zeroedIf, resetHeld, movedBy, unhalted, finishedBy, failedBy, haltWith, released, openedFor, acceptedBy}
+use Rattle.device.specs.FactsOf.{openTag}
+use Rattle.device.specs.Step.{actOf}
 use Rattle.device.specs.Device.{contradictoryDevice, powerOn, freshDevice}
-use Rattle.device.specs.Events.{withValue}
-use Rattle.device.specs.Reset.{comresetStep, renewed}
 use Rattle.history.specs.Carried.{carriedAt, span, flow}
 use Rattle.history.specs.Counted.{countedIn}
 use Rattle.history.specs.Example.{story, tagsFrom, linesOf, calls, Shown}
@@ -97,7 +97,7 @@ typed = all-typed calls refl
 
 -- the run: all four fates, an error that waits and is read, a tag used three times, a page that shows counters
 pub not-empty : Shown
-unfolding firstOf over pick joined cut cutTo pieceOf registerBytes readable fixedSize readFrame byKind fits encode setupBytes bitsBytes entries entriesFrom idAt entriesSo someOf page11 openTo rowsTo rowBytes fits10 page10 readCounter damaged valueIn ids rowOf rowFrom sealed sum256 sumTo contradictory flowBad settingsOut recordBad rowsBad tableBad entryBad busyBad idleBad echoOf taskIn someBelow placed tab cleared decideOf kindAct registerAct queuedAct otherAct logPage dataAct openAct decided mediaAct failing finishAct someUnready sendAct moveOf advancedBy numberOf spanOf keptIn stored sentAll sentBytes repliesOf afterOf zeroedIf resetHeld movedBy unhalted finishedBy failedBy haltWith released openedFor acceptedBy hostAct openTag openOf mediaOf finishOf sendOf contradictoryDevice powerOn freshDevice withValue comresetStep renewed carriedAt span flow countedIn story tagsFrom linesOf commands outstandingAt finishedAt givenUpAt droppedAt total totalWith howMany collect some payloads run seen begun waits sactive before since movedBad
+unfolding firstOf over pick joined cut cutTo pieceOf registerBytes readable fixedSize readFrame byKind fits encode setupBytes bitsBytes entries entriesFrom idAt entriesSo someOf page11 openTo rowsTo rowBytes fits10 page10 readCounter damaged valueIn ids rowOf rowFrom sealed sum256 sumTo contradictory flowBad settingsOut recordBad rowsBad tableBad entryBad busyBad idleBad echoOf taskIn someBelow placed tab cleared registerAct queuedAct otherAct logPage decided failing someUnready moveOf advancedBy numberOf stored sentAll sentBytes repliesOf afterOf zeroedIf resetHeld movedBy unhalted finishedBy failedBy haltWith released openedFor acceptedBy openTag contradictoryDevice powerOn freshDevice withValue renewed carriedAt span flow countedIn story tagsFrom linesOf commands outstandingAt finishedAt givenUpAt droppedAt total totalWith howMany collect some payloads run seen begun waits sactive before since movedBad wrongKind wrongTime wrongSize tests frameAct does act touchOf actOf
 not-empty = record {
   powered = refl;
   typed = typed;

@@ -4,36 +4,29 @@ use mathlib.Core.Bool.{Bool, true, false, not, _||_, false≢true, true≢false}
 use mathlib.Core.List.{List, [], _∷_, map}
 use mathlib.Core.Logic.{inl, inr}
 use Prim.Native.Nat.{ℕ}
-use native.Mathlib.Omega.{arith}
-use lib.Dec.{ltb, eqb}
-use borrow.Author.Tests.{eqb-false, not-true, not-false}
 use Rattle.bits.specs.Pick.{pick}
-use Rattle.bits.proofs.Picks.{by-test}
-use Rattle.wire.specs.Piece.{srstOf}
 use Rattle.wire.specs.declared.pieces.Task.{Task}
-use Rattle.frames.specs.Read.{readFrame}
-use Rattle.frames.specs.Write.{Sent, activate}
+use Rattle.frames.specs.Write.{Sent}
 use Rattle.frames.specs.Trip as trip
 use Rattle.frames.specs.declared.shapes.HostReg.{HostReg}
 use Rattle.frames.specs.declared.shapes.Frame.{Frame}
 use Rattle.frames.specs.declared.shapes.Frame.the-variants as fs
 use Rattle.states.specs.Table.{entryOf}
-use Rattle.states.specs.declared.shapes.ErrorRecord.{ErrorRecord}
-use Rattle.rules.specs.Facts.{leftOf, moveOf}
-use Rattle.rules.specs.Decide.{queuedAct, otherAct, controlAct, registerAct, dataAct, bistAct, kindAct, decideOf, lentOf}
-use Rattle.rules.specs.Events.{decided, openAct, sendAct, finishAct, mediaAct}
-use Rattle.rules.specs.Taking.{numberOf, spanOf}
+use Rattle.rules.specs.Facts.{moveOf}
+use Rattle.rules.specs.Decide.{isQueued}
+use Rattle.rules.specs.Taking.{numberOf, spanOf, partOf}
 use Rattle.rules.specs.declared.facts.Facts.{Facts}
 use Rattle.rules.specs.declared.acts.Queued.{Queued}
 use Rattle.rules.specs.declared.acts.Act.{Act}
-use Rattle.rules.specs.declared.acts.Act.the-variants.{Refuse, Nothing, Reset, Release, Zero, Keep, Open}
-use Rattle.rules.proofs.Leaves.{queued-all, other-all}
-use Rattle.rules.proofs.Numbers.{not-refused, decided-is}
-use Rattle.replies.specs.Replies.{repliesOf, setupReply, signature, logReplies}
-use Rattle.device.specs.Reset.{comresetStep}
-use Rattle.device.specs.Calls.{factsOf, openTag, mediumWrong, hostAct, hostStep, openOf, openStep, partOf, sendOf, sendStep, finishOf, finishStep, mediaOf, mediaStep}
+use Rattle.rules.proofs.Ruled as by
+use Rattle.replies.specs.Replies.{repliesOf, setupReply, signature, activateIf, logReplies}
+use Rattle.replies.specs.declared.shown.Shown.{Shown}
+use Rattle.device.specs.Lent.{lent}
+use Rattle.device.specs.FactsOf.{factsOf}
+use Rattle.device.specs.Step.{shown}
+use Rattle.device.proofs.Doing.{heard-unsent}
 use Rattle.device.specs.declared.state.Device.{Device}
-use Rattle.rules.specs.Call.{Call, hostFrame, openPhase, sendData, finishTags, mediaError, comReset}
+use Rattle.rules.specs.Call.{Call, hostFrame, openPhase}
 use Rattle.history.specs.Asked.{Asked, dataAsks, frameAsks, callAsks}
 use Rattle.history.specs.Replied.{some, errIn, registerIn, collect, faultyIn}
 use Rattle.history.specs.Shapes.{kindOf, OneOf, commandReplies, frameReplies, callReplies}
@@ -79,135 +72,66 @@ unblamed rs c o e f = record { shape = o; blames = λ y. absurd (false≢true (s
 
 -- ---- a host frame
 
-module _ (r : ErrorRecord) (mask : ℕ) (values : List ℕ) where
-  -- a taken act's replies to a host frame that is read as f
-  abbrev Answers : Frame → Act → Type 0
-  Answers f a = numberOf a ≡ 0 → Shaped (frameReplies f) (frameAsks f) (repliesOf r mask values [] a)
+-- a command
+module _ (h : HostReg) (c : h .«command_bit» ≡ true) where
+  -- that is queued: one 34h
+  to-queued : isQueued h ≡ true → (rs : List Sent) → kindsOf rs ≡ 0x34 ∷ [] → faulty rs ≡ false → Shaped (frameReplies (fs.Host h)) (frameAsks (fs.Host h)) rs
+  unfolding pick
+  to-queued q rs o f = record { shape = rw c (inl o); blames = λ _. c; ungranted = λ _ n. absurd (true≢false (sym (rw (c, q)) ∙ n)); faultless = f }
 
-  -- a refused one is not taken
-  turned-down : (f : Frame) (n : ℕ) → (n ≡ 0 → ⊥) → Answers f (Refuse n)
-  unfolding numberOf
-  turned-down f n h z = absurd (h z)
+  -- that is not
+  to-other : (rs : List Sent) → OneOf (kindsOf rs) commandReplies → granting rs ≡ false → faulty rs ≡ false → Shaped (frameReplies (fs.Host h)) (frameAsks (fs.Host h)) rs
+  unfolding pick
+  to-other rs o g f = record { shape = rw c o; blames = λ _. c; ungranted = λ _ _. g; faultless = f }
 
-  -- a command
-  module _ (h : HostReg) (c : h .«command_bit» ≡ true) where
-    -- that is queued: one 34h
-    to-queued : eqb (h .command) 0x60 || eqb (h .command) 0x61 ≡ true → (rs : List Sent) → kindsOf rs ≡ 0x34 ∷ [] → faulty rs ≡ false → Shaped (frameReplies (fs.Host h)) (frameAsks (fs.Host h)) rs
-    unfolding pick
-    to-queued q rs o f = record { shape = rw c (inl o); blames = λ _. c; ungranted = λ _ n. absurd (true≢false (sym (rw (c, q)) ∙ n)); faultless = f }
+  -- by a page, behind the sweep or not
+  to-log : (on : Bool) (task : Task) (page : List ℕ) → Shaped (frameReplies (fs.Host h)) (frameAsks (fs.Host h)) (logReplies on task page)
+  unfolding pick some collect
+  to-log true task page = to-other _ (inr (inr (inl refl))) refl refl
+  to-log false task page = to-other _ (inr (inl refl)) refl refl
 
-    -- that is not
-    to-other : (rs : List Sent) → OneOf (kindsOf rs) commandReplies → granting rs ≡ false → faulty rs ≡ false → Shaped (frameReplies (fs.Host h)) (frameAsks (fs.Host h)) rs
-    unfolding pick
-    to-other rs o g f = record { shape = rw c o; blames = λ _. c; ungranted = λ _ _. g; faultless = f }
+-- host data: an Activate if more is left
+to-data : (n : ℕ) (on : Bool) → Shaped (frameReplies (fs.Data n)) (dataAsks n) (activateIf on)
+unfolding pick some collect
+to-data n true = unblamed _ refl (inr (inl refl)) refl refl
+to-data n false = unblamed [] refl (inl refl) refl refl
 
-    -- by a page, behind the sweep or not
-    to-log : (on : Bool) (task : Task) (page : List ℕ) → Shaped (frameReplies (fs.Host h)) (frameAsks (fs.Host h)) (logReplies on task page)
-    unfolding pick some collect
-    to-log true task page = to-other _ (inr (inr (inl refl))) refl refl
-    to-log false task page = to-other _ (inr (inl refl)) refl refl
-
-  -- a control frame
-  control-shaped : (v : Facts) (h : HostReg) → h .«command_bit» ≡ false → Answers (fs.Host h) (controlAct v h)
-  unfolding controlAct repliesOf some collect pick
-  control-shaped v h c =
-      by-test (Answers (fs.Host h)) (srstOf (h .control)) Reset (pick (v .flow .held) Release Nothing) (λ s _. unblamed [] c (rw (c, s) (inl refl)) refl refl)
-      (λ s. by-test (Answers (fs.Host h)) (v .flow .held) Release Nothing (λ _ _. unblamed (signature ∷ []) c (rw (c, s) (inr (inl refl))) refl refl) (λ _ _. unblamed [] c (rw (c, s) (inl refl)) refl refl))
-
-  -- a register frame
-  register-shaped : (v : Facts) (h : HostReg) → Answers (fs.Host h) (registerAct v h)
-  unfolding registerAct repliesOf some collect
-  register-shaped v h =
-      let P : Act → Type 0 = Answers (fs.Host h) in
-      let queued : Bool = eqb (h .command) 0x60 || eqb (h .command) 0x61 in
-      let third : Act = pick queued (queuedAct v h) (otherAct v h) in
-      let wrong : Bool = v .flow .held || not (eqb (v .flow .phase) 0) in
-      by-test P (not (h .«command_bit»)) (controlAct v h) (pick wrong (Refuse 5) third) (λ c. control-shaped v h (not-true (h .«command_bit») c))
-      (λ c.
-      let k = not-false (h .«command_bit») c in
-      by-test P wrong (Refuse 5) third (λ _. turned-down (fs.Host h) 5 (λ z. omega arith))
-      (λ _. by-test P queued (queuedAct v h) (otherAct v h)
-      (λ q. queued-all P v h (λ _. to-queued h k q _ refl refl) (λ _. to-queued h k q _ refl refl) (λ _. to-queued h k q _ refl refl) (λ _. to-queued h k q _ refl refl))
-      (λ _. other-all P v h (λ _. to-other h k _ (inl refl) refl refl) (λ _. to-other h k _ (inl refl) refl refl) (λ _. to-log h k (v .flow .halted) _ _) (λ _. to-log h k false _ _))))
-
-  -- host data: an Activate if more is left
-  data-shaped : (v : Facts) (n : ℕ) → Answers (fs.Data n) (dataAct v n)
-  unfolding dataAct repliesOf some collect
-  data-shaped v n =
-      let long : Bool = ltb (leftOf (v .entry)) n in
-      let kept : Act = Keep (moveOf (v .flow) (v .entry) n) in
-      by-test (Answers (fs.Data n)) (eqb (v .flow .phase) 0 || not (v .entry .write)) (Refuse 5) (pick long (Refuse 6) kept) (λ _. turned-down (fs.Data n) 5 (λ z. omega arith))
-      (λ _. by-test (Answers (fs.Data n)) long (Refuse 6) kept (λ _. turned-down (fs.Data n) 6 (λ z. omega arith))
-      (λ _ _. by-test (Shaped (frameReplies (fs.Data n)) (dataAsks n)) (not (moveOf (v .flow) (v .entry) n .last)) (activate ∷ []) [] (λ _. unblamed _ refl (inr (inl refl)) refl refl) (λ _. unblamed [] refl (inl refl) refl refl)))
-
-  -- BIST Activate
-  bist-shaped : (v : Facts) → Answers fs.Bist (bistAct v)
-  unfolding bistAct repliesOf some collect
-  bist-shaped v = by-test (Answers fs.Bist) (not (eqb (v .flow .phase) 0)) (Refuse 5) Zero (λ _. turned-down fs.Bist 5 (λ z. omega arith)) (λ _ _. unblamed [] refl (inl refl) refl refl)
-
-  -- by its kind
-  kind-shaped : (v : Facts) (f : Frame) → Answers f (kindAct v f)
-  unfolding kindAct
-  kind-shaped v (fs.Host h) = register-shaped v h
-  kind-shaped v (fs.Device f) = turned-down (fs.Device f) 4 (λ z. omega arith)
-  kind-shaped v (fs.Bits f) = turned-down (fs.Bits f) 4 (λ z. omega arith)
-  kind-shaped v (fs.Setup f) = turned-down (fs.Setup f) 4 (λ z. omega arith)
-  kind-shaped v fs.Activate = turned-down fs.Activate 4 (λ z. omega arith)
-  kind-shaped v (fs.Data n) = data-shaped v n
-  kind-shaped v fs.Bist = bist-shaped v
-  kind-shaped v (fs.Pio f) = turned-down (fs.Pio f) 4 (λ z. omega arith)
-  kind-shaped v fs.Refused = turned-down fs.Refused 4 (λ z. omega arith)
-
-  -- any host frame
-  frame-shaped : (v : Facts) (f : Frame) → Answers f (decideOf v f)
-  unfolding decideOf
-  frame-shaped v f =
-      by-test (Answers f) (not (eqb (lentOf v) 0)) (Refuse (lentOf v)) (kindAct v f) (λ t. turned-down f (lentOf v) (eqb-false (lentOf v) 0 (not-true (eqb (lentOf v) 0) t))) (λ _. kind-shaped v f)
+-- that is not turned down
+heard-shaped : (s : Shown) (v : Facts) {f : Frame} {a : Act} → by.Heard v f a → Shaped (frameReplies f) (frameAsks f) (repliesOf s [] a)
+unfolding repliesOf some collect pick
+heard-shaped s v (by.srst h c x) = unblamed [] c (rw (c, x) (inl refl)) refl refl
+heard-shaped s v (by.release h c x y) = unblamed (signature ∷ []) c (rw (c, x) (inr (inl refl))) refl refl
+heard-shaped s v (by.nothing h c x y) = unblamed [] c (rw (c, x) (inl refl)) refl refl
+heard-shaped s v (by.rule1 h c x) = to-queued h (c .command) (c .kind) _ refl refl
+heard-shaped s v (by.rule2 h c x) = to-queued h (c .command) (c .kind) _ refl refl
+heard-shaped s v (by.rule3 h c x) = to-queued h (c .command) (c .kind) _ refl refl
+heard-shaped s v (by.rule4 h c x u y) = to-queued h (c .command) (c .kind) _ refl refl
+heard-shaped s v (by.other-halted h c x) = to-other h (c .command) _ (inl refl) refl refl
+heard-shaped s v (by.other-busy h c x) = to-other h (c .command) _ (inl refl) refl refl
+heard-shaped s v (by.page10 h c e p) = to-log h (c .command) (s .halted) _ _
+heard-shaped s v (by.page11 h c x e p) = to-log h (c .command) false _ _
+heard-shaped s v (by.other-bad h c x e) = to-other h (c .command) _ (inl refl) refl refl
+heard-shaped s v (by.due n p w y) = to-data n (not (moveOf (v .flow) (v .entry) n .last))
+heard-shaped s v (by.bist x) = unblamed [] refl (inl refl) refl refl
 
 -- ---- every call
 
--- what holds of an act holds of it where it is taken
-taken-is : (P : Act → Type 0) (n : ℕ) (a : Act) → P a → numberOf (decided n a) ≡ 0 → P (decided n a)
-taken-is P n a p z = subst P (sym (decided-is n a (not-refused n a z))) p
+-- DMA Setup, and for a write an Activate
+setup-shaped : (tag : ℕ) (q : Queued) (on : Bool) → CallShaped (openPhase tag) (setupReply q ∷ activateIf on)
+unfolding pick some collect
+setup-shaped tag q true = unblamed _ refl (inr (inl refl)) refl refl
+setup-shaped tag q false = unblamed _ refl (inl refl) refl refl
 
-module _ (d : Device) where
-  -- what an act sends
-  abbrev sends : List ℕ → Act → List Sent
-  sends part a = repliesOf (d .errors) (d .settings .mask) (d .values) part a
-
-  -- host frame
-  pub host-shaped : (f : List ℕ) (n room : ℕ) → hostStep d f n room .refusal ≡ 0 → CallShaped (hostFrame f) (hostStep d f n room .frames)
-  unfolding hostAct
-  host-shaped f n room =
-      frame-shaped (d .errors) (d .settings .mask) (d .values) (factsOf d (openTag (d .flow .phase)) (mediumWrong (d .settings .capacity) n) room) (readFrame f)
-
-  -- DMA Setup, and for a write an Activate
-  setup-shaped : (tag : ℕ) (q : Queued) → CallShaped (openPhase tag) (sends [] (Open q))
-  unfolding repliesOf some collect
-  setup-shaped tag q =
-      by-test (λ (l : List Sent). CallShaped (openPhase tag) (setupReply q ∷ l)) (q .entry .write) (activate ∷ []) [] (λ _. unblamed _ refl (inr (inl refl)) refl refl) (λ _. unblamed _ refl (inl refl) refl refl)
-
-  -- open
-  pub open-shaped : (tag room : ℕ) → openStep d tag room .refusal ≡ 0 → CallShaped (openPhase tag) (openStep d tag room .frames)
-  unfolding openOf openAct
-  open-shaped tag room = taken-is (λ (a : Act). CallShaped (openPhase tag) (sends [] a)) _ _ (setup-shaped tag (record { tag = tag; entry = entryOf (d .entries) tag }))
-
-  -- send
-  pub send-shaped : (m : List ℕ) (room : ℕ) → sendStep d m room .refusal ≡ 0 → CallShaped sendData (sendStep d m room .frames)
-  unfolding sendOf sendAct repliesOf some collect
-  send-shaped m room = taken-is (λ (a : Act). CallShaped sendData (sends (partOf (spanOf a) m) a)) _ _ (unblamed _ refl (inl refl) refl refl)
-
-  -- finish
-  pub finish-shaped : (set room : ℕ) → finishStep d set room .refusal ≡ 0 → CallShaped (finishTags set) (finishStep d set room .frames)
-  unfolding finishOf finishAct repliesOf some collect
-  finish-shaped set room = taken-is (λ (a : Act). CallShaped (finishTags set) (sends [] a)) _ _ (unblamed _ refl (inl refl) refl refl)
-
-  -- media error
-  pub media-shaped : (tag e sector room : ℕ) → mediaStep d tag e sector room .refusal ≡ 0 → CallShaped (mediaError tag e sector) (mediaStep d tag e sector room .frames)
-  unfolding mediaOf mediaAct repliesOf some collect
-  media-shaped tag e sector room = taken-is (λ (a : Act). CallShaped (mediaError tag e sector) (sends [] a)) _ _ (unblamed _ refl (inl refl) refl refl)
-
-  -- COMRESET
-  pub reset-shaped : (room : ℕ) → comresetStep d room .refusal ≡ 0 → CallShaped comReset (comresetStep d room .frames)
-  unfolding comresetStep some collect pick
-  reset-shaped room z = rw z (unblamed (signature ∷ []) refl (inl refl) refl refl)
+-- a taken call
+pub ruled-shaped : (d : Device) (m b : List ℕ) {c : Call} {a : Act} → by.Ruled (factsOf d (lent c m b)) c a → numberOf a ≡ 0 → CallShaped c (repliesOf (shown d) (partOf (spanOf a) m) a)
+unfolding numberOf repliesOf some collect
+ruled-shaped d m b (by.refused c n h e) z = absurd (h z)
+ruled-shaped d m b (by.host f a g w s h) z =
+    let v = factsOf d (lent (hostFrame f) m b) in
+    subst (λ (p : List ℕ). CallShaped (hostFrame f) (repliesOf (shown d) p a)) (heard-unsent v m h) (heard-shaped (shown d) v h)
+ruled-shaped d m b (by.opened u g s o p e) z = setup-shaped u (record { tag = u; entry = entryOf (d .entries) u }) (entryOf (d .entries) u .write)
+ruled-shaped d m b (by.sent g w s p r) z = unblamed _ refl (inl refl) refl refl
+ruled-shaped d m b (by.finished u g s p e r) z = unblamed _ refl (inl refl) refl refl
+ruled-shaped d m b (by.failed u e x g s o y w) z = unblamed _ refl (inl refl) refl refl
+ruled-shaped d m b (by.linked r g x) z = unblamed [] refl (inl refl) refl refl
+ruled-shaped d m b (by.renewed g s) z = unblamed (signature ∷ []) refl (inl refl) refl refl
