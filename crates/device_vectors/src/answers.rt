@@ -40,14 +40,16 @@ fn say_queued(state: Device, r: &[u8]) -> Device {
     let entry = states::idle_entry();
     let facts = Facts {
         contradicts,
-        medium: false,
-        short: false,
+        medium_wrong: false,
+        reply_short: false,
+        link_busy: !(flow.phase == 0),
         settings,
         flow,
         entry,
+        unready: false,
     };
     let f = frames::read_frame(&r[9..29]);
-    lines::say_act(rules::decide_frame(facts, f));
+    lines::say_act(rules::frame_act(facts, f));
     state
 }
 

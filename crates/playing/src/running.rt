@@ -2,7 +2,7 @@
 ghost use mathlib.Core.Path.{_≡_};
 ghost use Prim.Native.Nat.{_≤_};
 ghost use lib.ListN.{length};
-ghost use Rattle.events.specs.Told.{eventStep};
+ghost use Rattle.events.specs.Played.{eventStep};
 ghost use Rattle.playing.specs.Bounds.{Within};
 use crate::input::Window;
 use crate::input::refill;
@@ -32,7 +32,7 @@ fn one(
     from: usize,
 ) -> Step
     requires { ⌜ from ≤ length (now output) ⌝ }
-    ensures { λ r. ⌜ r .state ≡ eventStep state (now (event .entry)) (now (medium .entry)) (length (now (reply .entry))) .state ⌝ }
+    ensures { λ r. ⌜ r .state ≡ eventStep state (now (event .entry)) (now (medium .entry)) (now (reply .entry)) .state ⌝ }
 {
     let size = output.len();
     let told = events::play_line(
