@@ -4,7 +4,8 @@ use mathlib.Core.List.{List, [], _∷_, _++_, map}
 use Rattle.states.specs.declared.shapes.Settings.{Settings}
 use Rattle.device.specs.declared.state.Device.{Device}
 use Rattle.device.specs.declared.state.Outcome.{Outcome}
-use Rattle.history.specs.Run.{Lent, Gave, Done, done, Typed, AllTyped}
+use Rattle.device.specs.Lent.{Lent, Gave, Typed}
+use Rattle.history.specs.Run.{Done, done, AllTyped}
 use Rattle.history.specs.Allowed.{Allowed, Follows, final, lents, historyOf, Began}
 use Rattle.history.proofs.Demand3.{demand3-code, told-code}
 use Rattle.caller.specs.Continued.{Reached, Holds, Continues}

@@ -2,8 +2,8 @@
 use denote.Ref.{now}
 use Rattle.bits.specs.Contract.{Says}
 use Rattle.bits.proofs.Tying.{say}
-use Rattle.history.specs.Calls.{hostFrame, openPhase, sendData, finishTags, mediaError, linkEvent, comReset}
-use Rattle.history.specs.Run.{lend, give}
+use Rattle.rules.specs.Call.{hostFrame, openPhase, sendData, finishTags, mediaError, linkEvent, comReset}
+use Rattle.device.specs.Lent.{lent, gave}
 use Rattle.caller.specs.Continued.{Begins, Continues, ContinuesReplying, ContinuesAlone, FirstCall}
 use Rattle.caller.specs.Program.{start, play, Started, Played}
 use Rattle.caller.proofs.calling
@@ -13,13 +13,13 @@ pub tied-begin : Says calling.begin.ended calling.begin.Reads.Asked calling.begi
 tied-begin = say (λ κs a. tt) (λ κs a r ws p. p)
 
 pub tied-host-frame : Says calling.host_frame.ended calling.host_frame.Reads.Asked calling.host_frame.Reads.Post
-    (λ κs a r ws. Continues (a .0) (lend (hostFrame (now (a .1 .0))) (now (a .1 .1 .0)) (now (a .1 .1 .1 .0))) (give r (ws .1 .1 .0) (ws .1 .1 .1 .0)))
+    (λ κs a r ws. Continues (a .0) (lent (hostFrame (now (a .1 .0))) (now (a .1 .1 .0)) (now (a .1 .1 .1 .0))) (gave r (ws .1 .1 .0) (ws .1 .1 .1 .0)))
 tied-host-frame = say (λ κs a. tt) (λ κs a r ws p. p)
 
 pub tied-open : Says calling.open.ended calling.open.Reads.Asked calling.open.Reads.Post (λ κs a r ws. ContinuesReplying (a .0) (openPhase (a .1 .0)) (now (a .1 .1 .0)) r (ws .1 .1 .0))
 tied-open = say (λ κs a. tt) (λ κs a r ws p. p)
 
-pub tied-send : Says calling.send.ended calling.send.Reads.Asked calling.send.Reads.Post (λ κs a r ws. Continues (a .0) (lend sendData (now (a .1 .0)) (now (a .1 .1 .0))) (give r (now (a .1 .0)) (ws .1 .1 .0)))
+pub tied-send : Says calling.send.ended calling.send.Reads.Asked calling.send.Reads.Post (λ κs a r ws. Continues (a .0) (lent sendData (now (a .1 .0)) (now (a .1 .1 .0))) (gave r (now (a .1 .0)) (ws .1 .1 .0)))
 tied-send = say (λ κs a. tt) (λ κs a r ws p. p)
 
 pub tied-finish : Says calling.finish.ended calling.finish.Reads.Asked calling.finish.Reads.Post (λ κs a r ws. ContinuesReplying (a .0) (finishTags (a .1 .0)) (now (a .1 .1 .0)) r (ws .1 .1 .0))

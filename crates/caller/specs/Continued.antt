@@ -5,8 +5,9 @@ use Prim.Native.Nat.{ℕ}
 use Rattle.states.specs.declared.shapes.Settings.{Settings}
 use Rattle.device.specs.declared.state.Device.{Device}
 use Rattle.device.specs.declared.state.Outcome.{Outcome}
-use Rattle.history.specs.Calls.{Call}
-use Rattle.history.specs.Run.{Lent, lend, Gave, give, Done, done, AllTyped}
+use Rattle.rules.specs.Call.{Call}
+use Rattle.device.specs.Lent.{Lent, lent, Gave, gave}
+use Rattle.history.specs.Run.{Done, done, AllTyped}
 use Rattle.history.specs.Allowed.{final, lents, historyOf, Began}
 use Rattle.history.specs.Demand3.{Demand3}
 use Rattle.history.specs.Told.{Told}
@@ -29,11 +30,11 @@ Continues d a g = (s : Settings) (r : Outcome) (xs : List Done) → Reached s r 
 
 -- a call that is lent a reply buffer alone, whatever the medium is
 abbrev pub ContinuesReplying : Device → Call → List ℕ → Outcome → List ℕ → Type 0
-ContinuesReplying d c b r b′ = (m : List ℕ) → Continues d (lend c m b) (give r m b′)
+ContinuesReplying d c b r b′ = (m : List ℕ) → Continues d (lent c m b) (gave r m b′)
 
 -- a call that is lent nothing, whatever medium and reply buffer are
 abbrev pub ContinuesAlone : Device → Call → Outcome → Type 0
-ContinuesAlone d c r = (m b : List ℕ) → Continues d (lend c m b) (give r m b)
+ContinuesAlone d c r = (m b : List ℕ) → Continues d (lent c m b) (gave r m b)
 
 -- power-on, and no call yet
 abbrev pub Begins : Settings → Outcome → Type 0
@@ -41,4 +42,4 @@ Begins s r = Holds s r [] (r .state)
 
 -- power-on, and one call that is lent nothing
 abbrev pub FirstCall : Settings → Call → Outcome → Type 0
-FirstCall s c r = (o : Outcome) × Holds s o (done (lend c [] []) (give r [] []) ∷ []) (r .state)
+FirstCall s c r = (o : Outcome) × Holds s o (done (lent c [] []) (gave r [] []) ∷ []) (r .state)

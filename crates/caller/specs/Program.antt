@@ -10,17 +10,14 @@ use Rattle.bits.specs.Little.{Bytes}
 use Rattle.text.specs.Sheet.{Fronted}
 use Rattle.device.specs.Device.{powerOn}
 use Rattle.device.specs.declared.state.Device.{Device}
-use Rattle.events.specs.HostData.{hostData}
 use Rattle.events.specs.Start.{askedOf}
-use Rattle.events.specs.Calls.{callOf}
+use Rattle.events.specs.Calls.{callsFor}
 use Rattle.events.specs.Lines.{lineOf}
-use Rattle.events.specs.declared.calls.Call as event-calls
-use Rattle.events.specs.declared.calls.Call.the-variants.{Opening, Sending, Finishing, Failing, Linking, Resetting, Hosting, Framing, Nothing}
 use Rattle.events.specs.declared.tells.Told as tells
 use Rattle.events.proofs.play_line
 use Rattle.events.proofs.start_line
-use Rattle.history.specs.Calls.{Call, hostFrame, openPhase, sendData, finishTags, mediaError, linkEvent, comReset}
-use Rattle.history.specs.Run.{lend, Done, done, result, event, Run, runFrom}
+use Rattle.device.specs.Lent.{lent}
+use Rattle.history.specs.Run.{Done, done, result, event, Run, runFrom}
 use Rattle.history.specs.Allowed.{newestFirst, lents, historyOf}
 use Rattle.history.specs.Demand3.{Demand3}
 use Rattle.history.specs.Told.{Told}
@@ -72,21 +69,9 @@ unfoldable pub ends : Device → List Play → Device
 ends d [] = d
 ends d (p ∷ ps) = ends (p .told .state) ps
 
--- the calls that an event e makes in the state d: one, and none for what is no event
-unfoldable pub callsOf : Device → List ℕ → event-calls.Call → List Call
-callsOf d e (Opening tag) = openPhase tag ∷ []
-callsOf d e Sending = sendData ∷ []
-callsOf d e (Finishing set) = finishTags set ∷ []
-callsOf d e (Failing tag error sector) = mediaError tag error sector ∷ []
-callsOf d e (Linking row) = linkEvent row ∷ []
-callsOf d e Resetting = comReset ∷ []
-callsOf d e (Hosting b) = hostFrame (hostData d b) ∷ []
-callsOf d e Framing = hostFrame e ∷ []
-callsOf d e Nothing = []
-
 -- as they went: lent what the event was lent, and what the device then gives
 abbrev pub donesBy : Device → Play → List Done
-donesBy d p = map (λ c. done (lend c (p .medium) (p .buffer)) (result d (lend c (p .medium) (p .buffer)))) (callsOf d (p .event) (callOf (p .event)))
+donesBy d p = map (λ c. done (lent c (p .medium) (p .buffer)) (result d (lent c (p .medium) (p .buffer)))) (callsFor d (p .event))
 
 -- all of them, the oldest first
 unfoldable pub donesAll : Device → List Play → List Done

@@ -1,6 +1,6 @@
 // One call of the device each. Nothing here is taken from the definitions of the device: what is proved is what its contracts tell a caller.
-ghost use Rattle.history.specs.Calls.{hostFrame, openPhase, sendData, finishTags, mediaError, linkEvent, comReset};
-ghost use Rattle.history.specs.Run.{lend, give};
+ghost use Rattle.rules.specs.Call.{hostFrame, openPhase, sendData, finishTags, mediaError, linkEvent, comReset};
+ghost use Rattle.device.specs.Lent.{lent, gave};
 ghost use Rattle.caller.specs.Continued.{Begins, Continues, ContinuesReplying, ContinuesAlone, FirstCall};
 use device::Device;
 use device::Outcome;
@@ -14,7 +14,7 @@ pub fn begin(settings: Settings) -> Outcome
 }
 
 pub fn host_frame(d: Device, frame: &[u8], medium: &mut [u8], reply: &mut [u8]) -> Outcome
-    ensures { λ r. ⌜ Continues d (lend (hostFrame (now (frame .entry))) (now (medium .entry)) (now (reply .entry))) (give r (now (medium .exit)) (now (reply .exit))) ⌝ }
+    ensures { λ r. ⌜ Continues d (lent (hostFrame (now (frame .entry))) (now (medium .entry)) (now (reply .entry))) (gave r (now (medium .exit)) (now (reply .exit))) ⌝ }
 {
     d.host_frame(frame, medium, reply)
 }
@@ -26,7 +26,7 @@ pub fn open(d: Device, tag: u8, reply: &mut [u8]) -> Outcome
 }
 
 pub fn send(d: Device, medium: &[u8], reply: &mut [u8]) -> Outcome
-    ensures { λ r. ⌜ Continues d (lend sendData (now (medium .entry)) (now (reply .entry))) (give r (now (medium .entry)) (now (reply .exit))) ⌝ }
+    ensures { λ r. ⌜ Continues d (lent sendData (now (medium .entry)) (now (reply .entry))) (gave r (now (medium .entry)) (now (reply .exit))) ⌝ }
 {
     d.send(medium, reply)
 }
