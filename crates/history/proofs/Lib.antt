@@ -1,3 +1,4 @@
+-- what a call can do, and what the host sees of it
 pub mod Sets
 pub mod Class
 pub mod Views
@@ -6,13 +7,14 @@ pub mod Changes
 pub mod Hosts
 pub mod Events
 pub mod Steps
+-- commands: fates, SActive, and an error that waits
 pub mod Alls
 pub mod Commands
 pub mod Fated
 pub mod CoreSteps
 pub mod Core
 pub mod Anchors
-pub mod Polite
+-- data: the bytes that each command carried, whose they are, and where they stand
 pub mod Spans
 pub mod Flowing
 pub mod Moving
@@ -22,22 +24,29 @@ pub mod Owners
 pub mod Placed
 pub mod Kept
 pub mod Contents
+-- what every call keeps of the state: bytes stay bytes, and a halt has its record
+pub mod Widths
+pub mod Widening
+pub mod Marked
+-- counters
 pub mod Tally
 pub mod Impact
 pub mod Hearing
 pub mod Counts
-pub mod Said
-pub mod Marked
-pub mod Shaped
 pub mod Pages
 pub mod Shown
 pub mod Counters
 pub mod Asked11
+-- replies: what each call may say, and what it must
+pub mod Polite
+pub mod Said
+pub mod Shaped
+pub mod Mannerly
+pub mod Manners
+-- demand 3: over every run from power-on, against the state, and of the code
 pub mod Soundness
 pub mod Runs
 pub mod Told
-pub mod Mannerly
-pub mod Manners
 pub mod Contracts
 pub mod Demand3
 pub mod NotEmpty
