@@ -1,6 +1,6 @@
 -- Each public function's own contract: what it says, and that two answers which it allows are equal. Assumes nothing.
 use Prim.Native.Nat.{_+_, min}
-use Rattle.bits.specs.Bit.{bitIn, clearIn, withBitIn, withoutBitIn}
+use Rattle.bits.specs.Bit.{bitIn, clearIn, withBitIn}
 use Rattle.bits.specs.Laid.{over}
 use Rattle.bits.specs.Little.{Number, byteOf}
 use denote.Ref.{now}
@@ -30,9 +30,6 @@ tied-bit = named (say (λ κs a. tt) (λ κs a r ws p. p)) (λ κs a ws ws′. r
 
 pub tied-with-bit : Tied mask.with_bit.ended mask.with_bit.Reads.Asked mask.with_bit.Reads.Post (λ κs a r ws. r ≡ withBitIn 32 (a .0) (a .1 .0))
 tied-with-bit = named (say (λ κs a. tt) (λ κs a r ws p. p)) (λ κs a ws ws′. refl)
-
-pub tied-without-bit : Tied mask.without_bit.ended mask.without_bit.Reads.Asked mask.without_bit.Reads.Post (λ κs a r ws. r ≡ withoutBitIn 32 (a .0) (a .1 .0))
-tied-without-bit = named (say (λ κs a. tt) (λ κs a r ws p. p)) (λ κs a ws ws′. refl)
 
 pub tied-without : Tied mask.without.ended mask.without.Reads.Asked mask.without.Reads.Post (λ κs a r ws. r ≡ clearIn 32 (a .0) (a .1 .0))
 tied-without = named (say (λ κs a. tt) (λ κs a r ws p. p)) (λ κs a ws ws′. refl)

@@ -13,10 +13,6 @@ bitIn w m t = ltb t w && eqb (m / 2 ^ t % 2) 1
 abbrev pub withBitIn : ℕ → ℕ → ℕ → ℕ
 withBitIn w m t = pick (ltb t w) (bitOr m (2 ^ t)) m
 
--- m with bit t off; with an index of w or more, m as it is
-abbrev pub withoutBitIn : ℕ → ℕ → ℕ → ℕ
-withoutBitIn w m t = pick (ltb t w) (bitAnd m ((2 ^ w - 1) - 2 ^ t)) m
-
 -- m with all bits of s off
 abbrev pub clearIn : ℕ → ℕ → ℕ → ℕ
 clearIn w m s = bitAnd m ((2 ^ w - 1) - s)

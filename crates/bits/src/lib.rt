@@ -10,4 +10,3 @@ pub use little::le;
 pub use mask::bit;
 pub use mask::with_bit;
 pub use mask::without;
-pub use mask::without_bit;

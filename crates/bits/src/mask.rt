@@ -1,6 +1,6 @@
 // Single bits of a mask. An index of 32 or more names no bit.
 ghost use mathlib.Core.Path.{_≡_};
-ghost use Rattle.bits.specs.Bit.{bitIn, withBitIn, withoutBitIn, clearIn};
+ghost use Rattle.bits.specs.Bit.{bitIn, withBitIn, clearIn};
 
 // Bit t of m.
 pub fn bit(m: u32, t: u32) -> bool
@@ -20,16 +20,6 @@ pub fn with_bit(m: u32, t: u32) -> u32
         return m;
     }
     m | (1 << t)
-}
-
-// m with bit t off.
-pub fn without_bit(m: u32, t: u32) -> u32
-    ensures { λ r. ⌜ r ≡ withoutBitIn 32 m t ⌝ }
-{
-    if 32 <= t {
-        return m;
-    }
-    m & !(1 << t)
 }
 
 // m with all bits of s off.

@@ -14,6 +14,11 @@ pub struct ErrorLog {
     pub task: Task,
 }
 
+impl ErrorLog {
+    // A log page has 512 bytes, whichever it is.
+    pub const PAGE_SIZE: usize = 512;
+}
+
 // What reading page 10h gives: its fields, or the refusal's number.
 pub enum Page10 {
     Fields(ErrorLog),

@@ -14,6 +14,7 @@ use frames::DevReg;
 use frames::DmaSetup;
 use frames::PioSetup;
 use frames::SetBits;
+use pages::ErrorLog;
 use rules::Act;
 use rules::Queued;
 use states::ErrorRecord;
@@ -141,7 +142,7 @@ fn put_pio(reply: &mut [u8], task: Task) -> usize
             error: 0,
             task,
             ending: 0x40,
-            bytes: Settings::SECTOR_SIZE as u16,
+            bytes: ErrorLog::PAGE_SIZE as u16,
         },
     );
     w.len
@@ -180,10 +181,10 @@ fn put_log(reply: &mut [u8], sweep: bool, task: Task, page: &[u8]) -> usize
 }
 
 // Room for a page.
-fn page_room() -> [u8; Settings::SECTOR_SIZE]
+fn page_room() -> [u8; ErrorLog::PAGE_SIZE]
     ensures { λ r. ⌜ 512 ≡ length r ⌝ }
 {
-    [0u8; Settings::SECTOR_SIZE]
+    [0u8; ErrorLog::PAGE_SIZE]
 }
 
 fn put_log10(reply: &mut [u8], sweep: bool, task: Task, r: ErrorRecord) -> usize
