@@ -24,9 +24,7 @@ pub mod Owners
 pub mod Placed
 pub mod Kept
 pub mod Contents
--- what every call keeps of the state: bytes stay bytes, and a halt has its record
-pub mod Widths
-pub mod Widening
+-- what every call keeps of the state: a halt has its record
 pub mod Marked
 -- counters
 pub mod Tally
