@@ -65,8 +65,8 @@ module _ (d : Device) (wrong some : Bool) (room : ℕ) (g : contradictoryDevice 
   heard-good k l r (by.release h c s x) = released-good d g
   heard-good k l r (by.nothing h c s x) = g
   heard-good k l r (by.rule1 h c x) = g
-  heard-good k l r (by.rule2 h c x) = fault-good d h false (tagAsked h) 0x04 g (asked-small h) refl
-  heard-good k l r (by.rule3 h c x) = fault-good d h false (tagAsked h) 0x10 g (asked-small h) refl
+  heard-good k l r (by.rule2 h c x u) = fault-good d h false (tagAsked h) 0x04 g (asked-small h) refl
+  heard-good k l r (by.rule3 h c x u y) = fault-good d h false (tagAsked h) 0x10 g (asked-small h) refl
   heard-good k l r (by.rule4 h c x u y) =
       accepted-good d (record { tag = tagAsked h; entry = entryFor h }) g x (c .free) (not-false (eqb (d .flow .phase) 0) (c .calm)) (tag-small (h .task .count))
       (entry-good (d .settings) h (settings-good d g) (or-left (leb (d .settings .depth) (tagAsked h)) (bitIn 32 (d .flow .outstanding) (tagAsked h)) u) y)
@@ -78,8 +78,28 @@ module _ (d : Device) (wrong some : Bool) (room : ℕ) (g : contradictoryDevice 
   heard-good k l r (by.due n p w s) = moving-good d n g p (eqb-true (n % 4) 0 (and-right (leb 4 n && leb n 8192) (eqb (n % 4) 0) (r .1 .1)))
   heard-good k l r (by.bist b) = zeroed-good d true g
 
+-- a set of tags has 32 bits; of any other call nothing is asked
+abbrev pub SetOf32 : Call → Type 0
+SetOf32 (hostFrame f) = Unit
+SetOf32 (openPhase t) = Unit
+SetOf32 sendData = Unit
+SetOf32 (finishTags s) = s < 2 ^ 32
+SetOf32 (mediaError t e s) = Unit
+SetOf32 (linkEvent r) = Unit
+SetOf32 comReset = Unit
+
+-- as its type gives
+pub typed-set : (c : Call) → Typed c → SetOf32 c
+typed-set (hostFrame f) t = tt
+typed-set (openPhase u) t = tt
+typed-set sendData t = tt
+typed-set (finishTags s) t = t
+typed-set (mediaError u e s) t = tt
+typed-set (linkEvent r) t = tt
+typed-set comReset t = tt
+
 -- a call that was decided
-ruled-good : (d : Device) (m b : List ℕ) {c : Call} {a : Act} → Typed c → by.Ruled (factsOf d (lent c m b)) c a → numberOf a ≡ 0 → Good d a
+ruled-good : (d : Device) (m b : List ℕ) {c : Call} {a : Act} → SetOf32 c → by.Ruled (factsOf d (lent c m b)) c a → numberOf a ≡ 0 → Good d a
 unfolding afterOf numberOf
 ruled-good d m b t (by.refused c n h e) z = absurd (h z)
 ruled-good d m b t (by.host f a g w s h) z = heard-good d (mediumWrong (d .settings .capacity) (length m)) false (length b) g _ f (read-data f) h
@@ -94,7 +114,7 @@ ruled-good d m b t (by.linked r g x) z =
     (not-false (kept (d .settings .mask) r) (or-right (ltb 15 r) (not (kept (d .settings .mask) r)) (or-right (eqb r 0 || eqb r 9) (ltb 15 r || not (kept (d .settings .mask) r)) x)))
 ruled-good d m b t (by.renewed g s) z = renewed-good d g
 
--- every call whose arguments are of their types
-pub never-contradicts-call : (d : Device) (l : Lent) → Typed (l .call) → step d l .refusal ≡ 0 → contradictoryDevice (step d l .state) ≡ false
+-- every call
+pub never-contradicts-call : (d : Device) (l : Lent) → SetOf32 (l .call) → step d l .refusal ≡ 0 → contradictoryDevice (step d l .state) ≡ false
 unfolding actOf
 never-contradicts-call d l t z = ruled-good d (l .medium) (l .buffer) t (by.ruled (factsOf d l) (l .call)) z

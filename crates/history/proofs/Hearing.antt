@@ -152,8 +152,8 @@ module _ (s : Shown) where
   heard-heard v (by.release h c x y) = none-heard _ _ refl refl (λ k. refl) tt refl
   heard-heard v (by.nothing h c x y) = none-heard _ _ refl refl (λ k. refl) tt refl
   heard-heard v (by.rule1 h c x) = none-heard _ _ refl refl (λ k. refl) tt refl
-  heard-heard v (by.rule2 h c x) = none-heard _ _ refl refl (λ k. refl) tt refl
-  heard-heard v (by.rule3 h c x) = none-heard _ _ refl refl (λ k. refl) tt refl
+  heard-heard v (by.rule2 h c x u) = none-heard _ _ refl refl (λ k. refl) tt refl
+  heard-heard v (by.rule3 h c x u y) = none-heard _ _ refl refl (λ k. refl) tt refl
   heard-heard v (by.rule4 h c x u y) = none-heard _ _ refl refl (λ k. refl) tt refl
   heard-heard v (by.other-halted h c x) = none-heard _ _ refl refl (λ k. refl) tt refl
   heard-heard v (by.other-busy h c x) = none-heard _ _ refl refl (λ k. refl) tt refl

@@ -172,8 +172,8 @@ module _ (d : Device) (g : contradictoryDevice d ≡ false) where
   heard-comes w s room j l r (by.release h c x y) = freed h c x
   heard-comes w s room j l r (by.nothing h c x y) = idle h c x
   heard-comes w s room j l r (by.rule1 h c x) = answered-again h 0x04 (c .command) x
-  heard-comes w s room j l r (by.rule2 h c x) = queued-faulted h (tagAsked h) 0x04 (c .command) (c .kind) x
-  heard-comes w s room j l r (by.rule3 h c x) = queued-faulted h (tagAsked h) 0x10 (c .command) (c .kind) x
+  heard-comes w s room j l r (by.rule2 h c x u) = queued-faulted h (tagAsked h) 0x04 (c .command) (c .kind) x
+  heard-comes w s room j l r (by.rule3 h c x u y) = queued-faulted h (tagAsked h) 0x10 (c .command) (c .kind) x
   heard-comes w s room j l r (by.rule4 h c x u y) =
       accepted h (c .command) (c .kind) x (eqb-true (d .flow .phase) 0 (not-false (eqb (d .flow .phase) 0) (c .calm))) (or-right (leb (d .settings .depth) (tagAsked h)) (bitIn 32 (d .flow .outstanding) (tagAsked h)) u)
   heard-comes w s room j l r (by.other-halted h c x) = answered-again h 0x04 (c .command) x

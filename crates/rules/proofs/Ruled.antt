@@ -40,8 +40,10 @@ pub data Heard (v : Facts) : Frame → Act → Type 0 where
   nothing : (h : HostReg) → h .«command_bit» ≡ false → srstOf (h .control) ≡ false → v .flow .held ≡ false → Heard v (Host h) Nothing
   -- queued commands, rules 1 to 4
   rule1 : (h : HostReg) → Command v h true → v .flow .halted ≡ true → Heard v (Host h) (bad h 0x04)
-  rule2 : (h : HostReg) → Command v h true → v .flow .halted ≡ false → Heard v (Host h) (fault h false (tagAsked h) 0x04)
-  rule3 : (h : HostReg) → Command v h true → v .flow .halted ≡ false → Heard v (Host h) (fault h false (tagAsked h) 0x10)
+  rule2 : (h : HostReg) → Command v h true → v .flow .halted ≡ false → leb (v .settings .depth) (tagAsked h) || bitIn 32 (v .flow .outstanding) (tagAsked h) ≡ true
+      → Heard v (Host h) (fault h false (tagAsked h) 0x04)
+  rule3 : (h : HostReg) → Command v h true → v .flow .halted ≡ false → leb (v .settings .depth) (tagAsked h) || bitIn 32 (v .flow .outstanding) (tagAsked h) ≡ false
+      → ltb (v .settings .capacity) (h .task .lba + countAsked h) ≡ true → Heard v (Host h) (fault h false (tagAsked h) 0x10)
   rule4 : (h : HostReg) → Command v h true → v .flow .halted ≡ false → leb (v .settings .depth) (tagAsked h) || bitIn 32 (v .flow .outstanding) (tagAsked h) ≡ false
       → ltb (v .settings .capacity) (h .task .lba + countAsked h) ≡ false → Heard v (Host h) (Accept (record { tag = tagAsked h; entry = entryFor h }))
   -- any other command
@@ -90,8 +92,8 @@ module _ (v : Facts) where
       let good : Act = Accept (record { tag = tagAsked h; entry = entryFor h }) in
       let third : Act = pick far (fault h false (tagAsked h) 0x10) good in
       by-test R (v .flow .halted) (bad h 0x04) (pick used (fault h false (tagAsked h) 0x04) third) (rule1 h c)
-      (λ x. by-test R used (fault h false (tagAsked h) 0x04) third (λ _. rule2 h c x)
-      (λ u. by-test R far (fault h false (tagAsked h) 0x10) good (λ _. rule3 h c x) (λ y. rule4 h c x u y)))
+      (λ x. by-test R used (fault h false (tagAsked h) 0x04) third (rule2 h c x)
+      (λ u. by-test R far (fault h false (tagAsked h) 0x10) good (rule3 h c x u) (rule4 h c x u)))
 
   other-heard : (h : HostReg) → Command v h false → Heard v (Host h) (otherAct v h)
   unfolding otherAct
