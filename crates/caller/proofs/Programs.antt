@@ -27,8 +27,8 @@ use Rattle.events.specs.Calls.{byKind, eventOf, callsOf, callsFor}
 use Rattle.events.specs.Played.{stepFor}
 use Rattle.events.specs.Lines.{lineOf}
 use Rattle.events.specs.Told.{lineFor}
-use Rattle.events.specs.declared.events.Event.{Event}
-use Rattle.events.specs.declared.events.Event.the-variants.{OpenPhase, SendData, FinishTags, MediaError, LinkEvent, ComReset, HostData, HostFrame, Nothing}
+use Rattle.events.specs.declared.asked.Event.{Event}
+use Rattle.events.specs.declared.asked.Event.the-variants.{OpenPhase, SendData, FinishTags, MediaError, LinkEvent, ComReset, HostData, HostFrame, Nothing}
 use Rattle.events.specs.declared.tells.Told as tells
 use Rattle.rules.specs.Call.{Call}
 use Rattle.device.specs.Lent.{Lent, lent, Typed}

@@ -20,8 +20,8 @@ use Rattle.events.specs.declared.kinds.Length.{Length}
 use Rattle.events.specs.declared.kinds.Length.the-variants.{Bytes, Unknown}
 use Rattle.events.specs.declared.kinds.Next.{Next}
 use Rattle.events.specs.declared.kinds.Next.the-variants.{Whole, Stop, End}
-use Rattle.events.specs.declared.events.Event.{Event}
-use Rattle.events.specs.declared.events.Event.the-variants.{Nothing}
+use Rattle.events.specs.declared.asked.Event.{Event}
+use Rattle.events.specs.declared.asked.Event.the-variants.{Nothing}
 
 settings-nothing : (k : ℕ) (e : List ℕ) → eqb k 0x00 ≡ true → byKind k e ≡ Nothing
 unfolding byKind pick

@@ -16,7 +16,7 @@ use Rattle.bits.specs.Contract.{Tied}
 use Rattle.bits.proofs.Tying.{same, say, by, named}
 use Rattle.device.proofs.Outcomes.{given-once}
 use Rattle.events.proofs.Telling.{tells-once}
-use Rattle.events.proofs.events
+use Rattle.events.proofs.asked
 use Rattle.events.proofs.host_data
 use Rattle.events.proofs.kinds
 use Rattle.events.proofs.lines
@@ -24,7 +24,7 @@ use Rattle.events.proofs.plays
 use Rattle.events.proofs.starts
 use Rattle.events.proofs.tells
 
-pub tied-event-of : Tied events.event_of.ended events.event_of.Reads.Asked events.event_of.Reads.Post (λ κs a r ws. r ≡ eventOf (now (a .0)))
+pub tied-event-of : Tied asked.event_of.ended asked.event_of.Reads.Asked asked.event_of.Reads.Post (λ κs a r ws. r ≡ eventOf (now (a .0)))
 tied-event-of = named (say (λ κs a. tt) (λ κs a r ws p. p)) (λ κs a ws ws′. refl)
 
 pub tied-host-data : Tied host_data.host_data.ended host_data.host_data.Reads.Asked host_data.host_data.Reads.Post (λ κs a r ws. Given (a .0) (lent (hostFrame (hostData (a .0) (a .1 .0))) (now (a .1 .1 .0)) (now (a .1 .1 .1 .0))) (gave r (ws .1 .1 .0) (ws .1 .1 .1 .0)))

@@ -9,8 +9,8 @@ use Rattle.rules.specs.Call.{Call, hostFrame, openPhase, sendData, finishTags, 
 use Rattle.device.specs.declared.state.Device.{Device}
 use Rattle.events.specs.HostData.{hostData}
 use Rattle.events.specs.Kinds.{isEvent}
-use Rattle.events.specs.declared.events.Event.{Event}
-use Rattle.events.specs.declared.events.Event.the-variants.{OpenPhase, SendData, FinishTags, MediaError, LinkEvent, ComReset, HostData, HostFrame, Nothing}
+use Rattle.events.specs.declared.asked.Event.{Event}
+use Rattle.events.specs.declared.asked.Event.the-variants.{OpenPhase, SendData, FinishTags, MediaError, LinkEvent, ComReset, HostData, HostFrame, Nothing}
 
 -- 01h open: tag. 02h send. 03h finish: mask 4. 04h media error: tag, error, sector 4. 05h link event: row. 06h COMRESET. 07h host data. 27h and 58h: the frame
 unfoldable pub byKind : ℕ → List ℕ → Event

@@ -1,5 +1,5 @@
 // One event to a call of the device and its line, over slices. Every public function is total and has no `requires`.
-mod events;
+mod asked;
 mod host_data;
 mod kinds;
 mod lines;
@@ -7,8 +7,8 @@ mod plays;
 mod starts;
 mod tells;
 
-pub use events::Event;
-pub use events::event_of;
+pub use asked::Event;
+pub use asked::event_of;
 pub use kinds::Length;
 pub use kinds::Next;
 pub use kinds::body_length;

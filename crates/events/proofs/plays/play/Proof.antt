@@ -3,7 +3,7 @@ use Rattle.events.proofs.plays.play.Statement.{statement}
 use Rattle.events.proofs.plays.play.Tie as tie
 use Rattle.events.proofs.plays.play.Reads as reads
 use Rattle.events.proofs.plays.play.Lts as lts
-use Rattle.events.proofs.events.event_of.Reads as event-of-reads
+use Rattle.events.proofs.asked.event_of.Reads as event-of-reads
 use Rattle.events.proofs.plays.make_call.Reads as make-call-reads
 
 event-of-requires : tie.Need-event-of-requires

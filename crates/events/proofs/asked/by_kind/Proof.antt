@@ -2,13 +2,13 @@ use Rattle.bits.specs.Pick.{pick}
 use mathlib.Core.Path.{ap}
 use borrow.Author.Tests.{ne-eqb}
 use Rattle.events.specs.Calls.{byKind}
-use Rattle.events.specs.declared.events.Event.the-variants.{OpenPhase, FinishTags, LinkEvent, HostData}
+use Rattle.events.specs.declared.asked.Event.the-variants.{OpenPhase, FinishTags, LinkEvent, HostData}
 use borrow.Author.Needs.{needs}
-use Rattle.events.proofs.events.by_kind.Statement.{statement}
-use Rattle.events.proofs.events.by_kind.Tie as tie
-use Rattle.events.proofs.events.by_kind.Reads as reads
-use Rattle.events.proofs.events.by_kind.Lts as lts
-use Rattle.events.proofs.events.four.Reads as four-reads
+use Rattle.events.proofs.asked.by_kind.Statement.{statement}
+use Rattle.events.proofs.asked.by_kind.Tie as tie
+use Rattle.events.proofs.asked.by_kind.Reads as reads
+use Rattle.events.proofs.asked.by_kind.Lts as lts
+use Rattle.events.proofs.asked.four.Reads as four-reads
 use Rattle.wire.proofs.byte_of.Reads as byte-of-reads
 
 byte-of-requires : tie.Need-byte-of-requires

@@ -2,11 +2,11 @@ use Rattle.bits.specs.Pick.{pick}
 use mathlib.Core.Path.{sym, _∙_}
 use Rattle.events.specs.Calls.{eventOf}
 use borrow.Author.Needs.{needs}
-use Rattle.events.proofs.events.event_of.Statement.{statement}
-use Rattle.events.proofs.events.event_of.Tie as tie
-use Rattle.events.proofs.events.event_of.Reads as reads
-use Rattle.events.proofs.events.event_of.Lts as lts
-use Rattle.events.proofs.events.by_kind.Reads as by-kind-reads
+use Rattle.events.proofs.asked.event_of.Statement.{statement}
+use Rattle.events.proofs.asked.event_of.Tie as tie
+use Rattle.events.proofs.asked.event_of.Reads as reads
+use Rattle.events.proofs.asked.event_of.Lts as lts
+use Rattle.events.proofs.asked.by_kind.Reads as by-kind-reads
 use Rattle.events.proofs.kinds.is_event.Reads as is-event-reads
 use Rattle.wire.proofs.byte_of.Reads as byte-of-reads
 
