@@ -25,13 +25,13 @@ use Rattle.events.specs.Played.{stepFor, testsFor, eventStep, eventTests
 use Rattle.events.specs.Stops.{isNone, noCall}
 use Rattle.events.proofs.Playable.{no-call-exactly}
 
--- as its call
-first-exactly-call : (d : Device) (m b : List ℕ) (cs : List Call) → FirstExactly (testsFor d m b cs) (stepFor d m b cs .refusal)
+-- the call that it makes, whichever that is: each number of its row exactly when that test holds and none before it does, 0 exactly when none holds; and 24 for none
+pub first-exactly-call : (d : Device) (m b : List ℕ) (cs : List Call) → FirstExactly (testsFor d m b cs) (stepFor d m b cs .refusal)
 unfolding testsFor stepFor firstOf pick
 first-exactly-call d m b [] = firsts.first-exactly (testsFor d m b []) tt
 first-exactly-call d m b (c ∷ cs) = first-exactly d (lent c m b)
 
--- each number of its call's row exactly when that test holds and none before it does, 0 exactly when none holds
+-- so every event, by its call
 pub first-exactly-play : (d : Device) (e m b : List ℕ) → FirstExactly (eventTests d e m b) (eventStep d e m b .refusal)
 first-exactly-play d e m b = first-exactly-call d m b (callsFor d e)
 
