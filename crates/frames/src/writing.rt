@@ -1,5 +1,7 @@
 // The frame writers: the frame in front of the buffer, or 25, or 26, and then no byte is changed.
 ghost use mathlib.Core.Path.{_≡_};
+ghost use mathlib.Core.List.{_++_};
+ghost use Rattle.wire.specs.Emit.{Emitted};
 ghost use Rattle.frames.specs.Write.{bitsBytes, setupBytes, fits, Wrote};
 ghost use Rattle.frames.specs.Write.Sent.{host, device, setBits, setup, activate, payload, bist, pio};
 use crate::shapes::DevReg;
@@ -8,13 +10,34 @@ use crate::shapes::HostReg;
 use crate::shapes::PioSetup;
 use crate::shapes::SetBits;
 use wire::Written;
-use wire::emit;
 use wire::flag;
 use wire::flags;
 use wire::halves;
 use wire::payload_size;
 use wire::register_bytes;
 use wire::task_fits;
+
+// The one place that lays a frame: its head, and what follows it.
+fn lay_frame(buf: &mut [u8], fit: bool, head: &[u8], rest: &[u8]) -> Written
+    ensures { λ r. ⌜ Emitted fit (now (head .entry) ++ now (rest .entry)) (now (buf .entry)) r (now (buf .exit)) ⌝ }
+{
+    let n = head.len();
+    if !fit {
+        return Written { number: 25, len: 0 };
+    }
+    if buf.len() < n {
+        return Written { number: 26, len: 0 };
+    }
+    if buf.len() - n < rest.len() {
+        return Written { number: 26, len: 0 };
+    }
+    bits::lay(buf, head);
+    bits::lay(&mut buf[n..], rest);
+    Written {
+        number: 0,
+        len: n + rest.len(),
+    }
+}
 
 fn host_fits(f: HostReg) -> bool
     ensures { λ r. ⌜ r ≡ fits (host f) ⌝ }
@@ -38,7 +61,7 @@ pub fn write_host(buf: &mut [u8], f: HostReg) -> Written
         f.control,
         0,
     );
-    emit(buf, host_fits(f), &b)
+    lay_frame(buf, host_fits(f), &b, b"")
 }
 
 fn device_fits(f: DevReg) -> bool
@@ -54,7 +77,7 @@ pub fn write_device(buf: &mut [u8], f: DevReg) -> Written
     let t = f.task;
     let one = flags(false, f.interrupt, false);
     let b = register_bytes(0x34, one, f.status, f.error, t, 0, 0, 0);
-    emit(buf, device_fits(f), &b)
+    lay_frame(buf, device_fits(f), &b, b"")
 }
 
 fn pio_fits(f: PioSetup) -> bool
@@ -70,7 +93,7 @@ pub fn write_pio(buf: &mut [u8], f: PioSetup) -> Written
     let t = f.task;
     let one = flags(false, f.interrupt, f.to_host);
     let b = register_bytes(0x5F, one, f.status, f.error, t, 0, f.ending, f.bytes);
-    emit(buf, pio_fits(f), &b)
+    lay_frame(buf, pio_fits(f), &b, b"")
 }
 
 fn bits_bytes(f: SetBits) -> [u8; 8]
@@ -100,7 +123,7 @@ pub fn write_bits(buf: &mut [u8], f: SetBits) -> Written
     ensures { λ r. ⌜ Wrote (setBits f) (now (buf .entry)) r (now (buf .exit)) ⌝ }
 {
     let b = bits_bytes(f);
-    emit(buf, bits_fit(f), &b)
+    lay_frame(buf, bits_fit(f), &b, b"")
 }
 
 fn setup_bytes(f: DmaSetup) -> [u8; 28]
@@ -152,39 +175,27 @@ pub fn write_setup(buf: &mut [u8], f: DmaSetup) -> Written
     ensures { λ r. ⌜ Wrote (setup f) (now (buf .entry)) r (now (buf .exit)) ⌝ }
 {
     let b = setup_bytes(f);
-    emit(buf, setup_fits(f), &b)
+    lay_frame(buf, setup_fits(f), &b, b"")
 }
 
 pub fn write_activate(buf: &mut [u8]) -> Written
     ensures { λ r. ⌜ Wrote activate (now (buf .entry)) r (now (buf .exit)) ⌝ }
 {
     let b: [u8; 4] = [0x39, 0, 0, 0];
-    emit(buf, true, &b)
+    lay_frame(buf, true, &b, b"")
 }
 
 pub fn write_bist(buf: &mut [u8]) -> Written
     ensures { λ r. ⌜ Wrote bist (now (buf .entry)) r (now (buf .exit)) ⌝ }
 {
     let b: [u8; 12] = [0x58, 0, 0, 0, 0, 0, 0, 0, 0, 0, 0, 0];
-    emit(buf, true, &b)
+    lay_frame(buf, true, &b, b"")
 }
 
 // The data frame's payload is copied once, from the caller's slice to behind the header.
 pub fn write_data(buf: &mut [u8], p: &[u8]) -> Written
     ensures { λ r. ⌜ Wrote (payload (now (p .entry))) (now (buf .entry)) r (now (buf .exit)) ⌝ }
 {
-    let n = p.len();
-    if !payload_size(n) {
-        return Written { number: 25, len: 0 };
-    }
-    if buf.len() < 4 + n {
-        return Written { number: 26, len: 0 };
-    }
     let h: [u8; 4] = [0x46, 0, 0, 0];
-    bits::lay(buf, &h);
-    bits::lay(&mut buf[4..], p);
-    Written {
-        number: 0,
-        len: 4 + n,
-    }
+    lay_frame(buf, payload_size(p.len()), &h, p)
 }

@@ -1,13 +1,14 @@
+use mathlib.Core.List.{append-nil}
 use Rattle.frames.specs.Write.{encode}
 use borrow.Author.Needs.{needs}
 use Rattle.frames.proofs.writing.write_host.Statement.{statement}
 use Rattle.frames.proofs.writing.write_host.Tie as tie
 use Rattle.frames.proofs.writing.write_host.Reads as reads
 use Rattle.frames.proofs.writing.write_host.Lts as lts
+use Rattle.frames.proofs.writing.host_fits.Reads as host-fits-reads
+use Rattle.frames.proofs.writing.lay_frame.Reads as lay-frame-reads
 use Rattle.wire.proofs.flags.Reads as flags-reads
 use Rattle.wire.proofs.register_bytes.Reads as register-bytes-reads
-use Rattle.wire.proofs.emit.Reads as emit-reads
-use Rattle.frames.proofs.writing.host_fits.Reads as host-fits-reads
 
 flags-requires : tie.Need-flags-requires
 flags-requires c κs = search needs
@@ -18,18 +19,21 @@ register-bytes-requires c κs = search needs
 host-fits-requires : tie.Need-host-fits-requires
 host-fits-requires c κs = search needs
 
-slice-aggregate-emit : tie.Need-slice-aggregate-emit
-slice-aggregate-emit c = search needs
+slice-aggregate-lay-frame : tie.Need-slice-aggregate-lay-frame
+slice-aggregate-lay-frame c = search needs
 
-emit-requires : tie.Need-emit-requires
-emit-requires c κs = search needs
+slice-aggregate-lay-frame-2 : tie.Need-slice-aggregate-lay-frame-2
+slice-aggregate-lay-frame-2 c = search needs
+
+lay-frame-requires : tie.Need-lay-frame-requires
+lay-frame-requires c κs = search needs
 
 same-length : tie.Need-same-length
 same-length c = search needs
 
 returns : tie.Need-returns
 unfolding encode
-returns c = rw (c .before .before .before .before .before .before .register-bytes .ensures, c .before .before .before .before .before .before .before .flags .ensures, c .before .before .before .before .host-fits .ensures) at (c .before .before .emit .ensures)
+returns c = rw (append-nil, c .before .before .before .before .before .before .before .register-bytes .ensures, c .before .before .before .before .before .before .before .before .flags .ensures, c .before .before .before .before .before .host-fits .ensures) at (c .before .before .lay-frame .ensures)
 
 pub write-host-spec : {M : Type 1} → statement M
 write-host-spec =
@@ -38,7 +42,8 @@ write-host-spec =
     flags-requires
     register-bytes-requires
     host-fits-requires
-    slice-aggregate-emit
-    emit-requires
+    slice-aggregate-lay-frame
+    slice-aggregate-lay-frame-2
+    lay-frame-requires
     same-length
     returns)
