@@ -68,14 +68,16 @@ module _ (traced : Bool) (number : ℕ) (d : Device) (p : Play) where
   shows-call : (c : Call) → Told-by (c ∷ []) → ShowsCall traced number p d (doneBy d p c ∷ [])
   unfolding stepFor lineFor ShowsCall
   shows-call c t =
-      let s = step d (lent c (p .medium) (p .buffer)) in
-      (record {
-        state = t .state;
-        refusal = t .refusal;
-        left = t .left;
-        after = t .after;
-        line = subst (λ (f : List ℕ). Fronted (lineOf traced number (s .refusal) (s .state .flow .outstanding) f) (p .line) (p .told .len) (p .written)) (sym (front (bytesOf s) (p .buffer))) (t .line);
-      }, refl)
+      let s = step d (lent c (p .medium) (p .buffer)) in (
+        record {
+          state = t .state;
+          refusal = t .refusal;
+          left = t .left;
+          after = t .after;
+          line = subst (λ (f : List ℕ). Fronted (lineOf traced number (s .refusal) (s .state .flow .outstanding) f) (p .line) (p .told .len) (p .written)) (sym (front (bytesOf s) (p .buffer))) (t .line);
+        },
+        refl,
+      )
 
   -- no call, or one
   AtMostOne : List Call → Type 0

@@ -63,9 +63,10 @@ spoken-as d (finishTags set) m b t s go =
     let k = step d (lent (finishTags set) m b) in
     λ y. by-view d (lent (finishTags set) m b) t s (λ (e : Seen). k .refusal ≡ 0 → (e .fails ≡ false) × ((u : ℕ) → e .finishes u ≡ bitIn 32 set u)) (λ z _. go z) (λ n z. absurd (n z)) (eqb-true (k .refusal) 0 y)
 spoken-as d (mediaError x e o) m b t s go =
-    let l = lent (mediaError x e o) m b in
-    (λ y. by-view d l t s (λ (e : Seen). step d l .refusal ≡ 0 → e .fails ≡ true) (λ z _. go z .0) (λ n z. absurd (n z)) (eqb-true (step d l .refusal) 0 y),
-    λ u. by-view d l t s (λ (e : Seen). e .finishes u ≡ false) (λ z. go z .1 u) (λ _. quiet-finishes u))
+    let l = lent (mediaError x e o) m b in (
+      λ y. by-view d l t s (λ (e : Seen). step d l .refusal ≡ 0 → e .fails ≡ true) (λ z _. go z .0) (λ n z. absurd (n z)) (eqb-true (step d l .refusal) 0 y),
+      λ u. by-view d l t s (λ (e : Seen). e .finishes u ≡ false) (λ z. go z .1 u) (λ _. quiet-finishes u),
+    )
 spoken-as d (linkEvent r) m b t s go = λ u. by-view d (lent (linkEvent r) m b) t s (λ (e : Seen). e .finishes u ≡ false) (λ z. go z u) (λ _. quiet-finishes u)
 spoken-as d comReset m b t s go = λ u. by-view d (lent comReset m b) t s (λ (e : Seen). e .finishes u ≡ false) (λ z. go z u) (λ _. quiet-finishes u)
 

@@ -25,7 +25,7 @@ slice-aggregate-done c = search needs
 done-requires : tie.Need-done-requires
 done-requires c κs =
     let a = c .before .before .before .before .before .args in
-    let e = comreset-act (a .self)  (now (a .reply)) (c .before .before .before .facts .result) (c .before .before .comreset-act .result) (c .before .before .before .facts .ensures) (c .before .before .comreset-act .ensures) in
+    let e = comreset-act (a .self) (now (a .reply)) (c .before .before .before .facts .result) (c .before .before .comreset-act .result) (c .before .before .before .facts .ensures) (c .before .before .comreset-act .ensures) in
     has-room (a .self) (lent comReset [] (now (a .reply))) (c .before .before .comreset-act .result) tt e
 
 same-length : tie.Need-same-length
@@ -34,7 +34,7 @@ same-length c = search needs
 returns : tie.Need-returns
 returns c =
     let a = c .before .before .before .before .before .before .before .before .args in
-    let e = comreset-act (a .self)  (now (a .reply)) (c .before .before .before .before .before .before .facts .result) (c .before .before .before .before .before .comreset-act .result) (c .before .before .before .before .before .before .facts .ensures) (c .before .before .before .before .before .comreset-act .ensures) in
+    let e = comreset-act (a .self) (now (a .reply)) (c .before .before .before .before .before .before .facts .result) (c .before .before .before .before .before .comreset-act .result) (c .before .before .before .before .before .before .facts .ensures) (c .before .before .before .before .before .comreset-act .ensures) in
     let w = c .before .before .done .ensures in
     given-without (a .self) comReset (now (a .reply)) (c .before .before .before .before .before .comreset-act .result) (c .before .before .done .last .1 .0) (c .before .before .done .result) refl e (w .0) (w .1 .0) (w .1 .1)
 
