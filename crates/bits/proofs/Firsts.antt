@@ -11,7 +11,7 @@ use native.Mathlib.Omega.{arith}
 use Rattle.bits.specs.Pick.{pick}
 use Rattle.bits.proofs.Picks.{by-test}
 use Rattle.bits.proofs.Tables.{both-left, both-right}
-use Rattle.bits.specs.First.{Rung, firstOf, noRung, Iff, NoneBefore, FirstExactly, fresh, apart}
+use Rattle.bits.specs.First.{Rung, firstOf, noRung, Iff, NoneBefore, FirstExactly, fresh, apart, rung}
 
 differ : (m n : ℕ) → T (not (eqb m n)) → m ≡ n → ⊥
 differ m n t e = rw (eq-eqb m n e) at t
@@ -35,7 +35,7 @@ fresh-at n (r ∷ rs) t (suc k) h e = fresh-at n rs (both-right (not (eqb n (r .
 
 module _ (n : ℕ) (rs : List Rung) where
   abbrev front : Bool → List Rung
-  front b = record { number = n; holds = b } ∷ rs
+  front b = rung n b ∷ rs
 
   -- a rung that does not hold in front of others that do not
   one-more : (k : ℕ) → NoneBefore rs k → NoneBefore (front false) (suc k)

@@ -2,7 +2,7 @@
 use Prim.Native.Nat.{_+_, min}
 use Rattle.bits.specs.Bit.{bitIn, clearIn, withBitIn}
 use Rattle.bits.specs.Laid.{over}
-use Rattle.bits.specs.Little.{Number, byteOf}
+use Rattle.bits.specs.Little.{NumberGiven, byteOf}
 use denote.Ref.{now}
 use lib.Dec.{leb}
 use lib.ListN.{getD, length}
@@ -19,7 +19,7 @@ tied-lay = by (say (λ κs a. tt) (λ κs a r ws p. p)) (λ κs a r r′ ws ws�
 pub tied-byte-at : Tied little.byte_at.ended little.byte_at.Reads.Asked little.byte_at.Reads.Post (λ κs a r ws. r ≡ getD (now (a .0)) ((a .1 .0) + (a .1 .1 .0)) 0)
 tied-byte-at = named (say (λ κs a. tt) (λ κs a r ws p. p)) (λ κs a ws ws′. refl)
 
-pub tied-le : Tied little.le.ended little.le.Reads.Asked little.le.Reads.Post (λ κs a r ws. Number (now (a .0)) (a .1 .0) (min (a .1 .1 .0) 8) r)
+pub tied-le : Tied little.le.ended little.le.Reads.Asked little.le.Reads.Post (λ κs a r ws. NumberGiven (now (a .0)) (a .1 .0) (min (a .1 .1 .0) 8) r)
 tied-le = by (say (λ κs a. tt) (λ κs a r ws p. p)) (λ κs a r r′ ws ws′ p q. (same (p .value) (q .value), refl))
 
 pub tied-byte : Tied little.byte.ended little.byte.Reads.Asked little.byte.Reads.Post (λ κs a r ws. r ≡ byteOf (a .0) (a .1 .0))

@@ -12,6 +12,10 @@ pub record Rung : Type 0 where
   pub number : ℕ
   pub holds : Bool
 
+-- a number, and its test
+abbrev pub rung : ℕ → Bool → Rung
+rung n t = record { number = n; holds = t }
+
 -- the number of the first rung that holds, or 0 where none does
 unfoldable pub firstOf : List Rung → ℕ
 firstOf [] = 0
@@ -19,7 +23,7 @@ firstOf (r ∷ rs) = pick (r .holds) (r .number) (firstOf rs)
 
 -- what stands past the end of a list of rungs
 abbrev pub noRung : Rung
-noRung = record { number = 0; holds = false }
+noRung = rung 0 false
 
 -- each way round
 abbrev pub Iff : Type 0 → Type 0 → Type 0

@@ -1,6 +1,6 @@
 pub mod Pick
 pub mod First
-pub mod Told
+pub mod Answer
 pub mod Bit
 pub mod Contract
 pub mod Little

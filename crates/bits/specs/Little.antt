@@ -27,6 +27,6 @@ abbrev pub Bytes : List ℕ → Type 0
 Bytes l = (i : ℕ) → getD l i 0 < 256
 
 -- what the code that reads a number answers: the number, which is below its width's bound
-pub record Number (l : List ℕ) (at n r : ℕ) : Type 0 where
+pub record NumberGiven (l : List ℕ) (at n r : ℕ) : Type 0 where
   pub value : r ≡ leAt l at n
   pub bound : r < 2 ^ (8 * n)

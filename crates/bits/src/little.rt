@@ -2,7 +2,7 @@
 ghost use mathlib.Core.Path.{_≡_};
 ghost use Prim.Native.Nat.{_+_, _%_, _<_, min};
 ghost use lib.ListN.{getD};
-ghost use Rattle.bits.specs.Little.{byteOf, Number};
+ghost use Rattle.bits.specs.Little.{byteOf, NumberGiven};
 
 // The byte i places behind at; past the end, 0.
 pub fn byte_at(s: &[u8], at: usize, i: usize) -> u8
@@ -32,7 +32,7 @@ fn at_most_8(n: usize) -> usize
 
 // The number of the n bytes (at most 8) from at on.
 pub fn le(s: &[u8], at: usize, n: usize) -> u64
-    ensures { λ r. ⌜ Number (now (s .entry)) at (min n 8) r ⌝ }
+    ensures { λ r. ⌜ NumberGiven (now (s .entry)) at (min n 8) r ⌝ }
 {
     let mut i = at_most_8(n);
     let mut x: u64 = 0;

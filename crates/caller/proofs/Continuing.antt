@@ -1,7 +1,7 @@
 -- One call more: what its contract allows continues every history that led to its state. Assumes nothing.
 use mathlib.Core.Path.{_≡_, refl, sym, ap, subst, _∙_}
 use mathlib.Core.List.{List, [], _∷_, _++_, map}
-use Rattle.states.specs.declared.shapes.Settings.{Settings}
+use Rattle.device_state.specs.declared.shapes.Settings.{Settings}
 use Rattle.device.specs.declared.state.Device.{Device}
 use Rattle.device.specs.declared.state.Outcome.{Outcome}
 use Rattle.device.specs.Lent.{Lent, Gave, Typed}
@@ -9,14 +9,14 @@ use Rattle.history.specs.Run.{Done, done, AllTyped}
 use Rattle.history.specs.Allowed.{Allowed, Follows, final, lents, historyOf, Began}
 use Rattle.history.proofs.Demand3.{demand3-code, told-code}
 use Rattle.caller.specs.Continued.{Reached, Holds, Continues}
-use Rattle.history.specs.Told.{Told}
+use Rattle.history.specs.StateAgrees.{StateAgrees}
 
 -- of what is reached, all holds
 pub holds : (s : Settings) (r : Outcome) (xs : List Done) (d : Device) → Reached s r xs d → Holds s r xs d
 holds s r xs d h = record {
   reached = h;
   demand3 = demand3-code s r xs (h .began) (h .typed);
-  told = subst (λ (e : Device). Told s e (historyOf xs)) (h .last) (told-code s r xs (h .began) (h .typed));
+  told = subst (λ (e : Device). StateAgrees s e (historyOf xs)) (h .last) (told-code s r xs (h .began) (h .typed));
 }
 
 -- one more at the end

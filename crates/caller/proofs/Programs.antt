@@ -12,10 +12,10 @@ use Rattle.bits.specs.Laid.{laid}
 use Rattle.bits.specs.Little.{leAt, Bytes}
 use Rattle.bits.proofs.Littles.{le-lt}
 use Rattle.bits.proofs.Picks.{by-test}
-use Rattle.wire.specs.Cut.{joined}
-use Rattle.text.specs.Sheet.{Fronted}
+use Rattle.frame_parts.specs.Cut.{joined}
+use Rattle.text.specs.Sheet.{WholeTextGiven}
 use Rattle.replies.specs.Replies.{sentAll}
-use Rattle.states.specs.declared.shapes.Settings.{Settings}
+use Rattle.device_state.specs.declared.shapes.Settings.{Settings}
 use Rattle.device.specs.Device.{powerOn}
 use Rattle.device.specs.DataDue.{dataDue}
 use Rattle.device.specs.Step.{Step, step, bytesOf}
@@ -23,21 +23,21 @@ use Rattle.device.specs.declared.state.Device.{Device}
 use Rattle.events.specs.Kinds.{isEvent}
 use Rattle.events.specs.HostData.{dataFrame}
 use Rattle.events.specs.Start.{askedOf, startOf}
-use Rattle.events.specs.Calls.{byKind, eventOf, callsOf, callsFor}
+use Rattle.events.specs.Calls.{callByKind, requestOf, callsOf, callsFor}
 use Rattle.events.specs.Played.{stepFor}
 use Rattle.events.specs.Lines.{lineOf}
-use Rattle.events.specs.Told.{lineFor}
-use Rattle.events.specs.declared.asked.Event.{Event}
-use Rattle.events.specs.declared.asked.Event.the-variants.{OpenPhase, SendData, FinishTags, MediaError, LinkEvent, ComReset, HostData, HostFrame, Nothing}
-use Rattle.events.specs.declared.tells.Told as tells
+use Rattle.events.specs.EventLine.{lineFor}
+use Rattle.events.specs.declared.asked.Request.{Request}
+use Rattle.events.specs.declared.asked.Request.the-variants.{OpenPhase, SendData, FinishTags, MediaError, LinkEvent, ComReset, HostData, HostFrame, Nothing}
+use Rattle.events.specs.declared.tells.EventLine as tells
 use Rattle.rules.specs.Call.{Call}
 use Rattle.device.specs.Lent.{Lent, lent, Typed}
 use Rattle.history.specs.Run.{AllTyped, result, Done, done, event, Run, run, runFrom}
 use Rattle.history.specs.Allowed.{newestFirst, lents, historyOf}
 use Rattle.history.specs.Demand3.{Demand3}
-use Rattle.history.specs.Told.{Told}
+use Rattle.history.specs.StateAgrees.{StateAgrees}
 use Rattle.history.proofs.Demand3.{demand3, told}
-use Rattle.caller.specs.Program.{Play, Played, played, Start, Started, started, Plays, ends, donesBy, donesAll, Shows, ShowsCall, Shown, Begins, IsHistory}
+use Rattle.caller.specs.Program.{Play, Played, played, Start, Started, started, Plays, endState, donesBy, donesAll, Shows, ShowsCall, EachShown, StartShown, IsHistory}
 
 -- what a play is told, for the step s
 record Tells (traced : Bool) (number : ℕ) (p : Play) (s : Step) : Type 0 where
@@ -45,7 +45,7 @@ record Tells (traced : Bool) (number : ℕ) (p : Play) (s : Step) : Type 0 where
   pub refusal : p .told .refusal ≡ s .refusal
   pub left : p .left ≡ s .medium
   pub after : p .after ≡ laid (bytesOf s) (p .buffer)
-  pub line : Fronted (lineFor traced number s) (p .line) (p .told .len) (p .written)
+  pub line : WholeTextGiven (lineFor traced number s) (p .line) (p .told .len) (p .written)
 
 -- the outside sees just the replies
 front : (f b : List ℕ) → take (length f) (laid f b) ≡ f
@@ -74,7 +74,7 @@ module _ (traced : Bool) (number : ℕ) (d : Device) (p : Play) where
           refusal = t .refusal;
           left = t .left;
           after = t .after;
-          line = subst (λ (f : List ℕ). Fronted (lineOf traced number (s .refusal) (s .state .flow .outstanding) f) (p .line) (p .told .len) (p .written)) (sym (front (bytesOf s) (p .buffer))) (t .line);
+          line = subst (λ (f : List ℕ). WholeTextGiven (lineOf traced number (s .refusal) (s .state .status .outstanding) f) (p .line) (p .told .len) (p .written)) (sym (front (bytesOf s) (p .buffer))) (t .line);
         },
         refl,
       )
@@ -96,7 +96,7 @@ module _ (traced : Bool) (number : ℕ) (d : Device) (p : Play) where
   calls-run (c ∷ cs) o t h = rw o (ap (λ (s : Device). ran s (doneBy d p c ∷ h)) (sym (t .state)))
 
   -- an event makes no call, or one
-  one-call : (v : Event) → AtMostOne (callsOf d (p .event) v)
+  one-call : (v : Request) → AtMostOne (callsOf d (p .event) v)
   unfolding AtMostOne callsOf
   one-call (OpenPhase tag) = refl
   one-call SendData = refl
@@ -124,23 +124,23 @@ newest-more [] ys h = refl
 newest-more (x ∷ xs) ys h = newest-more xs ys (x ∷ h)
 
 -- the run of all calls
-plays-run : (traced : Bool) (n : ℕ) (d : Device) (ps : List Play) (h : List Done) → Plays traced n d ps → run d h (lents (donesAll d ps)) ≡ ran (ends d ps) (newestFirst h (donesAll d ps))
-unfolding Plays donesAll ends run newestFirst
+plays-run : (traced : Bool) (n : ℕ) (d : Device) (ps : List Play) (h : List Done) → Plays traced n d ps → run d h (lents (donesAll d ps)) ≡ ran (endState d ps) (newestFirst h (donesAll d ps))
+unfolding Plays donesAll endState run newestFirst
 plays-run traced n d [] h q = refl
 plays-run traced n d (p ∷ ps) h q =
     let rest = donesAll (p .told .state) ps in
     run-more (donesBy d p) rest d h
-    ∙ ap (λ (r : Run). run (r .state) (r .calls) (lents rest)) (calls-run traced n d p (callsFor d (p .event)) (one-call traced n d p (eventOf (p .event))) (told-by (q .0)) h)
+    ∙ ap (λ (r : Run). run (r .state) (r .calls) (lents rest)) (calls-run traced n d p (callsFor d (p .event)) (one-call traced n d p (requestOf (p .event))) (told-by (q .0)) h)
     ∙ plays-run traced (n + 1) (p .told .state) ps (newestFirst h (donesBy d p)) (q .1)
-    ∙ ap (ran (ends (p .told .state) ps)) (sym (newest-more (donesBy d p) rest h))
+    ∙ ap (ran (endState (p .told .state) ps)) (sym (newest-more (donesBy d p) rest h))
 
-shown-run : (traced : Bool) (n : ℕ) (d : Device) (ps : List Play) → Plays traced n d ps → Shown traced n d ps
-unfolding Plays Shown
+shown-run : (traced : Bool) (n : ℕ) (d : Device) (ps : List Play) → Plays traced n d ps → EachShown traced n d ps
+unfolding Plays EachShown
 shown-run traced n d [] q = tt
-shown-run traced n d (p ∷ ps) q = (shows-calls traced n d p (callsFor d (p .event)) (one-call traced n d p (eventOf (p .event))) (told-by (q .0)), shown-run traced (n + 1) (p .told .state) ps (q .1))
+shown-run traced n d (p ∷ ps) q = (shows-calls traced n d p (callsFor d (p .event)) (one-call traced n d p (requestOf (p .event))) (told-by (q .0)), shown-run traced (n + 1) (p .told .state) ps (q .1))
 
 -- ---- the arguments are of their types
-abbrev TypedAll : Device → List ℕ → Event → Type 0
+abbrev TypedAll : Device → List ℕ → Request → Type 0
 TypedAll d e c = AllTyped (map (λ x. lent x [] []) (callsOf d e c))
 
 same-bytes : (n b i : ℕ) → b < 256 → getD (replicate n b) i 0 < 256
@@ -156,8 +156,8 @@ data-bytes n b h (suc (suc zero)) = omega arith
 data-bytes n b h (suc (suc (suc zero))) = omega arith
 data-bytes n b h (suc (suc (suc (suc i)))) = same-bytes n b i h
 
-typed-kind : (d : Device) (k : ℕ) (e : List ℕ) → Bytes e → TypedAll d e (byKind k e)
-unfolding byKind callsOf AllTyped
+typed-kind : (d : Device) (k : ℕ) (e : List ℕ) → Bytes e → TypedAll d e (callByKind k e)
+unfolding callByKind callsOf AllTyped
 typed-kind d k e w =
     by-test (TypedAll d e) (eqb k 0x01) _ _ (λ h. (tt, tt))
     (λ h. by-test (TypedAll d e) (eqb k 0x02) _ _ (λ h. (tt, tt))
@@ -169,8 +169,8 @@ typed-kind d k e w =
     (λ h. by-test (TypedAll d e) (eqb k 0x27) _ _ (λ h. (w, tt))
     (λ h. by-test (TypedAll d e) (eqb k 0x58) _ _ (λ h. (w, tt)) (λ h. tt)))))))))
 
-typed-event : (d : Device) (e : List ℕ) → Bytes e → TypedAll d e (eventOf e)
-unfolding eventOf callsOf AllTyped
+typed-event : (d : Device) (e : List ℕ) → Bytes e → TypedAll d e (requestOf e)
+unfolding requestOf callsOf AllTyped
 typed-event d e w = by-test (TypedAll d e) (isEvent e) _ _ (λ h. typed-kind d (getD e 0 0) e w) (λ h. tt)
 
 -- whatever is lent, and with what follows
@@ -189,7 +189,7 @@ typed-run traced n d (p ∷ ps) q =
     typed-more d p (callsFor d (p .event)) (donesAll (p .told .state) ps) (typed-event d (p .event) (of-bytes (q .0))) (typed-run traced (n + 1) (p .told .state) ps (q .1))
 
 -- ---- from power-on
-powered : {traced : Bool} {b : Start} → Started traced b → Begins traced b
+powered : {traced : Bool} {b : Start} → Started traced b → StartShown traced b
 unfolding startOf lineFor sentAll joined
 powered (started κs e o t o′ q) = record { state = q .state; refusal = q .refusal; line = q .line }
 
@@ -201,11 +201,11 @@ program-history traced b ps g q =
     let xs : List Done = donesAll d ps in
     let typed = typed-run traced 1 d ps q in
     let begun = powered g in
-    let ended : runFrom s (lents xs) ≡ ran (ends d ps) (newestFirst [] xs) = ap (λ (x : Device). run x [] (lents xs)) (sym (begun .state)) ∙ plays-run traced 1 d ps [] q in
+    let ended : runFrom s (lents xs) ≡ ran (endState d ps) (newestFirst [] xs) = ap (λ (x : Device). run x [] (lents xs)) (sym (begun .state)) ∙ plays-run traced 1 d ps [] q in
     record {
       begins = begun;
       calls = ended;
       shown = shown-run traced 1 d ps q;
       demand3 = subst (λ (r : Run). Demand3 (s .depth) (s .mask) (map event (r .calls))) ended (demand3 s (lents xs) typed);
-      told = subst (λ (r : Run). Told s (r .state) (map event (r .calls))) ended (told s (lents xs) typed);
+      told = subst (λ (r : Run). StateAgrees s (r .state) (map event (r .calls))) ended (told s (lents xs) typed);
     }

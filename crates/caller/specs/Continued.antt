@@ -2,7 +2,7 @@
 use mathlib.Core.Path.{_≡_}
 use mathlib.Core.List.{List, [], _∷_, _++_}
 use Prim.Native.Nat.{ℕ}
-use Rattle.states.specs.declared.shapes.Settings.{Settings}
+use Rattle.device_state.specs.declared.shapes.Settings.{Settings}
 use Rattle.device.specs.declared.state.Device.{Device}
 use Rattle.device.specs.declared.state.Outcome.{Outcome}
 use Rattle.rules.specs.Call.{Call}
@@ -10,7 +10,7 @@ use Rattle.device.specs.Lent.{Lent, lent, Gave, gave}
 use Rattle.history.specs.Run.{Done, done, AllTyped}
 use Rattle.history.specs.Allowed.{final, lents, historyOf, Began}
 use Rattle.history.specs.Demand3.{Demand3}
-use Rattle.history.specs.Told.{Told}
+use Rattle.history.specs.StateAgrees.{StateAgrees}
 
 -- d is the state that the last call of xs returned: calls from power-on with the settings s, which gave r
 pub record Reached (s : Settings) (r : Outcome) (xs : List Done) (d : Device) : Type 0 where
@@ -22,7 +22,7 @@ pub record Reached (s : Settings) (r : Outcome) (xs : List Done) (d : Device) : 
 pub record Holds (s : Settings) (r : Outcome) (xs : List Done) (d : Device) : Type 0 where
   pub reached : Reached s r xs d
   pub demand3 : Demand3 (s .depth) (s .mask) (historyOf xs)
-  pub told : Told s d (historyOf xs)
+  pub told : StateAgrees s d (historyOf xs)
 
 -- whatever the calls were that led to the state d: with this one more, all that holds
 abbrev pub Continues : Device → Lent → Gave → Type 0

@@ -4,7 +4,7 @@ ghost use Rattle.device.specs.Lent.{lent, gave};
 ghost use Rattle.caller.specs.Continued.{Begins, Continues, ContinuesReplying, ContinuesAlone, FirstCall};
 use device::Device;
 use device::Outcome;
-use states::Settings;
+use device_state::Settings;
 
 // Power-on.
 pub fn begin(settings: Settings) -> Outcome

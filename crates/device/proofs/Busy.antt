@@ -7,34 +7,34 @@ use native.Mathlib.Omega.{arith}
 use borrow.Author.Tests.{ltb-false, eqb-true, eqb-false, eq-eqb, not-false}
 use Rattle.bits.specs.Bit.{bitIn}
 use Rattle.bits.proofs.Picks.{pick-yes, pick-no, or-left, or-right}
-use Rattle.states.specs.State.{wholeOf}
-use Rattle.states.specs.Table.{entryOf}
-use Rattle.states.specs.Clauses.{aboveDepth, pastCapacity, countZero, otherTag, otherRange, movedAbove, movedOdd, movedBetween, phaseDone, movedBad, busyBad, idleBad, entryBad}
-use Rattle.states.specs.declared.shapes.Entry.{Entry}
-use Rattle.rules.specs.Facts.{leftOf}
+use Rattle.device_state.specs.State.{wholeOf}
+use Rattle.device_state.specs.Table.{entryOf}
+use Rattle.device_state.specs.Clauses.{aboveDepth, pastCapacity, countZero, otherTag, otherRange, movedAbove, movedOdd, movedBetween, phaseDone, movedBad, busyBad, idleBad, entryBad}
+use Rattle.device_state.specs.declared.shapes.Entry.{Entry}
+use Rattle.rules.specs.Positions.{leftOf}
 use Rattle.device.specs.Device.{contradictoryDevice}
 use Rattle.device.specs.FactsOf.{openTag}
 use Rattle.device.specs.declared.state.Device.{Device}
-use Rattle.device.proofs.Parts.{tag-good, flow-good}
-use Rattle.device.proofs.Flows.{phase-busy}
+use Rattle.device.proofs.Parts.{tag-good, status-good}
+use Rattle.device.proofs.StatusLaws.{phase-busy}
 use Rattle.device.proofs.Entering.{capacity-most}
 use Rattle.device.proofs.Keeping.{settings-good}
 use Rattle.device.proofs.Tags.{busy-below}
 
 -- the phase of a tag is open
 abbrev pub phaseOf : Device → ℕ → Bool
-phaseOf d t = eqb (d .flow .phase) (t + 1)
+phaseOf d t = eqb (d .status .phase) (t + 1)
 
 -- its entry
-pub busy-good : (d : Device) (t : ℕ) → contradictoryDevice d ≡ false → bitIn 32 (d .flow .outstanding) t ≡ true
+pub busy-good : (d : Device) (t : ℕ) → contradictoryDevice d ≡ false → bitIn 32 (d .status .outstanding) t ≡ true
     → busyBad (d .settings) (entryOf (d .entries) t) t (phaseOf d t) ≡ false
 unfolding entryBad
 busy-good d t h b =
     let e = entryOf (d .entries) t in
     let busy = busyBad (d .settings) e t (phaseOf d t) in
-    sym (pick-yes (bitIn 32 (d .flow .outstanding) t) busy (idleBad e) b) ∙ tag-good d h t (busy-below (d .flow .outstanding) t b)
+    sym (pick-yes (bitIn 32 (d .status .outstanding) t) busy (idleBad e) b) ∙ tag-good d h t (busy-below (d .status .outstanding) t b)
 
-module _ (d : Device) (t : ℕ) (h : contradictoryDevice d ≡ false) (b : bitIn 32 (d .flow .outstanding) t ≡ true) where
+module _ (d : Device) (t : ℕ) (h : contradictoryDevice d ≡ false) (b : bitIn 32 (d .status .outstanding) t ≡ true) where
   abbrev e : Entry
   e = entryOf (d .entries) t
 
@@ -86,20 +86,20 @@ module _ (d : Device) (t : ℕ) (h : contradictoryDevice d ≡ false) (b : bitIn
       omega (arith, apart)
 
 -- of the open phase
-pub moves-on : (d : Device) → contradictoryDevice d ≡ false → eqb (d .flow .phase) 0 ≡ false
-    → entryOf (d .entries) (openTag (d .flow .phase)) .moved < wholeOf (entryOf (d .entries) (openTag (d .flow .phase)) .count)
+pub moves-on : (d : Device) → contradictoryDevice d ≡ false → eqb (d .status .phase) 0 ≡ false
+    → entryOf (d .entries) (openTag (d .status .phase)) .moved < wholeOf (entryOf (d .entries) (openTag (d .status .phase)) .count)
 unfolding openTag
 moves-on d h p =
-    let t = d .flow .phase - 1 in
-    let own : phaseOf d t ≡ true = let q = eqb-false (d .flow .phase) 0 p in eq-eqb (d .flow .phase) (t + 1) (omega (arith, q)) in
-    rw (pick-no (eqb (d .flow .phase) 0) 32 t p) (phase-more d t h (phase-busy (d .flow) (d .errors .set) (flow-good d h) p) own)
+    let t = d .status .phase - 1 in
+    let own : phaseOf d t ≡ true = let q = eqb-false (d .status .phase) 0 p in eq-eqb (d .status .phase) (t + 1) (omega (arith, q)) in
+    rw (pick-no (eqb (d .status .phase) 0) 32 t p) (phase-more d t h (phase-busy (d .status) (d .errors .set) (status-good d h) p) own)
 
 -- of whole Dwords, and of what is left of the open phase's command, the less is whole Dwords too
-pub part-fours : (d : Device) (k : ℕ) → contradictoryDevice d ≡ false → eqb (d .flow .phase) 0 ≡ false → k % 4 ≡ 0
-    → min k (leftOf (entryOf (d .entries) (d .flow .phase - 1))) % 4 ≡ 0
+pub part-fours : (d : Device) (k : ℕ) → contradictoryDevice d ≡ false → eqb (d .status .phase) 0 ≡ false → k % 4 ≡ 0
+    → min k (leftOf (entryOf (d .entries) (d .status .phase - 1))) % 4 ≡ 0
 part-fours d k h p four =
-    let t = d .flow .phase - 1 in
-    let old = moved-fours d t h (phase-busy (d .flow) (d .errors .set) (flow-good d h) p) in
+    let t = d .status .phase - 1 in
+    let old = moved-fours d t h (phase-busy (d .status) (d .errors .set) (status-good d h) p) in
     less-fours k (entryOf (d .entries) t .count) (entryOf (d .entries) t .moved) four old
   where
     less-fours : (k count moved : ℕ) → k % 4 ≡ 0 → moved % 4 ≡ 0 → min k (512 * min count 65536 - moved) % 4 ≡ 0

@@ -9,7 +9,7 @@ use Rattle.bits.specs.First.{FirstExactly, firstOf}
 use Rattle.bits.proofs.Firsts as firsts
 use Rattle.bits.proofs.Picks.{by-test, pick-yes, pick-no}
 use Rattle.pages.specs.Rows.{kept, rowOf}
-use Rattle.pages.specs.Page11.{toldCounter}
+use Rattle.pages.specs.Page11.{counterAnswer}
 use Rattle.pages.specs.Made11.{onRow, shownFor}
 use Rattle.pages.specs.declared.rows.Place.{Place}
 use Rattle.pages.specs.declared.rows.Place.the-variants.{Row, Nowhere}
@@ -17,43 +17,43 @@ use Rattle.pages.specs.declared.page11.Counter.{Counter}
 use Rattle.pages.specs.declared.page11.Counter.the-variants.{Value, Absent, Refused}
 use Rattle.device.specs.Counter.{counterTests, counterOf, CounterGiven, countOf, CountGiven}
 use Rattle.device.specs.Device.{contradictoryDevice}
-use Rattle.ladders.specs.Ladders.{powerLadder}
+use Rattle.refusals.specs.Ladders.{powerLadder}
 use lib.Count.{ones}
 use Rattle.bits.specs.Pick.{pick}
 use Rattle.device.specs.declared.state.Device.{Device}
 
 -- what is shown of a row is no refusal
-shown-told : (mask : ℕ) (values : List ℕ) (p : Place) → toldCounter (onRow mask values p) .number ≡ 0
-unfolding onRow toldCounter
-shown-told mask values (Row k) = by-test (λ (c : Counter). toldCounter c .number ≡ 0) (kept mask k) (Value (getD values k 0)) Absent (λ _. refl) (λ _. refl)
+shown-told : (mask : ℕ) (values : List ℕ) (p : Place) → counterAnswer (onRow mask values p) .number ≡ 0
+unfolding onRow counterAnswer
+shown-told mask values (Row k) = by-test (λ (c : Counter). counterAnswer c .number ≡ 0) (kept mask k) (Value (getD values k 0)) Absent (λ _. refl) (λ _. refl)
 shown-told mask values Nowhere = refl
 
-counter-told : (d : Device) (number : ℕ) → toldCounter (counterOf d number) .number ≡ firstOf (counterTests d number)
-unfolding counterOf toldCounter shownFor
+counter-told : (d : Device) (number : ℕ) → counterAnswer (counterOf d number) .number ≡ firstOf (counterTests d number)
+unfolding counterOf counterAnswer shownFor
 counter-told d number =
     let n = firstOf (counterTests d number) in
-    by-test (λ (c : Counter). toldCounter c .number ≡ n) (eqb n 0) (shownFor (d .settings .mask) (d .values) number) (Refused n)
+    by-test (λ (c : Counter). counterAnswer c .number ≡ n) (eqb n 0) (shownFor (d .settings .mask) (d .values) number) (Refused n)
     (λ t. shown-told (d .settings .mask) (d .values) (rowOf number) ∙ sym (eqb-true n 0 t)) (λ _. refl)
 
 pub counter-given : (d : Device) (number : ℕ) (r : Counter) → r ≡ counterOf d number → CounterGiven d number r
-counter-given d number r e = record { answer = e; refusal = ap (λ (c : Counter). toldCounter c .number) e ∙ counter-told d number }
+counter-given d number r e = record { answer = e; refusal = ap (λ (c : Counter). counterAnswer c .number) e ∙ counter-told d number }
 
 -- counter: 1, 23, each exactly then
-pub first-exactly-counter : (d : Device) (number : ℕ) (r : Counter) → CounterGiven d number r → FirstExactly (counterTests d number) (toldCounter r .number)
+pub first-exactly-counter : (d : Device) (number : ℕ) (r : Counter) → CounterGiven d number r → FirstExactly (counterTests d number) (counterAnswer r .number)
 first-exactly-counter d number r g = subst (FirstExactly (counterTests d number)) (sym (g .refusal)) (firsts.first-exactly (counterTests d number) tt)
 
 -- the count of outstanding commands
 pub count-given : (d : Device) (r : Counter) → r ≡ countOf d → CountGiven d r
-unfolding countOf toldCounter firstOf
+unfolding countOf counterAnswer firstOf
 count-given d r e =
     let bad = contradictoryDevice d in
     record {
       answer = e;
-      refusal = ap (λ (c : Counter). toldCounter c .number) e
-          ∙ by-test (λ (c : Counter). toldCounter c .number ≡ pick bad 1 0) bad (Refused 1) (Value (ones (d .flow .outstanding)))
+      refusal = ap (λ (c : Counter). counterAnswer c .number) e
+          ∙ by-test (λ (c : Counter). counterAnswer c .number ≡ pick bad 1 0) bad (Refused 1) (Value (ones (d .status .outstanding)))
           (λ y. sym (pick-yes bad 1 0 y)) (λ n. sym (pick-no bad 1 0 n));
     }
 
 -- 1, exactly when the state contradicts itself
-pub first-exactly-count : (d : Device) (r : Counter) → CountGiven d r → FirstExactly (powerLadder (contradictoryDevice d)) (toldCounter r .number)
+pub first-exactly-count : (d : Device) (r : Counter) → CountGiven d r → FirstExactly (powerLadder (contradictoryDevice d)) (counterAnswer r .number)
 first-exactly-count d r g = subst (FirstExactly (powerLadder (contradictoryDevice d))) (sym (g .refusal)) (firsts.first-exactly (powerLadder (contradictoryDevice d)) tt)

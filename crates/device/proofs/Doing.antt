@@ -10,19 +10,19 @@ use lib.ListN.{length, take, drop}
 use Rattle.bits.specs.Pick.{pick}
 use Rattle.bits.specs.Laid.{laid}
 use Rattle.bits.proofs.Picks.{by-test, pick-yes}
-use Rattle.frames.specs.Write.{Sent}
+use Rattle.frames.specs.Write.{FrameValue}
 use Rattle.frames.specs.Read.{readFrame}
 use Rattle.frames.specs.declared.shapes.Frame.{Frame}
 use Rattle.rules.specs.Call.{Call, hostFrame, openPhase, sendData, finishTags, mediaError, linkEvent, comReset}
 use Rattle.rules.specs.Tests.{tests, someUnready}
 use Rattle.rules.specs.Act.{does, act, heardAct}
-use Rattle.rules.specs.Taking.{numberOf, Touch, leaves, sends, stores, touchOf, spanOf, partOf, stored, keptBy, keptIn}
-use Rattle.rules.specs.declared.taking.Span.{Span}
+use Rattle.rules.specs.Medium.{numberOf, Touch, leaves, sends, stores, touchOf, spanOf, partOf, stored, keptBy, mediumAfter}
+use Rattle.rules.specs.declared.medium.Span.{Span}
 use Rattle.rules.specs.declared.facts.Facts.{Facts}
 use Rattle.rules.specs.declared.acts.Act.{Act}
 use Rattle.rules.proofs.Cases.{act-cases}
 use Rattle.rules.proofs.Ruled as by
-use Rattle.replies.specs.Replies.{repliesOf, sentAll, Sends}
+use Rattle.replies.specs.Replies.{repliesOf, sentAll, RepliesGiven}
 use Rattle.replies.proofs.Sending.{sends-none}
 use Rattle.device.specs.Lent.{Lent, lent, gave, frameIn}
 use Rattle.device.specs.FactsOf.{openTag, mediumWrong, factsWith, factsOf}
@@ -37,21 +37,21 @@ pub room-replies : (d : Device) (part : List ℕ) (n : ℕ) (a : Act) → (numbe
 unfolding repliesOf
 room-replies d part n =
     act-cases (λ (x : Act). (numberOf x ≡ 0 → leb 8196 n ≡ true) → pick (leb 8196 n) (repliesOf (shown d) part x) [] ≡ repliesOf (shown d) part x)
-    (λ k h. by-test (λ (x : List Sent). x ≡ []) (leb 8196 n) [] [] (λ _. refl) (λ _. refl))
+    (λ k h. by-test (λ (x : List FrameValue). x ≡ []) (leb 8196 n) [] [] (λ _. refl) (λ _. refl))
     (λ x e h. pick-yes (leb 8196 n) (repliesOf (shown d) part x) [] (h e))
 
 -- an act that is the call's, done
-pub given-by : (d : Device) (l : Lent) (a : Act) (part m′ b′ : List ℕ) (r : Outcome) → a ≡ actOf d l → part ≡ partOf (spanOf a) (l .medium) → m′ ≡ keptIn a (frameIn (l .call)) (l .medium)
-    → r .state ≡ afterOf d a → r .refusal ≡ numberOf a → Sends (repliesOf (shown d) part a) (l .buffer) (r .len) b′ → Given d l (gave r m′ b′)
+pub given-by : (d : Device) (l : Lent) (a : Act) (part m′ b′ : List ℕ) (r : Outcome) → a ≡ actOf d l → part ≡ partOf (spanOf a) (l .medium) → m′ ≡ mediumAfter a (frameIn (l .call)) (l .medium)
+    → r .state ≡ afterOf d a → r .refusal ≡ numberOf a → RepliesGiven (repliesOf (shown d) part a) (l .buffer) (r .len) b′ → Given d l (gave r m′ b′)
 given-by d l a part m′ b′ r e p m s n w =
     let fs : repliesOf (shown d) part a ≡ repliesOf (shown d) (partOf (spanOf (actOf d l)) (l .medium)) (actOf d l) =
     ap (λ (q : List ℕ). repliesOf (shown d) q a) p ∙ ap (λ (x : Act). repliesOf (shown d) (partOf (spanOf x) (l .medium)) x) e in
     record {
       state = s ∙ ap (afterOf d) e;
       refusal = n ∙ ap numberOf e;
-      len = w .len ∙ ap (λ (x : List Sent). length (sentAll x)) fs;
-      reply = w .bytes ∙ ap (λ (x : List Sent). laid (sentAll x) (l .buffer)) fs;
-      medium = m ∙ ap (λ (x : Act). keptIn x (frameIn (l .call)) (l .medium)) e;
+      len = w .len ∙ ap (λ (x : List FrameValue). length (sentAll x)) fs;
+      reply = w .bytes ∙ ap (λ (x : List FrameValue). laid (sentAll x) (l .buffer)) fs;
+      medium = m ∙ ap (λ (x : Act). mediumAfter x (frameIn (l .call)) (l .medium)) e;
     }
 
 -- ---- what is sent of the medium, and what stays of it
@@ -75,13 +75,13 @@ kept-by-none (sends k) = refl
 kept-by-none (stores k) = refl
 
 -- and nothing is left of it
-pub kept-none : (a : Act) → [] ≡ keptIn a [] []
+pub kept-none : (a : Act) → [] ≡ mediumAfter a [] []
 kept-none a = kept-by-none (touchOf a)
 
 -- a call that is lent no medium, done
 pub given-without : (d : Device) (c : Call) (b : List ℕ) (a : Act) (b′ : List ℕ) (r : Outcome) → frameIn c ≡ [] → a ≡ actOf d (lent c [] b)
-    → r .state ≡ afterOf d a → r .refusal ≡ numberOf a → Sends (repliesOf (shown d) [] a) b (r .len) b′ → Given d (lent c [] b) (gave r [] b′)
-given-without d c b a b′ r f e s n w = given-by d (lent c [] b) a [] [] b′ r e (part-none (spanOf a)) (kept-none a ∙ ap (λ (x : List ℕ). keptIn a x []) (sym f)) s n w
+    → r .state ≡ afterOf d a → r .refusal ≡ numberOf a → RepliesGiven (repliesOf (shown d) [] a) b (r .len) b′ → Given d (lent c [] b) (gave r [] b′)
+given-without d c b a b′ r f e s n w = given-by d (lent c [] b) a [] [] b′ r e (part-none (spanOf a)) (kept-none a ∙ ap (λ (x : List ℕ). mediumAfter a x []) (sym f)) s n w
 
 -- a host frame sends nothing of the medium
 pub heard-unsent : (v : Facts) (m : List ℕ) {f : Frame} {a : Act} → by.Heard v f a → [] ≡ partOf (spanOf a) m
@@ -111,30 +111,30 @@ unfolding actOf
 host-unsent d f m b = ruled-unsent (factsOf d (lent (hostFrame f) m b)) m (by.ruled (factsOf d (lent (hostFrame f) m b)) (hostFrame f))
 
 -- a send leaves the medium
-ruled-left : (v : Facts) (m : List ℕ) {a : Act} → by.Ruled v sendData a → m ≡ keptIn a [] m
+ruled-left : (v : Facts) (m : List ℕ) {a : Act} → by.Ruled v sendData a → m ≡ mediumAfter a [] m
 unfolding touchOf
 ruled-left v m (by.refused c n h e) = refl
 ruled-left v m (by.sent g w s p r) = refl
 
-pub send-left : (d : Device) (m b : List ℕ) → m ≡ keptIn (actOf d (lent sendData m b)) [] m
+pub send-left : (d : Device) (m b : List ℕ) → m ≡ mediumAfter (actOf d (lent sendData m b)) [] m
 unfolding actOf
 send-left d m b = ruled-left (factsOf d (lent sendData m b)) m (by.ruled (factsOf d (lent sendData m b)) sendData)
 
 -- a link event replies nothing
-ruled-silent : (d : Device) (v : Facts) {r : ℕ} {a : Act} → by.Ruled v (linkEvent r) a → Sends (repliesOf (shown d) [] a) [] 0 []
+ruled-silent : (d : Device) (v : Facts) {r : ℕ} {a : Act} → by.Ruled v (linkEvent r) a → RepliesGiven (repliesOf (shown d) [] a) [] 0 []
 unfolding repliesOf
 ruled-silent d v (by.refused c n h e) = sends-none []
 ruled-silent d v (by.linked r g x) = sends-none []
 
-pub link-silent : (d : Device) (r : ℕ) (a : Act) → a ≡ actOf d (lent (linkEvent r) [] []) → Sends (repliesOf (shown d) [] a) [] 0 []
+pub link-silent : (d : Device) (r : ℕ) (a : Act) → a ≡ actOf d (lent (linkEvent r) [] []) → RepliesGiven (repliesOf (shown d) [] a) [] 0 []
 unfolding actOf
-link-silent d r a e = subst (λ (x : Act). Sends (repliesOf (shown d) [] x) [] 0 []) (sym e) (ruled-silent d (factsOf d (lent (linkEvent r) [] [])) (by.ruled (factsOf d (lent (linkEvent r) [] [])) (linkEvent r)))
+link-silent d r a e = subst (λ (x : Act). RepliesGiven (repliesOf (shown d) [] x) [] 0 []) (sym e) (ruled-silent d (factsOf d (lent (linkEvent r) [] [])) (by.ruled (factsOf d (lent (linkEvent r) [] [])) (linkEvent r)))
 
 -- ---- the act of each call reads no more than it is handed
 
 module _ (d : Device) where
   -- a host frame's act, and a send's, from what the code works out one by one
-  pub host-act : (f m b : List ℕ) (tag : ℕ) (wrong : Bool) (v : Facts) (g : Frame) (a : Act) → tag ≡ openTag (d .flow .phase) → wrong ≡ mediumWrong (d .settings .capacity) (length m)
+  pub host-act : (f m b : List ℕ) (tag : ℕ) (wrong : Bool) (v : Facts) (g : Frame) (a : Act) → tag ≡ openTag (d .status .phase) → wrong ≡ mediumWrong (d .settings .capacity) (length m)
       → v ≡ factsWith d tag wrong false (length b) → g ≡ readFrame f → a ≡ heardAct v g → a ≡ actOf d (lent (hostFrame f) m b)
   unfolding actOf act tests does
   host-act f m b tag wrong v g a p q r s e = e ∙ rw (r, p, q, s)
@@ -143,12 +143,12 @@ module _ (d : Device) where
   unfolding actOf act tests does
   open-act t b v a r e = e ∙ rw r
 
-  pub send-act : (m b : List ℕ) (tag : ℕ) (wrong : Bool) (v : Facts) (a : Act) → tag ≡ openTag (d .flow .phase) → wrong ≡ mediumWrong (d .settings .capacity) (length m)
+  pub send-act : (m b : List ℕ) (tag : ℕ) (wrong : Bool) (v : Facts) (a : Act) → tag ≡ openTag (d .status .phase) → wrong ≡ mediumWrong (d .settings .capacity) (length m)
       → v ≡ factsWith d tag wrong false (length b) → a ≡ act v sendData → a ≡ actOf d (lent sendData m b)
   unfolding actOf
   send-act m b tag wrong v a p q r e = e ∙ rw (r, p, q)
 
-  pub finish-act : (s : ℕ) (b : List ℕ) (some : Bool) (v : Facts) (a : Act) → some ≡ someUnready (d .entries) (d .flow .outstanding) s → v ≡ factsWith d 32 false some (length b)
+  pub finish-act : (s : ℕ) (b : List ℕ) (some : Bool) (v : Facts) (a : Act) → some ≡ someUnready (d .entries) (d .status .outstanding) s → v ≡ factsWith d 32 false some (length b)
       → a ≡ act v (finishTags s) → a ≡ actOf d (lent (finishTags s) [] b)
   unfolding actOf act tests does
   finish-act s b some v a q r e = e ∙ rw (r, q)

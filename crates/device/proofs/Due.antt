@@ -6,7 +6,7 @@ use native.Mathlib.Omega.{arith}
 use lib.Dec.{eqb}
 use borrow.Author.Tests.{not-true}
 use Rattle.bits.proofs.Picks.{by-test, and-left, pick-yes}
-use Rattle.rules.specs.Facts.{leftOf}
+use Rattle.rules.specs.Positions.{leftOf}
 use Rattle.device.specs.Device.{contradictoryDevice}
 use Rattle.device.specs.DataDue.{phaseEntry, writing, dataDue}
 use Rattle.device.specs.declared.state.Device.{Device}
@@ -16,7 +16,7 @@ use Rattle.device.proofs.Moves.{left, left-is}
 pub due-is : (d : Device) → contradictoryDevice d ≡ false → writing d ≡ true → dataDue d ≡ min 8192 (left d)
 unfolding dataDue
 due-is d h w =
-    let phase = not-true (eqb (d .flow .phase) 0) (and-left (not (eqb (d .flow .phase) 0)) (phaseEntry d .write) w) in
+    let phase = not-true (eqb (d .status .phase) 0) (and-left (not (eqb (d .status .phase) 0)) (phaseEntry d .write) w) in
     pick-yes (writing d) (min 8192 (leftOf (phaseEntry d))) 4 w ∙ ap (λ (n : ℕ). min 8192 n) (left-is d h phase)
 
 -- no more than a data frame holds

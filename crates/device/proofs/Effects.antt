@@ -7,20 +7,20 @@ use lib.ListN.{replicate}
 use Rattle.bits.specs.Pick.{pick}
 use Rattle.bits.specs.Bit.{bitIn}
 use Rattle.bits.proofs.Picks.{by-test}
-use Rattle.states.specs.State.{blankRecord}
+use Rattle.device_state.specs.State.{blankRecord}
 use Rattle.rules.specs.declared.acts.Fault.{Fault}
 use Rattle.rules.specs.declared.acts.Act.{Act}
-use Rattle.rules.specs.declared.acts.Act.the-variants.{Refuse, Nothing, Answer, Halt, Accept, Log10, Log11, Reset, Release, Zero, Keep, Open, Send, Finish, Media, Count, Renew}
+use Rattle.rules.specs.declared.acts.Act.the-variants.{Refuse, Nothing, Bad, BadAndHalt, Accept, Log10, Log11, Reset, Release, ZeroCounters, Store, Open, Send, Finish, Media, Count, Renew}
 use Rattle.device.specs.After.{withValue, haltWith, unhalted, zeroedIf, resetHeld, released, acceptedBy, movedBy, openedFor, finishedBy, failedBy, renewed, afterOf}
 use Rattle.device.specs.declared.state.Device.{Device}
 
 -- halt: every outstanding command is given up, an open phase closes, the error record is set
-pub halt-effect : (d : Device) (f : Fault) → (haltWith d f .flow ≡ record { outstanding = 0; phase = 0; halted = true; held = false }) × (haltWith d f .errors .set ≡ true) × (haltWith d f .values ≡ d .values)
+pub halt-effect : (d : Device) (f : Fault) → (haltWith d f .status ≡ record { outstanding = 0; phase = 0; halted = true; held = false }) × (haltWith d f .errors .set ≡ true) × (haltWith d f .values ≡ d .values)
 unfolding haltWith
 halt-effect d f = (refl, refl, refl)
 
 -- the halt ends, and nothing else changes of the record and the counters
-pub unhalted-effect : (d : Device) → (unhalted d .flow .halted ≡ false) × (unhalted d .errors ≡ d .errors) × (unhalted d .values ≡ d .values)
+pub unhalted-effect : (d : Device) → (unhalted d .status .halted ≡ false) × (unhalted d .errors ≡ d .errors) × (unhalted d .values ≡ d .values)
 unfolding unhalted
 unhalted-effect d = (refl, refl, refl)
 
@@ -30,12 +30,12 @@ unfolding zeroedIf pick
 zeroed-effect d = (refl, refl)
 
 -- SRST: everything outstanding is dropped, an open phase closes, halt and record cleared, reset held; counters kept
-pub reset-effect : (d : Device) → (resetHeld d .flow ≡ record { outstanding = 0; phase = 0; halted = false; held = true }) × (resetHeld d .errors ≡ blankRecord) × (resetHeld d .values ≡ d .values)
+pub reset-effect : (d : Device) → (resetHeld d .status ≡ record { outstanding = 0; phase = 0; halted = false; held = true }) × (resetHeld d .errors ≡ blankRecord) × (resetHeld d .values ≡ d .values)
 unfolding resetHeld
 reset-effect d = (refl, refl, refl)
 
 -- release
-pub released-effect : (d : Device) → (released d .flow .held ≡ false) × (released d .entries ≡ d .entries)
+pub released-effect : (d : Device) → (released d .status .held ≡ false) × (released d .entries ≡ d .entries)
 unfolding released
 released-effect d = (refl, refl)
 
@@ -43,15 +43,15 @@ released-effect d = (refl, refl)
 unfoldable pub newRecord : Act → Bool
 newRecord (Refuse n) = false
 newRecord Nothing = false
-newRecord (Answer x) = false
-newRecord (Halt x) = true
+newRecord (Bad x) = false
+newRecord (BadAndHalt x) = true
 newRecord (Accept x) = false
 newRecord (Log10 x) = false
 newRecord (Log11 x) = false
 newRecord Reset = true
 newRecord Release = false
-newRecord Zero = false
-newRecord (Keep x) = false
+newRecord ZeroCounters = false
+newRecord (Store x) = false
 newRecord (Open x) = false
 newRecord (Send x) = false
 newRecord (Finish x) = false
@@ -64,15 +64,15 @@ pub record-stays : (d : Device) (a : Act) → newRecord a ≡ false → afterOf 
 unfolding newRecord afterOf withValue unhalted zeroedIf released acceptedBy movedBy openedFor finishedBy
 record-stays d (Refuse n) h = refl
 record-stays d Nothing h = refl
-record-stays d (Answer x) h = refl
-record-stays d (Halt x) h = absurd (true≢false h)
+record-stays d (Bad x) h = refl
+record-stays d (BadAndHalt x) h = absurd (true≢false h)
 record-stays d (Accept x) h = refl
 record-stays d (Log10 x) h = refl
 record-stays d (Log11 x) h = refl
 record-stays d Reset h = absurd (true≢false h)
 record-stays d Release h = refl
-record-stays d Zero h = refl
-record-stays d (Keep x) h = refl
+record-stays d ZeroCounters h = refl
+record-stays d (Store x) h = refl
 record-stays d (Open x) h = refl
 record-stays d (Send x) h = refl
 record-stays d (Finish x) h = refl
@@ -96,15 +96,15 @@ pub act-settings : (d : Device) (a : Act) → afterOf d a .settings ≡ d .setti
 unfolding afterOf haltWith acceptedBy unhalted resetHeld released movedBy openedFor finishedBy failedBy zeroedIf renewed
 act-settings d (Refuse n) = refl
 act-settings d Nothing = refl
-act-settings d (Answer b) = refl
-act-settings d (Halt f) = refl
+act-settings d (Bad b) = refl
+act-settings d (BadAndHalt f) = refl
 act-settings d (Accept q) = refl
 act-settings d (Log10 l) = refl
 act-settings d (Log11 l) = refl
 act-settings d Reset = refl
 act-settings d Release = refl
-act-settings d Zero = refl
-act-settings d (Keep m) = refl
+act-settings d ZeroCounters = refl
+act-settings d (Store m) = refl
 act-settings d (Open q) = refl
 act-settings d (Send m) = refl
 act-settings d (Finish set) = refl
@@ -116,15 +116,15 @@ act-settings d Renew = raised-settings (released (resetHeld d)) 9
 unfoldable pub isOpen : Act → Bool
 isOpen (Refuse n) = false
 isOpen Nothing = false
-isOpen (Answer b) = false
-isOpen (Halt f) = false
+isOpen (Bad b) = false
+isOpen (BadAndHalt f) = false
 isOpen (Accept q) = false
 isOpen (Log10 l) = false
 isOpen (Log11 l) = false
 isOpen Reset = false
 isOpen Release = false
-isOpen Zero = false
-isOpen (Keep m) = false
+isOpen ZeroCounters = false
+isOpen (Store m) = false
 isOpen (Open q) = true
 isOpen (Send m) = false
 isOpen (Finish set) = false
@@ -139,22 +139,22 @@ still true phase e = absurd (true≢false e)
 still false phase e = e
 
 -- a phase is open after an act only if one was open before it, or the act is an open
-pub opens-only : (d : Device) (a : Act) → eqb (afterOf d a .flow .phase) 0 ≡ false → isOpen a ≡ false → eqb (d .flow .phase) 0 ≡ false
+pub opens-only : (d : Device) (a : Act) → eqb (afterOf d a .status .phase) 0 ≡ false → isOpen a ≡ false → eqb (d .status .phase) 0 ≡ false
 unfolding afterOf haltWith acceptedBy unhalted resetHeld released movedBy openedFor finishedBy failedBy zeroedIf renewed isOpen withValue pick
 opens-only d (Refuse n) p e = p
 opens-only d Nothing p e = p
-opens-only d (Answer b) p e = p
-opens-only d (Halt f) p e = absurd (true≢false p)
+opens-only d (Bad b) p e = p
+opens-only d (BadAndHalt f) p e = absurd (true≢false p)
 opens-only d (Accept q) p e = p
 opens-only d (Log10 l) p e = p
 opens-only d (Log11 l) p e = p
 opens-only d Reset p e = absurd (true≢false p)
 opens-only d Release p e = p
-opens-only d Zero p e = p
-opens-only d (Keep m) p e = still (m .last) (d .flow .phase) p
+opens-only d ZeroCounters p e = p
+opens-only d (Store m) p e = still (m .last) (d .status .phase) p
 opens-only d (Open q) p e = absurd (true≢false e)
-opens-only d (Send m) p e = still (m .last) (d .flow .phase) p
+opens-only d (Send m) p e = still (m .last) (d .status .phase) p
 opens-only d (Finish set) p e = p
 opens-only d (Media f) p e = absurd (true≢false p)
-opens-only d (Count row) p e = by-test (λ (x : Device). eqb (x .flow .phase) 0 ≡ false → eqb (d .flow .phase) 0 ≡ false) (leb 16 row) d _ (λ _ q. q) (λ _ q. q) p
+opens-only d (Count row) p e = by-test (λ (x : Device). eqb (x .status .phase) 0 ≡ false → eqb (d .status .phase) 0 ≡ false) (leb 16 row) d _ (λ _ q. q) (λ _ q. q) p
 opens-only d Renew p e = absurd (true≢false p)

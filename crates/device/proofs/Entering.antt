@@ -7,13 +7,13 @@ use lib.Dec.{ltb, leb, eqb}
 use borrow.Author.Tests.{eq-eqb, ltb-false}
 use Rattle.bits.proofs.Picks.{by-test, or-left, or-right}
 use Rattle.pages.specs.Rows.{keepsBoth}
-use Rattle.wire.specs.Piece.{tagOf, sectorsOf}
+use Rattle.frame_parts.specs.Shared.{tagOf, sectorsOf}
 use Rattle.frames.specs.declared.shapes.HostReg.{HostReg}
-use Rattle.states.specs.State.{taskIn, tagIn, wholeOf, echoOf}
-use Rattle.states.proofs.EchoLaws.{echo-tag, echo-lba}
+use Rattle.device_state.specs.State.{taskIn, tagIn, wholeOf, echoOf}
+use Rattle.device_state.proofs.EchoLaws.{echo-tag, echo-lba}
 use Rattle.rules.specs.Decide.{tagAsked, countAsked, entryFor}
-use Rattle.states.specs.Clauses.{settingsOut, movedBad, busyBad}
-use Rattle.states.specs.declared.shapes.Settings.{Settings}
+use Rattle.device_state.specs.Clauses.{settingsOut, movedBad, busyBad}
+use Rattle.device_state.specs.declared.shapes.Settings.{Settings}
 use Rattle.device.proofs.Tags.{wrongMove, moved-none}
 
 -- a tag asked for is below 32

@@ -1,9 +1,9 @@
 -- Each call gives each number of its row exactly when that test holds and none before it does, 0 exactly when none holds, and no other number. Assumes nothing.
 use Rattle.bits.specs.First.{FirstExactly}
 use Rattle.bits.proofs.Firsts as firsts
-use Rattle.ladders.specs.Ladders.{powerLadder}
-use Rattle.states.specs.Clauses.{settingsOut}
-use Rattle.states.specs.declared.shapes.Settings.{Settings}
+use Rattle.refusals.specs.Ladders.{powerLadder}
+use Rattle.device_state.specs.Clauses.{settingsOut}
+use Rattle.device_state.specs.declared.shapes.Settings.{Settings}
 use Rattle.rules.specs.Tests.{tests}
 use Rattle.rules.proofs.Numbers.{act-exactly}
 use Rattle.device.specs.Device.{powerOn}

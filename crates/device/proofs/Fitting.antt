@@ -10,18 +10,18 @@ use borrow.Author.Tests.{lt-ltb, ltb-true, ltb-false, not-false}
 use Rattle.bits.specs.Pick.{pick}
 use Rattle.bits.specs.Little.{byteOf, Bytes}
 use Rattle.bits.proofs.Picks.{by-test, and-left, or-left, or-right}
-use Rattle.wire.specs.Piece.{taskFits, below}
-use Rattle.wire.specs.Size.{readable}
-use Rattle.wire.specs.declared.pieces.Task.{Task}
-use Rattle.wire.proofs.TaskLaws.{task-fits}
-use Rattle.frames.specs.Read.{hostOf, deviceOf, bitsOf, setupOf, pioOf, byKind, readFrame}
+use Rattle.frame_parts.specs.Shared.{taskFits, below}
+use Rattle.frame_parts.specs.Size.{readable}
+use Rattle.frame_parts.specs.declared.shared.Task.{Task}
+use Rattle.frame_parts.proofs.TaskLaws.{task-fits}
+use Rattle.frames.specs.Read.{hostOf, deviceOf, bitsOf, setupOf, pioOf, frameByKind, readFrame}
 use Rattle.frames.specs.declared.shapes.Frame.{Frame}
 use Rattle.frames.specs.declared.shapes.Frame.the-variants as fs
 use Rattle.pages.specs.Page10.{fits10}
 use Rattle.pages.specs.Rows.{keepsBoth}
 use Rattle.pages.specs.declared.page10.ErrorLog.{ErrorLog}
-use Rattle.states.specs.State.{placedBytes, taskIn, echoOf}
-use Rattle.states.specs.Clauses.{tagTooLarge, tagUnderNq, blankNotZero, recordBad}
+use Rattle.device_state.specs.State.{placedBytes, taskIn, echoOf}
+use Rattle.device_state.specs.Clauses.{tagTooLarge, tagUnderNq, blankNotZero, recordBad}
 use Rattle.rules.specs.declared.facts.Facts.{Facts}
 use Rattle.rules.specs.declared.acts.Act.{Act}
 use Rattle.rules.proofs.Ruled as by
@@ -94,7 +94,7 @@ ReadFits (fs.Pio x) = Unit
 ReadFits fs.Refused = Unit
 
 pub read-fits : (l : List ℕ) → Bytes l → ReadFits (readFrame l)
-unfolding ReadFits readFrame byKind
+unfolding ReadFits readFrame frameByKind
 read-fits l b =
     let k = getD l 0 0 in
     let last : Frame = pick (eqb k 0x46) (fs.Data (length l - 4)) fs.Refused in
@@ -104,7 +104,7 @@ read-fits l b =
     let setup : Frame = pick (eqb k 0x41) (fs.Setup (setupOf l)) active in
     let bits : Frame = pick (eqb k 0xA1) (fs.Bits (bitsOf l)) setup in
     let device : Frame = pick (eqb k 0x34) (fs.Device (deviceOf l)) bits in
-    by-test ReadFits (readable k (length l)) (byKind k l) fs.Refused
+    by-test ReadFits (readable k (length l)) (frameByKind k l) fs.Refused
     (λ _. by-test ReadFits (eqb k 0x27) (fs.Host (hostOf l)) device (λ _. task-fits l b)
     (λ _. by-test ReadFits (eqb k 0x34) (fs.Device (deviceOf l)) bits (λ _. tt)
     (λ _. by-test ReadFits (eqb k 0xA1) (fs.Bits (bitsOf l)) setup (λ _. tt)

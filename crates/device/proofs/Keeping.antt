@@ -12,9 +12,9 @@ use Rattle.bits.specs.Pick.{pick}
 use Rattle.bits.proofs.Firsts as firsts
 use Rattle.bits.proofs.Picks.{tested, and-left, and-right, or-left, or-right}
 use Rattle.pages.specs.Rows.{kept, keepsBoth}
-use Rattle.ladders.specs.Counts.{bumped}
-use Rattle.states.specs.Clauses.{settingsOut, tableBad, flowBad, recordBad, rowBadAt, rowsBad, contradictory, rowRefused}
-use Rattle.states.proofs.TableLaws.{some-never, some-absent}
+use Rattle.device_state.specs.Counts.{bumped}
+use Rattle.device_state.specs.Clauses.{settingsOut, tableBad, statusBad, recordBad, rowBadAt, rowsBad, contradictory, rowRefused}
+use Rattle.device_state.proofs.TableLaws.{some-never, some-absent}
 use Rattle.device.specs.Device.{contradictoryDevice}
 use Rattle.device.specs.After.{withValue}
 use Rattle.device.specs.declared.state.Device.{Device}
@@ -35,25 +35,25 @@ pub rows-good : (d : Device) → contradictoryDevice d ≡ false → rowsBad (d 
 unfolding contradictoryDevice contradictory
 rows-good d h =
     or-right
-    ((settingsOut (d .settings) || tableBad (d .settings) (d .entries) (d .flow .outstanding) (d .flow .phase)) || (flowBad (d .flow) (d .errors .set) || recordBad (d .errors)))
+    ((settingsOut (d .settings) || tableBad (d .settings) (d .entries) (d .status .outstanding) (d .status .phase)) || (statusBad (d .status) (d .errors .set) || recordBad (d .errors)))
     (rowsBad (d .settings .mask) (d .values))
     h
 
 pub rest-good : (d : Device) → contradictoryDevice d ≡ false
-    → (settingsOut (d .settings) || tableBad (d .settings) (d .entries) (d .flow .outstanding) (d .flow .phase)) || (flowBad (d .flow) (d .errors .set) || recordBad (d .errors)) ≡ false
+    → (settingsOut (d .settings) || tableBad (d .settings) (d .entries) (d .status .outstanding) (d .status .phase)) || (statusBad (d .status) (d .errors .set) || recordBad (d .errors)) ≡ false
 unfolding contradictoryDevice contradictory
 rest-good d h =
     or-left
-    ((settingsOut (d .settings) || tableBad (d .settings) (d .entries) (d .flow .outstanding) (d .flow .phase)) || (flowBad (d .flow) (d .errors .set) || recordBad (d .errors)))
+    ((settingsOut (d .settings) || tableBad (d .settings) (d .entries) (d .status .outstanding) (d .status .phase)) || (statusBad (d .status) (d .errors .set) || recordBad (d .errors)))
     (rowsBad (d .settings .mask) (d .values))
     h
 
 pub settings-good : (d : Device) → contradictoryDevice d ≡ false → settingsOut (d .settings) ≡ false
 settings-good d h =
     let r = rest-good d h in
-    let bad = settingsOut (d .settings) || tableBad (d .settings) (d .entries) (d .flow .outstanding) (d .flow .phase) in
-    or-left (settingsOut (d .settings)) (tableBad (d .settings) (d .entries) (d .flow .outstanding) (d .flow .phase))
-    (or-left bad (flowBad (d .flow) (d .errors .set) || recordBad (d .errors)) r)
+    let bad = settingsOut (d .settings) || tableBad (d .settings) (d .entries) (d .status .outstanding) (d .status .phase) in
+    or-left (settingsOut (d .settings)) (tableBad (d .settings) (d .entries) (d .status .outstanding) (d .status .phase))
+    (or-left bad (statusBad (d .status) (d .errors .set) || recordBad (d .errors)) r)
 
 -- the mask keeps what it must
 pub both-kept : (d : Device) → contradictoryDevice d ≡ false → keepsBoth (d .settings .mask) ≡ true

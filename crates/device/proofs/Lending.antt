@@ -4,12 +4,12 @@ use mathlib.Core.List.{List, []}
 use Prim.Native.Nat.{ℕ}
 use lib.ListN.{length}
 use Rattle.bits.specs.Laid.{laid}
-use Rattle.wire.specs.Cut.{joined}
-use Rattle.frames.specs.Write.{Sent}
+use Rattle.frame_parts.specs.Cut.{joined}
+use Rattle.frames.specs.Write.{FrameValue}
 use Rattle.rules.specs.Call.{Call, hostFrame, openPhase, sendData, finishTags, mediaError, linkEvent, comReset}
 use Rattle.rules.specs.Tests.{tests}
 use Rattle.rules.specs.Act.{does, act}
-use Rattle.rules.specs.Taking.{numberOf, Touch, leaves, touchOf, spanIn, spanOf, partOf, keptBy}
+use Rattle.rules.specs.Medium.{numberOf, Touch, leaves, touchOf, spanIn, spanOf, partOf, keptBy}
 use Rattle.rules.specs.declared.facts.Facts.{Facts}
 use Rattle.rules.specs.declared.acts.Act.{Act}
 use Rattle.rules.proofs.Ruled as by
@@ -77,8 +77,8 @@ unlent d c m b b′ r u h =
     record {
       state = h .state ∙ ap (afterOf d) e;
       refusal = h .refusal ∙ ap numberOf e;
-      len = h .len ∙ ap (λ (x : List Sent). length (sentAll x)) fs;
-      reply = h .reply ∙ ap (λ (x : List Sent). laid (sentAll x) b) fs;
+      len = h .len ∙ ap (λ (x : List FrameValue). length (sentAll x)) fs;
+      reply = h .reply ∙ ap (λ (x : List FrameValue). laid (sentAll x) b) fs;
       medium = sym (ap (λ (t : Touch). keptBy t (frameIn c) m) (act-leaves d c m b u));
     }
 
@@ -109,7 +109,7 @@ unlent-link d k m b r h =
     record {
       state = h .state ∙ ap (afterOf d) e;
       refusal = h .refusal ∙ ap numberOf e;
-      len = h .len ∙ ap (λ (x : List Sent). length (sentAll x)) fs;
-      reply = sym (ap (λ (x : List Sent). laid (sentAll x) b) (link-frames d k m b));
+      len = h .len ∙ ap (λ (x : List FrameValue). length (sentAll x)) fs;
+      reply = sym (ap (λ (x : List FrameValue). laid (sentAll x) b) (link-frames d k m b));
       medium = sym (ap (λ (t : Touch). keptBy t [] m) (act-leaves d (linkEvent k) m b tt));
     }

@@ -5,7 +5,7 @@ pub mod Keeping
 pub mod Parts
 pub mod Acts
 pub mod Tags
-pub mod Flows
+pub mod StatusLaws
 pub mod Retagging
 pub mod Changes
 pub mod Entering

@@ -11,15 +11,15 @@ use borrow.Author.Tests.{le-leb, lt-ltb, le-ltb, leb-true, leb-false, eq-eqb}
 use Rattle.bits.specs.Pick.{pick}
 use Rattle.bits.specs.Bit.{bitIn}
 use Rattle.bits.proofs.Picks.{tested}
-use Rattle.wire.specs.Size.{payloadSize}
-use Rattle.frames.specs.Write.{Sent, activate, payload}
-use Rattle.states.specs.Table.{entryOf}
-use Rattle.states.specs.declared.shapes.Entry.{Entry}
-use Rattle.rules.specs.Facts.{leftOf, placeOf, moveOf}
+use Rattle.frame_parts.specs.Size.{payloadSize}
+use Rattle.frames.specs.Write.{FrameValue, activate, payload}
+use Rattle.device_state.specs.Table.{entryOf}
+use Rattle.device_state.specs.declared.shapes.Entry.{Entry}
+use Rattle.rules.specs.Positions.{leftOf, placeOf, moveOf}
 use Rattle.rules.specs.Call.{hostFrame, sendData}
-use Rattle.rules.specs.Taking.{numberOf, touchOf, spanOf, partOf, keptIn}
+use Rattle.rules.specs.Medium.{numberOf, touchOf, spanOf, partOf, mediumAfter}
 use Rattle.rules.specs.declared.acts.Act.{Act}
-use Rattle.rules.specs.declared.acts.Act.the-variants.{Keep, Send}
+use Rattle.rules.specs.declared.acts.Act.the-variants.{Store, Send}
 use Rattle.rules.proofs.Ruled as by
 use Rattle.replies.specs.Replies.{repliesOf}
 use Rattle.device.specs.Device.{contradictoryDevice}
@@ -27,15 +27,15 @@ use Rattle.device.specs.Lent.{lent}
 use Rattle.device.specs.FactsOf.{openTag, factsOf}
 use Rattle.device.specs.Step.{shown, actOf, step}
 use Rattle.device.specs.declared.state.Device.{Device}
-use Rattle.device.proofs.Parts.{flow-good}
-use Rattle.device.proofs.Flows.{phase-busy}
+use Rattle.device.proofs.Parts.{status-good}
+use Rattle.device.proofs.StatusLaws.{phase-busy}
 use Rattle.device.proofs.Busy.{whole-is}
 use Rattle.device.proofs.Rooms.{open-tag-is}
 use Rattle.device.proofs.Storing.{Taken46, taken-46, data-kept-whole, six-by-left}
 
 -- the entry of the open phase
 abbrev pub opened : Device → Entry
-opened d = entryOf (d .entries) (openTag (d .flow .phase))
+opened d = entryOf (d .entries) (openTag (d .status .phase))
 
 -- what is left of its command, in bytes
 abbrev pub left : Device → ℕ
@@ -46,10 +46,10 @@ abbrev pub place : Device → ℕ
 place d = 512 * opened d .first + opened d .moved
 
 -- in a state that does not contradict itself that is what the rules go by
-pub left-is : (d : Device) → contradictoryDevice d ≡ false → eqb (d .flow .phase) 0 ≡ false → leftOf (opened d) ≡ left d
+pub left-is : (d : Device) → contradictoryDevice d ≡ false → eqb (d .status .phase) 0 ≡ false → leftOf (opened d) ≡ left d
 left-is d h p =
-    let t = openTag (d .flow .phase) in
-    let busy : bitIn 32 (d .flow .outstanding) t ≡ true = rw (open-tag-is d h p) (phase-busy (d .flow) (d .errors .set) (flow-good d h) p) in
+    let t = openTag (d .status .phase) in
+    let busy : bitIn 32 (d .status .outstanding) t ≡ true = rw (open-tag-is d h p) (phase-busy (d .status) (d .errors .set) (status-good d h) p) in
     let whole = whole-is d t h busy in
     omega arith
 
@@ -82,7 +82,7 @@ payload-of k a b = rw (le-leb 4 (4 * k) (omega arith), le-leb (4 * k) 8192 (omeg
 
 -- 6: in a write phase, where nothing before it is wrong, a payload of k whole Dwords, 1 to 2,048, is turned down exactly when it is longer than what is left
 pub six-exactly : (d : Device) (f m b : List ℕ) (k : ℕ) → getD f 0 0 ≡ 0x46 → length f ≡ 4 + 4 * k → 1 ≤ k → k ≤ 2048
-    → contradictoryDevice d ≡ false → length m ≡ 512 * d .settings .capacity → 8196 ≤ length b → eqb (d .flow .phase) 0 ≡ false → opened d .write ≡ true
+    → contradictoryDevice d ≡ false → length m ≡ 512 * d .settings .capacity → 8196 ≤ length b → eqb (d .status .phase) 0 ≡ false → opened d .write ≡ true
     → step d (lent (hostFrame f) m b) .refusal ≡ pick (ltb (left d) (4 * k)) 6 0
 six-exactly d f m b k kind long some most c w s o u =
     let size : length f - 4 ≡ 4 * k = omega arith in

@@ -8,13 +8,13 @@ use lib.ListN.{replicate, getD-replicate}
 use Rattle.bits.specs.Pick.{pick}
 use Rattle.bits.specs.Bit.{bitIn}
 use Rattle.pages.specs.Rows.{kept}
-use Rattle.states.specs.State.{zeroEntry}
-use Rattle.states.specs.Clauses.{settingsOut, entryBad, idleBad, tagBad, tableBad, flowBad, recordBad, rowBadAt, rowsBad, contradictory}
-use Rattle.states.specs.declared.shapes.Settings.{Settings}
-use Rattle.states.proofs.TableLaws.{some-never}
+use Rattle.device_state.specs.State.{zeroEntry}
+use Rattle.device_state.specs.Clauses.{settingsOut, entryBad, idleBad, tagBad, tableBad, statusBad, recordBad, rowBadAt, rowsBad, contradictory}
+use Rattle.device_state.specs.declared.shapes.Settings.{Settings}
+use Rattle.device_state.proofs.TableLaws.{some-never}
 use Rattle.device.specs.Device.{freshDevice, zeroDevice, contradictoryDevice, powerOn}
 use Rattle.bits.proofs.Firsts as firsts
-use Rattle.ladders.specs.Ladders.{powerLadder}
+use Rattle.refusals.specs.Ladders.{powerLadder}
 
 -- a test that nothing can hold beside
 pub and-never : (b : Bool) → b && false ≡ false
@@ -41,7 +41,7 @@ fresh-rows mask = some-never (rowBadAt mask (replicate 16 0)) 16 (λ row h. rw (
 
 -- with settings within bounds
 pub never-contradicts : (s : Settings) → settingsOut s ≡ false → contradictoryDevice (freshDevice s) ≡ false
-unfolding contradictoryDevice freshDevice contradictory flowBad recordBad
+unfolding contradictoryDevice freshDevice contradictory statusBad recordBad
 never-contradicts s h = rw (h, fresh-table s, fresh-rows (s .mask))
 
 -- what a refused power-on hands back: every later call on it is refused with 1

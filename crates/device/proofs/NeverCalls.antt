@@ -9,18 +9,18 @@ use lib.ListN.{length}
 use borrow.Author.Tests.{eqb-true, not-false, le-ltb}
 use Rattle.bits.specs.Bit.{bitIn}
 use Rattle.bits.proofs.Picks.{pick-no, or-left, or-right, and-right}
-use Rattle.wire.specs.Size.{payloadSize}
+use Rattle.frame_parts.specs.Size.{payloadSize}
 use Rattle.frames.specs.Read.{readFrame}
 use Rattle.frames.specs.declared.shapes.HostReg.{HostReg}
 use Rattle.frames.specs.declared.shapes.Frame.{Frame}
 use Rattle.frames.proofs.ReadLaws.{DataRead, read-data}
 use Rattle.pages.specs.Rows.{kept}
-use Rattle.states.specs.State.{echoOf}
-use Rattle.states.specs.Table.{entryOf}
+use Rattle.device_state.specs.State.{echoOf}
+use Rattle.device_state.specs.Table.{entryOf}
 use Rattle.rules.specs.Call.{Call, hostFrame, openPhase, sendData, finishTags, mediaError, linkEvent, comReset}
-use Rattle.rules.specs.Facts.{moveOf}
+use Rattle.rules.specs.Positions.{moveOf}
 use Rattle.rules.specs.Decide.{fault, tagAsked, entryFor}
-use Rattle.rules.specs.Taking.{numberOf}
+use Rattle.rules.specs.Medium.{numberOf}
 use Rattle.rules.specs.declared.acts.Act.{Act}
 use Rattle.rules.proofs.Ruled as by
 use Rattle.device.specs.Device.{contradictoryDevice}
@@ -50,16 +50,16 @@ asked-small : (r : HostReg) → ltb 31 (tagAsked r) ≡ false
 asked-small r = let l = tag-small (r .task .count) in le-ltb 31 (tagAsked r) (omega arith)
 
 -- bytes of the open phase move, whole Dwords
-moving-good : (d : Device) (k : ℕ) → contradictoryDevice d ≡ false → eqb (d .flow .phase) 0 ≡ false → k % 4 ≡ 0
-    → contradictoryDevice (movedBy d (moveOf (d .flow) (entryOf (d .entries) (openTag (d .flow .phase))) k)) ≡ false
+moving-good : (d : Device) (k : ℕ) → contradictoryDevice d ≡ false → eqb (d .status .phase) 0 ≡ false → k % 4 ≡ 0
+    → contradictoryDevice (movedBy d (moveOf (d .status) (entryOf (d .entries) (openTag (d .status .phase))) k)) ≡ false
 unfolding openTag
 moving-good d k h n four =
-    subst (λ (t : ℕ). contradictoryDevice (movedBy d (moveOf (d .flow) (entryOf (d .entries) t) k)) ≡ false)
-    (sym (pick-no (eqb (d .flow .phase) 0) 32 (d .flow .phase - 1) n)) (moved-good d k h n (part-fours d k h n four))
+    subst (λ (t : ℕ). contradictoryDevice (movedBy d (moveOf (d .status) (entryOf (d .entries) t) k)) ≡ false)
+    (sym (pick-no (eqb (d .status .phase) 0) 32 (d .status .phase - 1) n)) (moved-good d k h n (part-fours d k h n four))
 
 module _ (d : Device) (wrong some : Bool) (room : ℕ) (g : contradictoryDevice d ≡ false) where
   -- a host frame that is not turned down
-  heard-good : {f : Frame} {a : Act} → (k : ℕ) (l : List ℕ) → DataRead k l f → by.Heard (factsWith d (openTag (d .flow .phase)) wrong some room) f a → Good d a
+  heard-good : {f : Frame} {a : Act} → (k : ℕ) (l : List ℕ) → DataRead k l f → by.Heard (factsWith d (openTag (d .status .phase)) wrong some room) f a → Good d a
   unfolding afterOf
   heard-good k l r (by.srst h c s) = reset-held-good d g
   heard-good k l r (by.release h c s x) = released-good d g
@@ -68,8 +68,8 @@ module _ (d : Device) (wrong some : Bool) (room : ℕ) (g : contradictoryDevice 
   heard-good k l r (by.rule2 h c x u) = fault-good d h false (tagAsked h) 0x04 g (asked-small h) refl
   heard-good k l r (by.rule3 h c x u y) = fault-good d h false (tagAsked h) 0x10 g (asked-small h) refl
   heard-good k l r (by.rule4 h c x u y) =
-      accepted-good d (record { tag = tagAsked h; entry = entryFor h }) g x (c .free) (not-false (eqb (d .flow .phase) 0) (c .calm)) (tag-small (h .task .count))
-      (entry-good (d .settings) h (settings-good d g) (or-left (leb (d .settings .depth) (tagAsked h)) (bitIn 32 (d .flow .outstanding) (tagAsked h)) u) y)
+      accepted-good d (record { tag = tagAsked h; entry = entryFor h }) g x (c .free) (not-false (eqb (d .status .phase) 0) (c .calm)) (tag-small (h .task .count))
+      (entry-good (d .settings) h (settings-good d g) (or-left (leb (d .settings .depth) (tagAsked h)) (bitIn 32 (d .status .outstanding) (tagAsked h)) u) y)
   heard-good k l r (by.other-halted h c x) = g
   heard-good k l r (by.other-busy h c x) = fault-good d h true 0 0x04 g refl refl
   heard-good k l r (by.page10 h c e p) = unhalted-good d g
@@ -103,11 +103,11 @@ ruled-good : (d : Device) (m b : List ℕ) {c : Call} {a : Act} → SetOf32 c �
 unfolding afterOf numberOf
 ruled-good d m b t (by.refused c n h e) z = absurd (h z)
 ruled-good d m b t (by.host f a g w s h) z = heard-good d (mediumWrong (d .settings .capacity) (length m)) false (length b) g _ f (read-data f) h
-ruled-good d m b t (by.opened u g s o p e) z = opened-good d u g (not-false (eqb (d .flow .phase) 0) p) o e
+ruled-good d m b t (by.opened u g s o p e) z = opened-good d u g (not-false (eqb (d .status .phase) 0) p) o e
 ruled-good d m b t (by.sent g w s p r) z = moving-good d 8192 g p refl
-ruled-good d m b t (by.finished u g s p e r) z = finished-good d u g t (not-false (eqb (d .flow .phase) 0) p)
+ruled-good d m b t (by.finished u g s p e r) z = finished-good d u g t (not-false (eqb (d .status .phase) 0) p)
 ruled-good d m b t (by.failed u e s g r o x y) z =
-    let small : u < 32 = busy-below (d .flow .outstanding) u o in
+    let small : u < 32 = busy-below (d .status .outstanding) u o in
     failed-good d _ g (le-ltb 31 u (omega arith)) refl
 ruled-good d m b t (by.linked r g x) z =
     counted-good d r g

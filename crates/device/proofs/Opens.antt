@@ -15,11 +15,11 @@ use Rattle.bits.specs.Bit.{bitIn}
 use Rattle.bits.proofs.Masks.{bit-lt, bits-ext, lt-or-le}
 use Rattle.bits.proofs.Picks.{tested, and-left, and-right, or-left, or-right}
 use Rattle.bits.proofs.Tables.{sumOf, ones-tied}
-use Rattle.states.specs.State.{zeroEntry}
-use Rattle.states.specs.Table.{entryOf}
-use Rattle.states.specs.Clauses.{aboveDepth, pastCapacity, countZero, otherTag, otherRange, echoSet, movedBad, busyBad, idleBad, entryBad}
-use Rattle.states.specs.declared.shapes.Settings.{Settings}
-use Rattle.states.specs.declared.shapes.Entry.{Entry}
+use Rattle.device_state.specs.State.{zeroEntry}
+use Rattle.device_state.specs.Table.{entryOf}
+use Rattle.device_state.specs.Clauses.{aboveDepth, pastCapacity, countZero, otherTag, otherRange, echoSet, movedBad, busyBad, idleBad, entryBad}
+use Rattle.device_state.specs.declared.shapes.Settings.{Settings}
+use Rattle.device_state.specs.declared.shapes.Entry.{Entry}
 use Rattle.device.specs.Device.{contradictoryDevice}
 use Rattle.device.proofs.Sized.{Sized}
 use Rattle.device.specs.Ones.{openEntry, openEntries}
@@ -116,20 +116,20 @@ open-sum [] = refl
 open-sum (e ∷ es) = ap (λ (n : ℕ). openEntry e + n) (open-sum es)
 
 -- as many tags are outstanding as there are commands in the table
-pub ones-open : (d : Device) → Sized d → contradictoryDevice d ≡ false → ones (d .flow .outstanding) ≡ openEntries (d .entries)
+pub ones-open : (d : Device) → Sized d → contradictoryDevice d ≡ false → ones (d .status .outstanding) ≡ openEntries (d .entries)
 ones-open d w h =
-    ones-tied openEntry zeroEntry (d .entries) (d .flow .outstanding) (rw (w .entries) (w .outstanding))
+    ones-tied openEntry zeroEntry (d .entries) (d .status .outstanding) (rw (w .entries) (w .outstanding))
     (λ t l.
     let k : t < 32 = rw (w .entries) at l in
-    bit-open (d .settings) (entryOf (d .entries) t) (d .flow .outstanding) t (eqb (d .flow .phase) (t + 1)) k (tag-good d h t k))
+    bit-open (d .settings) (entryOf (d .entries) t) (d .status .outstanding) t (eqb (d .status .phase) (t + 1)) k (tag-good d h t k))
     ∙ open-sum (d .entries)
 
 -- at most the depth
-pub ones-most : (d : Device) → d .flow .outstanding < 2 ^ 32 → contradictoryDevice d ≡ false → ones (d .flow .outstanding) ≤ d .settings .depth
+pub ones-most : (d : Device) → d .status .outstanding < 2 ^ 32 → contradictoryDevice d ≡ false → ones (d .status .outstanding) ≤ d .settings .depth
 ones-most d w h =
-    ones-le (d .settings .depth) (d .flow .outstanding)
-    (below-top 32 (d .settings .depth) (d .flow .outstanding) w
-    (λ t a k. bit-above (d .settings) (entryOf (d .entries) t) (d .flow .outstanding) t (eqb (d .flow .phase) (t + 1)) k a (tag-good d h t k)))
+    ones-le (d .settings .depth) (d .status .outstanding)
+    (below-top 32 (d .settings .depth) (d .status .outstanding) w
+    (λ t a k. bit-above (d .settings) (entryOf (d .entries) t) (d .status .outstanding) t (eqb (d .status .phase) (t + 1)) k a (tag-good d h t k)))
 
 -- so the table never holds more commands than that
 pub open-most : (d : Device) → Sized d → contradictoryDevice d ≡ false → openEntries (d .entries) ≤ d .settings .depth

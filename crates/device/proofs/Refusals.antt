@@ -6,10 +6,10 @@ use lib.ListN.{length}
 use borrow.Author.Tests.{ne-eqb}
 use Rattle.bits.specs.Pick.{pick}
 use Rattle.bits.specs.Laid.{laid}
-use Rattle.wire.specs.Cut.{joined}
-use Rattle.frames.specs.Write.{Sent}
-use Rattle.states.specs.declared.shapes.Settings.{Settings}
-use Rattle.rules.specs.Taking.{numberOf, touchOf}
+use Rattle.frame_parts.specs.Cut.{joined}
+use Rattle.frames.specs.Write.{FrameValue}
+use Rattle.device_state.specs.declared.shapes.Settings.{Settings}
+use Rattle.rules.specs.Medium.{numberOf, touchOf}
 use Rattle.rules.specs.declared.acts.Act.{Act}
 use Rattle.rules.proofs.Cases.{act-cases}
 use Rattle.replies.specs.Replies.{repliesOf, sentAll}
@@ -48,8 +48,8 @@ refused-unchanged d l g h n =
     let k = refused-keeps d l (λ e. n (h .refusal ∙ e)) in
     record {
       state = h .state ∙ k .state;
-      len = h .len ∙ ap (λ (fs : List Sent). length (sentAll fs)) (k .frames);
-      reply = h .reply ∙ ap (λ (fs : List Sent). laid (sentAll fs) (l .buffer)) (k .frames);
+      len = h .len ∙ ap (λ (fs : List FrameValue). length (sentAll fs)) (k .frames);
+      reply = h .reply ∙ ap (λ (fs : List FrameValue). laid (sentAll fs) (l .buffer)) (k .frames);
       medium = h .medium ∙ k .medium;
     }
 

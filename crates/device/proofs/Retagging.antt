@@ -10,13 +10,13 @@ use borrow.Author.Tests.{eq-eqb, ne-eqb, eqb-true, eqb-false}
 use Rattle.bits.specs.Pick.{pick}
 use Rattle.bits.specs.Bit.{bitIn, withBitIn, clearIn}
 use Rattle.bits.proofs.Picks.{tested, or-left, or-right}
-use Rattle.states.specs.State.{wholeOf}
-use Rattle.states.specs.Table.{entryOf, placed, cleared}
-use Rattle.rules.specs.Facts.{leftOf, advancedBy}
-use Rattle.states.specs.Clauses.{aboveDepth, pastCapacity, countZero, otherTag, otherRange, movedBad, busyBad, entryBad, tagBad}
-use Rattle.states.specs.declared.shapes.Settings.{Settings}
-use Rattle.states.specs.declared.shapes.Entry.{Entry}
-use Rattle.states.proofs.TableLaws.{getD-placed, getD-cleared}
+use Rattle.device_state.specs.State.{wholeOf}
+use Rattle.device_state.specs.Table.{entryOf, placed, cleared}
+use Rattle.rules.specs.Positions.{leftOf, advancedBy}
+use Rattle.device_state.specs.Clauses.{aboveDepth, pastCapacity, countZero, otherTag, otherRange, movedBad, busyBad, entryBad, tagBad}
+use Rattle.device_state.specs.declared.shapes.Settings.{Settings}
+use Rattle.device_state.specs.declared.shapes.Entry.{Entry}
+use Rattle.device_state.proofs.TableLaws.{getD-placed, getD-cleared}
 use Rattle.device.proofs.Never.{idle-tag}
 use Rattle.device.proofs.Tags.{bit-with, bit-without, busy-below, wrongMove, moved-opened, moved-on}
 

@@ -9,10 +9,10 @@ use lib.ListN.{length}
 use borrow.Author.Tests.{ltb-false, le-leb, eqb-true, not-false}
 use Rattle.bits.specs.Bit.{bitIn}
 use Rattle.bits.proofs.Picks.{pick-no}
-use Rattle.states.specs.Table.{entryOf}
+use Rattle.device_state.specs.Table.{entryOf}
 use Rattle.rules.specs.Call.{Call, hostFrame, openPhase, sendData, finishTags, mediaError, linkEvent, comReset}
-use Rattle.rules.specs.Facts.{moveOf}
-use Rattle.rules.specs.Taking.{numberOf, touchOf, spanOf}
+use Rattle.rules.specs.Positions.{moveOf}
+use Rattle.rules.specs.Medium.{numberOf, touchOf, spanOf}
 use Rattle.rules.specs.declared.facts.Facts.{Facts}
 use Rattle.rules.specs.declared.acts.Act.{Act}
 use Rattle.rules.proofs.Ruled as by
@@ -22,8 +22,8 @@ use Rattle.device.specs.FactsOf.{openTag, mediumWrong, factsOf}
 use Rattle.device.specs.Step.{actOf}
 use Rattle.device.specs.declared.state.Device.{Device}
 use Rattle.device.proofs.Busy.{range-within, whole-is, moved-within}
-use Rattle.device.proofs.Parts.{flow-good}
-use Rattle.device.proofs.Flows.{phase-busy}
+use Rattle.device.proofs.Parts.{status-good}
+use Rattle.device.proofs.StatusLaws.{phase-busy}
 
 -- a call that is lent a reply buffer: every one but a link event
 abbrev pub Replying : Call → Type 0
@@ -53,17 +53,17 @@ unfolding actOf
 roomy d l p z = le-leb 8196 (length (l .buffer)) (ltb-false (length (l .buffer)) 8196 (ruled-room (factsOf d l) p (by.ruled (factsOf d l) (l .call)) z))
 
 -- what moves lies within the command's range, and that within the medium
-module _ (d : Device) (h : contradictoryDevice d ≡ false) (p : eqb (d .flow .phase) 0 ≡ false) where
-  pub open-tag-is : openTag (d .flow .phase) ≡ d .flow .phase - 1
+module _ (d : Device) (h : contradictoryDevice d ≡ false) (p : eqb (d .status .phase) 0 ≡ false) where
+  pub open-tag-is : openTag (d .status .phase) ≡ d .status .phase - 1
   unfolding openTag
-  open-tag-is = pick-no (eqb (d .flow .phase) 0) 32 (d .flow .phase - 1) p
+  open-tag-is = pick-no (eqb (d .status .phase) 0) 32 (d .status .phase - 1) p
 
   pub move-within : (k n : ℕ) → mediumWrong (d .settings .capacity) n ≡ false
-      → moveOf (d .flow) (entryOf (d .entries) (openTag (d .flow .phase))) k .at + moveOf (d .flow) (entryOf (d .entries) (openTag (d .flow .phase))) k .size ≤ n
+      → moveOf (d .status) (entryOf (d .entries) (openTag (d .status .phase))) k .at + moveOf (d .status) (entryOf (d .entries) (openTag (d .status .phase))) k .size ≤ n
   unfolding moveOf
   move-within k n w =
-      let t = openTag (d .flow .phase) in
-      let busy : bitIn 32 (d .flow .outstanding) t ≡ true = rw open-tag-is (phase-busy (d .flow) (d .errors .set) (flow-good d h) p) in
+      let t = openTag (d .status .phase) in
+      let busy : bitIn 32 (d .status .outstanding) t ≡ true = rw open-tag-is (phase-busy (d .status) (d .errors .set) (status-good d h) p) in
       let range = range-within d t h busy in
       let moved = moved-within d t h busy in
       let whole = whole-is d t h busy in

@@ -7,19 +7,19 @@ use native.Mathlib.Omega.{arith}
 use lib.Dec.{eqb}
 use lib.ListN.{length, take, length-take, length-drop}
 use borrow.Author.Tests.{le-leb, eq-eqb}
-use Rattle.wire.specs.Cut.{cut, joined}
-use Rattle.wire.specs.Size.{payloadSize}
+use Rattle.frame_parts.specs.Cut.{cut, joined}
+use Rattle.frame_parts.specs.Size.{payloadSize}
 use Rattle.frames.specs.Read.{readFrame}
 use Rattle.frames.specs.Write.{encode}
-use Rattle.states.specs.Table.{entryOf}
+use Rattle.device_state.specs.Table.{entryOf}
 use Rattle.rules.specs.Call.{Call, hostFrame, openPhase, sendData, finishTags, mediaError, linkEvent, comReset}
-use Rattle.rules.specs.Facts.{leftOf, moveOf}
-use Rattle.rules.specs.Taking.{touchOf, spanOf, partOf}
+use Rattle.rules.specs.Positions.{leftOf, moveOf}
+use Rattle.rules.specs.Medium.{touchOf, spanOf, partOf}
 use Rattle.rules.specs.declared.acts.Act.{Act}
 use Rattle.rules.proofs.Ruled as by
-use Rattle.replies.specs.Replies.{sentAll, Sends}
+use Rattle.replies.specs.Replies.{sentAll, RepliesGiven}
 use Rattle.replies.proofs.Fit.{Fitting, Fit}
-use Rattle.replies.proofs.Fits.{replies-fit, replies-neat, cut-replies, all-sent}
+use Rattle.replies.proofs.Fits.{replies-fit, replies-data-last, cut-replies, all-sent}
 use Rattle.device.specs.Device.{contradictoryDevice}
 use Rattle.device.specs.Lent.{Lent, lent, Typed}
 use Rattle.device.specs.FactsOf.{openTag, mediumWrong, factsOf}
@@ -37,18 +37,18 @@ use Rattle.device.proofs.Fitting.{record-fits, read-fits, heard-fits}
 pub record Whole (s : Step) : Type 0 where
   pub fitting : Fitting (s .frames)
   pub all : sentAll (s .frames) ≡ joined (map encode (s .frames))
-  pub cut-replies : (b : List ℕ) (n : ℕ) (b′ : List ℕ) → Sends (s .frames) b n b′ → cut (take n b′) ≡ map encode (s .frames)
+  pub cut-replies : (b : List ℕ) (n : ℕ) (b′ : List ℕ) → RepliesGiven (s .frames) b n b′ → cut (take n b′) ≡ map encode (s .frames)
 
 -- a data frame's payload: up to 8,192 bytes in whole Dwords
 sized : (k : ℕ) → 1 ≤ k → k ≤ 8192 → k % 4 ≡ 0 → payloadSize k ≡ true
 sized k a b z = rw (le-leb 4 k (omega arith), le-leb k 8192 b, eq-eqb (k % 4) 0 z)
 
 -- what is sent of the medium is a data frame's payload
-part-sized : (d : Device) (m : List ℕ) → contradictoryDevice d ≡ false → mediumWrong (d .settings .capacity) (length m) ≡ false → eqb (d .flow .phase) 0 ≡ false
-    → let k = moveOf (d .flow) (entryOf (d .entries) (openTag (d .flow .phase))) 8192 in payloadSize (length (partOf (record { at = k .at; size = k .size }) m)) ≡ true
+part-sized : (d : Device) (m : List ℕ) → contradictoryDevice d ≡ false → mediumWrong (d .settings .capacity) (length m) ≡ false → eqb (d .status .phase) 0 ≡ false
+    → let k = moveOf (d .status) (entryOf (d .entries) (openTag (d .status .phase))) 8192 in payloadSize (length (partOf (record { at = k .at; size = k .size }) m)) ≡ true
 unfolding moveOf
 part-sized d m good w phase =
-    let e = entryOf (d .entries) (openTag (d .flow .phase)) in
+    let e = entryOf (d .entries) (openTag (d .status .phase)) in
     let within = move-within d good phase 8192 (length m) w in
     let more = moves-on d good phase in
     let due = min 8192 (leftOf e) in
@@ -62,7 +62,7 @@ unfolding Fit touchOf
 ruled-fits d m b t s (by.refused c n h e) = tt
 ruled-fits d m b t s (by.host f a g w r h) =
     subst (λ (p : List ℕ). Fit (shown d) p a) (heard-unsent (factsOf d (lent (hostFrame f) m b)) m h) (heard-fits d (factsOf d (lent (hostFrame f) m b)) (record-fits d s g) (both-kept d g) (read-fits f t) h)
-ruled-fits d m b t s (by.opened u g r o p e) = let small = busy-below (d .flow .outstanding) u o in omega arith
+ruled-fits d m b t s (by.opened u g r o p e) = let small = busy-below (d .status .outstanding) u o in omega arith
 ruled-fits d m b t s (by.sent g w r p x) = part-sized d m g w p
 ruled-fits d m b t s (by.finished u g r p e x) = t
 ruled-fits d m b t s (by.failed u e x g r o y w) = t
@@ -75,4 +75,4 @@ unfolding actOf
 whole d l t s =
     let part = partOf (spanOf (actOf d l)) (l .medium) in
     let fit = replies-fit (shown d) part (actOf d l) (ruled-fits d (l .medium) (l .buffer) t s (by.ruled (factsOf d l) (l .call))) in
-    record { fitting = fit; all = all-sent (step d l .frames) fit; cut-replies = λ b n b′ w. cut-replies (step d l .frames) b n b′ fit (replies-neat (shown d) part (actOf d l)) w }
+    record { fitting = fit; all = all-sent (step d l .frames) fit; cut-replies = λ b n b′ w. cut-replies (step d l .frames) b n b′ fit (replies-data-last (shown d) part (actOf d l)) w }

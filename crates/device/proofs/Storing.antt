@@ -13,22 +13,22 @@ use Rattle.bits.specs.Pick.{pick}
 use Rattle.bits.specs.First.{firstOf}
 use Rattle.bits.proofs.Fronts.{over-yes}
 use Rattle.bits.proofs.Picks.{tested, and-left, or-left}
-use Rattle.wire.specs.Size.{readable, payloadSize}
-use Rattle.frames.specs.Read.{byKind, readFrame}
+use Rattle.frame_parts.specs.Size.{readable, payloadSize}
+use Rattle.frames.specs.Read.{frameByKind, readFrame}
 use Rattle.frames.specs.declared.shapes.Frame.{Frame}
 use Rattle.frames.specs.declared.shapes.Frame.the-variants as fs
-use Rattle.states.specs.Table.{entryOf}
-use Rattle.states.specs.declared.shapes.Entry.{Entry}
-use Rattle.rules.specs.Facts.{leftOf, placeOf, moveOf}
+use Rattle.device_state.specs.Table.{entryOf}
+use Rattle.device_state.specs.declared.shapes.Entry.{Entry}
+use Rattle.rules.specs.Positions.{leftOf, placeOf, moveOf}
 use Rattle.rules.specs.Call.{hostFrame}
 use Rattle.rules.specs.Tests.{wrongKind, wrongTime, wrongSize, frameTests, tests}
 use Rattle.rules.specs.Decide.{frameAct}
 use Rattle.rules.specs.Act.{does, decided, act}
-use Rattle.rules.specs.Taking.{touchOf, stored, keptIn}
+use Rattle.rules.specs.Medium.{touchOf, stored, mediumAfter}
 use Rattle.rules.specs.declared.facts.Facts.{Facts}
 use Rattle.rules.specs.declared.acts.Move.{Move}
 use Rattle.rules.specs.declared.acts.Act.{Act}
-use Rattle.rules.specs.declared.acts.Act.the-variants.{Keep}
+use Rattle.rules.specs.declared.acts.Act.the-variants.{Store}
 use Rattle.rules.proofs.Numbers.{not-refused, decided-is, act-number}
 use Rattle.device.specs.Device.{contradictoryDevice}
 use Rattle.device.specs.Lent.{lent}
@@ -40,11 +40,11 @@ use Rattle.device.proofs.Exactly.{first-exactly}
 
 -- 46h is read as data if its payload has a right size, and else refused
 data-read : (f : List ℕ) → getD f 0 0 ≡ 0x46 → payloadSize (length f - 4) ≡ true → readFrame f ≡ fs.Data (length f - 4)
-unfolding readFrame readable byKind pick
+unfolding readFrame readable frameByKind pick
 data-read f k p = rw (k, p)
 
 data-refused : (f : List ℕ) → getD f 0 0 ≡ 0x46 → payloadSize (length f - 4) ≡ false → readFrame f ≡ fs.Refused
-unfolding readFrame readable byKind pick
+unfolding readFrame readable frameByKind pick
 data-refused f k p = rw (k, p)
 
 -- where there is room, the payload stands there whole
@@ -64,16 +64,16 @@ module _ (d : Device) (f m b : List ℕ) where
 
   -- the entry of the open phase
   abbrev e : Entry
-  e = entryOf (d .entries) (openTag (d .flow .phase))
+  e = entryOf (d .entries) (openTag (d .status .phase))
 
   -- what is known of a host data frame that was taken
   pub record Taken46 : Type 0 where
     pub good : contradictoryDevice d ≡ false
     pub medium : mediumWrong (d .settings .capacity) (length m) ≡ false
-    pub phase : eqb (d .flow .phase) 0 ≡ false
+    pub phase : eqb (d .status .phase) 0 ≡ false
     pub some : 4 ≤ length f - 4
     pub most : length f - 4 ≤ leftOf e
-    pub act : done ≡ Keep (moveOf (d .flow) e (length f - 4))
+    pub act : done ≡ Store (moveOf (d .status) e (length f - 4))
 
   pub taken-46 : getD f 0 0 ≡ 0x46 → step d (lent (hostFrame f) m b) .refusal ≡ 0 → Taken46
   unfolding actOf act tests does wrongKind wrongTime wrongSize frameAct
@@ -90,7 +90,7 @@ module _ (d : Device) (f m b : List ℕ) where
       record {
         good = none 0 (lit< tt);
         medium = none 1 (lit< tt);
-        phase = or-left (eqb (d .flow .phase) 0) (not (v .entry .write)) time;
+        phase = or-left (eqb (d .status .phase) 0) (not (v .entry .write)) time;
         some = leb-true 4 k (and-left (leb 4 k) (leb k 8192) (and-left (leb 4 k && leb k 8192) (eqb (k % 4) 0) p));
         most = ltb-false (leftOf (v .entry)) k size;
         act = decided-is first (frameAct v (readFrame f)) (not-refused first (frameAct v (readFrame f)) z) ∙ ap (frameAct v) r;
@@ -99,21 +99,21 @@ module _ (d : Device) (f m b : List ℕ) where
       (tested (payloadSize k))
 
   -- its payload stands whole at the command's next place, and every other byte of the medium is as it was
-  pub data-kept-whole : Taken46 → (length (drop 4 f) ≤ leftOf e) × (keptIn done f m ≡ take (placeOf e) m ++ (drop 4 f ++ drop (placeOf e + length (drop 4 f)) m))
+  pub data-kept-whole : Taken46 → (length (drop 4 f) ≤ leftOf e) × (mediumAfter done f m ≡ take (placeOf e) m ++ (drop 4 f ++ drop (placeOf e + length (drop 4 f)) m))
   unfolding touchOf moveOf
   data-kept-whole t =
       let n = length f - 4 in
-      let k : Move = moveOf (d .flow) e n in
+      let k : Move = moveOf (d .status) e n in
       let most = t .most in
       let some = t .some in
       let due : n ≡ k .size = omega arith in
       let within = move-within d (t .good) (t .phase) n (length m) (t .medium) in
       let long = length-drop 4 f in
-      (omega arith, ap (λ (a : Act). keptIn a f m) (t .act) ∙ stored-whole (k .at) (k .size) f m (omega arith) due within ∙ ap (λ (s : ℕ). take (k .at) m ++ (drop 4 f ++ drop (k .at + s) m)) (sym (long ∙ due)))
+      (omega arith, ap (λ (a : Act). mediumAfter a f m) (t .act) ∙ stored-whole (k .at) (k .size) f m (omega arith) due within ∙ ap (λ (s : ℕ). take (k .at) m ++ (drop 4 f ++ drop (k .at + s) m)) (sym (long ∙ due)))
 
   -- the number of a host data frame of a right size, in a write phase, where nothing before 6 is wrong
   pub six-by-left : getD f 0 0 ≡ 0x46 → payloadSize (length f - 4) ≡ true → contradictoryDevice d ≡ false → mediumWrong (d .settings .capacity) (length m) ≡ false → ltb (length b) 8196 ≡ false
-      → eqb (d .flow .phase) 0 ≡ false → e .write ≡ true → step d (lent (hostFrame f) m b) .refusal ≡ pick (ltb (leftOf e) (length f - 4)) 6 0
+      → eqb (d .status .phase) 0 ≡ false → e .write ≡ true → step d (lent (hostFrame f) m b) .refusal ≡ pick (ltb (leftOf e) (length f - 4)) 6 0
   unfolding actOf tests wrongKind wrongTime wrongSize firstOf pick
   six-by-left kind p c w s o u =
       let v = factsOf d (lent (hostFrame f) m b) in

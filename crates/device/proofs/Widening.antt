@@ -9,12 +9,12 @@ use lib.ListN.{length}
 use Rattle.bits.proofs.Picks.{by-test}
 use Rattle.frames.specs.Read.{readFrame}
 use Rattle.frames.specs.declared.shapes.Frame.{Frame}
-use Rattle.states.specs.Table.{entryOf}
-use Rattle.states.specs.declared.shapes.Settings.{Settings}
+use Rattle.device_state.specs.Table.{entryOf}
+use Rattle.device_state.specs.declared.shapes.Settings.{Settings}
 use Rattle.rules.specs.Call.{Call, hostFrame, openPhase, sendData, finishTags, mediaError, linkEvent, comReset}
-use Rattle.rules.specs.Facts.{advancedBy, moveOf}
+use Rattle.rules.specs.Positions.{advancedBy, moveOf}
 use Rattle.rules.specs.declared.acts.Act.{Act}
-use Rattle.rules.specs.declared.acts.Act.the-variants.{Refuse, Nothing, Answer, Halt, Accept, Log10, Log11, Reset, Release, Zero, Keep, Open, Send, Finish, Media, Count, Renew}
+use Rattle.rules.specs.declared.acts.Act.the-variants.{Refuse, Nothing, Bad, BadAndHalt, Accept, Log10, Log11, Reset, Release, ZeroCounters, Store, Open, Send, Finish, Media, Count, Renew}
 use Rattle.rules.proofs.Ruled as by
 use Rattle.device.specs.Device.{freshDevice, zeroDevice, powerNumber, powerOn}
 use Rattle.device.specs.Lent.{Lent, lent, Typed}
@@ -29,15 +29,15 @@ use Rattle.device.proofs.Widths.{Small, SmallAll, Wide, zero-small, fai
 unfoldable pub Puts : Act → Type 0
 Puts (Refuse n) = Unit
 Puts Nothing = Unit
-Puts (Answer b) = Unit
-Puts (Halt f) = (f .error < 256) × Small (f .echo)
+Puts (Bad b) = Unit
+Puts (BadAndHalt f) = (f .error < 256) × Small (f .echo)
 Puts (Accept q) = Small (q .entry .echo)
 Puts (Log10 l) = Unit
 Puts (Log11 l) = Unit
 Puts Reset = Unit
 Puts Release = Unit
-Puts Zero = Unit
-Puts (Keep m) = Small (m .entry .echo)
+Puts ZeroCounters = Unit
+Puts (Store m) = Small (m .entry .echo)
 Puts (Open q) = Unit
 Puts (Send m) = Small (m .entry .echo)
 Puts (Finish set) = Unit
@@ -55,15 +55,15 @@ pub act-wide : (d : Device) (a : Act) → Wide d → Puts a → Wide (afterOf d 
 unfolding Puts afterOf haltWith acceptedBy unhalted zeroedIf resetHeld released movedBy openedFor finishedBy failedBy renewed
 act-wide d (Refuse n) w p = w
 act-wide d Nothing w p = w
-act-wide d (Answer b) w p = w
-act-wide d (Halt f) w p = record { sized = record { error = p .0; echo = p .1 }; entries = idle-small }
+act-wide d (Bad b) w p = w
+act-wide d (BadAndHalt f) w p = record { sized = record { error = p .0; echo = p .1 }; entries = idle-small }
 act-wide d (Accept q) w p = record { sized = record { error = w .sized .error; echo = w .sized .echo }; entries = placed-small (d .entries) (q .tag) (q .entry) (w .entries) p }
 act-wide d (Log10 l) w p = record { sized = record { error = w .sized .error; echo = w .sized .echo }; entries = w .entries }
 act-wide d (Log11 l) w p = record { sized = record { error = w .sized .error; echo = w .sized .echo }; entries = w .entries }
 act-wide d Reset w p = record { sized = record { error = lit< tt; echo = zero-small }; entries = idle-small }
 act-wide d Release w p = record { sized = record { error = w .sized .error; echo = w .sized .echo }; entries = w .entries }
-act-wide d Zero w p = record { sized = record { error = w .sized .error; echo = w .sized .echo }; entries = w .entries }
-act-wide d (Keep m) w p = record { sized = record { error = w .sized .error; echo = w .sized .echo }; entries = placed-small (d .entries) (m .tag) (m .entry) (w .entries) p }
+act-wide d ZeroCounters w p = record { sized = record { error = w .sized .error; echo = w .sized .echo }; entries = w .entries }
+act-wide d (Store m) w p = record { sized = record { error = w .sized .error; echo = w .sized .echo }; entries = placed-small (d .entries) (m .tag) (m .entry) (w .entries) p }
 act-wide d (Open q) w p = record { sized = record { error = w .sized .error; echo = w .sized .echo }; entries = w .entries }
 act-wide d (Send m) w p = record { sized = record { error = w .sized .error; echo = w .sized .echo }; entries = placed-small (d .entries) (m .tag) (m .entry) (w .entries) p }
 act-wide d (Finish set) w p = record { sized = record { error = w .sized .error; echo = w .sized .echo }; entries = cleared-small (d .entries) set (w .entries) }
@@ -72,7 +72,7 @@ act-wide d (Count r) w p = raised-wide d r w
 act-wide d Renew w p = raised-wide (released (resetHeld d)) 9 (record { sized = record { error = lit< tt; echo = zero-small }; entries = idle-small })
 
 -- what moves next keeps its command's bytes
-move-small : (d : Device) (t n : ℕ) → SmallAll (d .entries) → Small (moveOf (d .flow) (entryOf (d .entries) t) n .entry .echo)
+move-small : (d : Device) (t n : ℕ) → SmallAll (d .entries) → Small (moveOf (d .status) (entryOf (d .entries) t) n .entry .echo)
 unfolding moveOf advancedBy
 move-small d t n h = h t
 
@@ -98,9 +98,9 @@ heard-puts d t w s n e r (by.bist x) = tt
 ruled-puts : (d : Device) (m b : List ℕ) → SmallAll (d .entries) → {c : Call} {a : Act} → Typed c → by.Ruled (factsOf d (lent c m b)) c a → Puts a
 unfolding Puts
 ruled-puts d m b e t (by.refused c n h x) = tt
-ruled-puts d m b e t (by.host f a g w s h) = heard-puts d (openTag (d .flow .phase)) (mediumWrong (d .settings .capacity) (length m)) false (length b) e (read-fits f t) h
+ruled-puts d m b e t (by.host f a g w s h) = heard-puts d (openTag (d .status .phase)) (mediumWrong (d .settings .capacity) (length m)) false (length b) e (read-fits f t) h
 ruled-puts d m b e t (by.opened u g s o p x) = tt
-ruled-puts d m b e t (by.sent g w s p r) = move-small d (openTag (d .flow .phase)) 8192 e
+ruled-puts d m b e t (by.sent g w s p r) = move-small d (openTag (d .status .phase)) 8192 e
 ruled-puts d m b e t (by.finished u g s p x r) = tt
 ruled-puts d m b e t (by.failed u x y g s o z w) = (t, failing-small (entryOf (d .entries) u .echo) y (e u))
 ruled-puts d m b e t (by.linked r g x) = tt

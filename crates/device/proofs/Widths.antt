@@ -11,11 +11,11 @@ use borrow.Author.Tests.{ltb-true, ltb-false}
 use Rattle.bits.specs.Bit.{bitIn}
 use Rattle.bits.specs.Little.{byteOf, Bytes}
 use Rattle.bits.proofs.Picks.{by-test, tested}
-use Rattle.states.specs.State.{placedBytes, zeroEcho, zeroEntry}
-use Rattle.states.specs.Table.{entryOf, placed, cleared}
-use Rattle.states.specs.declared.shapes.Echo.{Echo}
-use Rattle.states.specs.declared.shapes.Entry.{Entry}
-use Rattle.states.proofs.TableLaws.{length-tab, getD-placed, getD-cleared}
+use Rattle.device_state.specs.State.{placedBytes, zeroEcho, zeroEntry}
+use Rattle.device_state.specs.Table.{entryOf, placed, cleared}
+use Rattle.device_state.specs.declared.shapes.Echo.{Echo}
+use Rattle.device_state.specs.declared.shapes.Entry.{Entry}
+use Rattle.device_state.proofs.TableLaws.{length-tab, getD-placed, getD-cleared}
 use Rattle.rules.specs.Act.{failing}
 use Rattle.device.proofs.Sized.{SizedRecord}
 use Rattle.device.specs.declared.state.Device.{Device}

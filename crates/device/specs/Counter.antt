@@ -6,11 +6,11 @@ use lib.Dec.{eqb}
 use lib.Count.{ones}
 use Rattle.bits.specs.Pick.{pick}
 use Rattle.bits.specs.First.{Rung, firstOf}
-use Rattle.pages.specs.Page11.{noNumber, toldCounter}
+use Rattle.pages.specs.Page11.{noNumber, counterAnswer}
 use Rattle.pages.specs.Made11.{shownFor}
 use Rattle.pages.specs.declared.page11.Counter.{Counter}
 use Rattle.pages.specs.declared.page11.Counter.the-variants.{Value, Refused}
-use Rattle.ladders.specs.Ladders.{powerLadder, counterLadder}
+use Rattle.refusals.specs.Ladders.{powerLadder, counterLadder}
 use Rattle.device.specs.Device.{contradictoryDevice}
 use Rattle.device.specs.declared.state.Device.{Device}
 
@@ -26,13 +26,13 @@ counterOf d number =
 -- what the call promises: value, absent or the refusal, and the refusal exactly by its list
 pub record CounterGiven (d : Device) (number : ℕ) (r : Counter) : Type 0 where
   pub answer : r ≡ counterOf d number
-  pub refusal : toldCounter r .number ≡ firstOf (counterTests d number)
+  pub refusal : counterAnswer r .number ≡ firstOf (counterTests d number)
 
 -- the ones of the outstanding mask; 1 for a state that contradicts itself, which is not read as idle
 unfoldable pub countOf : Device → Counter
-countOf d = pick (contradictoryDevice d) (Refused 1) (Value (ones (d .flow .outstanding)))
+countOf d = pick (contradictoryDevice d) (Refused 1) (Value (ones (d .status .outstanding)))
 
 -- what that call promises: the count or the refusal, and the refusal exactly by its list
 pub record CountGiven (d : Device) (r : Counter) : Type 0 where
   pub answer : r ≡ countOf d
-  pub refusal : toldCounter r .number ≡ firstOf (powerLadder (contradictoryDevice d))
+  pub refusal : counterAnswer r .number ≡ firstOf (powerLadder (contradictoryDevice d))

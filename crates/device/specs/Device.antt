@@ -5,22 +5,22 @@ use lib.Dec.{eqb}
 use lib.ListN.{replicate}
 use Rattle.bits.specs.Pick.{pick}
 use Rattle.bits.specs.First.{firstOf}
-use Rattle.states.specs.State.{zeroEntry, blankRecord}
-use Rattle.states.specs.Clauses.{settingsOut, contradictory}
-use Rattle.ladders.specs.Ladders.{powerLadder}
-use Rattle.states.specs.declared.shapes.Settings.{Settings}
+use Rattle.device_state.specs.State.{zeroEntry, blankRecord}
+use Rattle.device_state.specs.Clauses.{settingsOut, contradictory}
+use Rattle.refusals.specs.Ladders.{powerLadder}
+use Rattle.device_state.specs.declared.shapes.Settings.{Settings}
 use Rattle.device.specs.declared.state.Device.{Device}
 use Rattle.device.specs.declared.state.Outcome.{Outcome}
 
 -- the state handed in contradicts itself
 unfoldable pub contradictoryDevice : Device → Bool
-contradictoryDevice d = contradictory (d .settings) (d .flow) (d .entries) (d .errors) (d .values)
+contradictoryDevice d = contradictory (d .settings) (d .status) (d .entries) (d .errors) (d .values)
 
 -- power-on: idle, record blank, counters 0
 unfoldable pub freshDevice : Settings → Device
 freshDevice s = record {
   settings = s;
-  flow = record { outstanding = 0; phase = 0; halted = false; held = false };
+  status = record { outstanding = 0; phase = 0; halted = false; held = false };
   entries = replicate 32 zeroEntry;
   errors = blankRecord;
   values = replicate 16 0;

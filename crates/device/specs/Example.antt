@@ -5,11 +5,11 @@ use mathlib.Core.List.{List, [], _∷_, map}
 use Prim.Native.Nat.{ℕ, _*_}
 use lib.ListN.{getD, take, drop, replicate}
 use Rattle.bits.specs.Little.{leBytes}
-use Rattle.wire.specs.Cut.{joined}
+use Rattle.frame_parts.specs.Cut.{joined}
 use Rattle.frames.specs.Write.{encode}
-use Rattle.pages.specs.Page11.{readCounter, toldCounter}
+use Rattle.pages.specs.Page11.{readCounter, counterAnswer}
 use Rattle.pages.specs.declared.page11.Counter.{Counter}
-use Rattle.states.specs.State.{blankRecord}
+use Rattle.device_state.specs.State.{blankRecord}
 use Rattle.replies.specs.Replies.{page10Of, page11Of}
 use Rattle.device.specs.Device.{freshDevice}
 use Rattle.device.specs.Step.{Step, stepBy, step}
@@ -40,11 +40,11 @@ lastByte page = drop 511 page
 
 -- an answer as its number and its values: absent has none
 abbrev pub said : Counter → List ℕ
-said r = toldCounter r .number ∷ toldCounter r .values
+said r = counterAnswer r .number ∷ counterAnswer r .values
 
 -- a fresh device of depth 32, rows 0 and 9 kept
-abbrev pub fresh : ℕ → Device
-fresh capacity = freshDevice (record { depth = 32; capacity = capacity; mask = 0x0201 })
+abbrev pub freshWith : ℕ → Device
+freshWith capacity = freshDevice (record { depth = 32; capacity = capacity; mask = 0x0201 })
 
 -- a queued read: count field, sector, device 40h, tag
 abbrev pub queuedRead : ℕ → ℕ → ℕ → List ℕ
@@ -57,8 +57,8 @@ abbrev pub room : List ℕ
 room = replicate 8196 0
 
 -- what a host frame comes to with a medium of the right length and room enough
-abbrev pub asked : Device → List ℕ → Step
-asked d f = stepBy d (lent (hostFrame f) [] room) (act (factsWith d (openTag (d .flow .phase)) false false 8196) (hostFrame f))
+abbrev pub replyTo : Device → List ℕ → Step
+replyTo d f = stepBy d (lent (hostFrame f) [] room) (act (factsWith d (openTag (d .status .phase)) false false 8196) (hostFrame f))
 
 -- READ LOG EXT of page 10h
 abbrev pub readLog10 : List ℕ
@@ -66,7 +66,7 @@ readLog10 = 0x27 ∷ 0x80 ∷ 0x2F ∷ 0 ∷ 0x10 ∷ 0 ∷ 0 ∷ 0 ∷ 0 ∷ 0 
 
 -- a read of 8 sectors from 60h with tag 5 is outstanding; then its media error at sector 64h
 abbrev pub reading : Device
-reading = asked (fresh 256) (queuedRead 8 0x60 5) .state
+reading = replyTo (freshWith 256) (queuedRead 8 0x60 5) .state
 
 -- its media error: tag 5, error 40h, sector 64h
 abbrev pub failed : Step
@@ -78,7 +78,7 @@ sentWith d tag = step (step d (lent (openPhase tag) [] room) .state) (lent sendD
 
 -- of a device of one sector
 abbrev pub bothSent : Device
-bothSent = sentWith (sentWith (asked (asked (fresh 1) (queuedRead 1 0 0) .state) (queuedRead 1 0 5) .state) 0) 5
+bothSent = sentWith (sentWith (replyTo (replyTo (freshWith 1) (queuedRead 1 0 0) .state) (queuedRead 1 0 5) .state) 0) 5
 
 -- P7's page: mask 0201h, values 0 and 3
 abbrev pub twoRows : List ℕ
@@ -86,7 +86,7 @@ twoRows = page11Of 0x0201 (0 ∷ 0 ∷ 0 ∷ 0 ∷ 0 ∷ 0 ∷ 0 ∷ 0 ∷ 0 ∷
 
 -- kind, I, status and error of the answer to a queued read
 abbrev pub answer : ℕ → ℕ → ℕ → List ℕ
-answer capacity count sector = take 4 (replyBytes (asked (fresh capacity) (queuedRead count sector 0)))
+answer capacity count sector = take 4 (replyBytes (replyTo (freshWith capacity) (queuedRead count sector 0)))
 
 -- P1 to P11, in one list
 unfoldable pub examples : List Example
@@ -94,7 +94,7 @@ examples =
     record { number = 1; given = lastByte (page10Of blankRecord); wanted = 0x80 ∷ [] }
     ∷ record { number = 2; given = lastByte (page10Of (failed .state .errors)); wanted = 0xAE ∷ [] }
     ∷ record { number = 3; given = replyBytes (step bothSent (lent (finishTags 0x21) [] room)); wanted = 0xA1 ∷ 0x40 ∷ 0x40 ∷ 0x00 ∷ 0x21 ∷ 0x00 ∷ 0x00 ∷ 0x00 ∷ [] }
-    ∷ record { number = 4; given = take 8 (replyBytes (asked (failed .state) readLog10)); wanted = 0xA1 ∷ 0x00 ∷ 0x40 ∷ 0x00 ∷ 0xFF ∷ 0xFF ∷ 0xFF ∷ 0xFF ∷ [] }
+    ∷ record { number = 4; given = take 8 (replyBytes (replyTo (failed .state) readLog10)); wanted = 0xA1 ∷ 0x00 ∷ 0x40 ∷ 0x00 ∷ 0xFF ∷ 0xFF ∷ 0xFF ∷ 0xFF ∷ [] }
     ∷ record { number = 5; given = replyBytes failed; wanted = 0xA1 ∷ 0x40 ∷ 0x41 ∷ 0x40 ∷ 0x00 ∷ 0x00 ∷ 0x00 ∷ 0x00 ∷ [] }
     ∷ record { number = 6; given = take 1 (drop 1 (replyBytes (step reading (lent (openPhase 5) [] room)))); wanted = 0x20 ∷ [] }
     ∷ record { number = 6; given = take 4 (drop 20 (replyBytes (step reading (lent (openPhase 5) [] room)))); wanted = 0x00 ∷ 0x10 ∷ 0x00 ∷ 0x00 ∷ [] }

@@ -4,7 +4,7 @@ use Prim.Native.Nat.{ℕ, _-_, _*_}
 use lib.Dec.{eqb, ltb}
 use lib.ListN.{length}
 use Rattle.bits.specs.Pick.{pick}
-use Rattle.states.specs.Table.{entryOf}
+use Rattle.device_state.specs.Table.{entryOf}
 use Rattle.rules.specs.Call.{Call, hostFrame, openPhase, sendData, finishTags, mediaError, linkEvent, comReset}
 use Rattle.rules.specs.Tests.{someUnready}
 use Rattle.rules.specs.declared.facts.Facts.{Facts}
@@ -22,7 +22,7 @@ mediumWrong capacity n = not (eqb n (512 * capacity))
 
 -- a phase is open on the link: what 5 for commands and BIST and 8 read, and nothing else
 abbrev pub linkBusy : Device → Bool
-linkBusy d = not (eqb (d .flow .phase) 0)
+linkBusy d = not (eqb (d .status .phase) 0)
 
 -- the tests of 1, 2 (the call says) and 3 (reply buffer under 8,196), the entry of a tag, and whether a set has an unready tag
 abbrev pub factsWith : Device → ℕ → Bool → Bool → ℕ → Facts
@@ -32,7 +32,7 @@ factsWith d tag wrong some room = record {
   «reply_short» = ltb room 8196;
   «link_busy» = linkBusy d;
   settings = d .settings;
-  flow = d .flow;
+  status = d .status;
   entry = entryOf (d .entries) tag;
   unready = some;
 }
@@ -52,7 +52,7 @@ abbrev pub unreadyIn : Device → Call → Bool
 unreadyIn d (hostFrame f) = false
 unreadyIn d (openPhase t) = false
 unreadyIn d sendData = false
-unreadyIn d (finishTags s) = someUnready (d .entries) (d .flow .outstanding) s
+unreadyIn d (finishTags s) = someUnready (d .entries) (d .status .outstanding) s
 unreadyIn d (mediaError t e s) = false
 unreadyIn d (linkEvent r) = false
 unreadyIn d comReset = false
@@ -60,5 +60,5 @@ unreadyIn d comReset = false
 -- what a call's decision looks at
 abbrev pub factsOf : Device → Lent → Facts
 factsOf d l =
-    factsWith d (tagMeant (d .flow .phase) (l .call)) (mediumWrong (d .settings .capacity) (length (l .medium)))
+    factsWith d (tagMeant (d .status .phase) (l .call)) (mediumWrong (d .settings .capacity) (length (l .medium)))
     (unreadyIn d (l .call)) (length (l .buffer))

@@ -3,7 +3,7 @@ use mathlib.Core.List.{List, [], _∷_}
 use Prim.Native.Nat.{ℕ, _+_}
 use lib.Dec.{eqb}
 use Rattle.bits.specs.Pick.{pick}
-use Rattle.states.specs.declared.shapes.Entry.{Entry}
+use Rattle.device_state.specs.declared.shapes.Entry.{Entry}
 
 -- 1 for an entry whose count is not 0, which is one of a command
 abbrev pub openEntry : Entry → ℕ

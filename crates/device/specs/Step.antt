@@ -4,9 +4,9 @@ use mathlib.Core.List.{List}
 use Prim.Native.Nat.{ℕ}
 use lib.ListN.{length}
 use Rattle.bits.specs.Laid.{laid}
-use Rattle.frames.specs.Write.{Sent}
+use Rattle.frames.specs.Write.{FrameValue}
 use Rattle.rules.specs.Act.{act}
-use Rattle.rules.specs.Taking.{numberOf, spanOf, partOf, keptIn}
+use Rattle.rules.specs.Medium.{numberOf, spanOf, partOf, mediumAfter}
 use Rattle.rules.specs.declared.acts.Act.{Act}
 use Rattle.replies.specs.Replies.{repliesOf, sentAll}
 use Rattle.replies.specs.declared.shown.Shown.{Shown}
@@ -19,12 +19,12 @@ use Rattle.device.specs.declared.state.Device.{Device}
 pub record Step : Type 0 where
   pub state : Device
   pub refusal : ℕ
-  pub frames : List Sent
+  pub frames : List FrameValue
   pub medium : List ℕ
 
 -- what replies show of a device
 abbrev pub shown : Device → Shown
-shown d = record { halted = d .flow .halted; settings = d .settings; errors = d .errors; values = d .values }
+shown d = record { halted = d .status .halted; settings = d .settings; errors = d .errors; values = d .values }
 
 -- what an act leaves behind, with what was lent
 abbrev pub stepBy : Device → Lent → Act → Step
@@ -32,7 +32,7 @@ stepBy d l a = record {
   state = afterOf d a;
   refusal = numberOf a;
   frames = repliesOf (shown d) (partOf (spanOf a) (l .medium)) a;
-  medium = keptIn a (frameIn (l .call)) (l .medium);
+  medium = mediumAfter a (frameIn (l .call)) (l .medium);
 }
 
 -- what a call makes the device do

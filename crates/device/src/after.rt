@@ -3,11 +3,11 @@ ghost use mathlib.Core.Path.{_≡_};
 ghost use Rattle.device.specs.After.{withValue, haltWith, acceptedBy, unhalted, zeroedIf, resetHeld, released, movedBy, openedFor, finishedBy, failedBy, renewed, afterOf};
 use crate::state::Device;
 use crate::state::fresh;
+use device_state::ErrorRecord;
 use rules::Act;
 use rules::Fault;
 use rules::Move;
 use rules::Queued;
-use states::ErrorRecord;
 
 // One row's counter has one event more.
 fn counted(mut d: Device, row: u8) -> Device
@@ -18,7 +18,7 @@ fn counted(mut d: Device, row: u8) -> Device
     }
     let i = row as usize;
     let v = d.values[i];
-    let next = ladders::bump(v, 1);
+    let next = device_state::bump(v, 1);
     d.values[i] = next;
     d
 }
@@ -38,7 +38,7 @@ impl Device {
             echo,
         };
         let mut state = fresh(settings);
-        state.flow.halted = true;
+        state.status.halted = true;
         state.errors = errors;
         state.values = values;
         state
@@ -50,17 +50,17 @@ impl Device {
         let old = self.entries;
         let e = q.entry;
         let tag = q.tag as u32;
-        let entries = states::with_entry(old, tag, e);
-        let outstanding = bits::with_bit(self.flow.outstanding, tag);
+        let entries = device_state::with_entry(old, tag, e);
+        let outstanding = bits::with_bit(self.status.outstanding, tag);
         self.entries = entries;
-        self.flow.outstanding = outstanding;
+        self.status.outstanding = outstanding;
         self
     }
 
     fn unhalted(mut self) -> Device
         ensures { λ r. ⌜ r ≡ unhalted self ⌝ }
     {
-        self.flow.halted = false;
+        self.status.halted = false;
         self
     }
 
@@ -81,7 +81,7 @@ impl Device {
         let settings = self.settings;
         let values = self.values;
         let mut state = fresh(settings);
-        state.flow.held = true;
+        state.status.held = true;
         state.values = values;
         state
     }
@@ -89,7 +89,7 @@ impl Device {
     fn released(mut self) -> Device
         ensures { λ r. ⌜ r ≡ released self ⌝ }
     {
-        self.flow.held = false;
+        self.status.held = false;
         self
     }
 
@@ -98,10 +98,10 @@ impl Device {
     {
         let old = self.entries;
         let e = m.entry;
-        let entries = states::with_entry(old, m.tag, e);
+        let entries = device_state::with_entry(old, m.tag, e);
         self.entries = entries;
         if m.last {
-            self.flow.phase = 0;
+            self.status.phase = 0;
             return self;
         }
         self
@@ -111,7 +111,7 @@ impl Device {
         ensures { λ r. ⌜ r ≡ openedFor self tag ⌝ }
     {
         let phase = (tag as u32) + 1;
-        self.flow.phase = phase;
+        self.status.phase = phase;
         self
     }
 
@@ -119,10 +119,10 @@ impl Device {
         ensures { λ r. ⌜ r ≡ finishedBy self set ⌝ }
     {
         let old = self.entries;
-        let entries = states::cleared(old, set);
-        let outstanding = bits::without(self.flow.outstanding, set);
+        let entries = device_state::cleared(old, set);
+        let outstanding = bits::without(self.status.outstanding, set);
         self.entries = entries;
-        self.flow.outstanding = outstanding;
+        self.status.outstanding = outstanding;
         self
     }
 
@@ -131,7 +131,7 @@ impl Device {
     {
         let settings = self.settings;
         let v = self.values[9];
-        let next = ladders::bump(v, 1);
+        let next = device_state::bump(v, 1);
         let mut values = self.values;
         values[9] = next;
         let mut state = fresh(settings);
@@ -142,7 +142,7 @@ impl Device {
     fn failed_by(self, f: Fault) -> Device
         ensures { λ r. ⌜ r ≡ failedBy self f ⌝ }
     {
-        if wire::flag(f.error, 7) {
+        if frame_parts::flag(f.error, 7) {
             return counted(self, 0).halt_with(f);
         }
         self.halt_with(f)
@@ -156,15 +156,15 @@ pub fn after(d: Device, act: Act) -> Device
     match act {
         Act::Refuse(_) => d,
         Act::Nothing => d,
-        Act::Answer(_) => d,
-        Act::Halt(f) => d.halt_with(f),
+        Act::Bad(_) => d,
+        Act::BadAndHalt(f) => d.halt_with(f),
         Act::Accept(q) => d.accepted_by(q),
         Act::Log10(_) => d.unhalted(),
         Act::Log11(l) => d.zeroed_if(l.zero),
         Act::Reset => d.reset_held(),
         Act::Release => d.released(),
-        Act::Zero => d.zeroed_if(true),
-        Act::Keep(m) => d.moved_by(m),
+        Act::ZeroCounters => d.zeroed_if(true),
+        Act::Store(m) => d.moved_by(m),
         Act::Open(q) => d.opened_for(q.tag),
         Act::Send(m) => d.moved_by(m),
         Act::Finish(set) => d.finished_by(set),

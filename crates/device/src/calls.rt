@@ -6,9 +6,9 @@ ghost use Prim.Native.Nat.{min};
 ghost use lib.Dec.{leb};
 ghost use lib.ListN.{length};
 ghost use Rattle.rules.specs.Call.{hostFrame, openPhase, sendData, finishTags, mediaError, linkEvent, comReset};
-ghost use Rattle.rules.specs.Facts.{leftOf};
-ghost use Rattle.rules.specs.Taking.{numberOf};
-ghost use Rattle.replies.specs.Replies.{repliesOf, Sends};
+ghost use Rattle.rules.specs.Positions.{leftOf};
+ghost use Rattle.rules.specs.Medium.{numberOf};
+ghost use Rattle.replies.specs.Replies.{repliesOf, RepliesGiven};
 ghost use Rattle.device.specs.Lent.{lent, gave};
 ghost use Rattle.device.specs.FactsOf.{openTag, mediumWrong, factsWith};
 ghost use Rattle.device.specs.DataDue.{dataDue};
@@ -17,10 +17,10 @@ ghost use Rattle.device.specs.Step.{shown, Given};
 use crate::after::after;
 use crate::state::Device;
 use crate::state::Outcome;
+use device_state::Entry;
 use replies::Shown;
 use rules::Act;
 use rules::Facts;
-use states::Entry;
 
 // The tag of the open phase, or one that has no entry.
 fn open_tag(phase: u32) -> u32
@@ -57,16 +57,16 @@ impl Device {
     {
         let contradicts = self.contradicts();
         let settings = self.settings;
-        let flow = self.flow;
+        let status = self.status;
         let entries = self.entries;
-        let entry = states::entry_of(entries, tag);
+        let entry = device_state::entry_of(entries, tag);
         Facts {
             contradicts,
             medium_wrong: wrong,
             reply_short: room < Device::REPLY_SIZE,
-            link_busy: !(flow.phase == 0),
+            link_busy: !(status.phase == 0),
             settings,
-            flow,
+            status,
             entry,
             unready: some,
         }
@@ -80,7 +80,7 @@ impl Device {
         let errors = self.errors;
         let values = self.values;
         Shown {
-            halted: self.flow.halted,
+            halted: self.status.halted,
             settings,
             errors,
             values,
@@ -92,7 +92,7 @@ impl Device {
         requires { ⌜ (numberOf act ≡ 0 → leb 8196 (length (now reply)) ≡ true) ⌝ }
         ensures state { λ r. ⌜ r .state ≡ afterOf self act ⌝ }
         ensures refusal { λ r. ⌜ r .refusal ≡ numberOf act ⌝ }
-        ensures reply { λ r. ⌜ Sends (repliesOf (shown self) (now (part .entry)) act) (now (reply .entry)) (r .len) (now (reply .exit)) ⌝ }
+        ensures reply { λ r. ⌜ RepliesGiven (repliesOf (shown self) (now (part .entry)) act) (now (reply .entry)) (r .len) (now (reply .exit)) ⌝ }
     {
         let shown = self.shown();
         let len = replies::emit(reply, act, shown, part);
@@ -109,12 +109,12 @@ impl Device {
     pub fn host_frame(mut self, frame: &[u8], medium: &mut [u8], reply: &mut [u8]) -> Outcome
         ensures { λ r. ⌜ Given self (lent (hostFrame (now (frame .entry))) (now (medium .entry)) (now (reply .entry))) (gave r (now (medium .exit)) (now (reply .exit))) ⌝ }
     {
-        let tag = open_tag(self.flow.phase);
+        let tag = open_tag(self.status.phase);
         let wrong = medium_wrong(self.settings.capacity, medium.len());
         let facts = self.facts(tag, wrong, false, reply.len());
         let f = frames::read_frame(frame);
         let act = rules::frame_act(facts, f);
-        rules::keep(medium, act, frame);
+        rules::store_data(medium, act, frame);
         self.done(reply, act, b"")
     }
 
@@ -131,7 +131,7 @@ impl Device {
     pub fn send(mut self, medium: &[u8], reply: &mut [u8]) -> Outcome
         ensures { λ r. ⌜ Given self (lent sendData (now (medium .entry)) (now (reply .entry))) (gave r (now (medium .entry)) (now (reply .exit))) ⌝ }
     {
-        let tag = open_tag(self.flow.phase);
+        let tag = open_tag(self.status.phase);
         let wrong = medium_wrong(self.settings.capacity, medium.len());
         let facts = self.facts(tag, wrong, false, reply.len());
         let act = rules::send_act(facts);
@@ -146,7 +146,7 @@ impl Device {
         ensures { λ r. ⌜ Given self (lent (finishTags set) [] (now (reply .entry))) (gave r [] (now (reply .exit))) ⌝ }
     {
         let entries = self.entries;
-        let some = rules::some_unready(entries, self.flow.outstanding, set);
+        let some = rules::some_unready(entries, self.status.outstanding, set);
         let facts = self.facts(Device::DEPTH_LIMIT, false, some, reply.len());
         let act = rules::finish_act(facts, set);
         self.done(reply, act, b"")
@@ -189,9 +189,9 @@ impl Device {
     pub fn data_due(self) -> usize
         ensures { λ r. ⌜ r ≡ dataDue self ⌝ }
     {
-        let phase = self.flow.phase;
+        let phase = self.status.phase;
         let entries = self.entries;
-        let entry = states::entry_of(entries, open_tag(phase));
+        let entry = device_state::entry_of(entries, open_tag(phase));
         let due = due_of(entry);
         if !(phase == 0) & entry.write {
             return due;

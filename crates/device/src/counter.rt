@@ -40,7 +40,7 @@ impl Device {
         let bad = self.contradicts();
         let mask = self.settings.mask;
         let values = self.values;
-        let refusal = ladders::counter_number(bad, (number < 1) | (4095 < number));
+        let refusal = refusals::counter_number(bad, (number < 1) | (4095 < number));
         let place = pages::row_of(number);
         let answer = shown(mask, values, place);
         if !(refusal == 0) {
@@ -54,7 +54,7 @@ impl Device {
         ensures { λ r. ⌜ CountGiven self r ⌝ }
     {
         let bad = self.contradicts();
-        let outstanding = self.flow.outstanding;
+        let outstanding = self.status.outstanding;
         if bad {
             return Counter::Refused(1);
         }

@@ -1,15 +1,15 @@
 // What the device is, its limits, and how it begins.
 ghost use mathlib.Core.Path.{_≡_};
 ghost use Rattle.device.specs.Device.{contradictoryDevice, zeroDevice, freshDevice, powerOn};
-use states::Entry;
-use states::ErrorRecord;
-use states::Flow;
-use states::Settings;
+use device_state::Entry;
+use device_state::ErrorRecord;
+use device_state::Settings;
+use device_state::Status;
 
 // Settings, what is under way, the entry of each tag, the error record, and the counters by row: a row that is not kept holds 0 here, and is absent to `counter` and on page 11h.
 pub struct Device {
     pub settings: Settings,
-    pub flow: Flow,
+    pub status: Status,
     pub entries: [Entry; Settings::ENTRIES],
     pub errors: ErrorRecord,
     pub values: [u32; 16],
@@ -26,19 +26,19 @@ pub struct Outcome {
 pub fn fresh(settings: Settings) -> Device
     ensures { λ r. ⌜ r ≡ freshDevice settings ⌝ }
 {
-    let flow = Flow {
+    let status = Status {
         outstanding: 0,
         phase: 0,
         halted: false,
         held: false,
     };
-    let e = states::idle_entry();
+    let e = device_state::idle_entry();
     let entries = [e; Settings::ENTRIES];
-    let errors = states::no_record();
+    let errors = device_state::no_record();
     let values = [0u32; 16];
     Device {
         settings,
-        flow,
+        status,
         entries,
         errors,
         values,
@@ -69,7 +69,7 @@ impl Device {
     pub fn power_on(settings: Settings) -> Outcome
         ensures { λ r. ⌜ r ≡ powerOn settings ⌝ }
     {
-        let refusal = ladders::power_number(states::settings_out(settings));
+        let refusal = refusals::power_number(device_state::settings_out(settings));
         if !(refusal == 0) {
             let state = zeros();
             return Outcome {
@@ -91,10 +91,10 @@ impl Device {
         ensures { λ r. ⌜ r ≡ contradictoryDevice self ⌝ }
     {
         let settings = self.settings;
-        let flow = self.flow;
+        let status = self.status;
         let entries = self.entries;
         let errors = self.errors;
         let values = self.values;
-        states::contradicts(settings, flow, entries, errors, values)
+        device_state::contradicts(settings, status, entries, errors, values)
     }
 }

@@ -7,11 +7,11 @@ use lib.Dec.{eqb, leb}
 use lib.ListN.{length, getD}
 use Rattle.bits.specs.Pick.{pick}
 use Rattle.bits.specs.First.{FirstExactly}
-use Rattle.ladders.specs.Ladders.{powerLadder}
-use Rattle.states.specs.Clauses.{settingsOut}
-use Rattle.states.specs.declared.shapes.Settings.{Settings}
+use Rattle.refusals.specs.Ladders.{powerLadder}
+use Rattle.device_state.specs.Clauses.{settingsOut}
+use Rattle.device_state.specs.declared.shapes.Settings.{Settings}
 use Rattle.device.proofs.Exactly.{first-exactly-power}
-use Rattle.events.specs.Kinds.{bodyLength, misplaced, wholeOf, nextOf}
+use Rattle.events.specs.Kinds.{bodyLength, misplaced, nextWhole, nextOf}
 use Rattle.events.specs.Start.{settingsOf, noSettings, inLimit, startOf}
 use Rattle.events.specs.Stops.{isStop, notWhole, stopsAt, startOut}
 use Rattle.events.specs.declared.kinds.Length.{Length}
@@ -24,8 +24,8 @@ unfolding pick isStop
 picked true n = refl
 picked false n = refl
 
-whole-stop : (k : Length) (n : ℕ) → isStop (wholeOf k n) ≡ notWhole k n
-unfolding wholeOf notWhole isStop
+whole-stop : (k : Length) (n : ℕ) → isStop (nextWhole k n) ≡ notWhole k n
+unfolding nextWhole notWhole isStop
 whole-stop (Bytes k) n = picked (leb (k + 1) n) (k + 1)
 whole-stop Unknown n = refl
 
@@ -46,7 +46,7 @@ pub stop-exactly : (first : Bool) (l : List ℕ) → isStop (nextOf first l) ≡
 unfolding nextOf misplaced
 stop-exactly first l =
     let k = getD l 0 0 in
-    by-tests first (eqb (length l) 0) (eqb k 0x00) (wholeOf (bodyLength k) (length l))
+    by-tests first (eqb (length l) 0) (eqb k 0x00) (nextWhole (bodyLength k) (length l))
     ∙ ap (λ (b : Bool). (first && eqb (length l) 0) || (not (eqb (length l) 0) && ((first && not (eqb k 0x00)) || (not first && eqb k 0x00) || b))) (whole-stop (bodyLength k) (length l))
 
 out-limit : (b : Bool) (s : Settings) → settingsOut (pick b s noSettings) ≡ not b || settingsOut s

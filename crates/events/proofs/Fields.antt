@@ -6,26 +6,26 @@ use Prim.Native.Nat.{ℕ, _+_, _-_, _<_, _≤_}
 use native.Mathlib.Omega.{arith}
 use lib.ListN.{length, take, drop, length-drop, drop-of-length-le}
 use lib.Seq.{drop-drop}
-use Rattle.wire.specs.Cut.{pieceOf, cut, cutTo}
-use Rattle.wire.proofs.Pieced.{cut-next, piece-some}
+use Rattle.frame_parts.specs.Cut.{firstLength, cut, cutTo}
+use Rattle.frame_parts.proofs.Cuts.{cut-next, first-length-some}
 use Rattle.text.specs.Sheet.{Sheet, sheet, written}
 use Rattle.text.proofs.Writing.{written-more}
 use Rattle.events.specs.Lines.{fieldOf, fieldsOf}
 
 -- a piece of what is left has a byte, and ends with it or before
-pub piece-left : (r : List ℕ) (from n : ℕ) → from < length r → n ≡ pieceOf (drop from r) → (0 < n) × (from + n ≤ length r)
-piece-left r from n h e =
+pub first-length-left : (r : List ℕ) (from n : ℕ) → from < length r → n ≡ firstLength (drop from r) → (0 < n) × (from + n ≤ length r)
+first-length-left r from n h e =
     let l = length-drop from r in
-    let s = piece-some (drop from r) (omega arith) in
+    let s = first-length-some (drop from r) (omega arith) in
     (omega (arith, s .0), omega (arith, s .1))
 
 -- the first field, and the fields of what is behind it
-fields-next : (traced : Bool) (l : List ℕ) → 0 < length l → fieldsOf traced (cut l) ≡ fieldOf traced (take (pieceOf l) l) ++ fieldsOf traced (cut (drop (pieceOf l) l))
+fields-next : (traced : Bool) (l : List ℕ) → 0 < length l → fieldsOf traced (cut l) ≡ fieldOf traced (take (firstLength l) l) ++ fieldsOf traced (cut (drop (firstLength l) l))
 unfolding fieldsOf
 fields-next traced l h = rw (cut-next l (λ e. omega arith))
 
 -- one reply more
-pub fields-turn : (traced : Bool) (r piece : List ℕ) (from n : ℕ) (x y z : Sheet) → from < length r → n ≡ pieceOf (drop from r) → piece ≡ take n (drop from r)
+pub fields-turn : (traced : Bool) (r piece : List ℕ) (from n : ℕ) (x y z : Sheet) → from < length r → n ≡ firstLength (drop from r) → piece ≡ take n (drop from r)
     → written (fieldsOf traced (cut (drop from r))) x ≡ z → y ≡ written (fieldOf traced piece) x → written (fieldsOf traced (cut (drop (from + n) r))) y ≡ z
 fields-turn traced r piece from n x y z h e g p q =
     let l = length-drop from r in

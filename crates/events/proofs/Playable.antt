@@ -10,21 +10,21 @@ use lib.ListN.{length, getD, take}
 use lib.Seq.{length-take-le}
 use borrow.Author.Tests.{leb-true, eqb-true, eq-eqb}
 use Rattle.bits.specs.Pick.{pick}
-use Rattle.wire.specs.Size.{fixedSize}
+use Rattle.frame_parts.specs.Size.{fixedSize}
 use Rattle.bits.proofs.Picks.{tested, by-test, pick-no}
 use Rattle.device.specs.declared.state.Device.{Device}
-use Rattle.events.specs.Kinds.{bodyLength, misplaced, wholeOf, nextOf, fitsLength, isEvent}
-use Rattle.events.specs.Calls.{byKind, eventOf, callsOf, callsFor}
+use Rattle.events.specs.Kinds.{bodyLength, misplaced, nextWhole, nextOf, fitsLength, isEvent}
+use Rattle.events.specs.Calls.{callByKind, requestOf, callsOf, callsFor}
 use Rattle.events.specs.Stops.{isNone, noCall}
 use Rattle.events.specs.declared.kinds.Length.{Length}
 use Rattle.events.specs.declared.kinds.Length.the-variants.{Bytes, Unknown}
 use Rattle.events.specs.declared.kinds.Next.{Next}
 use Rattle.events.specs.declared.kinds.Next.the-variants.{Whole, Stop, End}
-use Rattle.events.specs.declared.asked.Event.{Event}
-use Rattle.events.specs.declared.asked.Event.the-variants.{Nothing}
+use Rattle.events.specs.declared.asked.Request.{Request}
+use Rattle.events.specs.declared.asked.Request.the-variants.{Nothing}
 
-settings-nothing : (k : ℕ) (e : List ℕ) → eqb k 0x00 ≡ true → byKind k e ≡ Nothing
-unfolding byKind pick
+settings-nothing : (k : ℕ) (e : List ℕ) → eqb k 0x00 ≡ true → callByKind k e ≡ Nothing
+unfolding callByKind pick
 settings-nothing k e z = rw (eqb-true k 0x00 z) refl
 
 fits : (e : List ℕ) → isEvent e ≡ true → fitsLength (bodyLength (getD e 0 0)) (length e) ≡ true
@@ -38,18 +38,18 @@ head-take (x ∷ l) (suc n) h = refl
 
 module _ (d : Device) where
   -- what bytes e ask for makes no call
-  abbrev Idle : List ℕ → Event → Bool
+  abbrev Idle : List ℕ → Request → Bool
   Idle e x = isNone (callsOf d e x)
 
   -- one kind more: what it asks for makes a call, or the rest of the kinds decides
-  kind : (e : List ℕ) (b : Bool) (x y : Event) (u v : Length) (n : ℕ) → Idle e x ≡ false → (fitsLength v n ≡ true → Idle e y ≡ false) → fitsLength (pick b u v) n ≡ true → Idle e (pick b x y) ≡ false
+  kind : (e : List ℕ) (b : Bool) (x y : Request) (u v : Length) (n : ℕ) → Idle e x ≡ false → (fitsLength v n ≡ true → Idle e y ≡ false) → fitsLength (pick b u v) n ≡ true → Idle e (pick b x y) ≡ false
   unfolding pick
   kind e true x y u v n p q f = p
   kind e false x y u v n p q f = q f
 
   -- a kind other than 00h whose body has its length makes a call
-  has-call : (k : ℕ) (e : List ℕ) (n : ℕ) → eqb k 0x00 ≡ false → fitsLength (bodyLength k) n ≡ true → Idle e (byKind k e) ≡ false
-  unfolding bodyLength byKind callsOf isNone fitsLength
+  has-call : (k : ℕ) (e : List ℕ) (n : ℕ) → eqb k 0x00 ≡ false → fitsLength (bodyLength k) n ≡ true → Idle e (callByKind k e) ≡ false
+  unfolding bodyLength callByKind callsOf isNone fitsLength
   has-call k e n z f =
       kind e (eqb k 0x01) _ _ (Bytes 1) _ n refl
       (kind e (eqb k 0x02) _ _ (Bytes 0) _ n refl
@@ -63,16 +63,16 @@ module _ (d : Device) where
       (λ h. absurd (false≢true h))))))))))
       (sym (ap (λ (x : Length). fitsLength x n) (pick-no (eqb k 0x00) (Bytes 7) _ z)) ∙ f)
 
-  settings-none : (k : ℕ) (e : List ℕ) → eqb k 0x00 ≡ true → Idle e (byKind k e) ≡ eqb k 0x00
+  settings-none : (k : ℕ) (e : List ℕ) → eqb k 0x00 ≡ true → Idle e (callByKind k e) ≡ eqb k 0x00
   unfolding callsOf isNone
   settings-none k e z = ap (Idle e) (settings-nothing k e z) ∙ sym z
 
   broken : (e : List ℕ) → isEvent e ≡ false → isNone (callsFor d e) ≡ noCall e
-  unfolding eventOf callsOf pick isNone
+  unfolding requestOf callsOf pick isNone
   broken e h = rw h refl
 
   whole : (e : List ℕ) → isEvent e ≡ true → isNone (callsFor d e) ≡ noCall e
-  unfolding eventOf pick
+  unfolding requestOf pick
   whole e h =
       let k = getD e 0 0 in
       rw h (⊎-elim (λ (z : eqb k 0x00 ≡ true). settings-none k e z) (λ (z : eqb k 0x00 ≡ false). has-call k e (length e) z (fits e h) ∙ sym z) (tested (eqb k 0x00)))
@@ -87,8 +87,8 @@ module _ (d : Device) where
   Ready l Stop = Unit {0}
   Ready l End = Unit {0}
 
-  whole-ready : (k : Length) (l : List ℕ) → ((n : ℕ) → fitsLength k n ≡ true → n ≤ length l → 1 ≤ n → isNone (callsFor d (take n l)) ≡ false) → Ready l (wholeOf k (length l))
-  unfolding wholeOf Ready fitsLength
+  whole-ready : (k : Length) (l : List ℕ) → ((n : ℕ) → fitsLength k n ≡ true → n ≤ length l → 1 ≤ n → isNone (callsFor d (take n l)) ≡ false) → Ready l (nextWhole k (length l))
+  unfolding nextWhole Ready fitsLength
   whole-ready (Bytes m) l f = by-test (Ready l) (leb (m + 1) (length l)) (Whole (m + 1)) Stop (λ h. f (m + 1) (eq-eqb (m + 1) (m + 1) refl) (leb-true _ _ h) (omega arith)) (λ h. tt)
   whole-ready Unknown l f = tt
 
@@ -100,9 +100,9 @@ module _ (d : Device) where
   unfolding nextOf misplaced Ready pick
   next-ready l =
       let k = getD l 0 0 in
-      by-test (Ready l) (eqb (length l) 0) (pick false Stop End) (pick (misplaced false k) Stop (wholeOf (bodyLength k) (length l)))
+      by-test (Ready l) (eqb (length l) 0) (pick false Stop End) (pick (misplaced false k) Stop (nextWhole (bodyLength k) (length l)))
       (λ h. tt)
-      (λ h. by-test (Ready l) (misplaced false k) Stop (wholeOf (bodyLength k) (length l)) (λ m. tt) (λ m. whole-ready (bodyLength k) l (λ n f le o. part-call l n m f le o)))
+      (λ h. by-test (Ready l) (misplaced false k) Stop (nextWhole (bodyLength k) (length l)) (λ m. tt) (λ m. whole-ready (bodyLength k) l (λ n f le o. part-call l n m f le o)))
 
   -- a run plays what it comes to: 24 is never given there
   pub run-plays : (l : List ℕ) (n : ℕ) → nextOf false l ≡ Whole n → isNone (callsFor d (take n l)) ≡ false

@@ -9,12 +9,12 @@ use Rattle.rules.specs.Call.{Call, hostFrame, openPhase, sendData, finishTags, 
 use Rattle.device.specs.declared.state.Device.{Device}
 use Rattle.events.specs.HostData.{hostData}
 use Rattle.events.specs.Kinds.{isEvent}
-use Rattle.events.specs.declared.asked.Event.{Event}
-use Rattle.events.specs.declared.asked.Event.the-variants.{OpenPhase, SendData, FinishTags, MediaError, LinkEvent, ComReset, HostData, HostFrame, Nothing}
+use Rattle.events.specs.declared.asked.Request.{Request}
+use Rattle.events.specs.declared.asked.Request.the-variants.{OpenPhase, SendData, FinishTags, MediaError, LinkEvent, ComReset, HostData, HostFrame, Nothing}
 
 -- 01h open: tag. 02h send. 03h finish: mask 4. 04h media error: tag, error, sector 4. 05h link event: row. 06h COMRESET. 07h host data. 27h and 58h: the frame
-unfoldable pub byKind : ℕ → List ℕ → Event
-byKind k e =
+unfoldable pub callByKind : ℕ → List ℕ → Request
+callByKind k e =
     pick (eqb k 0x01) (OpenPhase (getD e 1 0))
     (pick (eqb k 0x02) SendData
     (pick (eqb k 0x03) (FinishTags (leAt e 1 4))
@@ -26,11 +26,11 @@ byKind k e =
     (pick (eqb k 0x58) HostFrame Nothing))))))))
 
 -- what the bytes e ask for; what is no event asks for nothing, and so do settings
-unfoldable pub eventOf : List ℕ → Event
-eventOf e = pick (isEvent e) (byKind (getD e 0 0) e) Nothing
+unfoldable pub requestOf : List ℕ → Request
+requestOf e = pick (isEvent e) (callByKind (getD e 0 0) e) Nothing
 
 -- the calls that this makes in the state d: one, and none for nothing; host data has the length due, and a frame is the event's bytes e themselves
-unfoldable pub callsOf : Device → List ℕ → Event → List Call
+unfoldable pub callsOf : Device → List ℕ → Request → List Call
 callsOf d e (OpenPhase tag) = openPhase tag ∷ []
 callsOf d e SendData = sendData ∷ []
 callsOf d e (FinishTags set) = finishTags set ∷ []
@@ -43,4 +43,4 @@ callsOf d e Nothing = []
 
 -- the calls that an event e makes in the state d
 abbrev pub callsFor : Device → List ℕ → List Call
-callsFor d e = callsOf d e (eventOf e)
+callsFor d e = callsOf d e (requestOf e)

@@ -5,7 +5,7 @@ use Prim.Native.Nat.{ℕ, _+_, _-_}
 use lib.Dec.{eqb, leb}
 use lib.ListN.{length, getD}
 use Rattle.bits.specs.Pick.{pick}
-use Rattle.wire.specs.Size.{fixedSize}
+use Rattle.frame_parts.specs.Size.{fixedSize}
 use Rattle.events.specs.declared.kinds.Length.{Length}
 use Rattle.events.specs.declared.kinds.Length.the-variants.{Bytes, Unknown}
 use Rattle.events.specs.declared.kinds.Next.{Next}
@@ -30,15 +30,15 @@ unfoldable pub misplaced : Bool → ℕ → Bool
 misplaced first k = pick first (not (eqb k 0x00)) (eqb k 0x00)
 
 -- a kind and its body, if so much is there; a short body and an unknown kind stop
-unfoldable pub wholeOf : Length → ℕ → Next
-wholeOf (Bytes n) have = pick (leb (n + 1) have) (Whole (n + 1)) Stop
-wholeOf Unknown have = Stop
+unfoldable pub nextWhole : Length → ℕ → Next
+nextWhole (Bytes n) have = pick (leb (n + 1) have) (Whole (n + 1)) Stop
+nextWhole Unknown have = Stop
 
 -- what the rest l of the input begins with, `first` saying that nothing was before it: empty input stops, a clean end does not
 unfoldable pub nextOf : Bool → List ℕ → Next
 nextOf first l =
     pick (eqb (length l) 0) (pick first Stop End)
-    (pick (misplaced first (getD l 0 0)) Stop (wholeOf (bodyLength (getD l 0 0)) (length l)))
+    (pick (misplaced first (getD l 0 0)) Stop (nextWhole (bodyLength (getD l 0 0)) (length l)))
 
 -- so many bytes as the kind's body has and one more
 unfoldable pub fitsLength : Length → ℕ → Bool

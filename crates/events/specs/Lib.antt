@@ -5,4 +5,4 @@ pub mod Calls
 pub mod Played
 pub mod Lines
 pub mod Stops
-pub mod Told
+pub mod EventLine

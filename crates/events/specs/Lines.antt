@@ -4,7 +4,7 @@ use mathlib.Core.List.{List, [], _∷_, _++_}
 use Prim.Native.Nat.{ℕ}
 use lib.ListN.{length, getD}
 use Rattle.bits.specs.Pick.{pick}
-use Rattle.wire.specs.Cut.{cut}
+use Rattle.frame_parts.specs.Cut.{cut}
 use Rattle.text.specs.Digits.{decimal, hex, upper8}
 
 -- traced: = and the bytes of a reply in lower-case hex

@@ -2,8 +2,7 @@
 use mathlib.Core.Bool.{true}
 use mathlib.Core.List.{List, [], _∷_}
 use Prim.Native.Nat.{ℕ}
-use Rattle.bits.specs.First.{Rung}
-use Rattle.ladders.specs.Ladders.{rung}
+use Rattle.bits.specs.First.{Rung, rung}
 use Rattle.rules.specs.Call.{Call}
 use Rattle.rules.specs.Tests.{tests}
 use Rattle.device.specs.Lent.{lent}

@@ -6,7 +6,7 @@ use lib.Dec.{eqb, leb}
 use lib.ListN.{getD}
 use Rattle.bits.specs.Pick.{pick}
 use Rattle.bits.specs.Little.{leAt}
-use Rattle.states.specs.declared.shapes.Settings.{Settings}
+use Rattle.device_state.specs.declared.shapes.Settings.{Settings}
 use Rattle.device.specs.Device.{powerOn}
 use Rattle.device.specs.declared.state.Outcome.{Outcome}
 use Rattle.events.specs.Kinds.{isEvent}

@@ -1,12 +1,12 @@
 // What an event asks for, read from its bytes.
 ghost use mathlib.Core.Path.{_≡_};
 ghost use Rattle.bits.specs.Little.{leAt};
-ghost use Rattle.events.specs.Calls.{byKind, eventOf};
+ghost use Rattle.events.specs.Calls.{callByKind, requestOf};
 use crate::kinds::is_event;
-use wire::byte_of;
+use frame_parts::byte_of;
 
 // The calls of the device, with their arguments; host data has the length due, and the frame of a host frame is the event itself.
-pub enum Event {
+pub enum Request {
     OpenPhase(u8),
     SendData,
     FinishTags(u32),
@@ -24,32 +24,32 @@ fn four(s: &[u8], at: usize) -> u32
     bits::le(s, at, 4) as u32
 }
 
-fn by_kind(kind: u8, bytes: &[u8]) -> Event
-    ensures { λ r. ⌜ r ≡ byKind kind (now (bytes .entry)) ⌝ }
+fn by_kind(kind: u8, bytes: &[u8]) -> Request
+    ensures { λ r. ⌜ r ≡ callByKind kind (now (bytes .entry)) ⌝ }
 {
     match kind {
-        0x01 => Event::OpenPhase(byte_of(bytes, 1)),
-        0x02 => Event::SendData,
-        0x03 => Event::FinishTags(four(bytes, 1)),
-        0x04 => Event::MediaError {
+        0x01 => Request::OpenPhase(byte_of(bytes, 1)),
+        0x02 => Request::SendData,
+        0x03 => Request::FinishTags(four(bytes, 1)),
+        0x04 => Request::MediaError {
             tag: byte_of(bytes, 1),
             error: byte_of(bytes, 2),
             sector: four(bytes, 3),
         },
-        0x05 => Event::LinkEvent(byte_of(bytes, 1)),
-        0x06 => Event::ComReset,
-        0x07 => Event::HostData(byte_of(bytes, 1)),
-        0x27 => Event::HostFrame,
-        0x58 => Event::HostFrame,
-        _ => Event::Nothing,
+        0x05 => Request::LinkEvent(byte_of(bytes, 1)),
+        0x06 => Request::ComReset,
+        0x07 => Request::HostData(byte_of(bytes, 1)),
+        0x27 => Request::HostFrame,
+        0x58 => Request::HostFrame,
+        _ => Request::Nothing,
     }
 }
 
-pub fn event_of(bytes: &[u8]) -> Event
-    ensures { λ r. ⌜ r ≡ eventOf (now (bytes .entry)) ⌝ }
+pub fn request_of(bytes: &[u8]) -> Request
+    ensures { λ r. ⌜ r ≡ requestOf (now (bytes .entry)) ⌝ }
 {
     if is_event(bytes) {
         return by_kind(byte_of(bytes, 0), bytes);
     }
-    Event::Nothing
+    Request::Nothing
 }

@@ -49,7 +49,7 @@ pub fn next_event(first: bool, rest: &[u8]) -> Next
         }
         return Next::End;
     }
-    let kind = wire::byte_of(rest, 0);
+    let kind = frame_parts::byte_of(rest, 0);
     if is_misplaced(first, kind) {
         return Next::Stop;
     }
@@ -66,7 +66,7 @@ pub fn next_event(first: bool, rest: &[u8]) -> Next
 pub fn is_event(event: &[u8]) -> bool
     ensures { λ r. ⌜ r ≡ isEvent (now (event .entry)) ⌝ }
 {
-    let Length::Bytes(n) = body_length(wire::byte_of(event, 0)) else {
+    let Length::Bytes(n) = body_length(frame_parts::byte_of(event, 0)) else {
         return false;
     };
     if event.len() <= n {

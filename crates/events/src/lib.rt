@@ -7,14 +7,14 @@ mod plays;
 mod starts;
 mod tells;
 
-pub use asked::Event;
-pub use asked::event_of;
+pub use asked::Request;
+pub use asked::request_of;
 pub use kinds::Length;
 pub use kinds::Next;
 pub use kinds::body_length;
 pub use kinds::next_event;
 pub use plays::play;
 pub use starts::start;
-pub use tells::Told;
+pub use tells::EventLine;
 pub use tells::play_line;
 pub use tells::start_line;

@@ -1,7 +1,7 @@
 // The line of an event.
 ghost use mathlib.Core.Bool.{true, false};
-ghost use Rattle.wire.specs.Cut.{cut};
-ghost use Rattle.text.specs.Sheet.{Wrote, Fronted};
+ghost use Rattle.frame_parts.specs.Cut.{cut};
+ghost use Rattle.text.specs.Sheet.{TextGiven, WholeTextGiven};
 ghost use Rattle.events.specs.Lines.{traceOf, fieldOf, fieldsOf, headOf, lineOf};
 use text::put_byte;
 use text::put_decimal;
@@ -9,7 +9,7 @@ use text::put_hex;
 use text::put_upper8;
 
 fn put_head(out: &mut [u8], number: u64, refusal: u32, outstanding: u32) -> usize
-    ensures { λ r. ⌜ Wrote (headOf number refusal outstanding) 0 (now (out .entry)) r (now (out .exit)) ⌝ }
+    ensures { λ r. ⌜ TextGiven (headOf number refusal outstanding) 0 (now (out .entry)) r (now (out .exit)) ⌝ }
 {
     let a = put_decimal(out, 0, number);
     let b = put_byte(out, a, b' ');
@@ -19,7 +19,7 @@ fn put_head(out: &mut [u8], number: u64, refusal: u32, outstanding: u32) -> usiz
 }
 
 fn put_bytes(out: &mut [u8], at: usize, piece: &[u8], traced: bool) -> usize
-    ensures { λ r. ⌜ Wrote (traceOf traced (now (piece .entry))) at (now (out .entry)) r (now (out .exit)) ⌝ }
+    ensures { λ r. ⌜ TextGiven (traceOf traced (now (piece .entry))) at (now (out .entry)) r (now (out .exit)) ⌝ }
 {
     if traced {
         let a = put_byte(out, at, b'=');
@@ -30,9 +30,9 @@ fn put_bytes(out: &mut [u8], at: usize, piece: &[u8], traced: bool) -> usize
 
 // One reply.
 fn put_field(out: &mut [u8], at: usize, piece: &[u8], traced: bool) -> usize
-    ensures { λ r. ⌜ Wrote (fieldOf traced (now (piece .entry))) at (now (out .entry)) r (now (out .exit)) ⌝ }
+    ensures { λ r. ⌜ TextGiven (fieldOf traced (now (piece .entry))) at (now (out .entry)) r (now (out .exit)) ⌝ }
 {
-    let kind = [wire::byte_of(piece, 0)];
+    let kind = [frame_parts::byte_of(piece, 0)];
     let a = put_byte(out, at, b' ');
     let b = put_hex(out, a, &kind, true);
     let c = put_byte(out, b, b':');
@@ -42,12 +42,12 @@ fn put_field(out: &mut [u8], at: usize, piece: &[u8], traced: bool) -> usize
 
 // Each reply, cut off the front of what is left.
 fn put_fields(out: &mut [u8], at: usize, reply: &[u8], traced: bool) -> usize
-    ensures { λ r. ⌜ Wrote (fieldsOf traced (cut (now (reply .entry)))) at (now (out .entry)) r (now (out .exit)) ⌝ }
+    ensures { λ r. ⌜ TextGiven (fieldsOf traced (cut (now (reply .entry)))) at (now (out .entry)) r (now (out .exit)) ⌝ }
 {
     let mut end = at;
     let mut from: usize = 0;
     while from < reply.len() {
-        let n = wire::cut_first(&reply[from..]);
+        let n = frame_parts::cut_first(&reply[from..]);
         let next = from + n;
         end = put_field(out, end, &reply[from..next], traced);
         from = next;
@@ -64,7 +64,7 @@ pub fn put_line(
     reply: &[u8],
     traced: bool,
 ) -> usize
-    ensures { λ r. ⌜ Fronted (lineOf traced number refusal outstanding (now (reply .entry))) (now (out .entry)) r (now (out .exit)) ⌝ }
+    ensures { λ r. ⌜ WholeTextGiven (lineOf traced number refusal outstanding (now (reply .entry))) (now (out .entry)) r (now (out .exit)) ⌝ }
 {
     let a = put_head(out, number, refusal, outstanding);
     let b = put_fields(out, a, reply, traced);

@@ -3,26 +3,32 @@ ghost use Rattle.device.specs.Lent.{gave};
 ghost use Rattle.device.specs.Step.{Gives};
 ghost use Rattle.events.specs.Calls.{callsOf};
 ghost use Rattle.events.specs.Played.{stepFor, eventStep};
-use crate::asked::Event;
-use crate::asked::event_of;
+use crate::asked::Request;
+use crate::asked::request_of;
 use crate::host_data::host_data;
 use device::Device;
 use device::Outcome;
 
 // A frame is handed on as it came, its kind being its first byte. What is no event changes nothing.
-fn make_call(d: Device, event: Event, bytes: &[u8], medium: &mut [u8], reply: &mut [u8]) -> Outcome
+fn make_call(
+    d: Device,
+    event: Request,
+    bytes: &[u8],
+    medium: &mut [u8],
+    reply: &mut [u8],
+) -> Outcome
     ensures { λ r. ⌜ Gives (stepFor d (now (medium .entry)) (now (reply .entry)) (callsOf d (now (bytes .entry)) event)) (now (reply .entry)) (gave r (now (medium .exit)) (now (reply .exit))) ⌝ }
 {
     match event {
-        Event::OpenPhase(tag) => d.open(tag, reply),
-        Event::SendData => d.send(medium, reply),
-        Event::FinishTags(set) => d.finish(set, reply),
-        Event::MediaError { tag, error, sector } => d.media_error(tag, error, sector, reply),
-        Event::LinkEvent(row) => d.link_event(row),
-        Event::ComReset => d.comreset(reply),
-        Event::HostData(byte) => host_data(d, byte, medium, reply),
-        Event::HostFrame => d.host_frame(bytes, medium, reply),
-        Event::Nothing => Outcome {
+        Request::OpenPhase(tag) => d.open(tag, reply),
+        Request::SendData => d.send(medium, reply),
+        Request::FinishTags(set) => d.finish(set, reply),
+        Request::MediaError { tag, error, sector } => d.media_error(tag, error, sector, reply),
+        Request::LinkEvent(row) => d.link_event(row),
+        Request::ComReset => d.comreset(reply),
+        Request::HostData(byte) => host_data(d, byte, medium, reply),
+        Request::HostFrame => d.host_frame(bytes, medium, reply),
+        Request::Nothing => Outcome {
             state: d,
             refusal: 24,
             len: 0,
@@ -34,5 +40,5 @@ fn make_call(d: Device, event: Event, bytes: &[u8], medium: &mut [u8], reply: &m
 pub fn play(d: Device, event: &[u8], medium: &mut [u8], reply: &mut [u8]) -> Outcome
     ensures { λ r. ⌜ Gives (eventStep d (now (event .entry)) (now (medium .entry)) (now (reply .entry))) (now (reply .entry)) (gave r (now (medium .exit)) (now (reply .exit))) ⌝ }
 {
-    make_call(d, event_of(event), event, medium, reply)
+    make_call(d, request_of(event), event, medium, reply)
 }

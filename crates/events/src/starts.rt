@@ -4,13 +4,13 @@ ghost use Rattle.events.specs.Start.{settingsOf, askedOf, startOf};
 use crate::kinds::is_event;
 use device::Device;
 use device::Outcome;
-use states::Settings;
+use device_state::Settings;
 
 fn settings_of(event: &[u8]) -> Settings
     ensures { λ r. ⌜ r ≡ settingsOf (now (event .entry)) ⌝ }
 {
     Settings {
-        depth: wire::byte_of(event, 1) as u32,
+        depth: frame_parts::byte_of(event, 1) as u32,
         capacity: bits::le(event, 2, 4) as u32,
         mask: bits::le(event, 6, 2) as u16,
     }
@@ -24,7 +24,7 @@ fn asked(event: &[u8]) -> Settings
 {
     let settings = settings_of(event);
     let whole = is_event(event);
-    let kind = wire::byte_of(event, 0);
+    let kind = frame_parts::byte_of(event, 0);
     if whole & (kind == 0x00) & (settings.capacity <= CAPACITY_LIMIT) {
         return settings;
     }

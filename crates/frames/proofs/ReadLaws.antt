@@ -8,20 +8,20 @@ use lib.ListN.{length, getD}
 use borrow.Author.Tests.{eqb-true}
 use Rattle.bits.specs.Pick.{pick}
 use Rattle.bits.proofs.Picks.{by-test, pick-yes, pick-no}
-use Rattle.wire.specs.Size.{payloadSize, readable}
-use Rattle.frames.specs.Read.{byKind, readFrame, hostOf, deviceOf, bitsOf, setupOf, pioOf}
+use Rattle.frame_parts.specs.Size.{payloadSize, readable}
+use Rattle.frames.specs.Read.{frameByKind, readFrame, hostOf, deviceOf, bitsOf, setupOf, pioOf}
 use Rattle.frames.specs.declared.shapes.Frame.{Frame}
 use Rattle.frames.specs.declared.shapes.Frame.the-variants.{Host, Device, Bits, Setup, Activate, Data, Bist, Pio, Refused}
 
 -- where its kind allows the length, the frame goes by its kind
-pub read-by : (l : List ℕ) (k : ℕ) → k ≡ getD l 0 0 → readable k (length l) ≡ true → readFrame l ≡ byKind k l
+pub read-by : (l : List ℕ) (k : ℕ) → k ≡ getD l 0 0 → readable k (length l) ≡ true → readFrame l ≡ frameByKind k l
 unfolding readFrame
-read-by l k e r = rw (← e) (pick-yes (readable k (length l)) (byKind k l) Refused r)
+read-by l k e r = rw (← e) (pick-yes (readable k (length l)) (frameByKind k l) Refused r)
 
 -- and else it is refused
 pub read-not : (l : List ℕ) (k : ℕ) → k ≡ getD l 0 0 → readable k (length l) ≡ false → readFrame l ≡ Refused
 unfolding readFrame
-read-not l k e r = rw (← e) (pick-no (readable k (length l)) (byKind k l) Refused r)
+read-not l k e r = rw (← e) (pick-no (readable k (length l)) (frameByKind k l) Refused r)
 
 -- what is read as data is a 46h, with all of the payload, whose size is one that a payload can have
 abbrev pub DataRead : ℕ → List ℕ → Frame → Type 0
@@ -36,8 +36,8 @@ DataRead k l (Pio f) = Unit
 DataRead k l Refused = Unit
 
 -- by its kind
-by-data : (k : ℕ) (l : List ℕ) → readable k (length l) ≡ true → DataRead k l (byKind k l)
-unfolding byKind readable pick
+by-data : (k : ℕ) (l : List ℕ) → readable k (length l) ≡ true → DataRead k l (frameByKind k l)
+unfolding frameByKind readable pick
 by-data k l r =
     let P : Frame → Type 0 = DataRead k l in
     by-test P (eqb k 0x27) (Host (hostOf l)) _ (λ _. tt)
@@ -52,4 +52,4 @@ by-data k l r =
 -- as the reader sees it
 pub read-data : (l : List ℕ) → DataRead (getD l 0 0) l (readFrame l)
 unfolding readFrame
-read-data l = by-test (DataRead (getD l 0 0) l) (readable (getD l 0 0) (length l)) (byKind (getD l 0 0) l) Refused (λ r. by-data (getD l 0 0) l r) (λ _. tt)
+read-data l = by-test (DataRead (getD l 0 0) l) (readable (getD l 0 0) (length l)) (frameByKind (getD l 0 0) l) Refused (λ r. by-data (getD l 0 0) l r) (λ _. tt)

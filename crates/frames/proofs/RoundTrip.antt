@@ -11,24 +11,24 @@ use Rattle.bits.specs.Pick.{pick}
 use Rattle.bits.specs.Bit.{bitIn}
 use Rattle.bits.proofs.Tables.{below-all}
 use Rattle.bits.proofs.Littles.{le-leBytes}
-use Rattle.wire.specs.Piece.{flagsOf, halvesOf, registerBytes, below, taskFits}
-use Rattle.wire.specs.Size.{fixedSize, payloadSize, readable}
-use Rattle.frames.specs.Read.{byKind, readFrame}
-use Rattle.frames.specs.Write.{Sent, host, device, setBits, setup, activate, payload, bist, pio, bitsBytes, setupBytes, encode, fits, Wrote}
-use Rattle.frames.specs.Trip.{seen}
+use Rattle.frame_parts.specs.Shared.{flagsOf, halvesOf, registerBytes, below, taskFits}
+use Rattle.frame_parts.specs.Size.{fixedSize, payloadSize, readable}
+use Rattle.frames.specs.Read.{frameByKind, readFrame}
+use Rattle.frames.specs.Write.{FrameValue, host, device, setBits, setup, activate, payload, bist, pio, bitsBytes, setupBytes, encode, fits, FrameWriteGiven}
+use Rattle.frames.specs.RoundTrip.{readBack}
 use Rattle.bits.proofs.Picks.{and-left, and-right}
 use Rattle.frames.proofs.ReadLaws.{read-by}
 use Rattle.frames.proofs.WriteLaws.{length-payload}
-use Rattle.wire.proofs.EmitLaws.{wrote-all}
-use Rattle.wire.proofs.TaskLaws.{small, task-all}
-use Rattle.wire.specs.declared.pieces.Task.{Task}
+use Rattle.frame_parts.proofs.EmitLaws.{wrote-all}
+use Rattle.frame_parts.proofs.TaskLaws.{small, task-all}
+use Rattle.frame_parts.specs.declared.shared.Task.{Task}
 use Rattle.frames.specs.declared.shapes.HostReg.{HostReg}
 use Rattle.frames.specs.declared.shapes.DevReg.{DevReg}
 use Rattle.frames.specs.declared.shapes.SetBits.{SetBits}
 use Rattle.frames.specs.declared.shapes.DmaSetup.{DmaSetup}
 use Rattle.frames.specs.declared.shapes.PioSetup.{PioSetup}
 use Rattle.frames.specs.declared.shapes.Frame.the-variants.{Host, Device, Bits, Setup, Data, Pio}
-use Rattle.wire.specs.declared.emitting.Written.{Written}
+use Rattle.frame_parts.specs.declared.emitting.Written.{Written}
 
 -- ---- byte 1
 
@@ -102,21 +102,21 @@ same-pio p q r s t u v = cc
 -- ---- each kind
 
 read-host : (f : HostReg) → fits (host f) ≡ true → readFrame (encode (host f)) ≡ Host f
-unfolding readFrame byKind readable fixedSize pick encode fits registerBytes
+unfolding readFrame frameByKind readable fixedSize pick encode fits registerBytes
 read-host f h =
     ap Host (same-host (flag-7 (f .«command_bit») false false) refl refl
     (task-all 0x27 (flagsOf (f .«command_bit») false false) (f .command) (f .features) (f .task) (f .«features_high») (f .control) 0
     (and-right (below 8 (f .command) && below 8 (f .features) && below 8 (f .«features_high») && below 8 (f .control)) (taskFits (f .task)) h)) refl refl)
 
 read-device : (f : DevReg) → fits (device f) ≡ true → readFrame (encode (device f)) ≡ Device f
-unfolding readFrame byKind readable fixedSize pick encode fits registerBytes
+unfolding readFrame frameByKind readable fixedSize pick encode fits registerBytes
 read-device f h =
     ap Device (same-device (flag-6 false (f .interrupt) false)
     (task-all 0x34 (flagsOf false (f .interrupt) false) (f .status) (f .error) (f .task) 0 0 0
     (and-right (below 8 (f .status) && below 8 (f .error)) (taskFits (f .task)) h)) refl refl)
 
 read-pio : (f : PioSetup) → fits (pio f) ≡ true → readFrame (encode (pio f)) ≡ Pio f
-unfolding readFrame byKind readable fixedSize pick encode fits registerBytes
+unfolding readFrame frameByKind readable fixedSize pick encode fits registerBytes
 read-pio f h =
     let front = below 8 (f .status) && below 8 (f .error) && below 8 (f .ending) in
     ap Pio (same-pio (flag-6 false (f .interrupt) (f .«to_host»)) (flag-5 false (f .interrupt) (f .«to_host»))
@@ -125,7 +125,7 @@ read-pio f h =
     (le-leBytes 2 (small 16 (f .bytes) (and-right front (below 16 (f .bytes)) (and-left (front && below 16 (f .bytes)) (taskFits (f .task)) h)))))
 
 read-bits : (f : SetBits) → fits (setBits f) ≡ true → readFrame (encode (setBits f)) ≡ Bits f
-unfolding readFrame byKind readable fixedSize pick encode fits bitsBytes
+unfolding readFrame frameByKind readable fixedSize pick encode fits bitsBytes
 read-bits f h =
     let n7 = not (bitIn 8 (f .status) 7) in
     let n3 = not (bitIn 8 (f .status) 3) in
@@ -138,7 +138,7 @@ read-bits f h =
     (le-leBytes 4 (small 32 (f .active) (and-right two (below 32 (f .active)) three))))
 
 read-setup : (f : DmaSetup) → fits (setup f) ≡ true → readFrame (encode (setup f)) ≡ Setup f
-unfolding readFrame byKind readable fixedSize pick encode fits setupBytes
+unfolding readFrame frameByKind readable fixedSize pick encode fits setupBytes
 read-setup f h =
     let two = and-left (below 32 (f .tag) && below 32 (f .offset)) (below 32 (f .count)) h in
     ap Setup (same-setup (flag-7 (f .auto) (f .interrupt) (f .«to_host»)) (flag-6 (f .auto) (f .interrupt) (f .«to_host»)) (flag-5 (f .auto) (f .interrupt) (f .«to_host»))
@@ -154,14 +154,14 @@ readable-payload n m e h =
     rw k h
 
 read-payload : (p : List ℕ) → fits (payload p) ≡ true → readFrame (encode (payload p)) ≡ Data (length p)
-unfolding byKind pick encode fits
+unfolding frameByKind pick encode fits
 read-payload p h =
     let l = length-payload p in
     read-by (encode (payload p)) 0x46 refl (readable-payload (length (encode (payload p))) (length p) l h) ∙ ap Data (omega arith)
 
 -- what was encoded is read as what was sent
-pub read-encoded : (f : Sent) → fits f ≡ true → readFrame (encode f) ≡ seen f
-unfolding readFrame byKind readable fixedSize pick encode
+pub read-encoded : (f : FrameValue) → fits f ≡ true → readFrame (encode f) ≡ readBack f
+unfolding readFrame frameByKind readable fixedSize pick encode
 read-encoded (host f) h = read-host f h
 read-encoded (device f) h = read-device f h
 read-encoded (setBits f) h = read-bits f h
@@ -172,17 +172,17 @@ read-encoded bist h = refl
 read-encoded (pio f) h = read-pio f h
 
 -- the bytes that a writer wrote are the frame's
-pub written-front : (f : Sent) (d d′ : List ℕ) (r : Written) → Wrote f d r d′ → r .number ≡ 0 → take (r .len) d′ ≡ encode f
+pub written-front : (f : FrameValue) (d d′ : List ℕ) (r : Written) → FrameWriteGiven f d r d′ → r .number ≡ 0 → take (r .len) d′ ≡ encode f
 written-front f d d′ r w z =
     let a = wrote-all (fits f) (encode f) d r d′ w z in
     rw (a .2, a .3) (take-at (encode f) (drop (length (encode f)) d) (length (encode f)) refl)
 
 -- reading what was written gives it back
-pub read-write : (f : Sent) (d d′ : List ℕ) (r : Written) → Wrote f d r d′ → r .number ≡ 0 → readFrame (take (r .len) d′) ≡ seen f
+pub read-write : (f : FrameValue) (d d′ : List ℕ) (r : Written) → FrameWriteGiven f d r d′ → r .number ≡ 0 → readFrame (take (r .len) d′) ≡ readBack f
 read-write f d d′ r w z =
     rw (written-front f d d′ r w z) (read-encoded f (wrote-all (fits f) (encode f) d r d′ w z .0))
 
 -- and the payload of a data frame stands behind its four bytes
-pub read-write-payload : (p d d′ : List ℕ) (r : Written) → Wrote (payload p) d r d′ → r .number ≡ 0 → drop 4 (take (r .len) d′) ≡ p
+pub read-write-payload : (p d d′ : List ℕ) (r : Written) → FrameWriteGiven (payload p) d r d′ → r .number ≡ 0 → drop 4 (take (r .len) d′) ≡ p
 unfolding encode
 read-write-payload p d d′ r w z = ap (drop 4) (written-front (payload p) d d′ r w z)

@@ -16,17 +16,17 @@ use Rattle.bits.specs.Little.{leAt, byteOf, Bytes}
 use Rattle.bits.proofs.Picks.{by-test}
 use Rattle.bits.proofs.Tables.{below-all}
 use Rattle.bits.proofs.Littles.{le-lt, byte-le}
-use Rattle.wire.specs.Piece.{flagsOf, halvesOf, lbaOf, taskOf, registerBytes}
-use Rattle.wire.specs.Size.{fixedSize, payloadSize, readable}
-use Rattle.frames.specs.Read.{flagAt, hostOf, deviceOf, bitsOf, setupOf, pioOf, byKind, readFrame, toldFrame}
-use Rattle.frames.specs.Write.{Sent, host, device, setBits, setup, activate, payload, bist, pio, bitsBytes, setupBytes, encode, fits, Wrote}
-use Rattle.frames.specs.Trip.{again, namedBits, zeroed}
+use Rattle.frame_parts.specs.Shared.{flagsOf, halvesOf, lbaOf, taskOf, registerBytes}
+use Rattle.frame_parts.specs.Size.{fixedSize, payloadSize, readable}
+use Rattle.frames.specs.Read.{flagAt, hostOf, deviceOf, bitsOf, setupOf, pioOf, frameByKind, readFrame, frameAnswer}
+use Rattle.frames.specs.Write.{FrameValue, host, device, setBits, setup, activate, payload, bist, pio, bitsBytes, setupBytes, encode, fits, FrameWriteGiven}
+use Rattle.frames.specs.RoundTrip.{again, namedBits, zeroed}
 use Rattle.bits.proofs.Picks.{and-right}
-use Rattle.wire.specs.Emit.{Emitted}
-use Rattle.wire.proofs.SizeLaws.{payload-4}
-use Rattle.wire.proofs.TaskLaws.{task-fits}
+use Rattle.frame_parts.specs.Emit.{WriteGiven}
+use Rattle.frame_parts.proofs.SizeLaws.{payload-4}
+use Rattle.frame_parts.proofs.TaskLaws.{task-fits}
 use Rattle.frames.proofs.WriteLaws.{length-payload}
-use Rattle.wire.specs.declared.emitting.Written.{Written}
+use Rattle.frame_parts.specs.declared.emitting.Written.{Written}
 use Rattle.frames.specs.declared.shapes.Frame.{Frame}
 
 -- ---- one byte under a mask
@@ -121,11 +121,11 @@ module _ (l : List ℕ) (bytes : Bytes l) where
         byte-le l bytes 12 2 1 (lit< tt),
       )
 
-  abbrev pub Back : Sent → Type 0
+  abbrev pub Back : FrameValue → Type 0
   Back f = (fits f ≡ true) × (encode f ≡ zeroed l) × (length (zeroed l) ≡ length l)
 
   -- the frame's own length, from its bytes
-  whole : (f : Sent) (n : ℕ) → length (encode f) ≡ n → length l ≡ n → fits f ≡ true → encode f ≡ zeroed l → Back f
+  whole : (f : FrameValue) (n : ℕ) → length (encode f) ≡ n → length l ≡ n → fits f ≡ true → encode f ≡ zeroed l → Back f
   whole f n e h t z = (t, z, sym (ap length z) ∙ e ∙ sym h)
 
   host-again : getD l 0 0 ≡ 0x27 → length l ≡ 20 → Back (host (hostOf l))
@@ -207,11 +207,11 @@ module _ (l : List ℕ) (bytes : Bytes l) where
   sized r = r
 
   abbrev Goes : Frame → Type 0
-  Goes f = (toldFrame f .number ≡ 24 → ⊥) → Back (again l f)
+  Goes f = (frameAnswer f .number ≡ 24 → ⊥) → Back (again l f)
 
   -- of a kind that is known by its test
-  by-kind : (k : ℕ) → k ≡ getD l 0 0 → readable k (length l) ≡ true → Goes (byKind k l)
-  unfolding byKind toldFrame fixedSize pick
+  by-kind : (k : ℕ) → k ≡ getD l 0 0 → readable k (length l) ≡ true → Goes (frameByKind k l)
+  unfolding frameByKind frameAnswer fixedSize pick
   by-kind k e r =
       by-test Goes (eqb k 0x27) _ _ (λ t _. let q = eqb-true k 0x27 t in host-again (sym e ∙ q) (exact 0x27 20 (rw q at r) refl refl)) (λ _.
       by-test Goes (eqb k 0x34) _ _ (λ t _. let q = eqb-true k 0x34 t in device-again (sym e ∙ q) (exact 0x34 20 (rw q at r) refl refl)) (λ _.
@@ -223,16 +223,16 @@ module _ (l : List ℕ) (bytes : Bytes l) where
       by-test Goes (eqb k 0x46) _ _ (λ t _. let q = eqb-true k 0x46 t in payload-again (sym e ∙ q) (sized (rw q at r))) (λ _ n. absurd (n refl)))))))))
 
   -- what was read can be written, and its bytes are the frame with its dropped bits zeroed
-  pub encoded-again : (toldFrame (readFrame l) .number ≡ 24 → ⊥) → Back (again l (readFrame l))
-  unfolding readFrame toldFrame
+  pub encoded-again : (frameAnswer (readFrame l) .number ≡ 24 → ⊥) → Back (again l (readFrame l))
+  unfolding readFrame frameAnswer
   encoded-again = by-test Goes (readable (getD l 0 0) (length l)) _ _ (λ r. by-kind (getD l 0 0) refl r) (λ _ n. absurd (n refl))
 
   -- writing what was read gives the frame with its dropped bits zeroed: never 25, 26 exactly when the buffer is shorter, and all other bytes stay
-  pub write-read : (toldFrame (readFrame l) .number ≡ 24 → ⊥) → (d d′ : List ℕ) (r : Written) → Wrote (again l (readFrame l)) d r d′ → Emitted true (zeroed l) d r d′
+  pub write-read : (frameAnswer (readFrame l) .number ≡ 24 → ⊥) → (d d′ : List ℕ) (r : Written) → FrameWriteGiven (again l (readFrame l)) d r d′ → WriteGiven true (zeroed l) d r d′
   write-read n d d′ r w =
       let b = encoded-again n in
       rw (b .0, b .1) at w
 
   -- which is as long as the frame that was read
-  pub zeroed-length : (toldFrame (readFrame l) .number ≡ 24 → ⊥) → length (zeroed l) ≡ length l
+  pub zeroed-length : (frameAnswer (readFrame l) .number ≡ 24 → ⊥) → length (zeroed l) ≡ length l
   zeroed-length n = encoded-again n .2

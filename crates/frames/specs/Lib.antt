@@ -1,4 +1,4 @@
 pub mod Read
 pub mod Write
-pub mod Neat
-pub mod Trip
+pub mod DataLast
+pub mod RoundTrip

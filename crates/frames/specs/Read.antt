@@ -7,12 +7,12 @@ use lib.ListN.{length, getD}
 use lib.Dec.{eqb}
 use Rattle.bits.specs.Pick.{pick}
 use Rattle.bits.specs.Bit.{bitIn}
-use Rattle.bits.specs.First.{Rung, firstOf}
-use Rattle.bits.specs.Told.{Told, bitNumber}
+use Rattle.bits.specs.First.{Rung, firstOf, rung}
+use Rattle.bits.specs.Answer.{Answer, bitNumber}
 use Rattle.bits.specs.Little.{leAt}
-use Rattle.wire.specs.Piece.{halvesOf, taskOf}
-use Rattle.wire.specs.Size.{readable}
-use Rattle.wire.specs.declared.pieces.Task.{Task}
+use Rattle.frame_parts.specs.Shared.{halvesOf, taskOf}
+use Rattle.frame_parts.specs.Size.{readable}
+use Rattle.frame_parts.specs.declared.shared.Task.{Task}
 use Rattle.frames.specs.declared.shapes.HostReg.{HostReg}
 use Rattle.frames.specs.declared.shapes.DevReg.{DevReg}
 use Rattle.frames.specs.declared.shapes.SetBits.{SetBits}
@@ -68,8 +68,8 @@ pioOf l = record {
 }
 
 -- a frame by its kind; 46h leaves its payload where it is
-unfoldable pub byKind : ℕ → List ℕ → Frame
-byKind k l =
+unfoldable pub frameByKind : ℕ → List ℕ → Frame
+frameByKind k l =
     pick (eqb k 0x27) (Host (hostOf l))
     (pick (eqb k 0x34) (Device (deviceOf l))
     (pick (eqb k 0xA1) (Bits (bitsOf l))
@@ -81,29 +81,29 @@ byKind k l =
 
 -- 24: kind unknown or length wrong
 abbrev pub ladder24 : List ℕ → List Rung
-ladder24 l = record { number = 24; holds = not (readable (getD l 0 0) (length l)) } ∷ []
+ladder24 l = rung 24 (not (readable (getD l 0 0) (length l))) ∷ []
 
 -- the frame that the bytes are, or refused
 unfoldable pub readFrame : List ℕ → Frame
-readFrame l = pick (readable (getD l 0 0) (length l)) (byKind (getD l 0 0) l) Refused
+readFrame l = pick (readable (getD l 0 0) (length l)) (frameByKind (getD l 0 0) l) Refused
 
 -- the values of a command's bytes
 abbrev pub taskValues : Task → List ℕ
 taskValues t = t .lba ∷ t .device ∷ t .count ∷ []
 
 -- what each answer of the reader tells: its kind and its named fields in the order of the rules, or 24
-unfoldable pub toldFrame : Frame → Told
-toldFrame (Host f) = record { number = 0; values = 0x27 ∷ bitNumber (f .«command_bit») ∷ f .command ∷ f .features ∷ taskValues (f .task) ++ f .«features_high» ∷ f .control ∷ [] }
-toldFrame (Device f) = record { number = 0; values = 0x34 ∷ bitNumber (f .interrupt) ∷ f .status ∷ f .error ∷ taskValues (f .task) }
-toldFrame (Bits f) = record { number = 0; values = 0xA1 ∷ bitNumber (f .interrupt) ∷ f .status ∷ f .error ∷ f .active ∷ [] }
-toldFrame (Setup f) = record { number = 0; values = 0x41 ∷ bitNumber (f .auto) ∷ bitNumber (f .interrupt) ∷ bitNumber (f .«to_host») ∷ f .tag ∷ f .offset ∷ f .count ∷ [] }
-toldFrame Activate = record { number = 0; values = 0x39 ∷ [] }
-toldFrame (Data n) = record { number = 0; values = 0x46 ∷ n ∷ [] }
-toldFrame Bist = record { number = 0; values = 0x58 ∷ [] }
-toldFrame (Pio f) = record { number = 0; values = 0x5F ∷ bitNumber (f .interrupt) ∷ bitNumber (f .«to_host») ∷ f .status ∷ f .error ∷ taskValues (f .task) ++ f .ending ∷ f .bytes ∷ [] }
-toldFrame Refused = record { number = 24; values = [] }
+unfoldable pub frameAnswer : Frame → Answer
+frameAnswer (Host f) = record { number = 0; values = 0x27 ∷ bitNumber (f .«command_bit») ∷ f .command ∷ f .features ∷ taskValues (f .task) ++ f .«features_high» ∷ f .control ∷ [] }
+frameAnswer (Device f) = record { number = 0; values = 0x34 ∷ bitNumber (f .interrupt) ∷ f .status ∷ f .error ∷ taskValues (f .task) }
+frameAnswer (Bits f) = record { number = 0; values = 0xA1 ∷ bitNumber (f .interrupt) ∷ f .status ∷ f .error ∷ f .active ∷ [] }
+frameAnswer (Setup f) = record { number = 0; values = 0x41 ∷ bitNumber (f .auto) ∷ bitNumber (f .interrupt) ∷ bitNumber (f .«to_host») ∷ f .tag ∷ f .offset ∷ f .count ∷ [] }
+frameAnswer Activate = record { number = 0; values = 0x39 ∷ [] }
+frameAnswer (Data n) = record { number = 0; values = 0x46 ∷ n ∷ [] }
+frameAnswer Bist = record { number = 0; values = 0x58 ∷ [] }
+frameAnswer (Pio f) = record { number = 0; values = 0x5F ∷ bitNumber (f .interrupt) ∷ bitNumber (f .«to_host») ∷ f .status ∷ f .error ∷ taskValues (f .task) ++ f .ending ∷ f .bytes ∷ [] }
+frameAnswer Refused = record { number = 24; values = [] }
 
 -- what the reader promises: the frame that the bytes are, and the refusal exactly by its list
-pub record FrameRead (l : List ℕ) (r : Frame) : Type 0 where
+pub record FrameGiven (l : List ℕ) (r : Frame) : Type 0 where
   pub answer : r ≡ readFrame l
-  pub refusal : toldFrame r .number ≡ firstOf (ladder24 l)
+  pub refusal : frameAnswer r .number ≡ firstOf (ladder24 l)

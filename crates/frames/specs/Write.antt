@@ -5,26 +5,26 @@ use Prim.Native.Nat.{ℕ}
 use lib.ListN.{length}
 use Rattle.bits.specs.Bit.{bitIn}
 use Rattle.bits.specs.Little.{leBytes}
-use Rattle.wire.specs.Piece.{flagsOf, halvesOf, registerBytes, below, taskFits}
-use Rattle.wire.specs.Size.{payloadSize}
-use Rattle.wire.specs.Emit.{Emitted}
+use Rattle.frame_parts.specs.Shared.{flagsOf, halvesOf, registerBytes, below, taskFits}
+use Rattle.frame_parts.specs.Size.{payloadSize}
+use Rattle.frame_parts.specs.Emit.{WriteGiven}
 use Rattle.frames.specs.declared.shapes.HostReg.{HostReg}
 use Rattle.frames.specs.declared.shapes.DevReg.{DevReg}
 use Rattle.frames.specs.declared.shapes.SetBits.{SetBits}
 use Rattle.frames.specs.declared.shapes.DmaSetup.{DmaSetup}
 use Rattle.frames.specs.declared.shapes.PioSetup.{PioSetup}
-use Rattle.wire.specs.declared.emitting.Written.{Written}
+use Rattle.frame_parts.specs.declared.emitting.Written.{Written}
 
 -- a frame that can be sent: its values, and of a data frame its payload
-pub data Sent : Type 0 where
-  host : HostReg → Sent
-  device : DevReg → Sent
-  setBits : SetBits → Sent
-  setup : DmaSetup → Sent
-  activate : Sent
-  payload : List ℕ → Sent
-  bist : Sent
-  pio : PioSetup → Sent
+pub data FrameValue : Type 0 where
+  host : HostReg → FrameValue
+  device : DevReg → FrameValue
+  setBits : SetBits → FrameValue
+  setup : DmaSetup → FrameValue
+  activate : FrameValue
+  payload : List ℕ → FrameValue
+  bist : FrameValue
+  pio : PioSetup → FrameValue
 
 -- A1h, 8 bytes
 unfoldable pub bitsBytes : SetBits → List ℕ
@@ -37,7 +37,7 @@ setupBytes f =
     ∷ leBytes 4 (f .tag) ++ 0 ∷ 0 ∷ 0 ∷ 0 ∷ 0 ∷ 0 ∷ 0 ∷ 0 ∷ leBytes 4 (f .offset) ++ leBytes 4 (f .count) ++ 0 ∷ 0 ∷ 0 ∷ 0 ∷ []
 
 -- the bytes of a frame
-unfoldable pub encode : Sent → List ℕ
+unfoldable pub encode : FrameValue → List ℕ
 encode (host f) = registerBytes 0x27 (flagsOf (f .«command_bit») false false) (f .command) (f .features) (f .task) (f .«features_high») (f .control) 0
 encode (device f) = registerBytes 0x34 (flagsOf false (f .interrupt) false) (f .status) (f .error) (f .task) 0 0 0
 encode (setBits f) = bitsBytes f
@@ -48,7 +48,7 @@ encode bist = 0x58 ∷ 0 ∷ 0 ∷ 0 ∷ 0 ∷ 0 ∷ 0 ∷ 0 ∷ 0 ∷ 0 ∷ 0 �
 encode (pio f) = registerBytes 0x5F (flagsOf false (f .interrupt) (f .«to_host»)) (f .status) (f .error) (f .task) 0 (f .ending) (f .bytes)
 
 -- no value is too large for its bits, status bits 7 and 3 of A1h are not set, the payload is 4 to 8,192 bytes in steps of 4
-unfoldable pub fits : Sent → Bool
+unfoldable pub fits : FrameValue → Bool
 fits (host f) = below 8 (f .command) && below 8 (f .features) && below 8 (f .«features_high») && below 8 (f .control) && taskFits (f .task)
 fits (device f) = below 8 (f .status) && below 8 (f .error) && taskFits (f .task)
 fits (setBits f) = below 8 (f .status) && below 8 (f .error) && below 32 (f .active) && not (bitIn 8 (f .status) 7) && not (bitIn 8 (f .status) 3)
@@ -59,5 +59,5 @@ fits bist = true
 fits (pio f) = below 8 (f .status) && below 8 (f .error) && below 8 (f .ending) && below 16 (f .bytes) && taskFits (f .task)
 
 -- what a writer promises of its frame
-abbrev pub Wrote : Sent → List ℕ → Written → List ℕ → Type 0
-Wrote f d r d′ = Emitted (fits f) (encode f) d r d′
+abbrev pub FrameWriteGiven : FrameValue → List ℕ → Written → List ℕ → Type 0
+FrameWriteGiven f d r d′ = WriteGiven (fits f) (encode f) d r d′

@@ -1,17 +1,17 @@
 // The frame reader: an enum by value, or refusal 24.
 ghost use mathlib.Core.Path.{_≡_};
-ghost use Rattle.frames.specs.Read.{hostOf, deviceOf, bitsOf, setupOf, pioOf, FrameRead};
+ghost use Rattle.frames.specs.Read.{hostOf, deviceOf, bitsOf, setupOf, pioOf, FrameGiven};
 use crate::shapes::DevReg;
 use crate::shapes::DmaSetup;
 use crate::shapes::Frame;
 use crate::shapes::HostReg;
 use crate::shapes::PioSetup;
 use crate::shapes::SetBits;
-use wire::byte_of;
-use wire::flag;
-use wire::halves;
-use wire::is_readable;
-use wire::task_of;
+use frame_parts::byte_of;
+use frame_parts::flag;
+use frame_parts::halves;
+use frame_parts::is_readable;
+use frame_parts::task_of;
 
 fn read_host(s: &[u8]) -> HostReg
     ensures { λ r. ⌜ r ≡ hostOf (now (s .entry)) ⌝ }
@@ -77,7 +77,7 @@ fn read_pio(s: &[u8]) -> PioSetup
 
 // The frame that the bytes are, or refusal 24: kind unknown or length wrong.
 pub fn read_frame(s: &[u8]) -> Frame
-    ensures { λ r. ⌜ FrameRead (now (s .entry)) r ⌝ }
+    ensures { λ r. ⌜ FrameGiven (now (s .entry)) r ⌝ }
 {
     let n = s.len();
     let kind = byte_of(s, 0);

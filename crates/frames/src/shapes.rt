@@ -1,5 +1,5 @@
 // What the frames say: a struct for each kind that has named fields, and the reader's answer.
-use wire::Task;
+use frame_parts::Task;
 
 // 27h, host register.
 pub struct HostReg {

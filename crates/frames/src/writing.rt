@@ -1,25 +1,25 @@
 // The frame writers: the frame in front of the buffer, or 25, or 26, and then no byte is changed.
 ghost use mathlib.Core.Path.{_≡_};
 ghost use mathlib.Core.List.{_++_};
-ghost use Rattle.wire.specs.Emit.{Emitted};
-ghost use Rattle.frames.specs.Write.{bitsBytes, setupBytes, fits, Wrote};
-ghost use Rattle.frames.specs.Write.Sent.{host, device, setBits, setup, activate, payload, bist, pio};
+ghost use Rattle.frame_parts.specs.Emit.{WriteGiven};
+ghost use Rattle.frames.specs.Write.{bitsBytes, setupBytes, fits, FrameWriteGiven};
+ghost use Rattle.frames.specs.Write.FrameValue.{host, device, setBits, setup, activate, payload, bist, pio};
 use crate::shapes::DevReg;
 use crate::shapes::DmaSetup;
 use crate::shapes::HostReg;
 use crate::shapes::PioSetup;
 use crate::shapes::SetBits;
-use wire::Written;
-use wire::flag;
-use wire::flags;
-use wire::halves;
-use wire::payload_size;
-use wire::register_bytes;
-use wire::task_fits;
+use frame_parts::Written;
+use frame_parts::flag;
+use frame_parts::flags;
+use frame_parts::halves;
+use frame_parts::payload_size;
+use frame_parts::register_bytes;
+use frame_parts::task_fits;
 
 // The one place that lays a frame: its head, and what follows it.
 fn lay_frame(buf: &mut [u8], fit: bool, head: &[u8], rest: &[u8]) -> Written
-    ensures { λ r. ⌜ Emitted fit (now (head .entry) ++ now (rest .entry)) (now (buf .entry)) r (now (buf .exit)) ⌝ }
+    ensures { λ r. ⌜ WriteGiven fit (now (head .entry) ++ now (rest .entry)) (now (buf .entry)) r (now (buf .exit)) ⌝ }
 {
     let n = head.len();
     if !fit {
@@ -47,7 +47,7 @@ fn host_fits(f: HostReg) -> bool
 }
 
 pub fn write_host(buf: &mut [u8], f: HostReg) -> Written
-    ensures { λ r. ⌜ Wrote (host f) (now (buf .entry)) r (now (buf .exit)) ⌝ }
+    ensures { λ r. ⌜ FrameWriteGiven (host f) (now (buf .entry)) r (now (buf .exit)) ⌝ }
 {
     let t = f.task;
     let one = flags(f.command_bit, false, false);
@@ -72,7 +72,7 @@ fn device_fits(f: DevReg) -> bool
 }
 
 pub fn write_device(buf: &mut [u8], f: DevReg) -> Written
-    ensures { λ r. ⌜ Wrote (device f) (now (buf .entry)) r (now (buf .exit)) ⌝ }
+    ensures { λ r. ⌜ FrameWriteGiven (device f) (now (buf .entry)) r (now (buf .exit)) ⌝ }
 {
     let t = f.task;
     let one = flags(false, f.interrupt, false);
@@ -88,7 +88,7 @@ fn pio_fits(f: PioSetup) -> bool
 }
 
 pub fn write_pio(buf: &mut [u8], f: PioSetup) -> Written
-    ensures { λ r. ⌜ Wrote (pio f) (now (buf .entry)) r (now (buf .exit)) ⌝ }
+    ensures { λ r. ⌜ FrameWriteGiven (pio f) (now (buf .entry)) r (now (buf .exit)) ⌝ }
 {
     let t = f.task;
     let one = flags(false, f.interrupt, f.to_host);
@@ -120,7 +120,7 @@ fn bits_fit(f: SetBits) -> bool
 }
 
 pub fn write_bits(buf: &mut [u8], f: SetBits) -> Written
-    ensures { λ r. ⌜ Wrote (setBits f) (now (buf .entry)) r (now (buf .exit)) ⌝ }
+    ensures { λ r. ⌜ FrameWriteGiven (setBits f) (now (buf .entry)) r (now (buf .exit)) ⌝ }
 {
     let b = bits_bytes(f);
     lay_frame(buf, bits_fit(f), &b, b"")
@@ -172,21 +172,21 @@ fn setup_fits(f: DmaSetup) -> bool
 }
 
 pub fn write_setup(buf: &mut [u8], f: DmaSetup) -> Written
-    ensures { λ r. ⌜ Wrote (setup f) (now (buf .entry)) r (now (buf .exit)) ⌝ }
+    ensures { λ r. ⌜ FrameWriteGiven (setup f) (now (buf .entry)) r (now (buf .exit)) ⌝ }
 {
     let b = setup_bytes(f);
     lay_frame(buf, setup_fits(f), &b, b"")
 }
 
 pub fn write_activate(buf: &mut [u8]) -> Written
-    ensures { λ r. ⌜ Wrote activate (now (buf .entry)) r (now (buf .exit)) ⌝ }
+    ensures { λ r. ⌜ FrameWriteGiven activate (now (buf .entry)) r (now (buf .exit)) ⌝ }
 {
     let b: [u8; 4] = [0x39, 0, 0, 0];
     lay_frame(buf, true, &b, b"")
 }
 
 pub fn write_bist(buf: &mut [u8]) -> Written
-    ensures { λ r. ⌜ Wrote bist (now (buf .entry)) r (now (buf .exit)) ⌝ }
+    ensures { λ r. ⌜ FrameWriteGiven bist (now (buf .entry)) r (now (buf .exit)) ⌝ }
 {
     let b: [u8; 12] = [0x58, 0, 0, 0, 0, 0, 0, 0, 0, 0, 0, 0];
     lay_frame(buf, true, &b, b"")
@@ -194,7 +194,7 @@ pub fn write_bist(buf: &mut [u8]) -> Written
 
 // The data frame's payload is copied once, from the caller's slice to behind the header.
 pub fn write_data(buf: &mut [u8], p: &[u8]) -> Written
-    ensures { λ r. ⌜ Wrote (payload (now (p .entry))) (now (buf .entry)) r (now (buf .exit)) ⌝ }
+    ensures { λ r. ⌜ FrameWriteGiven (payload (now (p .entry))) (now (buf .entry)) r (now (buf .exit)) ⌝ }
 {
     let h: [u8; 4] = [0x46, 0, 0, 0];
     lay_frame(buf, payload_size(p.len()), &h, p)

@@ -7,8 +7,8 @@ use Rattle.history.specs.Seen.{Seen, accepts}
 use Rattle.history.specs.Fates.{Command, later, commands, All}
 
 -- the command that an event accepts, before anything has followed
-abbrev pub fresh : Seen → Command
-fresh e = record { accepted = e; after = [] }
+abbrev pub freshCommand : Seen → Command
+freshCommand e = record { accepted = e; after = [] }
 
 -- what follows from what holds of every command holds of every command
 pub all-imp : (P Q : Command → Type 0) → ((c : Command) → P c → Q c) → (cs : List Command) → All P cs → All Q cs
@@ -40,10 +40,10 @@ unfolding All commands
 all-start P = tt
 
 -- one event more: the command that it accepts, and each earlier one an event later
-pub all-step : (P Q : Command → Type 0) (e : Seen) (h : List Seen) → (accepts e ≡ true → P (fresh e)) → ((c : Command) → Q c → P (later e c))
+pub all-step : (P Q : Command → Type 0) (e : Seen) (h : List Seen) → (accepts e ≡ true → P (freshCommand e)) → ((c : Command) → Q c → P (later e c))
     → All Q (commands h) → All P (commands (e ∷ h))
 unfolding All commands
 all-step P Q e h new old a =
-    by-test (All P) (accepts e) (fresh e ∷ map (later e) (commands h)) (map (later e) (commands h))
+    by-test (All P) (accepts e) (freshCommand e ∷ map (later e) (commands h)) (map (later e) (commands h))
     (λ x. (new x, all-later P Q e old (commands h) a))
     (λ x. all-later P Q e old (commands h) a)

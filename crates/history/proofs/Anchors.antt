@@ -113,8 +113,8 @@ given-up-there (e ∷ h) w t n =
 -- ---- they are commands of the history
 
 -- a command, the events x later
-abbrev pub onward : List Seen → Command → Command
-onward x c = record { accepted = c .accepted; after = x ++ c .after }
+abbrev pub laterBy : List Seen → Command → Command
+laterBy x c = record { accepted = c .accepted; after = x ++ c .after }
 
 -- what holds of the images of all holds of each image
 all-unmap : (P : Command → Type 0) (f : Command → Command) (cs : List Command) → All P (map f cs) → All (λ c. P (f c)) cs
@@ -132,7 +132,7 @@ all-back P e h a = all-unmap P (later e) (commands h) (go (accepts e) a)
     go false a = a
 
 -- of several events
-pub all-since : (P : Command → Type 0) (x h : List Seen) → All P (commands (x ++ h)) → All (λ c. P (onward x c)) (commands h)
+pub all-since : (P : Command → Type 0) (x h : List Seen) → All P (commands (x ++ h)) → All (λ c. P (laterBy x c)) (commands h)
 all-since P [] h a = a
 all-since P (e ∷ x) h a = all-since (λ c. P (later e c)) x h (all-back P e (x ++ h) a)
 

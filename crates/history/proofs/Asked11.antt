@@ -14,7 +14,7 @@ use Rattle.pages.specs.declared.rows.Place.{Place}
 use Rattle.pages.specs.declared.rows.Place.the-variants.{Row, Nowhere}
 use Rattle.pages.specs.declared.page11.Counter.the-variants.{Value, Absent, Refused}
 use Rattle.pages.proofs.RowLaws.{row-only}
-use Rattle.states.specs.declared.shapes.Settings.{Settings}
+use Rattle.device_state.specs.declared.shapes.Settings.{Settings}
 use Rattle.device.specs.Counter.{counterTests, counterOf}
 use Rattle.device.specs.declared.state.Device.{Device}
 use Rattle.device.proofs.Keeping.{settings-good}
@@ -22,12 +22,12 @@ use Rattle.history.specs.Event.{Event}
 use Rattle.history.specs.Counted.{toldAt, toldFor}
 use Rattle.device.specs.Lent.{Lent}
 use Rattle.history.specs.Run.{AllTyped, runFrom, history}
-use Rattle.history.proofs.Tally.{Tells, Counting}
+use Rattle.history.proofs.Tally.{ValuesTell, Counting}
 use Rattle.history.proofs.Pages.{Masked}
 use Rattle.history.proofs.Counters.{counting-true, masked-true}
 
 -- what is shown of a row is what the history tells
-told-shown : (mask : ℕ) (values : List ℕ) (h : List Event) → Tells values h → (number : ℕ) (p : Place) → rowOf number ≡ p → onRow mask values p ≡ toldAt mask h p
+told-shown : (mask : ℕ) (values : List ℕ) (h : List Event) → ValuesTell values h → (number : ℕ) (p : Place) → rowOf number ≡ p → onRow mask values p ≡ toldAt mask h p
 unfolding onRow
 told-shown mask values h i number (Row k) e = ap (λ (x : ℕ). pick (kept mask k) (Value x) Absent) (i .value k (row-only number k e .0))
 told-shown mask values h i number Nowhere e = refl

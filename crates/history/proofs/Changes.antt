@@ -10,19 +10,19 @@ use borrow.Author.Tests.{eqb-true, eqb-false, eq-eqb, ne-eqb, not-false, leb-tru
 use Rattle.bits.specs.Pick.{pick}
 use Rattle.bits.specs.Bit.{bitIn}
 use Rattle.bits.proofs.Picks.{tested, or-left, or-right}
-use Rattle.states.specs.State.{wholeOf}
-use Rattle.states.specs.Table.{entryOf, placed, cleared}
-use Rattle.states.specs.Clauses.{flowBad, busyBad, aboveDepth, pastCapacity, countZero, otherTag, otherRange, movedAbove, movedOdd, movedBetween, phaseDone, movedBad, stoppedBusy, haltedHeld, heldRecord, phaseIdle}
-use Rattle.states.specs.declared.shapes.Entry.{Entry}
-use Rattle.states.proofs.TableLaws.{getD-placed, getD-cleared}
+use Rattle.device_state.specs.State.{wholeOf}
+use Rattle.device_state.specs.Table.{entryOf, placed, cleared}
+use Rattle.device_state.specs.Clauses.{statusBad, busyBad, aboveDepth, pastCapacity, countZero, otherTag, otherRange, movedAbove, movedOdd, movedBetween, phaseDone, movedBad, stoppedBusy, haltedHeld, heldRecord, phaseIdle}
+use Rattle.device_state.specs.declared.shapes.Entry.{Entry}
+use Rattle.device_state.proofs.TableLaws.{getD-placed, getD-cleared}
 use Rattle.frames.specs.declared.shapes.HostReg.{HostReg}
-use Rattle.rules.specs.Facts.{leftOf, moveOf, advancedBy}
+use Rattle.rules.specs.Positions.{leftOf, moveOf, advancedBy}
 use Rattle.rules.specs.Decide.{tagAsked, entryFor}
 use Rattle.device.specs.Device.{contradictoryDevice}
 use Rattle.device.specs.After.{acceptedBy, movedBy}
 use Rattle.device.specs.declared.state.Device.{Device}
-use Rattle.device.proofs.Parts.{flow-good}
-use Rattle.device.proofs.Flows.{phase-busy}
+use Rattle.device.proofs.Parts.{status-good}
+use Rattle.device.proofs.StatusLaws.{phase-busy}
 use Rattle.device.proofs.Busy.{phaseOf, busy-good, phase-more, whole-is}
 use Rattle.device.proofs.Tags.{busy-below}
 use Rattle.device.proofs.Entering.{tag-small}
@@ -60,23 +60,23 @@ last-is w c m k e l =
 
 module _ (d : Device) (g : contradictoryDevice d ≡ false) where
   -- a halted state has nothing outstanding
-  pub halted-empty : d .flow .halted ≡ true → d .flow .outstanding ≡ 0
-  unfolding flowBad
+  pub halted-empty : d .status .halted ≡ true → d .status .outstanding ≡ 0
+  unfolding statusBad
   halted-empty h =
-      let f = d .flow in
-      let busy = or-left (stoppedBusy f) (haltedHeld f) (or-left (stoppedBusy f || haltedHeld f) (heldRecord f (d .errors .set) || phaseIdle f) (flow-good d g)) in
+      let f = d .status in
+      let busy = or-left (stoppedBusy f) (haltedHeld f) (or-left (stoppedBusy f || haltedHeld f) (heldRecord f (d .errors .set) || phaseIdle f) (status-good d g)) in
       eqb-true (f .outstanding) 0 (not-false (eqb (f .outstanding) 0) (rw h at busy))
 
   -- a state with something outstanding is not halted
-  pub busy-calm : (t : ℕ) → bitIn 32 (d .flow .outstanding) t ≡ true → d .flow .halted ≡ false
-  busy-calm t b = go (d .flow .halted) refl
+  pub busy-calm : (t : ℕ) → bitIn 32 (d .status .outstanding) t ≡ true → d .status .halted ≡ false
+  busy-calm t b = go (d .status .halted) refl
     where
-      go : (x : Bool) → d .flow .halted ≡ x → d .flow .halted ≡ false
-      go true e = absurd (no-busy (d .flow .outstanding) t (halted-empty e) b)
+      go : (x : Bool) → d .status .halted ≡ x → d .status .halted ≡ false
+      go true e = absurd (no-busy (d .status .outstanding) t (halted-empty e) b)
       go false e = e
 
   -- rule 4: the tag is outstanding, and its entry is what the command asks for
-  pub took-by : (h : HostReg) (e : Seen) → e .asks ≡ registerAsks h → d .flow .halted ≡ false → d .flow .phase ≡ 0 → bitIn 32 (d .flow .outstanding) (tagAsked h) ≡ false
+  pub took-by : (h : HostReg) (e : Seen) → e .asks ≡ registerAsks h → d .status .halted ≡ false → d .status .phase ≡ 0 → bitIn 32 (d .status .outstanding) (tagAsked h) ≡ false
       → Took d e (acceptedBy d (record { tag = tagAsked h; entry = entryFor h }))
   unfolding acceptedBy
   took-by h e a calm shut free =
@@ -100,18 +100,18 @@ module _ (d : Device) (g : contradictoryDevice d ≡ false) where
       })
 
   -- bytes move in the open phase: some, and no more than are left
-  pub carried-by : (n : eqb (d .flow .phase) 0 ≡ false) (k : ℕ) → 0 < k
-      → let e : Entry = entryOf (d .entries) (d .flow .phase - 1) in
-      Carried (d .flow .phase - 1) (min k (leftOf e)) d (movedBy d (moveOf (d .flow) e k))
+  pub carried-by : (n : eqb (d .status .phase) 0 ≡ false) (k : ℕ) → 0 < k
+      → let e : Entry = entryOf (d .entries) (d .status .phase - 1) in
+      Carried (d .status .phase - 1) (min k (leftOf e)) d (movedBy d (moveOf (d .status) e k))
   unfolding movedBy moveOf advancedBy
   carried-by n k pos =
-      let t : ℕ = d .flow .phase - 1 in
+      let t : ℕ = d .status .phase - 1 in
       let e : Entry = entryOf (d .entries) t in
-      let some = eqb-false (d .flow .phase) 0 n in
-      let back : d .flow .phase ≡ t + 1 = omega (arith, some) in
-      let busy = phase-busy (d .flow) (d .errors .set) (flow-good d g) n in
-      let l = busy-below (d .flow .outstanding) t busy in
-      let more = phase-more d t g busy (eq-eqb (d .flow .phase) (t + 1) back) in
+      let some = eqb-false (d .status .phase) 0 n in
+      let back : d .status .phase ≡ t + 1 = omega (arith, some) in
+      let busy = phase-busy (d .status) (d .errors .set) (status-good d g) n in
+      let l = busy-below (d .status .outstanding) t busy in
+      let more = phase-more d t g busy (eq-eqb (d .status .phase) (t + 1) back) in
       let whole = whole-is d t g busy in
       let p = placed-same (d .entries) t (advancedBy e (min k (leftOf e))) l in
       let last : leb (leftOf e) k ≡ leb (512 * e .count) (e .moved + min k (leftOf e)) = last-is (wholeOf (e .count)) (512 * e .count) (e .moved) k whole more in
@@ -122,7 +122,7 @@ module _ (d : Device) (g : contradictoryDevice d ≡ false) where
         within = omega (arith, more, whole);
         settings = refl;
         outstanding = refl;
-        phase = ap (λ (b : Bool). pick b 0 (d .flow .phase)) last;
+        phase = ap (λ (b : Bool). pick b 0 (d .status .phase)) last;
         halted = refl;
         write = ap (λ (x : Entry). x .write) p;
         first = ap (λ (x : Entry). x .first) p;
@@ -132,13 +132,13 @@ module _ (d : Device) (g : contradictoryDevice d ≡ false) where
       }
 
   -- a command whose phase is closed and that is not wholly moved has not moved at all
-  pub unmoved : (t : ℕ) → bitIn 32 (d .flow .outstanding) t ≡ true → d .flow .phase ≡ 0 → eqb (entryOf (d .entries) t .moved) (wholeOf (entryOf (d .entries) t .count)) ≡ false
+  pub unmoved : (t : ℕ) → bitIn 32 (d .status .outstanding) t ≡ true → d .status .phase ≡ 0 → eqb (entryOf (d .entries) t .moved) (wholeOf (entryOf (d .entries) t .count)) ≡ false
       → entryOf (d .entries) t .moved ≡ 0
   unfolding busyBad movedBad
   unmoved t b p n =
       let e : Entry = entryOf (d .entries) t in
       let low = (aboveDepth (d .settings) t || pastCapacity (d .settings) e) || (countZero e || (otherTag e t || otherRange e)) in
-      let shut : phaseOf d t ≡ false = ne-eqb (d .flow .phase) (t + 1) (λ z. omega arith) in
+      let shut : phaseOf d t ≡ false = ne-eqb (d .status .phase) (t + 1) (λ z. omega arith) in
       let high = (movedAbove e || movedOdd e) || (movedBetween e (phaseOf d t) || phaseDone e (phaseOf d t)) in
       let between = or-left (movedBetween e (phaseOf d t)) (phaseDone e (phaseOf d t))
       (or-right (movedAbove e || movedOdd e) (movedBetween e (phaseOf d t) || phaseDone e (phaseOf d t)) (or-right low high (busy-good d t g b))) in

@@ -71,25 +71,25 @@ with-none t = refl
 -- ---- sums over tags
 
 -- the sum of f over the numbers below k
-unfoldable pub sumTo : (ℕ → ℕ) → ℕ → ℕ
-sumTo f zero = 0
-sumTo f (suc k) = f 0 + sumTo (λ t. f (suc t)) k
+unfoldable pub sumBelow : (ℕ → ℕ) → ℕ → ℕ
+sumBelow f zero = 0
+sumBelow f (suc k) = f 0 + sumBelow (λ t. f (suc t)) k
 
 -- the same summands, the same sum
-pub sum-ext : (f g : ℕ → ℕ) (k : ℕ) → ((t : ℕ) → t < k → f t ≡ g t) → sumTo f k ≡ sumTo g k
-unfolding sumTo
+pub sum-ext : (f g : ℕ → ℕ) (k : ℕ) → ((t : ℕ) → t < k → f t ≡ g t) → sumBelow f k ≡ sumBelow g k
+unfolding sumBelow
 sum-ext f g zero e = refl
 sum-ext f g (suc k) e = ap₂ (λ (a b : ℕ). a + b) (e 0 (omega arith)) (sum-ext (λ t. f (suc t)) (λ t. g (suc t)) k (λ t l. e (suc t) (omega arith)))
 
 -- a sum of nothing
-pub sum-none : (k : ℕ) → sumTo (λ t. 0) k ≡ 0
-unfolding sumTo
+pub sum-none : (k : ℕ) → sumBelow (λ t. 0) k ≡ 0
+unfolding sumBelow
 sum-none zero = refl
-sum-none (suc k) = zero-add (sumTo (λ t. 0) k) ∙ sum-none k
+sum-none (suc k) = zero-add (sumBelow (λ t. 0) k) ∙ sum-none k
 
 -- two sums in one
-sum-add : (f g : ℕ → ℕ) (k : ℕ) → sumTo (λ t. f t + g t) k ≡ sumTo f k + sumTo g k
-unfolding sumTo
+sum-add : (f g : ℕ → ℕ) (k : ℕ) → sumBelow (λ t. f t + g t) k ≡ sumBelow f k + sumBelow g k
+unfolding sumBelow
 sum-add f g zero = refl
 sum-add f g (suc k) = let ih = sum-add (λ t. f (suc t)) (λ t. g (suc t)) k in omega arith
 
@@ -102,8 +102,8 @@ eqb-suc u t =
     (tested (eqb u t))
 
 -- one summand that is not 0
-sum-one : (u : ℕ) (b : Bool) (k : ℕ) → u < k → sumTo (λ t. one (eqb u t && b)) k ≡ one b
-unfolding sumTo
+sum-one : (u : ℕ) (b : Bool) (k : ℕ) → u < k → sumBelow (λ t. one (eqb u t && b)) k ≡ one b
+unfolding sumBelow
 sum-one u b zero l = absurd (omega arith)
 sum-one zero b (suc k) l =
     ap₂ (λ (x : Bool) (n : ℕ). one (x && b) + n) (eq-eqb 0 0 refl)
@@ -117,7 +117,7 @@ sum-one (suc u) b (suc k) l =
 -- ---- all that are outstanding, tag by tag
 
 -- of a list of commands
-many-sum : (k : ℕ) (cs : List Command) → All (λ c. ownTag c < k) cs → howMany outstanding cs ≡ sumTo (λ t. howMany (isOut t) cs) k
+many-sum : (k : ℕ) (cs : List Command) → All (λ c. ownTag c < k) cs → howMany outstanding cs ≡ sumBelow (λ t. howMany (isOut t) cs) k
 unfolding howMany All
 many-sum k [] a = sym (sum-none k)
 many-sum k (c ∷ cs) a =
@@ -129,7 +129,7 @@ abbrev pub TagsBelow : ℕ → List Seen → Type 0
 TagsBelow k h = All (λ c. ownTag c < k) (commands h)
 
 -- how many are outstanding is the sum over the tags
-pub total-sum : (k : ℕ) (h : List Seen) → TagsBelow k h → total h ≡ sumTo (λ t. totalWith t h) k
+pub total-sum : (k : ℕ) (h : List Seen) → TagsBelow k h → total h ≡ sumBelow (λ t. totalWith t h) k
 unfolding total totalWith
 total-sum k h a = many-sum k (commands h) a
 

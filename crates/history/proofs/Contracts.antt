@@ -3,7 +3,7 @@ use mathlib.Core.Path.{_≡_, refl, sym, ap, subst, _∙_}
 use mathlib.Core.List.{List, [], _∷_, map}
 use Prim.Native.Nat.{ℕ}
 use denote.Ref.{now}
-use Rattle.states.specs.declared.shapes.Settings.{Settings}
+use Rattle.device_state.specs.declared.shapes.Settings.{Settings}
 use Rattle.rules.specs.Call.{openPhase, finishTags, mediaError, comReset}
 use Rattle.device.specs.Step.{Given}
 use Rattle.device.proofs.Lending.{unlent, unlent-link}

@@ -250,8 +250,8 @@ module _ {k : ℕ} {b : Bool} {h : List Seen} (v : Inv k b h) {e : Seen} where
   }
 
 -- every kind of effect keeps it
-pub keeps : (d d′ : Device) (e : Seen) (h : List Seen) → Inv (d .flow .outstanding) (d .flow .halted) h → Class d e d′
-    → Inv (d′ .flow .outstanding) (d′ .flow .halted) (e ∷ h)
+pub keeps : (d d′ : Device) (e : Seen) (h : List Seen) → Inv (d .status .outstanding) (d .status .halted) h → Class d e d′
+    → Inv (d′ .status .outstanding) (d′ .status .halted) (e ∷ h)
 keeps d d′ e h v (kinds.plain i u s) = rw (s .outstanding, s .halted) (keep-plain v i)
 keeps d d′ e h v (kinds.again q i u x z s) = rw (s .outstanding, s .halted) (keep-again v i x)
 keeps d d′ e h v (kinds.freely i u x z s) = rw (s .outstanding, s .halted) (keep-freely v i x z)

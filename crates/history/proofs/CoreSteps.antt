@@ -22,7 +22,7 @@ use Rattle.history.specs.Seen.{Seen}
 use Rattle.history.specs.Fates.{ends, one, total, totalWith}
 use Rattle.history.specs.Waits.{sactive, waits, before, since, givenUpThere, asksBad, badSince}
 use Rattle.history.proofs.Class.{Is}
-use Rattle.history.proofs.Commands.{with-step, sumTo, sum-ext, TagsBelow, total-sum}
+use Rattle.history.proofs.Commands.{with-step, sumBelow, sum-ext, TagsBelow, total-sum}
 
 -- ---- one more event
 
@@ -73,8 +73,8 @@ bit-digit m t l = rw (lt-ltb t 32 l)
     (tested (eqb (m / 2 ^ t % 2) 1)))
 
 -- the ones of a number are the sum of its digits
-ones-sum : (k m : ℕ) → m < 2 ^ k → ones m ≡ sumTo (λ t. m / 2 ^ t % 2) k
-unfolding sumTo ones onesIn
+ones-sum : (k m : ℕ) → m < 2 ^ k → ones m ≡ sumBelow (λ t. m / 2 ^ t % 2) k
+unfolding sumBelow ones onesIn
 ones-sum zero m h = ap ones (lt-one h)
 ones-sum (suc k) m h =
     ones-step m

@@ -11,11 +11,11 @@ use Rattle.bits.specs.Bit.{bitIn}
 use Rattle.bits.proofs.Picks.{or-left, or-right}
 use Rattle.frames.specs.Read.{readFrame}
 use Rattle.pages.specs.Rows.{kept}
-use Rattle.states.specs.Clauses.{rowRefused}
+use Rattle.device_state.specs.Clauses.{rowRefused}
 use Rattle.rules.specs.Call.{Call, hostFrame}
-use Rattle.rules.specs.Taking.{numberOf, touchOf, spanOf, partOf}
+use Rattle.rules.specs.Medium.{numberOf, touchOf, spanOf, partOf}
 use Rattle.rules.specs.declared.acts.Act.{Act}
-use Rattle.rules.specs.declared.acts.Act.the-variants.{Refuse, Nothing, Answer, Halt, Accept, Log10, Log11, Reset, Release, Zero, Keep, Open, Send, Finish, Media, Count, Renew}
+use Rattle.rules.specs.declared.acts.Act.the-variants.{Refuse, Nothing, Bad, BadAndHalt, Accept, Log10, Log11, Reset, Release, ZeroCounters, Store, Open, Send, Finish, Media, Count, Renew}
 use Rattle.rules.proofs.Ruled as by
 use Rattle.replies.specs.Replies.{repliesOf}
 use Rattle.device.specs.Lent.{Lent, lent}
@@ -30,7 +30,7 @@ use Rattle.history.specs.Counted.{rowRaised, frameZeroes, callZeroes}
 use Rattle.history.specs.Replied.{some, isPio}
 use Rattle.history.specs.Run.{result, done, event}
 use Rattle.history.proofs.Frames.{Read, read-frames}
-use Rattle.history.proofs.Tally.{Effect, stay, raise, wipe, counted, wipes, raises, Within, Reads, Counting, tells}
+use Rattle.history.proofs.Tally.{Effect, stay, raise, wipe, counted, wipes, raisesAt, RowWithin, Reads, Counting, tells}
 use Rattle.history.proofs.Impact.{effectOf, OnRow, act-values}
 use Rattle.history.proofs.Hearing.{pioIn, Hears, heard-heard}
 
@@ -43,29 +43,29 @@ abbrev pub Replies : Device → Lent → Type 0
 Replies d l = Read (eventOf d l) (step d l .frames)
 
 -- values that changed as the history reads the event
-counting-by : (d d′ : Device) (e : Event) (h : List Event) (x : Effect) → d′ .values ≡ counted x (d .values) → Within x → Reads e x → Counting d h → Counting d′ (e ∷ h)
+counting-by : (d d′ : Device) (e : Event) (h : List Event) (x : Effect) → d′ .values ≡ counted x (d .values) → RowWithin x → Reads e x → Counting d h → Counting d′ (e ∷ h)
 counting-by d d′ e h x v w s i = rw v (tells x (d .values) e h w s i)
 
 -- a picked effect is within the rows if the first is
-pick-within : (b : Bool) (x : Effect) → Within x → Within (pick b x stay)
+pick-within : (b : Bool) (x : Effect) → RowWithin x → RowWithin (pick b x stay)
 unfolding pick
 pick-within true x w = w
 pick-within false x w = tt
 
 -- the effect of an act of such a row is
-act-within : (a : Act) → OnRow a → Within (effectOf a)
+act-within : (a : Act) → OnRow a → RowWithin (effectOf a)
 unfolding OnRow
 act-within (Refuse n) o = tt
 act-within Nothing o = tt
-act-within (Answer b) o = tt
-act-within (Halt f) o = tt
+act-within (Bad b) o = tt
+act-within (BadAndHalt f) o = tt
 act-within (Accept q) o = tt
 act-within (Log10 l) o = tt
 act-within (Log11 l) o = pick-within (l .zero) wipe tt
 act-within Reset o = tt
 act-within Release o = tt
-act-within Zero o = tt
-act-within (Keep m) o = tt
+act-within ZeroCounters o = tt
+act-within (Store m) o = tt
 act-within (Open q) o = tt
 act-within (Send m) o = tt
 act-within (Finish set) o = tt
@@ -83,7 +83,7 @@ unfolding pick
 bit-wipeless true = refl
 bit-wipeless false = refl
 
-bit-raised : (b : Bool) (r : ℕ) → r < 16 → eqb (pick b 0 16) r ≡ raises r (pick b (raise 0) stay)
+bit-raised : (b : Bool) (r : ℕ) → r < 16 → eqb (pick b 0 16) r ≡ raisesAt r (pick b (raise 0) stay)
 unfolding pick
 bit-raised true r l = refl
 bit-raised false r l = none-raised r l
@@ -98,7 +98,7 @@ link-row mask row n =
 -- of a call, a page in its replies or not, and its act: what the history reads of it is what the act does to the counters
 record Reckons (c : Call) (paged : Bool) (a : Act) : Type 0 where
   zeroed : eqb (numberOf a) 0 && callZeroes paged c ≡ wipes (effectOf a)
-  raised : (r : ℕ) → r < 16 → eqb (numberOf a) 0 && eqb (rowRaised c) r ≡ raises r (effectOf a)
+  raised : (r : ℕ) → r < 16 → eqb (numberOf a) 0 && eqb (rowRaised c) r ≡ raisesAt r (effectOf a)
   on : OnRow a
 
 -- a call that was decided

@@ -1,17 +1,17 @@
 -- Demand 3 whole: over every run of the definitions from power-on, and over every sequence of results that the public calls' contracts allow. Assumes nothing.
 use mathlib.Core.List.{List}
-use Rattle.states.specs.declared.shapes.Settings.{Settings}
+use Rattle.device_state.specs.declared.shapes.Settings.{Settings}
 use Rattle.device.specs.declared.state.Device.{Device}
 use Rattle.device.specs.declared.state.Outcome.{Outcome}
 use Rattle.history.specs.Event.{Event}
 use Rattle.history.specs.Demand3.{Demand3}
-use Rattle.history.specs.Told.{Told}
+use Rattle.history.specs.StateAgrees.{StateAgrees}
 use Rattle.device.specs.Lent.{Lent}
 use Rattle.history.specs.Run.{Done, AllTyped, runFrom, history}
 use Rattle.history.specs.Allowed.{final, lents, historyOf, Began}
 use Rattle.history.proofs.Counters.{counters-tell}
-use Rattle.history.proofs.Runs.{demand3-fates, demand3-data, demand3-sactive, demand3-waiting, demand3-depth, demand3-single, demand3-manners}
-use Rattle.history.proofs.Told.{told-outstanding, told-waits, told-counters, told-asked, told-depth, told-count, told-consistent}
+use Rattle.history.proofs.Runs.{demand3-fates, demand3-data, demand3-sactive, demand3-waiting, demand3-depth, demand3-single, demand3-reply-rules}
+use Rattle.history.proofs.StateAgrees.{told-outstanding, told-waits, told-counters, told-asked, told-depth, told-count, told-consistent}
 use Rattle.history.proofs.Contracts.{for-all}
 
 -- any settings, any calls with anything lent to them, refused ones included
@@ -24,12 +24,12 @@ demand3 s as′ t = record {
   waiting = demand3-waiting s as′ t;
   depth = demand3-depth s as′ t;
   single = demand3-single s as′ t;
-  manners = demand3-manners s as′ t;
+  reply-rules = demand3-reply-rules s as′ t;
   counters = counters-tell s as′ t;
 }
 
 -- the state at the end is what the history tells
-pub told : (s : Settings) (as′ : List Lent) → AllTyped as′ → Told s (runFrom s as′ .state) (history s as′)
+pub told : (s : Settings) (as′ : List Lent) → AllTyped as′ → StateAgrees s (runFrom s as′ .state) (history s as′)
 told s as′ t = record {
   outstanding = told-outstanding s as′ t;
   waits = told-waits s as′ t;
@@ -45,5 +45,5 @@ pub demand3-code : (s : Settings) (r : Outcome) (xs : List Done) → Began s r x
 demand3-code s r xs b t = for-all s r xs b (λ (d : Device) (h : List Event). Demand3 (s .depth) (s .mask) h) (demand3 s (lents xs) t)
 
 -- and their last state is what their history tells
-pub told-code : (s : Settings) (r : Outcome) (xs : List Done) → Began s r xs → AllTyped (lents xs) → Told s (final (r .state) xs) (historyOf xs)
-told-code s r xs b t = for-all s r xs b (Told s) (told s (lents xs) t)
+pub told-code : (s : Settings) (r : Outcome) (xs : List Done) → Began s r xs → AllTyped (lents xs) → StateAgrees s (final (r .state) xs) (historyOf xs)
+told-code s r xs b t = for-all s r xs b (StateAgrees s) (told s (lents xs) t)

@@ -9,21 +9,21 @@ use borrow.Author.Tests.{eqb-true, not-false, not-true}
 use Rattle.bits.specs.Pick.{pick}
 use Rattle.bits.specs.Bit.{bitIn}
 use Rattle.bits.proofs.Picks.{by-test, and-left}
-use Rattle.wire.specs.declared.pieces.Task.{Task}
-use Rattle.frames.specs.Write.{Sent}
-use Rattle.frames.specs.Trip.{seen}
+use Rattle.frame_parts.specs.declared.shared.Task.{Task}
+use Rattle.frames.specs.Write.{FrameValue}
+use Rattle.frames.specs.RoundTrip.{readBack}
 use Rattle.frames.specs.declared.shapes.HostReg.{HostReg}
 use Rattle.frames.specs.declared.shapes.Frame.{Frame}
 use Rattle.frames.specs.declared.shapes.Frame.the-variants as fs
-use Rattle.states.specs.State.{echoOf}
-use Rattle.states.specs.declared.shapes.Echo.{Echo}
+use Rattle.device_state.specs.State.{echoOf}
+use Rattle.device_state.specs.declared.shapes.Echo.{Echo}
 use Rattle.rules.specs.Decide.{logPage, pageAsked}
-use Rattle.rules.specs.Taking.{numberOf}
+use Rattle.rules.specs.Medium.{numberOf}
 use Rattle.rules.specs.declared.facts.Facts.{Facts}
 use Rattle.rules.specs.declared.acts.CountersRead.{CountersRead}
 use Rattle.rules.specs.declared.acts.Move.{Move}
 use Rattle.rules.specs.declared.acts.Act.{Act}
-use Rattle.rules.specs.declared.acts.Act.the-variants.{Log10, Log11, Keep}
+use Rattle.rules.specs.declared.acts.Act.the-variants.{Log10, Log11, Store}
 use Rattle.rules.proofs.Ruled as by
 use Rattle.replies.specs.Replies.{repliesOf}
 use Rattle.replies.specs.declared.shown.Shown.{Shown}
@@ -31,12 +31,12 @@ use Rattle.device.proofs.Never.{and-never}
 use Rattle.history.specs.Replied.{some, isPio}
 use Rattle.history.specs.Logs.{readsLog, frameReads}
 use Rattle.history.specs.Counted.{frameZeroes}
-use Rattle.history.proofs.Tally.{stay, wipe, wipes, raises}
+use Rattle.history.proofs.Tally.{stay, wipe, wipes, raisesAt}
 use Rattle.history.proofs.Impact.{effectOf, OnRow}
 
 -- some frame of these is a 5Fh
-abbrev pub pioIn : List Sent → Bool
-pioIn sent = some isPio (map seen sent)
+abbrev pub pioIn : List FrameValue → Bool
+pioIn sent = some isPio (map readBack sent)
 
 -- the act is a read of page 11h
 pub record Logs (a : Act) : Type 0 where
@@ -46,7 +46,7 @@ pub record Logs (a : Act) : Type 0 where
 -- of a frame that is read as f: it zeroes exactly if its act does, raises no row, and a page that answers a read of 11h is page 11h
 pub record Hears (f : Frame) (paged : Bool) (a : Act) : Type 0 where
   pub zeroed : eqb (numberOf a) 0 && frameZeroes paged f ≡ wipes (effectOf a)
-  pub rowless : (k : ℕ) → raises k (effectOf a) ≡ false
+  pub rowless : (k : ℕ) → raisesAt k (effectOf a) ≡ false
   pub on : OnRow a
   pub shown : paged ≡ true → frameReads 0x11 f ≡ true → Logs a
 
@@ -104,7 +104,7 @@ eleven-zeroes r true e = rw e
 eleven-zeroes r false e = rw e
 
 -- and raises no row
-wipe-rowless : (k : ℕ) (x : Bool) → raises k (pick x wipe stay) ≡ false
+wipe-rowless : (k : ℕ) (x : Bool) → raisesAt k (pick x wipe stay) ≡ false
 unfolding pick
 wipe-rowless k true = refl
 wipe-rowless k false = refl
@@ -112,7 +112,7 @@ wipe-rowless k false = refl
 -- ---- each rule
 
 -- a frame that is answered with no page, and zeroes nothing
-none-heard : (f : Frame) (a : Act) → frameZeroes false f ≡ false → wipes (effectOf a) ≡ false → ((k : ℕ) → raises k (effectOf a) ≡ false) → OnRow a → numberOf a ≡ 0 → Hears f false a
+none-heard : (f : Frame) (a : Act) → frameZeroes false f ≡ false → wipes (effectOf a) ≡ false → ((k : ℕ) → raisesAt k (effectOf a) ≡ false) → OnRow a → numberOf a ≡ 0 → Hears f false a
 none-heard f a z w r o n = record { zeroed = rw n (z ∙ sym w); rowless = r; on = o; shown = λ p _. absurd (false≢true p) }
 
 module _ (s : Shown) where
@@ -121,7 +121,7 @@ module _ (s : Shown) where
   HeardBy f a = Hears f (pioIn (repliesOf s [] a)) a
 
   -- host data, whatever follows it
-  data-heard : (n : ℕ) (m : Move) → HeardBy (fs.Data n) (Keep m)
+  data-heard : (n : ℕ) (m : Move) → HeardBy (fs.Data n) (Store m)
   unfolding numberOf OnRow
   data-heard n m = record { zeroed = refl; rowless = λ k. refl; on = tt; shown = λ _ q. absurd (false≢true q) }
 

@@ -11,17 +11,17 @@ use Rattle.bits.specs.Pick.{pick}
 use Rattle.bits.specs.Bit.{bitIn}
 use Rattle.bits.proofs.Masks.{bit-not}
 use Rattle.bits.proofs.Picks.{pick-no, and-left, or-right}
-use Rattle.wire.specs.Piece.{srstOf}
-use Rattle.wire.specs.Size.{payloadSize}
-use Rattle.wire.specs.declared.pieces.Task.{Task}
+use Rattle.frame_parts.specs.Shared.{srstOf}
+use Rattle.frame_parts.specs.Size.{payloadSize}
+use Rattle.frame_parts.specs.declared.shared.Task.{Task}
 use Rattle.frames.proofs.ReadLaws.{DataRead}
 use Rattle.frames.specs.declared.shapes.HostReg.{HostReg}
 use Rattle.frames.specs.declared.shapes.Frame.{Frame}
-use Rattle.states.specs.Table.{entryOf}
-use Rattle.rules.specs.Facts.{leftOf, moveOf}
+use Rattle.device_state.specs.Table.{entryOf}
+use Rattle.rules.specs.Positions.{leftOf, moveOf}
 use Rattle.rules.specs.Decide.{bad, fault, tagAsked, entryFor, isQueued}
 use Rattle.rules.specs.declared.acts.Act.{Act}
-use Rattle.rules.specs.declared.acts.Act.the-variants.{Nothing, Accept, Log10, Log11, Reset, Release, Zero, Keep}
+use Rattle.rules.specs.declared.acts.Act.the-variants.{Nothing, Accept, Log10, Log11, Reset, Release, ZeroCounters, Store}
 use Rattle.rules.proofs.Ruled as by
 use Rattle.replies.specs.Replies.{logReplies, page10Of, repliesOf}
 use Rattle.device.specs.Device.{contradictoryDevice}
@@ -59,22 +59,22 @@ module _ (d : Device) (g : contradictoryDevice d ≡ false) where
     no-reset c = rw c
 
     -- bad while halted
-    answered-again : (e : ℕ) → h .«command_bit» ≡ true → d .flow .halted ≡ true → Comes d [] k (bad h e)
+    answered-again : (e : ℕ) → h .«command_bit» ≡ true → d .status .halted ≡ true → Comes d [] k (bad h e)
     unfolding repliesOf afterOf
     answered-again e c x = again (k .queued) (is-bad k _ refl c (no-reset c) refl) (answer-unbegun k _) x (halted-empty d g x) (same d)
 
     -- a halt that a command raises
-    faulted : (nq : Bool) (t e : ℕ) → h .«command_bit» ≡ true → d .flow .halted ≡ false → k .queued || not (eqb (d .flow .outstanding) 0) ≡ true → Comes d [] k (fault h nq t e)
+    faulted : (nq : Bool) (t e : ℕ) → h .«command_bit» ≡ true → d .status .halted ≡ false → k .queued || not (eqb (d .status .outstanding) 0) ≡ true → Comes d [] k (fault h nq t e)
     unfolding repliesOf afterOf haltWith
     faulted nq t e c x r =
         halts (k .queued) true false (is-bad k _ refl c (no-reset c) refl) (answer-unbegun k _) (λ _. refl) x (rw r) (record { settings = refl; outstanding = refl; phase = refl; halted = refl })
 
     -- a queued command raises one
-    queued-faulted : (t e : ℕ) → h .«command_bit» ≡ true → isQueued h ≡ true → d .flow .halted ≡ false → Comes d [] k (fault h false t e)
+    queued-faulted : (t e : ℕ) → h .«command_bit» ≡ true → isQueued h ≡ true → d .status .halted ≡ false → Comes d [] k (fault h false t e)
     queued-faulted t e c q x = faulted false t e c x (let u : k .queued ≡ true = rw (c, q) in rw u)
 
     -- rule 4
-    accepted : h .«command_bit» ≡ true → isQueued h ≡ true → d .flow .halted ≡ false → d .flow .phase ≡ 0 → bitIn 32 (d .flow .outstanding) (tagAsked h) ≡ false
+    accepted : h .«command_bit» ≡ true → isQueued h ≡ true → d .status .halted ≡ false → d .status .phase ≡ 0 → bitIn 32 (d .status .outstanding) (tagAsked h) ≡ false
         → Comes d [] k (Accept (record { tag = tagAsked h; entry = entryFor h }))
     unfolding repliesOf afterOf view
     accepted c y x p f =
@@ -87,26 +87,26 @@ module _ (d : Device) (g : contradictoryDevice d ≡ false) where
     other c q = rw (c, q)
 
     -- with something outstanding the device is not halted
-    calm : eqb (d .flow .outstanding) 0 ≡ false → d .flow .halted ≡ false
-    calm n = go (d .flow .halted) refl
+    calm : eqb (d .status .outstanding) 0 ≡ false → d .status .halted ≡ false
+    calm n = go (d .status .halted) refl
       where
-        go : (b : Bool) → d .flow .halted ≡ b → d .flow .halted ≡ false
-        go true e = absurd (eqb-false (d .flow .outstanding) 0 n (halted-empty d g e))
+        go : (b : Bool) → d .status .halted ≡ b → d .status .halted ≡ false
+        go true e = absurd (eqb-false (d .status .outstanding) 0 n (halted-empty d g e))
         go false e = e
 
     -- bad, and nothing is outstanding
-    answered-free : (e : ℕ) → h .«command_bit» ≡ true → k .queued ≡ false → d .flow .halted ≡ false → d .flow .outstanding ≡ 0 → Comes d [] k (bad h e)
+    answered-free : (e : ℕ) → h .«command_bit» ≡ true → k .queued ≡ false → d .status .halted ≡ false → d .status .outstanding ≡ 0 → Comes d [] k (bad h e)
     unfolding repliesOf afterOf
     answered-free e c q x z =
         freely (subst (λ (b : Bool). Is (actSeen d [] k (bad h e)) b false true false false false none none 0 0) q (is-bad k _ refl c (no-reset c) refl)) (answer-unbegun k _) x z (same d)
 
     -- page 10h: by whether the device was halted
-    paged-ten : (b : Bool) → d .flow .halted ≡ b → (task : Task) (page : List ℕ) → h .«command_bit» ≡ true → k .queued ≡ false → eqb (d .flow .phase) 0 ≡ true
+    paged-ten : (b : Bool) → d .status .halted ≡ b → (task : Task) (page : List ℕ) → h .«command_bit» ≡ true → k .queued ≡ false → eqb (d .status .phase) 0 ≡ true
         → Class d (view k (logReplies b task page)) (unhalted d)
     unfolding unhalted pick
     paged-ten true x task page c q p =
-        sweeps (λ t. bitIn 32 0xFFFF_FFFF t || false) all-bits (is-swept k _ _ _ refl c q (no-reset c) refl) (swept-unbegun k _ _ _) x (halted-empty d g x) (eqb-true (d .flow .phase) 0 p)
-        (record { settings = refl; outstanding = halted-empty d g x; phase = eqb-true (d .flow .phase) 0 p; halted = refl })
+        sweeps (λ t. bitIn 32 0xFFFF_FFFF t || false) all-bits (is-swept k _ _ _ refl c q (no-reset c) refl) (swept-unbegun k _ _ _) x (halted-empty d g x) (eqb-true (d .status .phase) 0 p)
+        (record { settings = refl; outstanding = halted-empty d g x; phase = eqb-true (d .status .phase) 0 p; halted = refl })
     paged-ten false x task page c q p =
         plain (is-page k _ _ q (no-reset c) refl) (page-unbegun k _ _) (record { settings = refl; outstanding = refl; phase = refl; halted = sym x; entries = refl })
 
@@ -137,36 +137,36 @@ module _ (d : Device) (g : contradictoryDevice d ≡ false) where
     idle c s = plain (subst (λ (b : Bool). Is (actSeen d [] k Nothing) false false false false b false none none 0 0) (let r : k .resets ≡ false = rw (c, s) in r) (is-silent k (rw c))) (silent-unbegun k) (same d)
 
   abbrev t : ℕ
-  t = d .flow .phase - 1
+  t = d .status .phase - 1
 
   -- host data: some bytes of what is left have come, in a write phase
-  kept-comes : (n : ℕ) → eqb (d .flow .phase) 0 ≡ false → entryOf (d .entries) t .write ≡ true → 0 < n → n ≡ min n (leftOf (entryOf (d .entries) t))
-      → Comes d [] (dataAsks n) (Keep (moveOf (d .flow) (entryOf (d .entries) t) n))
+  kept-comes : (n : ℕ) → eqb (d .status .phase) 0 ≡ false → entryOf (d .entries) t .write ≡ true → 0 < n → n ≡ min n (leftOf (entryOf (d .entries) t))
+      → Comes d [] (dataAsks n) (Store (moveOf (d .status) (entryOf (d .entries) t) n))
   unfolding repliesOf afterOf moveOf pick
   kept-comes n p w pos e =
-      let i = is-brought n (not (moveOf (d .flow) (entryOf (d .entries) t) n .last)) in
-      carries t (min n (leftOf (entryOf (d .entries) t))) (rw (w, ← e) i) (active-unbegun (dataAsks n) (not (moveOf (d .flow) (entryOf (d .entries) t) n .last))) (carried-by d g p n pos)
+      let i = is-brought n (not (moveOf (d .status) (entryOf (d .entries) t) n .last)) in
+      carries t (min n (leftOf (entryOf (d .entries) t))) (rw (w, ← e) i) (active-unbegun (dataAsks n) (not (moveOf (d .status) (entryOf (d .entries) t) n .last))) (carried-by d g p n pos)
 
-  data-comes : (n : ℕ) → payloadSize n ≡ true → eqb (d .flow .phase) 0 ≡ false → let e = entryOf (d .entries) (openTag (d .flow .phase)) in e .write ≡ true → ltb (leftOf e) n ≡ false
-      → Comes d [] (dataAsks n) (Keep (moveOf (d .flow) e n))
+  data-comes : (n : ℕ) → payloadSize n ≡ true → eqb (d .status .phase) 0 ≡ false → let e = entryOf (d .entries) (openTag (d .status .phase)) in e .write ≡ true → ltb (leftOf e) n ≡ false
+      → Comes d [] (dataAsks n) (Store (moveOf (d .status) e n))
   unfolding openTag
   data-comes n size p w y =
-      let e = entryOf (d .entries) (openTag (d .flow .phase)) in
+      let e = entryOf (d .entries) (openTag (d .status .phase)) in
       let some = leb-true 4 n (and-left (leb 4 n) (leb n 8192) (and-left (leb 4 n && leb n 8192) (eqb (n % 4) 0) size)) in
       let most = ltb-false (leftOf e) n y in
       let s : n ≡ min n (leftOf e) = omega arith in
-      let q : openTag (d .flow .phase) ≡ t = pick-no (eqb (d .flow .phase) 0) 32 t p in
-      subst (λ (u : ℕ). Comes d [] (dataAsks n) (Keep (moveOf (d .flow) (entryOf (d .entries) u) n))) (sym q)
+      let q : openTag (d .status .phase) ≡ t = pick-no (eqb (d .status .phase) 0) 32 t p in
+      subst (λ (u : ℕ). Comes d [] (dataAsks n) (Store (moveOf (d .status) (entryOf (d .entries) u) n))) (sym q)
       (kept-comes n p (subst (λ (u : ℕ). entryOf (d .entries) u .write ≡ true) q w) (omega arith) (subst (λ (u : ℕ). n ≡ min n (leftOf (entryOf (d .entries) u))) q s))
 
-  bist-comes : (k : Asked) → k .queued ≡ false → k .resets ≡ false → k .brings ≡ 0 → Comes d [] k Zero
+  bist-comes : (k : Asked) → k .queued ≡ false → k .resets ≡ false → k .brings ≡ 0 → Comes d [] k ZeroCounters
   unfolding repliesOf afterOf zeroedIf pick
   bist-comes k q r b =
-      plain (subst (λ (n : ℕ). Is (actSeen d [] k Zero) false false false false false false none none 0 n) b (subst (λ (x : Bool). Is (actSeen d [] k Zero) false false false false x false none none 0 (k .brings)) r (is-silent k q)))
+      plain (subst (λ (n : ℕ). Is (actSeen d [] k ZeroCounters) false false false false false false none none 0 n) b (subst (λ (x : Bool). Is (actSeen d [] k ZeroCounters) false false false false x false none none 0 (k .brings)) r (is-silent k q)))
       (silent-unbegun k) (record { settings = refl; outstanding = refl; phase = refl; halted = refl; entries = refl })
 
   -- by the rule that holds
-  pub heard-comes : (wrong some : Bool) (room : ℕ) {f : Frame} {a : Act} (j : ℕ) (l : List ℕ) → DataRead j l f → by.Heard (factsWith d (openTag (d .flow .phase)) wrong some room) f a → Comes d [] (frameAsks f) a
+  pub heard-comes : (wrong some : Bool) (room : ℕ) {f : Frame} {a : Act} (j : ℕ) (l : List ℕ) → DataRead j l f → by.Heard (factsWith d (openTag (d .status .phase)) wrong some room) f a → Comes d [] (frameAsks f) a
   unfolding repliesOf afterOf
   heard-comes w s room j l r (by.srst h c x) = reset h c x
   heard-comes w s room j l r (by.release h c x y) = freed h c x
@@ -175,11 +175,11 @@ module _ (d : Device) (g : contradictoryDevice d ≡ false) where
   heard-comes w s room j l r (by.rule2 h c x u) = queued-faulted h (tagAsked h) 0x04 (c .command) (c .kind) x
   heard-comes w s room j l r (by.rule3 h c x u y) = queued-faulted h (tagAsked h) 0x10 (c .command) (c .kind) x
   heard-comes w s room j l r (by.rule4 h c x u y) =
-      accepted h (c .command) (c .kind) x (eqb-true (d .flow .phase) 0 (not-false (eqb (d .flow .phase) 0) (c .calm))) (or-right (leb (d .settings .depth) (tagAsked h)) (bitIn 32 (d .flow .outstanding) (tagAsked h)) u)
+      accepted h (c .command) (c .kind) x (eqb-true (d .status .phase) 0 (not-false (eqb (d .status .phase) 0) (c .calm))) (or-right (leb (d .settings .depth) (tagAsked h)) (bitIn 32 (d .status .outstanding) (tagAsked h)) u)
   heard-comes w s room j l r (by.other-halted h c x) = answered-again h 0x04 (c .command) x
   heard-comes w s room j l r (by.other-busy h c x) = faulted h true 0 0x04 (c .command) (calm h x) (rw (other h (c .command) (c .kind), x))
-  heard-comes w s room j l r (by.page10 h c e p) = paged-ten h (d .flow .halted) refl (h .task) (page10Of (d .errors)) (c .command) (other h (c .command) (c .kind)) (not-false (eqb (d .flow .phase) 0) (c .calm))
+  heard-comes w s room j l r (by.page10 h c e p) = paged-ten h (d .status .halted) refl (h .task) (page10Of (d .errors)) (c .command) (other h (c .command) (c .kind)) (not-false (eqb (d .status .phase) 0) (c .calm))
   heard-comes w s room j l r (by.page11 h c x e p) = paged-eleven h (c .command) (other h (c .command) (c .kind)) (bitIn 8 (h .features) 0)
-  heard-comes w s room j l r (by.other-bad h c x e) = answered-free h 0x04 (c .command) (other h (c .command) (c .kind)) x (eqb-true (d .flow .outstanding) 0 e)
+  heard-comes w s room j l r (by.other-bad h c x e) = answered-free h 0x04 (c .command) (other h (c .command) (c .kind)) x (eqb-true (d .status .outstanding) 0 e)
   heard-comes w s room j l r (by.due n p x y) = data-comes n (r .1 .1) p x y
   heard-comes w s room j l r (by.bist x) = bist-comes _ refl refl refl

@@ -9,7 +9,7 @@ use Rattle.bits.specs.Pick.{pick}
 use Rattle.bits.specs.Bit.{bitIn}
 use Rattle.rules.specs.declared.acts.Fault.{Fault}
 use Rattle.rules.specs.declared.acts.Act.{Act}
-use Rattle.rules.specs.declared.acts.Act.the-variants.{Refuse, Nothing, Answer, Halt, Accept, Log10, Log11, Reset, Release, Zero, Keep, Open, Send, Finish, Media, Count, Renew}
+use Rattle.rules.specs.declared.acts.Act.the-variants.{Refuse, Nothing, Bad, BadAndHalt, Accept, Log10, Log11, Reset, Release, ZeroCounters, Store, Open, Send, Finish, Media, Count, Renew}
 use Rattle.device.specs.After.{withValue, renewed, haltWith, acceptedBy, unhalted, zeroedIf, resetHeld, released, movedBy, openedFor, finishedBy, failedBy, afterOf}
 use Rattle.device.specs.declared.state.Device.{Device}
 use Rattle.history.proofs.Tally.{Effect, stay, raise, wipe, counted}
@@ -18,15 +18,15 @@ use Rattle.history.proofs.Tally.{Effect, stay, raise, wipe, counted}
 abbrev pub effectOf : Act → Effect
 effectOf (Refuse n) = stay
 effectOf Nothing = stay
-effectOf (Answer b) = stay
-effectOf (Halt f) = stay
+effectOf (Bad b) = stay
+effectOf (BadAndHalt f) = stay
 effectOf (Accept q) = stay
 effectOf (Log10 l) = stay
 effectOf (Log11 l) = pick (l .zero) wipe stay
 effectOf Reset = stay
 effectOf Release = stay
-effectOf Zero = wipe
-effectOf (Keep m) = stay
+effectOf ZeroCounters = wipe
+effectOf (Store m) = stay
 effectOf (Open q) = stay
 effectOf (Send m) = stay
 effectOf (Finish set) = stay
@@ -55,15 +55,15 @@ zeroed-values d false = refl
 unfoldable pub OnRow : Act → Type 0
 OnRow (Refuse n) = Unit
 OnRow Nothing = Unit
-OnRow (Answer b) = Unit
-OnRow (Halt f) = Unit
+OnRow (Bad b) = Unit
+OnRow (BadAndHalt f) = Unit
 OnRow (Accept q) = Unit
 OnRow (Log10 l) = Unit
 OnRow (Log11 l) = Unit
 OnRow Reset = Unit
 OnRow Release = Unit
-OnRow Zero = Unit
-OnRow (Keep m) = Unit
+OnRow ZeroCounters = Unit
+OnRow (Store m) = Unit
 OnRow (Open q) = Unit
 OnRow (Send m) = Unit
 OnRow (Finish set) = Unit
@@ -76,15 +76,15 @@ pub act-values : (d : Device) (a : Act) → OnRow a → afterOf d a .values ≡ 
 unfolding afterOf haltWith acceptedBy unhalted resetHeld released movedBy openedFor finishedBy failedBy zeroedIf renewed pick OnRow
 act-values d (Refuse n) o = refl
 act-values d Nothing o = refl
-act-values d (Answer b) o = refl
-act-values d (Halt f) o = refl
+act-values d (Bad b) o = refl
+act-values d (BadAndHalt f) o = refl
 act-values d (Accept q) o = refl
 act-values d (Log10 l) o = refl
 act-values d (Log11 l) o = zeroed-values d (l .zero)
 act-values d Reset o = refl
 act-values d Release o = refl
-act-values d Zero o = refl
-act-values d (Keep m) o = refl
+act-values d ZeroCounters o = refl
+act-values d (Store m) o = refl
 act-values d (Open q) o = refl
 act-values d (Send m) o = refl
 act-values d (Finish set) o = refl

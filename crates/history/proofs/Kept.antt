@@ -14,8 +14,8 @@ use Rattle.frames.proofs.ReadLaws.{DataRead, read-data}
 use Rattle.frames.specs.declared.shapes.Frame.{Frame}
 use Rattle.frames.specs.declared.shapes.Frame.the-variants as fs
 use Rattle.rules.specs.Call.{Call, hostFrame, openPhase, sendData, finishTags, mediaError, linkEvent, comReset}
-use Rattle.rules.specs.Facts.{placeOf, moveOf}
-use Rattle.rules.specs.Taking.{numberOf, touchOf, keptIn}
+use Rattle.rules.specs.Positions.{placeOf, moveOf}
+use Rattle.rules.specs.Medium.{numberOf, touchOf, mediumAfter}
 use Rattle.rules.specs.declared.facts.Facts.{Facts}
 use Rattle.rules.specs.declared.acts.Act.{Act}
 use Rattle.rules.proofs.Ruled as by
@@ -32,16 +32,16 @@ use Rattle.history.specs.Asked.{callBrings}
 use Rattle.history.proofs.Placed.{LeftAt, EndsIn, left-none, ends-none}
 
 -- the bytes l stand in what is left of the medium m at a place, and end within it
-pub record Lies (at : ℕ) (m left l : List ℕ) : Type 0 where
+pub record DataStands (at : ℕ) (m left l : List ℕ) : Type 0 where
   pub left-at : LeftAt at m left l
   pub ends-in : EndsIn at m l
 
 -- no bytes, and the medium as it was
-nowhere-lies : (at : ℕ) (m : List ℕ) → Lies at m m []
+nowhere-lies : (at : ℕ) (m : List ℕ) → DataStands at m m []
 nowhere-lies at m = record { left-at = left-none at m m [] refl refl; ends-in = ends-none at m [] refl }
 
 -- host data that was taken
-data-lies : (d : Device) (f m b : List ℕ) → Taken46 d f m b → Lies (placeOf (phaseEntry d)) m (keptIn (actOf d (lent (hostFrame f) m b)) f m) (drop 4 f)
+data-lies : (d : Device) (f m b : List ℕ) → Taken46 d f m b → DataStands (placeOf (phaseEntry d)) m (mediumAfter (actOf d (lent (hostFrame f) m b)) f m) (drop 4 f)
 unfolding moveOf
 data-lies d f m b t =
     let size = data-kept-whole d f m b t .0 in
@@ -51,7 +51,7 @@ data-lies d f m b t =
 
 -- a host frame that is not turned down, as it was read
 heard-lies : (d : Device) (f m b : List ℕ) (v : Facts) {r : Frame} {a : Act} → DataRead (getD f 0 0) f r → actOf d (lent (hostFrame f) m b) ≡ a → numberOf (actOf d (lent (hostFrame f) m b)) ≡ 0 → by.Heard v r a
-    → Lies (placeOf (phaseEntry d)) m (keptIn a f m) (dataIn f r)
+    → DataStands (placeOf (phaseEntry d)) m (mediumAfter a f m) (dataIn f r)
 unfolding touchOf
 heard-lies d f m b v k q z (by.srst h c s) = nowhere-lies _ m
 heard-lies d f m b v k q z (by.release h c s x) = nowhere-lies _ m
@@ -65,12 +65,12 @@ heard-lies d f m b v k q z (by.other-busy h c x) = nowhere-lies _ m
 heard-lies d f m b v k q z (by.page10 h c e p) = nowhere-lies _ m
 heard-lies d f m b v k q z (by.page11 h c x e p) = nowhere-lies _ m
 heard-lies d f m b v k q z (by.other-bad h c x e) = nowhere-lies _ m
-heard-lies d f m b v k q z (by.due n p w s) = subst (λ (a : Act). Lies (placeOf (phaseEntry d)) m (keptIn a f m) (drop 4 f)) q (data-lies d f m b (taken-46 d f m b (k .0) z))
+heard-lies d f m b v k q z (by.due n p w s) = subst (λ (a : Act). DataStands (placeOf (phaseEntry d)) m (mediumAfter a f m) (drop 4 f)) q (data-lies d f m b (taken-46 d f m b (k .0) z))
 heard-lies d f m b v k q z (by.bist x) = nowhere-lies _ m
 
 -- a call that was decided
 ruled-lies : (d : Device) (m b : List ℕ) {c : Call} {a : Act} → actOf d (lent c m b) ≡ a → numberOf (actOf d (lent c m b)) ≡ 0 → by.Ruled (factsOf d (lent c m b)) c a
-    → Lies (placeOf (phaseEntry d)) m (keptIn a (frameIn c) m) (callBrings c)
+    → DataStands (placeOf (phaseEntry d)) m (mediumAfter a (frameIn c) m) (callBrings c)
 unfolding touchOf numberOf
 ruled-lies d m b q z (by.refused c n h e) = absurd (h (sym (ap numberOf q) ∙ z))
 ruled-lies d m b q z (by.host f a g w s h) = heard-lies d f m b (factsOf d (lent (hostFrame f) m b)) (read-data f) q z h
@@ -82,13 +82,13 @@ ruled-lies d m b q z (by.linked r g x) = nowhere-lies _ m
 ruled-lies d m b q z (by.renewed g s) = nowhere-lies _ m
 
 -- a taken call
-taken-lies : (d : Device) (l : Lent) → step d l .refusal ≡ 0 → Lies (placeOf (phaseEntry d)) (l .medium) (step d l .medium) (callBrings (l .call))
+taken-lies : (d : Device) (l : Lent) → step d l .refusal ≡ 0 → DataStands (placeOf (phaseEntry d)) (l .medium) (step d l .medium) (callBrings (l .call))
 unfolding actOf
 taken-lies d l z = ruled-lies d (l .medium) (l .buffer) refl z (by.ruled (factsOf d l) (l .call))
 
 -- every call: what it brought stands at the next byte of the open phase's command, and the medium is otherwise as it was
-pub call-lies : (d : Device) (l : Lent) → Lies (placeOf (phaseEntry d)) (l .medium) (step d l .medium) (pick (eqb (step d l .refusal) 0) (callBrings (l .call)) [])
+pub call-lies : (d : Device) (l : Lent) → DataStands (placeOf (phaseEntry d)) (l .medium) (step d l .medium) (pick (eqb (step d l .refusal) 0) (callBrings (l .call)) [])
 call-lies d l =
-    by-test (Lies (placeOf (phaseEntry d)) (l .medium) (step d l .medium)) (eqb (step d l .refusal) 0) (callBrings (l .call)) []
+    by-test (DataStands (placeOf (phaseEntry d)) (l .medium) (step d l .medium)) (eqb (step d l .refusal) 0) (callBrings (l .call)) []
     (λ t. taken-lies d l (eqb-true (step d l .refusal) 0 t))
-    (λ n. subst (λ (x : List ℕ). Lies (placeOf (phaseEntry d)) (l .medium) x []) (sym (refused-keeps d l (eqb-false (step d l .refusal) 0 n) .medium)) (nowhere-lies _ (l .medium)))
+    (λ n. subst (λ (x : List ℕ). DataStands (placeOf (phaseEntry d)) (l .medium) x []) (sym (refused-keeps d l (eqb-false (step d l .refusal) 0 n) .medium)) (nowhere-lies _ (l .medium)))

@@ -16,7 +16,7 @@ pub mod Core
 pub mod Anchors
 -- data: the bytes that each command carried, whose they are, and where they stand
 pub mod Spans
-pub mod Flowing
+pub mod Transfers
 pub mod Moving
 pub mod Table
 pub mod Strays
@@ -36,15 +36,15 @@ pub mod Shown
 pub mod Counters
 pub mod Asked11
 -- replies: what each call may say, and what it must
-pub mod Polite
+pub mod SeenRules
 pub mod Said
 pub mod Shaped
-pub mod Mannerly
-pub mod Manners
+pub mod Speechless
+pub mod ReplyRules
 -- demand 3: over every run from power-on, against the state, and of the code
 pub mod Soundness
 pub mod Runs
-pub mod Told
+pub mod StateAgrees
 pub mod Contracts
 pub mod Demand3
 pub mod NotEmpty

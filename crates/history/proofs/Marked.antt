@@ -9,15 +9,15 @@ use borrow.Author.Tests.{eq-eqb}
 use Rattle.bits.specs.Pick.{pick}
 use Rattle.bits.specs.First.{firstOf}
 use Rattle.bits.proofs.Picks.{by-test, pick-yes}
-use Rattle.wire.specs.Piece.{registerBytes}
+use Rattle.frame_parts.specs.Shared.{registerBytes}
 use Rattle.pages.specs.Sum.{sum256, sealed}
 use Rattle.pages.specs.Page10.{page10, fits10, fields10, readLog}
 use Rattle.pages.specs.declared.page10.ErrorLog.{ErrorLog}
 use Rattle.pages.specs.declared.page10.Page10.the-variants.{Fields}
 use Rattle.pages.proofs.Trip10.{length-10, sums-to-zero}
-use Rattle.states.specs.declared.shapes.Settings.{Settings}
+use Rattle.device_state.specs.declared.shapes.Settings.{Settings}
 use Rattle.rules.specs.declared.acts.Act.{Act}
-use Rattle.rules.specs.declared.acts.Act.the-variants.{Refuse, Nothing, Answer, Halt, Accept, Log10, Log11, Reset, Release, Zero, Keep, Open, Send, Finish, Media, Count, Renew}
+use Rattle.rules.specs.declared.acts.Act.the-variants.{Refuse, Nothing, Bad, BadAndHalt, Accept, Log10, Log11, Reset, Release, ZeroCounters, Store, Open, Send, Finish, Media, Count, Renew}
 use Rattle.replies.specs.Replies.{logOf, page10Of}
 use Rattle.device.proofs.Sized.{SizedRecord}
 use Rattle.device.specs.Device.{contradictoryDevice, freshDevice, zeroDevice, powerNumber, powerOn}
@@ -26,12 +26,12 @@ use Rattle.device.specs.Step.{actOf, step}
 use Rattle.device.specs.declared.state.Device.{Device}
 use Rattle.device.proofs.Fitting.{record-fits}
 use Rattle.history.specs.Replied.{errIn}
-use Rattle.history.specs.Manners.{TellsError}
+use Rattle.history.specs.ReplyRules.{TellsError}
 use Rattle.device.specs.Lent.{Lent}
 
 -- while halted the record is set
 abbrev pub Marked : Device → Type 0
-Marked d = d .flow .halted ≡ true → d .errors .set ≡ true
+Marked d = d .status .halted ≡ true → d .errors .set ≡ true
 
 -- ---- every call keeps it
 
@@ -45,15 +45,15 @@ act-marked : (d : Device) (a : Act) → Marked d → Marked (afterOf d a)
 unfolding afterOf haltWith acceptedBy unhalted zeroedIf resetHeld released movedBy openedFor finishedBy failedBy renewed
 act-marked d (Refuse n) k = k
 act-marked d Nothing k = k
-act-marked d (Answer b) k = k
-act-marked d (Halt f) k = λ _. refl
+act-marked d (Bad b) k = k
+act-marked d (BadAndHalt f) k = λ _. refl
 act-marked d (Accept q) k = k
 act-marked d (Log10 l) k = λ h. absurd (false≢true h)
 act-marked d (Log11 l) k = k
 act-marked d Reset k = λ h. absurd (false≢true h)
 act-marked d Release k = k
-act-marked d Zero k = k
-act-marked d (Keep m) k = k
+act-marked d ZeroCounters k = k
+act-marked d (Store m) k = k
 act-marked d (Open q) k = k
 act-marked d (Send m) k = k
 act-marked d (Finish set) k = k
@@ -87,7 +87,7 @@ page-tells : (f : ErrorLog) → errIn (f .status) ≡ true → TellsError (readL
 page-tells f e = subst⁻¹ TellsError (fields-read f) (ap errIn (status-read f) ∙ e)
 
 -- the page of a halted device tells an error
-pub halted-tells : (d : Device) → SizedRecord d → contradictoryDevice d ≡ false → Marked d → d .flow .halted ≡ true → TellsError (readLog (page10Of (d .errors)))
+pub halted-tells : (d : Device) → SizedRecord d → contradictoryDevice d ≡ false → Marked d → d .status .halted ≡ true → TellsError (readLog (page10Of (d .errors)))
 unfolding pick
 halted-tells d s g k h =
     subst⁻¹ (λ (l : List ℕ). TellsError (readLog l)) (pick-yes (fits10 (logOf (d .errors))) (page10 (logOf (d .errors))) [] (record-fits d s g))

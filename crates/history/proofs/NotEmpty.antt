@@ -12,33 +12,33 @@ use Rattle.rules.specs.Call.{Call, hostFrame, openPhase, sendData, finishTags, 
 use Rattle.bits.specs.First.{firstOf}
 use Rattle.bits.specs.Laid.{over}
 use Rattle.bits.specs.Pick.{pick}
-use Rattle.wire.specs.Cut.{joined, cut, cutTo, pieceOf}
-use Rattle.wire.specs.Piece.{registerBytes}
-use Rattle.wire.specs.Size.{readable, fixedSize}
-use Rattle.frames.specs.Read.{readFrame, byKind}
+use Rattle.frame_parts.specs.Cut.{joined, cut, cutTo, firstLength}
+use Rattle.frame_parts.specs.Shared.{registerBytes}
+use Rattle.frame_parts.specs.Size.{readable, fixedSize}
+use Rattle.frames.specs.Read.{readFrame, frameByKind}
 use Rattle.frames.specs.Write.{fits, encode, setupBytes, bitsBytes}
-use Rattle.pages.specs.Entries.{entries, entriesFrom, idAt, howMany as entriesSo, someOf}
+use Rattle.pages.specs.Entries.{entries, entriesFrom, idAt, countEntries as entriesSo, someOf}
 use Rattle.pages.specs.Made11.{page11, openTo, rowsTo, rowBytes}
 use Rattle.pages.specs.Page10.{fits10, page10}
 use Rattle.pages.specs.Page11.{readCounter, damaged, valueIn}
 use Rattle.pages.specs.Rows.{ids, rowOf, rowFrom}
 use Rattle.pages.specs.Sum.{sealed, sum256, sumTo}
-use Rattle.states.specs.Clauses.{movedBad, contradictory, flowBad, settingsOut, recordBad, rowsBad, tableBad, entryBad, busyBad, idleBad}
-use Rattle.states.specs.State.{echoOf, taskIn}
-use Rattle.states.specs.Table.{someBelow, placed, tab, cleared}
+use Rattle.device_state.specs.Clauses.{movedBad, contradictory, statusBad, settingsOut, recordBad, rowsBad, tableBad, entryBad, busyBad, idleBad}
+use Rattle.device_state.specs.State.{echoOf, taskIn}
+use Rattle.device_state.specs.Table.{someBelow, placed, tab, cleared}
 use Rattle.rules.specs.Tests.{wrongKind, wrongTime, wrongSize, someUnready, tests}
 use Rattle.rules.specs.Decide.{frameAct, registerAct, queuedAct, otherAct, logPage}
 use Rattle.rules.specs.Act.{failing, does, decided, act}
-use Rattle.rules.specs.Facts.{moveOf, advancedBy}
-use Rattle.rules.specs.Taking.{numberOf, touchOf, stored}
+use Rattle.rules.specs.Positions.{moveOf, advancedBy}
+use Rattle.rules.specs.Medium.{numberOf, touchOf, stored}
 use Rattle.replies.specs.Replies.{sentAll, sentBytes, repliesOf}
 use Rattle.device.specs.After.{withValue, renewed, afterOf, zeroedIf, resetHeld, movedBy, unhalted, finishedBy, failedBy, haltWith, released, openedFor, acceptedBy}
 use Rattle.device.specs.FactsOf.{openTag}
 use Rattle.device.specs.Step.{actOf}
 use Rattle.device.specs.Device.{contradictoryDevice, powerOn, freshDevice}
-use Rattle.history.specs.Carried.{carriedAt, span, flow}
+use Rattle.history.specs.Carried.{carriedAt, span, transfer}
 use Rattle.history.specs.Counted.{countedIn}
-use Rattle.history.specs.Example.{story, tagsFrom, linesOf, calls, Shown}
+use Rattle.history.specs.Example.{story, tagsFrom, linesOf, calls, ExampleShows}
 use Rattle.history.specs.Fates.{commands, outstandingAt, finishedAt, givenUpAt, droppedAt, total, totalWith, howMany}
 use Rattle.history.specs.Replied.{collect, some, payloads}
 use Rattle.device.specs.Lent.{Lent, Typed}
@@ -96,8 +96,8 @@ unfolding allFine fine small
 typed = all-typed calls refl
 
 -- the run: all four fates, an error that waits and is read, a tag used three times, a page that shows counters
-pub not-empty : Shown
-unfolding firstOf over pick joined cut cutTo pieceOf registerBytes readable fixedSize readFrame byKind fits encode setupBytes bitsBytes entries entriesFrom idAt entriesSo someOf page11 openTo rowsTo rowBytes fits10 page10 readCounter damaged valueIn ids rowOf rowFrom sealed sum256 sumTo contradictory flowBad settingsOut recordBad rowsBad tableBad entryBad busyBad idleBad echoOf taskIn someBelow placed tab cleared registerAct queuedAct otherAct logPage decided failing someUnready moveOf advancedBy numberOf stored sentAll sentBytes repliesOf afterOf zeroedIf resetHeld movedBy unhalted finishedBy failedBy haltWith released openedFor acceptedBy openTag contradictoryDevice powerOn freshDevice withValue renewed carriedAt span flow countedIn story tagsFrom linesOf commands outstandingAt finishedAt givenUpAt droppedAt total totalWith howMany collect some payloads run seen begun waits sactive before since movedBad wrongKind wrongTime wrongSize tests frameAct does act touchOf actOf
+pub not-empty : ExampleShows
+unfolding firstOf over pick joined cut cutTo firstLength registerBytes readable fixedSize readFrame frameByKind fits encode setupBytes bitsBytes entries entriesFrom idAt entriesSo someOf page11 openTo rowsTo rowBytes fits10 page10 readCounter damaged valueIn ids rowOf rowFrom sealed sum256 sumTo contradictory statusBad settingsOut recordBad rowsBad tableBad entryBad busyBad idleBad echoOf taskIn someBelow placed tab cleared registerAct queuedAct otherAct logPage decided failing someUnready moveOf advancedBy numberOf stored sentAll sentBytes repliesOf afterOf zeroedIf resetHeld movedBy unhalted finishedBy failedBy haltWith released openedFor acceptedBy openTag contradictoryDevice powerOn freshDevice withValue renewed carriedAt span transfer countedIn story tagsFrom linesOf commands outstandingAt finishedAt givenUpAt droppedAt total totalWith howMany collect some payloads run seen begun waits sactive before since movedBad wrongKind wrongTime wrongSize tests frameAct does act touchOf actOf
 not-empty = record {
   powered = refl;
   typed = typed;

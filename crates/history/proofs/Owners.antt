@@ -13,13 +13,13 @@ use Rattle.bits.proofs.Picks.{tested}
 use Rattle.device.specs.declared.state.Device.{Device}
 use Rattle.device.proofs.Tags.{busy-below}
 use Rattle.device.proofs.Never.{and-never}
-use Rattle.history.specs.Seen.{Seen, Flow}
+use Rattle.history.specs.Seen.{Seen, Transfer}
 use Rattle.history.specs.Fates.{Command, commands, ownTag, outstanding, one, howMany, All, totalWith}
-use Rattle.history.specs.Carried.{flow, belongs}
+use Rattle.history.specs.Carried.{transfer, belongs}
 use Rattle.history.specs.Demand3.{Owned}
 use Rattle.history.proofs.Alls.{all-imp}
-use Rattle.history.proofs.Flowing.{flowFor, flow-shut, flow-open}
-use Rattle.history.proofs.Moving.{entryAt}
+use Rattle.history.proofs.Transfers.{transferFor, transfer-shut, transfer-open}
+use Rattle.history.proofs.Moving.{deviceEntry}
 use Rattle.history.proofs.Table.{Following, Tracked}
 
 -- tests that agree of every command hold of as many
@@ -52,25 +52,25 @@ and-agree false a b h = sym (and-never b)
 
 -- the open phase's data belong to the outstanding commands of its tag
 phase-own : (d : Device) (t : ℕ) (c : Command) → Following d c
-    → (outstanding c && belongs (c .accepted .asks .write) (ownTag c) (not (entryAt d t .write)) t) ≡ (eqb (ownTag c) t && outstanding c)
+    → (outstanding c && belongs (c .accepted .asks .write) (ownTag c) (not (deviceEntry d t .write)) t) ≡ (eqb (ownTag c) t && outstanding c)
 phase-own d t c f =
-    and-agree (outstanding c) (belongs (c .accepted .asks .write) (ownTag c) (not (entryAt d t .write)) t) (eqb (ownTag c) t)
-    (λ o. belongs-tag (entryAt d t .write) (c .accepted .asks .write) t (ownTag c) (λ e. ap (λ (u : ℕ). entryAt d u .write) e ∙ f .stands o .write))
+    and-agree (outstanding c) (belongs (c .accepted .asks .write) (ownTag c) (not (deviceEntry d t .write)) t) (eqb (ownTag c) t)
+    (λ o. belongs-tag (deviceEntry d t .write) (c .accepted .asks .write) t (ownTag c) (λ e. ap (λ (u : ℕ). deviceEntry d u .write) e ∙ f .stands o .write))
 
-module _ (d : Device) (h : List Seen) (i : Tracked d h) (counts : (t : ℕ) → t < 32 → totalWith t h ≡ one (bitIn 32 (d .flow .outstanding) t)) where
+module _ (d : Device) (h : List Seen) (i : Tracked d h) (counts : (t : ℕ) → t < 32 → totalWith t h ≡ one (bitIn 32 (d .status .outstanding) t)) where
   -- an open phase: one command
-  owned-open : (t : ℕ) → d .flow .phase ≡ t + 1 → Owned (flowFor (entryAt d t) t) (commands h)
+  owned-open : (t : ℕ) → d .status .phase ≡ t + 1 → Owned (transferFor (deviceEntry d t) t) (commands h)
   unfolding totalWith
   owned-open t p =
       let busy = i .phased .busy t p in
-      many-same (λ c. outstanding c && belongs (c .accepted .asks .write) (ownTag c) (not (entryAt d t .write)) t) (λ c. eqb (ownTag c) t && outstanding c) (commands h)
+      many-same (λ c. outstanding c && belongs (c .accepted .asks .write) (ownTag c) (not (deviceEntry d t .write)) t) (λ c. eqb (ownTag c) t && outstanding c) (commands h)
       (all-imp (Following d) _ (phase-own d t) (commands h) (i .commands))
-      ∙ counts t (busy-below (d .flow .outstanding) t busy) ∙ ap one busy
+      ∙ counts t (busy-below (d .status .outstanding) t busy) ∙ ap one busy
 
   -- what is under way is the data of exactly one command, which is outstanding
-  pub owned : Owned (flow h) (commands h)
-  owned = go (d .flow .phase) refl
+  pub owned : Owned (transfer h) (commands h)
+  owned = go (d .status .phase) refl
     where
-      go : (p : ℕ) → d .flow .phase ≡ p → Owned (flow h) (commands h)
-      go zero e = subst⁻¹ (λ (x : Flow). Owned x (commands h)) (i .under ∙ flow-shut d e) tt
-      go (suc t) e = let p = e ∙ sym (add-one t) in subst⁻¹ (λ (x : Flow). Owned x (commands h)) (i .under ∙ flow-open d t p) (owned-open t p)
+      go : (p : ℕ) → d .status .phase ≡ p → Owned (transfer h) (commands h)
+      go zero e = subst⁻¹ (λ (x : Transfer). Owned x (commands h)) (i .under ∙ transfer-shut d e) tt
+      go (suc t) e = let p = e ∙ sym (add-one t) in subst⁻¹ (λ (x : Transfer). Owned x (commands h)) (i .under ∙ transfer-open d t p) (owned-open t p)

@@ -9,9 +9,9 @@ use lib.ListN.{getD}
 use borrow.Author.Tests.{eqb-true, ltb-false}
 use Rattle.bits.specs.Pick.{pick}
 use Rattle.bits.proofs.Picks.{pick-yes, pick-no, and-left, and-right, or-left, or-right}
-use Rattle.wire.specs.declared.pieces.Task.{Task}
+use Rattle.frame_parts.specs.declared.shared.Task.{Task}
 use Rattle.frames.specs.Write.{payload, encode}
-use Rattle.frames.specs.Trip.{seen}
+use Rattle.frames.specs.RoundTrip.{readBack}
 use Rattle.frames.specs.Read.{readFrame}
 use Rattle.pages.specs.Rows.{kept, keepsBoth, rowOf}
 use Rattle.pages.specs.Page11.{readCounter, noNumber}
@@ -21,17 +21,17 @@ use Rattle.pages.specs.declared.rows.Place.the-variants.{Row, Nowhere}
 use Rattle.pages.specs.declared.page11.Counter.the-variants.{Value, Absent}
 use Rattle.pages.proofs.RowLaws.{row-found, row-only, row-missing}
 use Rattle.pages.proofs.Trip11.{unkept-absent, kept-reads}
-use Rattle.rules.specs.Taking.{numberOf, spanOf, partOf}
+use Rattle.rules.specs.Medium.{numberOf, spanOf, partOf}
 use Rattle.rules.specs.declared.acts.Act.{Act}
 use Rattle.rules.proofs.Ruled as by
 use Rattle.replies.specs.Replies.{pioReply, page11Of, logReplies, repliesOf}
 use Rattle.device.specs.Device.{contradictoryDevice}
 use Rattle.device.specs.declared.state.Device.{Device}
-use Rattle.states.specs.Clauses.{settingsOut}
+use Rattle.device_state.specs.Clauses.{settingsOut}
 use Rattle.device.proofs.Keeping.{settings-good, both-kept}
 use Rattle.rules.specs.Call.{Call, hostFrame}
 use Rattle.history.specs.Event.{Event, taken}
-use Rattle.history.specs.Replied.{pieces, frames, some, isPio, payloads, page}
+use Rattle.history.specs.Replied.{repliesIn, frames, some, isPio, payloads, page}
 use Rattle.history.specs.Logs.{callReads}
 use Rattle.history.specs.Replied.{paged}
 use Rattle.history.specs.Counted.{sends11, toldAt, toldFor}
@@ -39,14 +39,14 @@ use Rattle.device.specs.Lent.{Lent, lent}
 use Rattle.device.specs.FactsOf.{factsOf}
 use Rattle.device.specs.Step.{shown, actOf, step}
 use Rattle.device.proofs.Doing.{heard-unsent}
-use Rattle.history.proofs.Tally.{Tells, Counting, tells-small}
+use Rattle.history.proofs.Tally.{ValuesTell, Counting, tells-small}
 use Rattle.history.proofs.Hearing.{pioIn, Logs, heard-heard}
 use Rattle.history.proofs.Counts.{eventOf, Replies}
 use Rattle.history.proofs.Frames.{Read, read-frames}
 
 -- ---- what the reader gives of a page made of counters that tell a history
 
-module _ (mask : ℕ) (values : List ℕ) (h : List Event) (i : Tells values h) (number : ℕ) (low : 0 < number) (high : number < 4096) where
+module _ (mask : ℕ) (values : List ℕ) (h : List Event) (i : ValuesTell values h) (number : ℕ) (low : 0 < number) (high : number < 4096) where
   -- a kept row's number gives its count, that of a row that is not kept is absent
   told-row : (k : ℕ) → rowOf number ≡ Row k → (b : Bool) → kept mask k ≡ b → readCounter (page11 mask values) number ≡ toldAt mask h (Row k)
   told-row k e true y =
@@ -67,7 +67,7 @@ module _ (mask : ℕ) (values : List ℕ) (h : List Event) (i : Tells values h) 
   told-place Nowhere e = unkept-absent mask values (tells-small values h i) number low high (λ k l s. absurd (row-missing number e k l s))
 
 -- of every number 1 to FFFh
-pub page-tells : (mask : ℕ) (values : List ℕ) (h : List Event) → Tells values h → (number : ℕ) → noNumber number ≡ false → readCounter (page11 mask values) number ≡ toldFor mask h number
+pub page-tells : (mask : ℕ) (values : List ℕ) (h : List Event) → ValuesTell values h → (number : ℕ) → noNumber number ≡ false → readCounter (page11 mask values) number ≡ toldFor mask h number
 page-tells mask values h i number n =
     let a = ltb-false number 1 (or-left (ltb number 1) (ltb 4095 number) n) in
     let z = ltb-false 4095 number (or-right (ltb number 1) (ltb 4095 number) n) in
@@ -80,16 +80,16 @@ abbrev pageIn : List (List ℕ) → List ℕ
 pageIn ps = pick (some isPio (map readFrame ps)) (payloads ps) []
 
 -- a PIO Setup and a data frame behind it: the data is the page
-page-sent : (task : Task) (l : List ℕ) → readFrame (encode (pioReply task)) ≡ seen (pioReply task) → readFrame (encode (payload l)) ≡ seen (payload l)
+page-sent : (task : Task) (l : List ℕ) → readFrame (encode (pioReply task)) ≡ readBack (pioReply task) → readFrame (encode (payload l)) ≡ readBack (payload l)
     → pageIn (map encode (pioReply task ∷ payload l ∷ [])) ≡ l
 unfolding some payloads pick encode
 page-sent task l x y = rw (x, y) (append-nil l)
 
-page-is : (e : Event) (task : Task) (l : List ℕ) → pieces e ≡ map encode (pioReply task ∷ payload l ∷ []) → frames e ≡ map seen (pioReply task ∷ payload l ∷ []) → page e ≡ l
+page-is : (e : Event) (task : Task) (l : List ℕ) → repliesIn e ≡ map encode (pioReply task ∷ payload l ∷ []) → frames e ≡ map readBack (pioReply task ∷ payload l ∷ []) → page e ≡ l
 page-is e task l p q =
-    let w : map readFrame (map encode (pioReply task ∷ payload l ∷ [])) ≡ map seen (pioReply task ∷ payload l ∷ []) = ap (map readFrame) (sym p) ∙ q in
-    let x : readFrame (encode (pioReply task)) ≡ seen (pioReply task) = cc in
-    let y : readFrame (encode (payload l)) ≡ seen (payload l) = cc in
+    let w : map readFrame (map encode (pioReply task ∷ payload l ∷ [])) ≡ map readBack (pioReply task ∷ payload l ∷ []) = ap (map readFrame) (sym p) ∙ q in
+    let x : readFrame (encode (pioReply task)) ≡ readBack (pioReply task) = cc in
+    let y : readFrame (encode (payload l)) ≡ readBack (payload l) = cc in
     ap pageIn p ∙ page-sent task l x y
 
 -- ---- every call
@@ -99,8 +99,8 @@ abbrev pub Masked : ℕ → Device → Type 0
 Masked mask d = settingsOut (d .settings) ≡ false → d .settings .mask ≡ mask
 
 -- page 11h, if it was sent, read for every number, gives what the history before it tells
-abbrev pub Shows : ℕ → Event → List Event → Type 0
-Shows mask e h = sends11 e ≡ true → (number : ℕ) → noNumber number ≡ false → readCounter (page e) number ≡ toldFor mask h number
+abbrev pub PageShows : ℕ → Event → List Event → Type 0
+PageShows mask e h = sends11 e ≡ true → (number : ℕ) → noNumber number ≡ false → readCounter (page e) number ≡ toldFor mask h number
 
 -- the page of a call whose act is a read of page 11h
 shown-page : (d : Device) (l : Lent) (h : List Event) (a : Act) → contradictoryDevice d ≡ false → Counting d h → Logs a → Read (eventOf d l) (repliesOf (shown d) (partOf (spanOf a) (l .medium)) a)
@@ -131,7 +131,7 @@ ruled-logs d m b (by.linked r g x) z p q = absurd (false≢true q)
 ruled-logs d m b (by.renewed g s) z p q = absurd (false≢true q)
 
 -- every call: a page 11h in its replies shows what the history before it tells
-pub counters-step : (mask : ℕ) (d : Device) (l : Lent) (h : List Event) → Masked mask d → Counting d h → Replies d l → Shows mask (eventOf d l) h
+pub counters-step : (mask : ℕ) (d : Device) (l : Lent) (h : List Event) → Masked mask d → Counting d h → Replies d l → PageShows mask (eventOf d l) h
 unfolding actOf
 counters-step mask d l h k i r s number n =
     let e : Event = eventOf d l in

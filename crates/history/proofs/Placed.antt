@@ -8,16 +8,16 @@ use native.Mathlib.Omega.{arith}
 use lib.ListN.{length, take, drop, take-append-drop}
 use Rattle.bits.specs.Pick.{pick}
 use Rattle.bits.proofs.Picks.{by-test}
-use Rattle.wire.specs.declared.pieces.Task.{Task}
+use Rattle.frame_parts.specs.declared.shared.Task.{Task}
 use Rattle.replies.specs.declared.shown.Shown.{Shown}
-use Rattle.rules.specs.Facts.{placeOf, moveOf}
+use Rattle.rules.specs.Positions.{placeOf, moveOf}
 use Rattle.rules.specs.Call.{Call, hostFrame}
-use Rattle.rules.specs.Taking.{touchOf, spanOf, partOf}
+use Rattle.rules.specs.Medium.{touchOf, spanOf, partOf}
 use Rattle.rules.proofs.Ruled as by
 use Rattle.rules.specs.declared.acts.Queued.{Queued}
 use Rattle.rules.specs.declared.acts.Move.{Move}
 use Rattle.rules.specs.declared.acts.Act.{Act}
-use Rattle.rules.specs.declared.acts.Act.the-variants.{Refuse, Nothing, Answer, Halt, Accept, Log10, Log11, Reset, Release, Zero, Keep, Open, Send, Finish, Media, Count, Renew}
+use Rattle.rules.specs.declared.acts.Act.the-variants.{Refuse, Nothing, Bad, BadAndHalt, Accept, Log10, Log11, Reset, Release, ZeroCounters, Store, Open, Send, Finish, Media, Count, Renew}
 use Rattle.replies.specs.Replies.{repliesOf, setupReply, logReplies, activateIf, page10Of, page11Of}
 use Rattle.device.specs.Lent.{Lent, lent}
 use Rattle.device.specs.FactsOf.{factsOf}
@@ -97,15 +97,15 @@ pub no-part : (s : Shown) (a : Act) → sentIn (repliesOf s [] a) ≡ []
 unfolding repliesOf some pick
 no-part s (Refuse n) = refl
 no-part s Nothing = refl
-no-part s (Answer b) = refl
-no-part s (Halt f) = refl
+no-part s (Bad b) = refl
+no-part s (BadAndHalt f) = refl
 no-part s (Accept q) = refl
 no-part s (Log10 task) = log-none (s .halted) task (page10Of (s .errors))
 no-part s (Log11 l) = log-none false (l .task) (page11Of (s .settings .mask) (s .values))
 no-part s Reset = refl
 no-part s Release = refl
-no-part s Zero = refl
-no-part s (Keep m) = active-none (not (m .last))
+no-part s ZeroCounters = refl
+no-part s (Store m) = active-none (not (m .last))
 no-part s (Open q) = setup-none q (q .entry .write)
 no-part s (Send m) = refl
 no-part s (Finish set) = refl
@@ -133,7 +133,7 @@ ruled-sent d m b (by.refused c n h e) = sent-none (placeOf (phaseEntry d)) m _ (
 ruled-sent d m b (by.host f a g w s h) =
     sent-none (placeOf (phaseEntry d)) m _ (ap (λ (p : List ℕ). sentIn (repliesOf (shown d) p a)) (sym (heard-unsent (factsOf d (lent (hostFrame f) m b)) m h)) ∙ no-part (shown d) a)
 ruled-sent d m b (by.opened u g s o p e) = sent-none (placeOf (phaseEntry d)) m _ (no-part (shown d) _)
-ruled-sent d m b (by.sent g w s p r) = part-sent (shown d) m (moveOf (d .flow) (phaseEntry d) 8192)
+ruled-sent d m b (by.sent g w s p r) = part-sent (shown d) m (moveOf (d .status) (phaseEntry d) 8192)
 ruled-sent d m b (by.finished u g s p e r) = sent-none (placeOf (phaseEntry d)) m _ (no-part (shown d) _)
 ruled-sent d m b (by.failed u e x g s o y w) = sent-none (placeOf (phaseEntry d)) m _ (no-part (shown d) _)
 ruled-sent d m b (by.linked r g x) = sent-none (placeOf (phaseEntry d)) m _ (no-part (shown d) _)

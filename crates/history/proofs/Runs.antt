@@ -11,14 +11,14 @@ use lib.Count.{ones}
 use borrow.Author.Tests.{eqb-true, eqb-false}
 use Rattle.bits.specs.Bit.{bitIn}
 use Rattle.bits.proofs.Picks.{by-test, tested}
-use Rattle.states.specs.declared.shapes.Settings.{Settings}
+use Rattle.device_state.specs.declared.shapes.Settings.{Settings}
 use Rattle.device.specs.Device.{powerOn, freshDevice, zeroDevice, powerNumber}
 use Rattle.device.specs.declared.state.Device.{Device}
 use Rattle.device.proofs.Opens.{ones-most}
 use Rattle.history.specs.Event.{Event}
 use Rattle.history.specs.Seen.{seen}
 use Rattle.history.specs.Fates.{one, total}
-use Rattle.history.specs.Demand3.{Fates, Ranges, Contents, Sactive, Waiting, Depth, Single, Manners}
+use Rattle.history.specs.Demand3.{Fates, Ranges, Contents, Sactive, Waiting, Depth, OnePerTag, AllReplyRules}
 use Rattle.device.specs.Lent.{Lent, Typed}
 use Rattle.history.specs.Run.{Done, done, event, result, AllTyped, run, runFrom, history}
 use Rattle.history.proofs.Class.{Class}
@@ -27,7 +27,7 @@ use Rattle.history.proofs.Fated.{AllLone, lone, lone-step, lone-none, f
 use Rattle.history.proofs.Core.{Inv, inv-start, keeps, inv-sactive, inv-waiting, inv-total, inv-number}
 use Rattle.history.proofs.Table.{Tracked, tracked-start, tracked-step, ranges}
 use Rattle.history.proofs.Contents.{moves}
-use Rattle.history.proofs.Manners.{mannered}
+use Rattle.history.proofs.ReplyRules.{reply-rules}
 use Rattle.history.proofs.Marked.{Marked, marked-step, marked-start}
 use Rattle.device.proofs.Widths.{Wide}
 use Rattle.device.proofs.Widening.{wide-step, wide-start}
@@ -38,15 +38,15 @@ pub record Held (s : Settings) (d : Device) (h : List Event) : Type 0 where
   pub wide : Wide d
   pub marked : Marked d
   pub sound : Sound s d
-  pub inv : Inv (d .flow .outstanding) (d .flow .halted) (map seen h)
+  pub inv : Inv (d .status .outstanding) (d .status .halted) (map seen h)
   pub lone : AllLone (map seen h)
   pub tracked : Tracked d (map seen h)
   pub contents : Contents h
-  pub manners : Manners h
+  pub reply-rules : AllReplyRules h
 
 -- one call more
 pub held-step : (s : Settings) (d : Device) (a : Lent) (h : List Event) → Typed (a .call) → Held s d h → Held s (result d a .outcome .state) (event (done a (result d a)) ∷ h)
-unfolding Contents Manners
+unfolding Contents AllReplyRules
 held-step s d a h t i =
     let d′ : Device = result d a .outcome .state in
     let x : Event = event (done a (result d a)) in
@@ -59,21 +59,21 @@ held-step s d a h t i =
       lone = lone-step (seen x) (map seen h) (lone c) (i .lone);
       tracked = tracked-step d d′ (seen x) (map seen h) (i .tracked) c;
       contents = (moves d a (map seen h) t (i .wide .sized) (i .tracked) (inv-number (i .inv)), i .contents);
-      manners = (mannered d a (map seen h) t (i .wide .sized) (i .marked) (i .inv), i .manners);
+      reply-rules = (reply-rules d a (map seen h) t (i .wide .sized) (i .marked) (i .inv), i .reply-rules);
     }
 
 -- power-on
 pub held-power : (s : Settings) → Held s (powerOn s .state) []
-unfolding powerOn freshDevice Contents Manners
+unfolding powerOn freshDevice Contents AllReplyRules
 held-power s = record {
   wide = wide-start s;
   marked = marked-start s;
   sound = sound-power s;
-  inv = by-test (λ (d : Device). Inv (d .flow .outstanding) (d .flow .halted) []) (eqb (powerNumber s) 0) (freshDevice s) zeroDevice (λ _. inv-start) (λ _. inv-start);
+  inv = by-test (λ (d : Device). Inv (d .status .outstanding) (d .status .halted) []) (eqb (powerNumber s) 0) (freshDevice s) zeroDevice (λ _. inv-start) (λ _. inv-start);
   lone = lone-none;
-  tracked = tracked-start (powerOn s .state) (by-test (λ (d : Device). d .flow .phase ≡ 0) (eqb (powerNumber s) 0) (freshDevice s) zeroDevice (λ _. refl) (λ _. refl));
+  tracked = tracked-start (powerOn s .state) (by-test (λ (d : Device). d .status .phase ≡ 0) (eqb (powerNumber s) 0) (freshDevice s) zeroDevice (λ _. refl) (λ _. refl));
   contents = tt;
-  manners = tt;
+  reply-rules = tt;
 }
 
 -- a run
@@ -93,10 +93,10 @@ within-depth s d h i =
     ⊎-elim
     (λ (x : eqb (powerOn s .refusal) 0 ≡ true).
     let z = eqb-true (powerOn s .refusal) 0 x in
-    le-trans (le-of-eq (inv-total (i .inv))) (subst (λ (y : Settings). ones (d .flow .outstanding) ≤ y .depth) (i .sound .settings z) (ones-most d (i .inv .bound) (i .sound .good z))))
+    le-trans (le-of-eq (inv-total (i .inv))) (subst (λ (y : Settings). ones (d .status .outstanding) ≤ y .depth) (i .sound .settings z) (ones-most d (i .inv .bound) (i .sound .good z))))
     (λ (x : eqb (powerOn s .refusal) 0 ≡ false).
     let e = i .sound .zeros (eqb-false (powerOn s .refusal) 0 x) in
-    let none : total (map seen h) ≡ 0 = inv-total (i .inv) ∙ ap (λ (y : Device). ones (y .flow .outstanding)) e in
+    let none : total (map seen h) ≡ 0 = inv-total (i .inv) ∙ ap (λ (y : Device). ones (y .status .outstanding)) e in
     omega (arith, none))
     (tested (eqb (powerOn s .refusal) 0))
 
@@ -122,13 +122,13 @@ module _ (s : Settings) (as′ : List Lent) (t : AllTyped as′) where
   demand3-depth = within-depth s (runFrom s as′ .state) (history s as′) (held s as′ t)
 
   -- no two commands of one tag are outstanding
-  pub demand3-single : Single (map seen (history s as′))
-  demand3-single u l = le-trans (le-of-eq (inv-number (held s as′ t .inv) u l)) (one-most (bitIn 32 (runFrom s as′ .state .flow .outstanding) u))
+  pub demand3-single : OnePerTag (map seen (history s as′))
+  demand3-single u l = le-trans (le-of-eq (inv-number (held s as′ t .inv) u l)) (one-most (bitIn 32 (runFrom s as′ .state .status .outstanding) u))
     where
       one-most : (b : Bool) → one b ≤ 1
       one-most true = omega arith
       one-most false = omega arith
 
   -- every event says no more than it may after those before it, and what it must
-  pub demand3-manners : Manners (history s as′)
-  demand3-manners = held s as′ t .manners
+  pub demand3-reply-rules : AllReplyRules (history s as′)
+  demand3-reply-rules = held s as′ t .reply-rules

@@ -5,16 +5,16 @@ use mathlib.Core.List.{List, [], _∷_, map}
 use mathlib.Core.Logic.{inl, inr}
 use Prim.Native.Nat.{ℕ}
 use Rattle.bits.specs.Pick.{pick}
-use Rattle.wire.specs.declared.pieces.Task.{Task}
-use Rattle.frames.specs.Write.{Sent}
-use Rattle.frames.specs.Trip as trip
+use Rattle.frame_parts.specs.declared.shared.Task.{Task}
+use Rattle.frames.specs.Write.{FrameValue}
+use Rattle.frames.specs.RoundTrip as trip
 use Rattle.frames.specs.declared.shapes.HostReg.{HostReg}
 use Rattle.frames.specs.declared.shapes.Frame.{Frame}
 use Rattle.frames.specs.declared.shapes.Frame.the-variants as fs
-use Rattle.states.specs.Table.{entryOf}
-use Rattle.rules.specs.Facts.{moveOf}
+use Rattle.device_state.specs.Table.{entryOf}
+use Rattle.rules.specs.Positions.{moveOf}
 use Rattle.rules.specs.Decide.{isQueued}
-use Rattle.rules.specs.Taking.{numberOf, spanOf, partOf}
+use Rattle.rules.specs.Medium.{numberOf, spanOf, partOf}
 use Rattle.rules.specs.declared.facts.Facts.{Facts}
 use Rattle.rules.specs.declared.acts.Queued.{Queued}
 use Rattle.rules.specs.declared.acts.Act.{Act}
@@ -32,42 +32,42 @@ use Rattle.history.specs.Replied.{some, errIn, registerIn, collect, faul
 use Rattle.history.specs.Shapes.{kindOf, OneOf, commandReplies, frameReplies, callReplies}
 
 -- the kinds of what is sent
-abbrev pub kindsOf : List Sent → List ℕ
-kindsOf rs = map kindOf (map trip.seen rs)
+abbrev pub kindsOf : List FrameValue → List ℕ
+kindsOf rs = map kindOf (map trip.readBack rs)
 
 -- a 34h with ERR stands among frames
 abbrev pub erringIn : List Frame → Bool
 erringIn l = some (λ r. errIn (r .status)) (collect registerIn l)
 
 -- and is sent
-abbrev pub erring : List Sent → Bool
-erring rs = erringIn (map trip.seen rs)
+abbrev pub erring : List FrameValue → Bool
+erring rs = erringIn (map trip.readBack rs)
 
 -- a 34h without ERR stands among frames
 abbrev pub grantingIn : List Frame → Bool
 grantingIn l = some (λ r. not (errIn (r .status))) (collect registerIn l)
 
 -- and is sent
-abbrev pub granting : List Sent → Bool
-granting rs = grantingIn (map trip.seen rs)
+abbrev pub granting : List FrameValue → Bool
+granting rs = grantingIn (map trip.readBack rs)
 
 -- a 5Fh with ERR is sent
-abbrev pub faulty : List Sent → Bool
-faulty rs = faultyIn (map trip.seen rs)
+abbrev pub sendsFaulty : List FrameValue → Bool
+sendsFaulty rs = faultyIn (map trip.readBack rs)
 
 -- what is sent is one of what may be, and its ERR is where it may be
-pub record Shaped (may : List (List ℕ)) (k : Asked) (rs : List Sent) : Type 0 where
+pub record Shaped (may : List (List ℕ)) (k : Asked) (rs : List FrameValue) : Type 0 where
   pub shape : OneOf (kindsOf rs) may
   pub blames : erring rs ≡ true → k .command ≡ true
   pub ungranted : k .command ≡ true → k .queued ≡ false → granting rs ≡ false
-  pub faultless : faulty rs ≡ false
+  pub faultless : sendsFaulty rs ≡ false
 
 -- of a call
-abbrev pub CallShaped : Call → List Sent → Type 0
+abbrev pub CallShaped : Call → List FrameValue → Type 0
 CallShaped c rs = Shaped (callReplies c) (callAsks c) rs
 
 -- to what is no command: without a 34h with ERR, and without a 5Fh with ERR
-unblamed : {may : List (List ℕ)} {k : Asked} (rs : List Sent) → k .command ≡ false → OneOf (kindsOf rs) may → erring rs ≡ false → faulty rs ≡ false → Shaped may k rs
+unblamed : {may : List (List ℕ)} {k : Asked} (rs : List FrameValue) → k .command ≡ false → OneOf (kindsOf rs) may → erring rs ≡ false → sendsFaulty rs ≡ false → Shaped may k rs
 unblamed rs c o e f = record { shape = o; blames = λ y. absurd (false≢true (sym e ∙ y)); ungranted = λ y _. absurd (false≢true (sym c ∙ y)); faultless = f }
 
 -- ---- a host frame
@@ -75,12 +75,12 @@ unblamed rs c o e f = record { shape = o; blames = λ y. absurd (false≢true (s
 -- a command
 module _ (h : HostReg) (c : h .«command_bit» ≡ true) where
   -- that is queued: one 34h
-  to-queued : isQueued h ≡ true → (rs : List Sent) → kindsOf rs ≡ 0x34 ∷ [] → faulty rs ≡ false → Shaped (frameReplies (fs.Host h)) (frameAsks (fs.Host h)) rs
+  to-queued : isQueued h ≡ true → (rs : List FrameValue) → kindsOf rs ≡ 0x34 ∷ [] → sendsFaulty rs ≡ false → Shaped (frameReplies (fs.Host h)) (frameAsks (fs.Host h)) rs
   unfolding pick
   to-queued q rs o f = record { shape = rw c (inl o); blames = λ _. c; ungranted = λ _ n. absurd (true≢false (sym (rw (c, q)) ∙ n)); faultless = f }
 
   -- that is not
-  to-other : (rs : List Sent) → OneOf (kindsOf rs) commandReplies → granting rs ≡ false → faulty rs ≡ false → Shaped (frameReplies (fs.Host h)) (frameAsks (fs.Host h)) rs
+  to-other : (rs : List FrameValue) → OneOf (kindsOf rs) commandReplies → granting rs ≡ false → sendsFaulty rs ≡ false → Shaped (frameReplies (fs.Host h)) (frameAsks (fs.Host h)) rs
   unfolding pick
   to-other rs o g f = record { shape = rw c o; blames = λ _. c; ungranted = λ _ _. g; faultless = f }
 
@@ -111,7 +111,7 @@ heard-shaped s v (by.other-busy h c x) = to-other h (c .command) _ (inl refl) re
 heard-shaped s v (by.page10 h c e p) = to-log h (c .command) (s .halted) _ _
 heard-shaped s v (by.page11 h c x e p) = to-log h (c .command) false _ _
 heard-shaped s v (by.other-bad h c x e) = to-other h (c .command) _ (inl refl) refl refl
-heard-shaped s v (by.due n p w y) = to-data n (not (moveOf (v .flow) (v .entry) n .last))
+heard-shaped s v (by.due n p w y) = to-data n (not (moveOf (v .status) (v .entry) n .last))
 heard-shaped s v (by.bist x) = unblamed [] refl (inl refl) refl refl
 
 -- ---- every call

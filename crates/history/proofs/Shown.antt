@@ -7,8 +7,8 @@ use Prim.Native.Nat.{ℕ}
 use lib.Dec.{eqb}
 use Rattle.bits.specs.Pick.{pick}
 use Rattle.bits.proofs.Picks.{tested}
-use Rattle.states.specs.Clauses.{settingsOut}
-use Rattle.states.specs.declared.shapes.Settings.{Settings}
+use Rattle.device_state.specs.Clauses.{settingsOut}
+use Rattle.device_state.specs.declared.shapes.Settings.{Settings}
 use Rattle.device.specs.Device.{freshDevice, powerNumber, powerOn}
 use Rattle.device.specs.declared.state.Device.{Device}
 use Rattle.history.specs.Demand3.{Counters}

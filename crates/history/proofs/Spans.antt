@@ -9,9 +9,9 @@ use lib.Dec.{ltb}
 use borrow.Author.Tests.{eq-eqb, ne-eqb}
 use Rattle.bits.specs.Pick.{pick}
 use Rattle.bits.proofs.Picks.{by-test}
-use Rattle.history.specs.Seen.{Seen, Flow, still, flows, errs}
+use Rattle.history.specs.Seen.{Seen, Transfer, noTransfer, underWay, errs}
 use Rattle.history.specs.Fates.{outstandingAt, finishedAt}
-use Rattle.history.specs.Carried.{load, onward, advanced, flow, span, belongs, piece, carriedAt}
+use Rattle.history.specs.Carried.{load, onward, advanced, transfer, span, belongs, positions, carriedAt}
 
 -- x + y numbers from a on are x from a on, and then y
 pub span-add : (a x y : ℕ) → span a (x + y) ≡ span a x ++ span (a + x) y
@@ -35,18 +35,18 @@ pub load-none : (d : Bool) (e : Seen) → Empty e → load d e ≡ 0
 load-none d e x = by-test (λ (n : ℕ). n ≡ 0) d (e .sends) (e .asks .brings) (λ _. x .sends) (λ _. x .brings)
 
 -- nothing carried: what is under way stays
-pub advanced-none : (e : Seen) (x : Flow) → Empty e → advanced e x ≡ x
-advanced-none e still y = refl
-advanced-none e (flows d t a z) y = rw (load-none d e y)
+pub advanced-none : (e : Seen) (x : Transfer) → Empty e → advanced e x ≡ x
+advanced-none e noTransfer y = refl
+advanced-none e (underWay d t a z) y = rw (load-none d e y)
 
 -- nothing carried: no positions
-pub piece-none : (start : ℕ) (write : Bool) (tag : ℕ) (e : Seen) (x : Flow) → Empty e → piece start write tag e x ≡ []
-piece-none start write tag e still y = refl
-piece-none start write tag e (flows d t a z) y =
+pub first-length-none : (start : ℕ) (write : Bool) (tag : ℕ) (e : Seen) (x : Transfer) → Empty e → positions start write tag e x ≡ []
+first-length-none start write tag e noTransfer y = refl
+first-length-none start write tag e (underWay d t a z) y =
     by-test (λ (l : List ℕ). l ≡ []) (belongs write tag d t) (span (start + a) (load d e)) [] (λ _. rw (load-none d e y) (span-none (start + a))) (λ _. refl)
 
 -- something carried: what is under way goes on, or ends
-pub onward-some : (k : ℕ) (d : Bool) (t a z : ℕ) → 0 < k → onward k (flows d t a z) ≡ pick (ltb (a + k) z) (flows d t (a + k) z) still
+pub onward-some : (k : ℕ) (d : Bool) (t a z : ℕ) → 0 < k → onward k (underWay d t a z) ≡ pick (ltb (a + k) z) (underWay d t (a + k) z) noTransfer
 onward-some zero d t a z l = absurd (omega arith)
 onward-some (suc k) d t a z l = refl
 
@@ -72,7 +72,7 @@ carried-after start write tag e n o = rw o (append-nil (carriedAt start write ta
 
 -- and grow by an event's positions while it is
 pub carried-while : (start : ℕ) (write : Bool) (tag : ℕ) (e : Seen) (n : List Seen) → outstandingAt tag n ≡ true
-    → carriedAt start write tag (e ∷ n) ≡ carriedAt start write tag n ++ piece start write tag e (flow n)
+    → carriedAt start write tag (e ∷ n) ≡ carriedAt start write tag n ++ positions start write tag e (transfer n)
 unfolding carriedAt pick
 carried-while start write tag e n o = rw o
 
@@ -82,7 +82,7 @@ pub carried-none : (start : ℕ) (write : Bool) (tag : ℕ) (e : Seen) (n : List
 unfolding carriedAt
 carried-none start write tag e n y =
     ap (λ (l : List ℕ). carriedAt start write tag n ++ l)
-    (by-test (λ (l : List ℕ). l ≡ []) (outstandingAt tag n) (piece start write tag e (flow n)) [] (λ _. piece-none start write tag e (flow n) y) (λ _. refl))
+    (by-test (λ (l : List ℕ). l ≡ []) (outstandingAt tag n) (positions start write tag e (transfer n)) [] (λ _. first-length-none start write tag e (transfer n) y) (λ _. refl))
     ∙ append-nil (carriedAt start write tag n)
 
 -- truth table: a finished command is not outstanding

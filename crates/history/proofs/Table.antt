@@ -8,35 +8,35 @@ use native.Mathlib.Omega.{arith}
 use borrow.Author.Tests.{not-true}
 use Rattle.bits.proofs.Picks.{tested, and-left, and-right}
 use Rattle.device.specs.declared.state.Device.{Device}
-use Rattle.history.specs.Seen.{Seen, Flow}
+use Rattle.history.specs.Seen.{Seen, Transfer}
 use Rattle.history.specs.Fates.{Command, later, commands, ownTag, ends, outstandingAt, finishedAt, outstanding, finished, All}
-use Rattle.history.specs.Carried.{flow, span, base, size, piece, carriedAt, carried}
+use Rattle.history.specs.Carried.{transfer, span, base, size, positions, carriedAt, carried}
 use Rattle.history.specs.Demand3.{Beginning, Ranges}
 use Rattle.history.proofs.Class.{Class}
-use Rattle.history.proofs.Alls.{fresh, all-imp, all-start, all-step}
+use Rattle.history.proofs.Alls.{freshCommand, all-imp, all-start, all-step}
 use Rattle.history.proofs.Spans.{span-none, carried-after, carried-while, carried-none, finished-over}
-use Rattle.history.proofs.Flowing.{flowOf, Phased, phased-shut, phased-step, whole-flow-step, whole-flow-start}
-use Rattle.history.proofs.Moving.{entryAt, busyAt, New, Moving, moving}
+use Rattle.history.proofs.Transfers.{transferOf, Phased, phased-shut, phased-step, whole-transfer-step, whole-transfer-start}
+use Rattle.history.proofs.Moving.{deviceEntry, busyAt, New, Moving, moving}
 
 -- an outstanding command against its tag's entry: outstanding there too, asking for the same, and with as much moved as was carried
 pub record Standing (d : Device) (c : Command) : Type 0 where
   pub busy : busyAt d (ownTag c) ≡ true
-  pub write : entryAt d (ownTag c) .write ≡ c .accepted .asks .write
-  pub first : entryAt d (ownTag c) .first ≡ c .accepted .asks .first
-  pub count : entryAt d (ownTag c) .count ≡ c .accepted .asks .count
-  pub moved : entryAt d (ownTag c) .moved ≤ 512 * entryAt d (ownTag c) .count
-  pub bytes : carried c ≡ span (base c) (entryAt d (ownTag c) .moved)
+  pub write : deviceEntry d (ownTag c) .write ≡ c .accepted .asks .write
+  pub first : deviceEntry d (ownTag c) .first ≡ c .accepted .asks .first
+  pub count : deviceEntry d (ownTag c) .count ≡ c .accepted .asks .count
+  pub moved : deviceEntry d (ownTag c) .moved ≤ 512 * deviceEntry d (ownTag c) .count
+  pub bytes : carried c ≡ span (base c) (deviceEntry d (ownTag c) .moved)
 
 -- a command against the state: what is under way since it was accepted, its entry while it is outstanding, and the positions that it carried
 pub record Following (d : Device) (c : Command) : Type 0 where
-  pub under : flow (c .after) ≡ flowOf d
+  pub under : transfer (c .after) ≡ transferOf d
   pub stands : outstanding c ≡ true → Standing d c
   pub whole : finished c ≡ true → carried c ≡ span (base c) (size c)
   pub begins : Beginning (base c) (size c) (carried c)
 
 -- what an outstanding command carried is a beginning of its range
 stands-begins : (d : Device) (c : Command) → Standing d c → Beginning (base c) (size c) (carried c)
-stands-begins d c s = record { long = entryAt d (ownTag c) .moved; within = stands-within (s .moved) (s .count); is = s .bytes }
+stands-begins d c s = record { long = deviceEntry d (ownTag c) .moved; within = stands-within (s .moved) (s .count); is = s .bytes }
   where
     stands-within : {m n k : ℕ} → m ≤ 512 * n → n ≡ k → m ≤ 512 * k
     stands-within l e = omega arith
@@ -46,10 +46,10 @@ same-begins : (a n : ℕ) (l m : List ℕ) → l ≡ m → Beginning a n m → B
 same-begins a n l m e b = record { long = b .long; within = b .within; is = e ∙ b .is }
 
 -- an accepted command
-follows-new : (d′ : Device) (e : Seen) → New e d′ → Following d′ (fresh e)
+follows-new : (d′ : Device) (e : Seen) → New e d′ → Following d′ (freshCommand e)
 unfolding outstandingAt finishedAt carriedAt
 follows-new d′ e k =
-    let s : Standing d′ (fresh e) = record {
+    let s : Standing d′ (freshCommand e) = record {
       busy = k .busy;
       write = k .write;
       first = k .first;
@@ -58,14 +58,14 @@ follows-new d′ e k =
       bytes = sym (ap (λ (m : ℕ). span (512 * e .asks .first) m) (k .moved) ∙ span-none (512 * e .asks .first));
     } in
     record {
-      under = whole-flow-start d′ (k .shut);
+      under = whole-transfer-start d′ (k .shut);
       stands = λ _. s;
       whole = λ f. absurd (false≢true f);
-      begins = stands-begins d′ (fresh e) s;
+      begins = stands-begins d′ (freshCommand e) s;
     }
 
 -- an outstanding command that stays so
-stands-later : (d d′ : Device) (e : Seen) (c : Command) → Moving d e d′ → flow (c .after) ≡ flowOf d → outstanding c ≡ true → Standing d c → ends (ownTag c) e ≡ false → Standing d′ (later e c)
+stands-later : (d d′ : Device) (e : Seen) (c : Command) → Moving d e d′ → transfer (c .after) ≡ transferOf d → outstanding c ≡ true → Standing d c → ends (ownTag c) e ≡ false → Standing d′ (later e c)
 stands-later d d′ e c m f o s x =
     let t = ownTag c in
     let k = m .stay t (s .busy) x in
@@ -76,7 +76,7 @@ stands-later d d′ e c m f o s x =
       count = k .count ∙ s .count;
       moved = rw (k .count) (k .moved (s .moved));
       bytes = carried-while (base c) (c .accepted .asks .write) t e (c .after) o
-          ∙ ap₂ _++_ (s .bytes) (ap₂ (λ (w : Bool) (y : Flow). piece (base c) w t e y) (sym (s .write)) f)
+          ∙ ap₂ _++_ (s .bytes) (ap₂ (λ (w : Bool) (y : Transfer). positions (base c) w t e y) (sym (s .write)) f)
           ∙ k .carried (base c);
     }
 
@@ -100,7 +100,7 @@ b-over : (f c : Bool) → f ≡ true → f || c ≡ true
 b-over true c e = refl
 b-over false c e = absurd (false≢true e)
 
-module _ (d d′ : Device) (e : Seen) (c : Command) (m : Moving d e d′) (k : Following d c) (u : flow (e ∷ c .after) ≡ flowOf d′) where
+module _ (d d′ : Device) (e : Seen) (c : Command) (m : Moving d e d′) (k : Following d c) (u : transfer (e ∷ c .after) ≡ transferOf d′) where
   -- a command that had already ended
   old : outstanding c ≡ false → Following d′ (later e c)
   unfolding outstandingAt finishedAt
@@ -157,7 +157,7 @@ following-step d d′ e h i a k =
     let m = moving d d′ e k in
     all-step (Following d′) (Following d) e h
     (λ x. follows-new d′ e (m .new x))
-    (λ c f. follows-later d d′ e c m f (whole-flow-step d d′ e (c .after) i (f .under) k))
+    (λ c f. follows-later d d′ e c m f (whole-transfer-step d d′ e (c .after) i (f .under) k))
     a
 
 -- a finished command's data frames carried each byte of its range once, in rising order, none outside; those of any command a beginning of its range
@@ -165,27 +165,27 @@ pub ranges : (d : Device) (h : List Seen) → All (Following d) (commands h) →
 ranges d h a = all-imp (Following d) _ (λ c f. (f .whole, f .begins)) (commands h) a
 
 -- for each outstanding command: what is under way since it was accepted is what the state's phase stands for, and its entry asks for the same
-pub flow-now : (d : Device) (h : List Seen) → All (Following d) (commands h) → All (λ c. outstanding c ≡ true → (flow (c .after) ≡ flowOf d) × Standing d c) (commands h)
-flow-now d h a = all-imp (Following d) _ (λ c f o. (f .under, f .stands o)) (commands h) a
+pub transfer-now : (d : Device) (h : List Seen) → All (Following d) (commands h) → All (λ c. outstanding c ≡ true → (transfer (c .after) ≡ transferOf d) × Standing d c) (commands h)
+transfer-now d h a = all-imp (Following d) _ (λ c f o. (f .under, f .stands o)) (commands h) a
 
 -- a whole history against the state: the open phase's tag is outstanding, what is under way is what the phase stands for, and each command follows
 pub record Tracked (d : Device) (h : List Seen) : Type 0 where
   pub phased : Phased d
-  pub under : flow h ≡ flowOf d
+  pub under : transfer h ≡ transferOf d
   pub commands : All (Following d) (commands h)
 
 -- before any call, with no phase open
-pub tracked-start : (d : Device) → d .flow .phase ≡ 0 → Tracked d []
-tracked-start d p = record { phased = phased-shut d p; under = whole-flow-start d p; commands = follows-start d }
+pub tracked-start : (d : Device) → d .status .phase ≡ 0 → Tracked d []
+tracked-start d p = record { phased = phased-shut d p; under = whole-transfer-start d p; commands = follows-start d }
 
 -- each kind of effect keeps it
 pub tracked-step : (d d′ : Device) (e : Seen) (h : List Seen) → Tracked d h → Class d e d′ → Tracked d′ (e ∷ h)
 tracked-step d d′ e h i k = record {
   phased = phased-step d d′ e (i .phased) k;
-  under = whole-flow-step d d′ e h (i .phased) (i .under) k;
+  under = whole-transfer-step d d′ e h (i .phased) (i .under) k;
   commands = following-step d d′ e h (i .phased) (i .commands) k;
 }
 
 -- and what is under way after a whole history is what the state's phase stands for
-pub flow-all : (d : Device) (h : List Seen) → Tracked d h → flow h ≡ flowOf d
-flow-all d h i = i .under
+pub transfer-all : (d : Device) (h : List Seen) → Tracked d h → transfer h ≡ transferOf d
+transfer-all d h i = i .under

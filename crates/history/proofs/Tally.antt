@@ -11,8 +11,8 @@ use lib.Seq.{getD-set-same, getD-set-other}
 use borrow.Author.Tests.{eqb-true, eqb-false, ltb-true, ltb-false}
 use Rattle.bits.specs.Pick.{pick}
 use Rattle.bits.proofs.Picks.{tested, pick-yes}
-use Rattle.ladders.specs.Counts.{bumped}
-use Rattle.states.specs.declared.shapes.Settings.{Settings}
+use Rattle.device_state.specs.Counts.{bumped}
+use Rattle.device_state.specs.declared.shapes.Settings.{Settings}
 use Rattle.device.specs.Device.{freshDevice, powerOn, powerNumber}
 use Rattle.device.specs.declared.state.Device.{Device}
 use Rattle.history.specs.Event.{Event}
@@ -37,30 +37,30 @@ wipes (raise k) = false
 wipes wipe = true
 
 -- an effect raises a row
-abbrev pub raises : ℕ → Effect → Bool
-raises r stay = false
-raises r (raise k) = eqb k r
-raises r wipe = false
+abbrev pub raisesAt : ℕ → Effect → Bool
+raisesAt r stay = false
+raisesAt r (raise k) = eqb k r
+raisesAt r wipe = false
 
 -- a row that is raised is one of the sixteen
-abbrev pub Within : Effect → Type 0
-Within stay = Unit
-Within (raise k) = k < 16
-Within wipe = Unit
+abbrev pub RowWithin : Effect → Type 0
+RowWithin stay = Unit
+RowWithin (raise k) = k < 16
+RowWithin wipe = Unit
 
 -- what the history reads of an event is this effect
 pub record Reads (e : Event) (x : Effect) : Type 0 where
   pub zeroed : zeroes e ≡ wipes x
-  pub raised : (r : ℕ) → r < 16 → raisesRow r e ≡ raises r x
+  pub raised : (r : ℕ) → r < 16 → raisesRow r e ≡ raisesAt r x
 
 -- each of sixteen counters is its events since the last zeroing, held at the top
-pub record Tells (values : List ℕ) (h : List Event) : Type 0 where
+pub record ValuesTell (values : List ℕ) (h : List Event) : Type 0 where
   pub long : length values ≡ 16
   pub value : (r : ℕ) → r < 16 → getD values r 0 ≡ told r h
 
 -- of a device
 abbrev pub Counting : Device → List Event → Type 0
-Counting d h = Tells (d .values) h
+Counting d h = ValuesTell (d .values) h
 
 -- zeros have zeros everywhere
 zeros : (n r : ℕ) → _≡_ {A = ℕ} (getD (replicate n 0) r 0) 0
@@ -88,7 +88,7 @@ unfolding countedIn
 counted-none e h r z = pick-yes (zeroes e) 0 (pick (raisesRow r e) 1 0 + countedIn r h) z
 
 -- values that changed as the history reads the event still tell it
-pub tells : (x : Effect) (values : List ℕ) (e : Event) (h : List Event) → Within x → Reads e x → Tells values h → Tells (counted x values) (e ∷ h)
+pub tells : (x : Effect) (values : List ℕ) (e : Event) (h : List Event) → RowWithin x → Reads e x → ValuesTell values h → ValuesTell (counted x values) (e ∷ h)
 tells stay values e h w s i = record {
   long = i .long;
   value = λ r u. i .value r u ∙ ap (min 4294967295) (sym (counted-same e h r (s .zeroed) (s .raised r u)));
@@ -115,12 +115,12 @@ tells wipe values e h w s i = record {
 }
 
 -- sixteen zeros tell an empty history
-pub tells-zeros : Tells (replicate 16 0) []
+pub tells-zeros : ValuesTell (replicate 16 0) []
 unfolding countedIn
 tells-zeros = record { long = length-replicate {A = ℕ} 16 0; value = λ r u. zeros 16 r }
 
 -- no value is wider than 32 bits
-pub tells-small : (values : List ℕ) (h : List Event) → Tells values h → (r : ℕ) → getD values r 0 < 2 ^ 32
+pub tells-small : (values : List ℕ) (h : List Event) → ValuesTell values h → (r : ℕ) → getD values r 0 < 2 ^ 32
 tells-small values h i r =
     ⊎-elim
     (λ (t : ltb r 16 ≡ true). let u : r < 16 = ltb-true r 16 t in let q = i .value r u in omega arith)

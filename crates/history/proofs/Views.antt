@@ -7,8 +7,8 @@ use lib.ListN.{length}
 use Rattle.bits.specs.Pick.{pick}
 use Rattle.bits.specs.Bit.{bitIn}
 use Rattle.frames.specs.Read.{readFrame}
-use Rattle.frames.specs.Write.{Sent, host, device, setBits, setup, activate, payload, bist, pio, encode}
-use Rattle.frames.specs.Trip as trip
+use Rattle.frames.specs.Write.{FrameValue, host, device, setBits, setup, activate, payload, bist, pio, encode}
+use Rattle.frames.specs.RoundTrip as trip
 use Rattle.frames.specs.declared.shapes.DevReg.{DevReg}
 use Rattle.frames.specs.declared.shapes.SetBits.{SetBits}
 use Rattle.frames.specs.declared.shapes.DmaSetup.{DmaSetup}
@@ -20,12 +20,12 @@ use Rattle.replies.specs.Replies.{activateIf}
 use Rattle.device.proofs.Never.{and-never}
 use Rattle.history.specs.Asked.{Asked, quiet, dataAsks, resetAsks}
 use Rattle.history.specs.Replied.{some, errIn, collect, isPio, dataIn, payloads}
-use Rattle.history.specs.Seen.{Seen, sight, names, begun, Flow, flows}
+use Rattle.history.specs.Seen.{Seen, seenIn, names, begun, Transfer, underWay}
 use Rattle.history.proofs.Sets.{no-bit}
 use Rattle.history.proofs.Class.{none, Is, Unbegun}
 
 -- the payload of a frame that is sent
-abbrev pub payloadOf : Sent → List ℕ
+abbrev pub payloadOf : FrameValue → List ℕ
 payloadOf (host f) = []
 payloadOf (device f) = []
 payloadOf (setBits f) = []
@@ -36,29 +36,29 @@ payloadOf bist = []
 payloadOf (pio f) = []
 
 -- the payloads of frames, one behind the other
-abbrev pub payloadsOf : List Sent → List ℕ
+abbrev pub payloadsOf : List FrameValue → List ℕ
 payloadsOf [] = []
 payloadsOf (f ∷ fs) = payloadOf f ++ payloadsOf fs
 
 -- what is sent that is no page
-abbrev pub sentIn : List Sent → List ℕ
-sentIn fs = pick (some isPio (map trip.seen fs)) [] (payloadsOf fs)
+abbrev pub sentIn : List FrameValue → List ℕ
+sentIn fs = pick (some isPio (map trip.readBack fs)) [] (payloadsOf fs)
 
 -- the page that is sent
-abbrev pub pageIn : List Sent → List ℕ
-pageIn fs = pick (some isPio (map trip.seen fs)) (payloadsOf fs) []
+abbrev pub pageIn : List FrameValue → List ℕ
+pageIn fs = pick (some isPio (map trip.readBack fs)) (payloadsOf fs) []
 
 -- what demand 3 reads of frames that were sent
-unfoldable pub view : Asked → List Sent → Seen
-view a fs = sight a (map trip.seen fs) (length (sentIn fs))
+unfoldable pub view : Asked → List FrameValue → Seen
+view a fs = seenIn a (map trip.readBack fs) (length (sentIn fs))
 
 -- frames that can be written are read as they were sent
-pub all-read : (fs : List Sent) → Fitting fs → map readFrame (map encode fs) ≡ map trip.seen fs
+pub all-read : (fs : List FrameValue) → Fitting fs → map readFrame (map encode fs) ≡ map trip.readBack fs
 unfolding Fitting
 all-read [] h = refl
 all-read (f ∷ fs) h = ap₂ (λ (x : Frame) (l : List Frame). x ∷ l) (read-encoded f (h .0)) (all-read fs (h .1))
 
-data-of : (f : Sent) → dataIn (encode f) (trip.seen f) ≡ payloadOf f
+data-of : (f : FrameValue) → dataIn (encode f) (trip.readBack f) ≡ payloadOf f
 unfolding encode
 data-of (host f) = refl
 data-of (device f) = refl
@@ -70,7 +70,7 @@ data-of bist = refl
 data-of (pio f) = refl
 
 -- and their payloads are those that were sent
-pub all-payloads : (fs : List Sent) → Fitting fs → payloads (map encode fs) ≡ payloadsOf fs
+pub all-payloads : (fs : List FrameValue) → Fitting fs → payloads (map encode fs) ≡ payloadsOf fs
 unfolding Fitting payloads
 all-payloads [] h = refl
 all-payloads (f ∷ fs) h =
@@ -224,7 +224,7 @@ is-setup f true = record { queued = refl; accepted = refl; bad = refl; fails = r
 is-setup f false = record { queued = refl; accepted = refl; bad = refl; fails = refl; resets = refl; sweeps = refl; finishes = λ t. refl; clears = λ t. refl; sends = refl; brings = refl }
 
 -- and what it begins
-pub setup-begins : (f : DmaSetup) (w : Bool) (x : Flow) → view quiet (setup f ∷ activateIf w) .begins x ≡ flows (f .«to_host») (f .tag) (f .offset) (f .offset + f .count)
+pub setup-begins : (f : DmaSetup) (w : Bool) (x : Transfer) → view quiet (setup f ∷ activateIf w) .begins x ≡ underWay (f .«to_host») (f .tag) (f .offset) (f .offset + f .count)
 unfolding view collect begun pick
 setup-begins f true x = refl
 setup-begins f false x = refl

@@ -4,7 +4,7 @@ use mathlib.Core.List.{List, []}
 use Prim.Native.Nat.{ℕ}
 use lib.Dec.{eqb}
 use Rattle.bits.specs.Pick.{pick}
-use Rattle.wire.specs.Piece.{tagOf, sectorsOf, srstOf}
+use Rattle.frame_parts.specs.Shared.{tagOf, sectorsOf, srstOf}
 use Rattle.frames.specs.Read.{readFrame}
 use Rattle.frames.specs.declared.shapes.HostReg.{HostReg}
 use Rattle.frames.specs.declared.shapes.Frame.{Frame}

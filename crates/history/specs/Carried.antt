@@ -5,7 +5,7 @@ use mathlib.Core.List.{List, [], _∷_, _++_}
 use Prim.Native.Nat.{ℕ, zero, suc, _+_, _*_, _≤_, _<_}
 use lib.Dec.{eqb, ltb}
 use Rattle.bits.specs.Pick.{pick}
-use Rattle.history.specs.Seen.{Seen, Flow, still, flows, errs}
+use Rattle.history.specs.Seen.{Seen, Transfer, noTransfer, underWay, errs}
 use Rattle.history.specs.Fates.{Command, ownTag, outstandingAt}
 
 -- the bytes that an event carries in a direction: device data to the host, taken host data from it
@@ -13,20 +13,20 @@ abbrev pub load : Bool → Seen → ℕ
 load toHost e = pick toHost (e .sends) (e .asks .brings)
 
 -- n bytes on; used up, a Setup has no more data
-abbrev pub onward : ℕ → Flow → Flow
+abbrev pub onward : ℕ → Transfer → Transfer
 onward zero x = x
-onward (suc n) still = still
-onward (suc n) (flows d t a z) = pick (ltb (a + suc n) z) (flows d t (a + suc n) z) still
+onward (suc n) noTransfer = noTransfer
+onward (suc n) (underWay d t a z) = pick (ltb (a + suc n) z) (underWay d t (a + suc n) z) noTransfer
 
 -- the data of an event, in the direction of what is under way
-abbrev pub advanced : Seen → Flow → Flow
-advanced e still = still
-advanced e (flows d t a z) = onward (load d e) (flows d t a z)
+abbrev pub advanced : Seen → Transfer → Transfer
+advanced e noTransfer = noTransfer
+advanced e (underWay d t a z) = onward (load d e) (underWay d t a z)
 
 -- what is under way after a history: an error and a reset close it
-unfoldable pub flow : List Seen → Flow
-flow [] = still
-flow (e ∷ h) = pick (errs e || e .asks .resets) still (e .begins (advanced e (flow h)))
+unfoldable pub transfer : List Seen → Transfer
+transfer [] = noTransfer
+transfer (e ∷ h) = pick (errs e || e .asks .resets) noTransfer (e .begins (advanced e (transfer h)))
 
 -- n numbers from a on, rising
 unfoldable pub span : ℕ → ℕ → List ℕ
@@ -46,25 +46,25 @@ abbrev pub belongs : Bool → ℕ → Bool → ℕ → Bool
 belongs write tag d t = eqb t tag && pick write (not d) d
 
 -- the positions that an event carries of a command whose range begins at `start`
-abbrev pub piece : ℕ → Bool → ℕ → Seen → Flow → List ℕ
-piece start write tag e still = []
-piece start write tag e (flows d t a z) = pick (belongs write tag d t) (span (start + a) (load d e)) []
+abbrev pub positions : ℕ → Bool → ℕ → Seen → Transfer → List ℕ
+positions start write tag e noTransfer = []
+positions start write tag e (underWay d t a z) = pick (belongs write tag d t) (span (start + a) (load d e)) []
 
 -- the positions carried while the command was outstanding, in order
 unfoldable pub carriedAt : ℕ → Bool → ℕ → List Seen → List ℕ
 carriedAt start write tag [] = []
-carriedAt start write tag (e ∷ n) = carriedAt start write tag n ++ pick (outstandingAt tag n) (piece start write tag e (flow n)) []
+carriedAt start write tag (e ∷ n) = carriedAt start write tag n ++ pick (outstandingAt tag n) (positions start write tag e (transfer n)) []
 
 -- of a command
 abbrev pub carried : Command → List ℕ
 carried c = carriedAt (base c) (c .accepted .asks .write) (ownTag c) (c .after)
 
 -- n bytes in a direction are of what is under way, and within what is left of it
-abbrev pub Within : Bool → ℕ → Flow → Type 0
-Within d n still = ⊥
-Within d n (flows x t a z) = (x ≡ d) × (a + n ≤ z)
+abbrev pub Within : Bool → ℕ → Transfer → Type 0
+Within d n noTransfer = ⊥
+Within d n (underWay x t a z) = (x ≡ d) × (a + n ≤ z)
 
 -- no stray data: data sent are of a Setup under way with D 1, data brought of one with D 0
-pub record Due (e : Seen) (x : Flow) : Type 0 where
+pub record NoStray (e : Seen) (x : Transfer) : Type 0 where
   pub sends : 0 < e .sends → Within true (e .sends) x
   pub brings : 0 < e .asks .brings → Within false (e .asks .brings) x

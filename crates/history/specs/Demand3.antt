@@ -9,11 +9,11 @@ use Rattle.pages.specs.Page11.{readCounter, noNumber}
 use Rattle.history.specs.Event.{Event}
 use Rattle.history.specs.Asked.{brought}
 use Rattle.history.specs.Replied.{page, sent}
-use Rattle.history.specs.Seen.{Seen, seen, Flow, still, flows}
+use Rattle.history.specs.Seen.{Seen, seen, Transfer, noTransfer, underWay}
 use Rattle.history.specs.Fates.{Command, commands, ownTag, outstandingAt, finishedAt, givenUpAt, droppedAt, outstanding, finished, givenUp, dropped, one, howMany, All, total, totalWith}
 use Rattle.history.specs.Waits.{sactive, waits, givenUpThere, badSince}
-use Rattle.history.specs.Carried.{flow, span, base, size, belongs, carried, Due}
-use Rattle.history.specs.Manners.{Mannered}
+use Rattle.history.specs.Carried.{transfer, span, base, size, belongs, carried, NoStray}
+use Rattle.history.specs.ReplyRules.{ReplyRules}
 use Rattle.history.specs.Counted.{sends11, toldFor}
 
 -- exactly one of four
@@ -53,28 +53,28 @@ pub record Moved (e : Event) (toHost : Bool) (at : ℕ) : Type 0 where
   pub within : toHost ≡ false → 0 < length (brought e) → at + length (brought e) ≤ length (e .medium)
 
 -- the data of an event that belongs to a command
-abbrev pub MovedOf : Event → Command → Flow → Type 0
-MovedOf e c still = Unit
-MovedOf e c (flows d t a z) = belongs (c .accepted .asks .write) (ownTag c) d t ≡ true → Moved e d (base c + a)
+abbrev pub MovedOf : Event → Command → Transfer → Type 0
+MovedOf e c noTransfer = Unit
+MovedOf e c (underWay d t a z) = belongs (c .accepted .asks .write) (ownTag c) d t ≡ true → Moved e d (base c + a)
 
 -- what is under way is the data of exactly one command, which is outstanding
-abbrev pub Owned : Flow → List Command → Type 0
-Owned still cs = Unit
-Owned (flows d t a z) cs = howMany (λ c. outstanding c && belongs (c .accepted .asks .write) (ownTag c) d t) cs ≡ 1
+abbrev pub Owned : Transfer → List Command → Type 0
+Owned noTransfer cs = Unit
+Owned (underWay d t a z) cs = howMany (λ c. outstanding c && belongs (c .accepted .asks .write) (ownTag c) d t) cs ≡ 1
 
 -- a Setup under way ends where the command's range ends
-abbrev pub Reaches : Command → Flow → Type 0
-Reaches c still = Unit
-Reaches c (flows d t a z) = belongs (c .accepted .asks .write) (ownTag c) d t ≡ true → z ≡ size c
+abbrev pub Reaches : Command → Transfer → Type 0
+Reaches c noTransfer = Unit
+Reaches c (underWay d t a z) = belongs (c .accepted .asks .write) (ownTag c) d t ≡ true → z ≡ size c
 
 -- one event after a history: its data are of what is under way, which is one command's and reaches to the end of its range, the same for each command as for the whole history;
 -- each command's data stand as they should, and where no data came the medium is as it was
 pub record Moves (e : Event) (h : List Seen) : Type 0 where
-  pub due : Due (seen e) (flow h)
-  pub owned : Owned (flow h) (commands h)
-  pub since : All (λ c. flow (c .after) ≡ flow h) (commands h)
-  pub reaches : All (λ c. outstanding c ≡ true → Reaches c (flow (c .after))) (commands h)
-  pub each : All (λ c. outstanding c ≡ true → MovedOf e c (flow (c .after))) (commands h)
+  pub due : NoStray (seen e) (transfer h)
+  pub owned : Owned (transfer h) (commands h)
+  pub since : All (λ c. transfer (c .after) ≡ transfer h) (commands h)
+  pub reaches : All (λ c. outstanding c ≡ true → Reaches c (transfer (c .after))) (commands h)
+  pub each : All (λ c. outstanding c ≡ true → MovedOf e c (transfer (c .after))) (commands h)
   pub untouched : brought e ≡ [] → e .left ≡ e .medium
 
 -- of every event
@@ -95,13 +95,13 @@ abbrev pub Depth : ℕ → List Seen → Type 0
 Depth depth h = total h ≤ depth
 
 -- no two commands of one tag are outstanding
-abbrev pub Single : List Seen → Type 0
-Single h = (t : ℕ) → t < 32 → totalWith t h ≤ 1
+abbrev pub OnePerTag : List Seen → Type 0
+OnePerTag h = (t : ℕ) → t < 32 → totalWith t h ≤ 1
 
 -- every event says no more than it may after those before it, and what it must
-unfoldable pub Manners : List Event → Type 0
-Manners [] = Unit
-Manners (e ∷ h) = Mannered e (map seen h) × Manners h
+unfoldable pub AllReplyRules : List Event → Type 0
+AllReplyRules [] = Unit
+AllReplyRules (e ∷ h) = ReplyRules e (map seen h) × AllReplyRules h
 
 -- every page 11h ever sent, read by the reader's definition, gives for each kept row its events since its zeroing, held at the top, and absent for every other number
 unfoldable pub Counters : ℕ → List Event → Type 0
@@ -116,6 +116,6 @@ pub record Demand3 (deep mask : ℕ) (h : List Event) : Type 0 where
   pub sactive : Sactive (map seen h)
   pub waiting : Waiting (map seen h)
   pub depth : Depth deep (map seen h)
-  pub single : Single (map seen h)
-  pub manners : Manners h
+  pub single : OnePerTag (map seen h)
+  pub reply-rules : AllReplyRules h
   pub counters : Counters mask h

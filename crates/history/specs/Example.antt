@@ -5,19 +5,19 @@ use mathlib.Core.List.{List, [], _∷_, _++_, map, reverse}
 use Prim.Native.Nat.{ℕ, zero, suc, _-_, _*_}
 use lib.ListN.{length, getD, drop, replicate}
 use Rattle.bits.specs.Pick.{pick}
-use Rattle.states.specs.declared.shapes.Settings.{Settings}
+use Rattle.device_state.specs.declared.shapes.Settings.{Settings}
 use Rattle.pages.specs.Page11.{readCounter}
 use Rattle.pages.specs.declared.page11.Counter.{Counter}
 use Rattle.pages.specs.declared.page11.Counter.the-variants.{Value, Absent}
 use Rattle.device.specs.Device.{powerOn}
 use Rattle.rules.specs.Call.{Call, hostFrame, openPhase, sendData, finishTags, mediaError, comReset}
 use Rattle.history.specs.Event.{Event}
-use Rattle.history.specs.Replied.{pieces, page, sent}
+use Rattle.history.specs.Replied.{repliesIn, page, sent}
 use Rattle.history.specs.Asked.{brought}
-use Rattle.history.specs.Seen.{Seen, seen, flows}
+use Rattle.history.specs.Seen.{Seen, seen, underWay}
 use Rattle.history.specs.Fates.{Command, commands, ownTag, outstanding, finished, givenUp, dropped, total}
 use Rattle.history.specs.Waits.{sactive, waits, givenUpThere, badSince}
-use Rattle.history.specs.Carried.{flow, span, carried}
+use Rattle.history.specs.Carried.{transfer, span, carried}
 use Rattle.history.specs.Counted.{sends11, toldFor}
 use Rattle.device.specs.Lent.{Lent, lent}
 use Rattle.history.specs.Run.{AllTyped, history}
@@ -44,26 +44,26 @@ queued code tag =
     hostFrame (0x27 ∷ 0x80 ∷ code ∷ 1 ∷ 0 ∷ 0 ∷ 0 ∷ 0x40 ∷ 0 ∷ 0 ∷ 0 ∷ 0 ∷ 8 * tag ∷ 0 ∷ 0 ∷ 0 ∷ 0 ∷ 0 ∷ 0 ∷ 0 ∷ [])
 
 -- READ LOG EXT of a page
-abbrev pub readLog : ℕ → Call
-readLog number = hostFrame (0x27 ∷ 0x80 ∷ 0x2F ∷ 0 ∷ number ∷ 0 ∷ 0 ∷ 0 ∷ 0 ∷ 0 ∷ 0 ∷ 0 ∷ 1 ∷ 0 ∷ 0 ∷ 0 ∷ 0 ∷ 0 ∷ 0 ∷ 0 ∷ [])
+abbrev pub readLogCall : ℕ → Call
+readLogCall number = hostFrame (0x27 ∷ 0x80 ∷ 0x2F ∷ 0 ∷ number ∷ 0 ∷ 0 ∷ 0 ∷ 0 ∷ 0 ∷ 0 ∷ 0 ∷ 1 ∷ 0 ∷ 0 ∷ 0 ∷ 0 ∷ 0 ∷ 0 ∷ 0 ∷ [])
 
 -- host data of half a sector
-abbrev pub hostData : ℕ → Call
-hostData byte = hostFrame (0x46 ∷ 0 ∷ 0 ∷ 0 ∷ replicate 256 byte)
+abbrev pub hostDataCall : ℕ → Call
+hostDataCall byte = hostFrame (0x46 ∷ 0 ∷ 0 ∷ 0 ∷ replicate 256 byte)
 
 -- the first nine calls: a read with tag 0 that is finished, and is not before it has moved; a write with tag 0 again, half of which is brought, and a read with tag 3
 abbrev pub firstCalls : List Call
 firstCalls =
     queued 0x60 0 ∷ finishTags 1 ∷ openPhase 0 ∷ sendData ∷ finishTags 1
-    ∷ queued 0x61 0 ∷ queued 0x60 3 ∷ openPhase 0 ∷ hostData 7 ∷ []
+    ∷ queued 0x61 0 ∷ queued 0x60 3 ∷ openPhase 0 ∷ hostDataCall 7 ∷ []
 
 -- the last seven, behind the other half of the write: a media error, a read answered bad, the error is read; a write with tag 0 once more that COMRESET drops, page 11h, a read that stays outstanding
 abbrev pub lastCalls : List Call
-lastCalls = mediaError 3 0x84 0 ∷ queued 0x60 4 ∷ readLog 0x10 ∷ queued 0x61 0 ∷ comReset ∷ readLog 0x11 ∷ queued 0x60 5 ∷ []
+lastCalls = mediaError 3 0x84 0 ∷ queued 0x60 4 ∷ readLogCall 0x10 ∷ queued 0x61 0 ∷ comReset ∷ readLogCall 0x11 ∷ queued 0x60 5 ∷ []
 
 -- all calls, the oldest first: the medium holds 5 until the write has brought 7, and then its other half until it has brought 8
 abbrev pub calls : List Lent
-calls = map (lentRoom (sector 5)) firstCalls ++ (lentRoom (halves 7 5) (hostData 8) ∷ map (lentRoom (halves 7 8)) lastCalls)
+calls = map (lentRoom (sector 5)) firstCalls ++ (lentRoom (halves 7 5) (hostDataCall 8) ∷ map (lentRoom (halves 7 8)) lastCalls)
 
 -- what the outside saw of the run, the newest event first
 unfoldable pub story : List Event
@@ -127,10 +127,10 @@ abbrev pub four : Command → Four
 four c = record { isOutstanding = outstanding c; isFinished = finished c; isGivenUp = givenUp c; isDropped = dropped c }
 
 -- the line of an event, with the history that it ends
-abbrev pub lineOf : Event → List Seen → Line
-lineOf e h = record {
+abbrev pub lineAfter : Event → List Seen → Line
+lineAfter e h = record {
   refusal = e .refusal;
-  replies = map replyOf (pieces e);
+  replies = map replyOf (repliesIn e);
   active = tagsSo (λ t. sactive t h);
   waiting = waits h;
   fates = reverse (map four (commands h));
@@ -139,7 +139,7 @@ lineOf e h = record {
 -- the lines of all events, the oldest first
 unfoldable pub linesOf : List Event → List Line
 linesOf [] = []
-linesOf (e ∷ h) = linesOf h ++ (lineOf e (map seen (e ∷ h)) ∷ [])
+linesOf (e ∷ h) = linesOf h ++ (lineAfter e (map seen (e ∷ h)) ∷ [])
 
 -- a line of what stands in it
 abbrev pub line : ℕ → List Reply → List ℕ → Bool → List Four → Line
@@ -187,7 +187,7 @@ abbrev pub threeOf : (ℕ → Counter) → List Counter
 threeOf f = f 0x001 ∷ f 0x00A ∷ f 0x002 ∷ []
 
 -- what the run shows: the theorems over every run say something of this one
-pub record Shown : Type 0 where
+pub record ExampleShows : Type 0 where
   -- power-on is taken, and the arguments of every call are of their types: the theorems' premise holds
   pub powered : powerOn settings .refusal ≡ 0
   pub typed : AllTyped calls
@@ -200,10 +200,10 @@ pub record Shown : Type 0 where
   -- the finished read carried each byte of its range once, in rising order; so did the write before it was given up; the others carried none
   pub ranges : map carried accepted ≡ span 0 512 ∷ span 0 512 ∷ [] ∷ [] ∷ [] ∷ []
   -- data were due before the send and before the host data: to the host and from it, for tag 0
-  pub reading : flow (seenAfter 3) ≡ flows true 0 0 512
-  pub writing : flow (seenAfter 8) ≡ flows false 0 0 512
+  pub reading : transfer (seenAfter 3) ≡ underWay true 0 0 512
+  pub writing : transfer (seenAfter 8) ≡ underWay false 0 0 512
   -- and the other half after one of two short frames
-  pub half : flow (seenAfter 9) ≡ flows false 0 256 512
+  pub half : transfer (seenAfter 9) ≡ underWay false 0 256 512
   -- what was sent is what the medium held, and what was brought stands in the medium that the call left
   pub read : sent (nth 4) ≡ sector 5
   pub written : brought (nth 9) ≡ replicate 256 7

@@ -7,10 +7,10 @@ pub mod Seen
 pub mod Fates
 pub mod Waits
 pub mod Carried
-pub mod Manners
+pub mod ReplyRules
 pub mod Counted
 pub mod Demand3
 pub mod Run
 pub mod Allowed
-pub mod Told
+pub mod StateAgrees
 pub mod Example

@@ -5,7 +5,7 @@ use Prim.Native.Nat.{ℕ}
 use lib.ListN.{drop}
 use Rattle.bits.specs.Pick.{pick}
 use Rattle.bits.specs.Bit.{bitIn}
-use Rattle.wire.specs.Cut.{cut}
+use Rattle.frame_parts.specs.Cut.{cut}
 use Rattle.frames.specs.Read.{readFrame}
 use Rattle.frames.specs.declared.shapes.DevReg.{DevReg}
 use Rattle.frames.specs.declared.shapes.SetBits.{SetBits}
@@ -16,12 +16,12 @@ use Rattle.frames.specs.declared.shapes.Frame.the-variants.{Host, Device, Bits,
 use Rattle.history.specs.Event.{Event}
 
 -- the replies, each as its bytes
-abbrev pub pieces : Event → List (List ℕ)
-pieces e = cut (e .reply)
+abbrev pub repliesIn : Event → List (List ℕ)
+repliesIn e = cut (e .reply)
 
 -- the replies as the reader sees them
 abbrev pub frames : Event → List Frame
-frames e = map readFrame (pieces e)
+frames e = map readFrame (repliesIn e)
 
 -- some element of a list is so
 unfoldable pub some : {A : Type 0} → (A → Bool) → List A → Bool
@@ -116,8 +116,8 @@ paged e = some isPio (frames e)
 
 -- a 46h behind a 5Fh in one reply is a page; what a 46h takes is all that is left, so that nothing stands behind it
 abbrev pub page : Event → List ℕ
-page e = pick (paged e) (payloads (pieces e)) []
+page e = pick (paged e) (payloads (repliesIn e)) []
 
 -- and belongs to no command; what is sent without a 5Fh is a command's data
 abbrev pub sent : Event → List ℕ
-sent e = pick (paged e) [] (payloads (pieces e))
+sent e = pick (paged e) [] (payloads (repliesIn e))

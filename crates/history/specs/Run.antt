@@ -3,7 +3,7 @@ use mathlib.Core.List.{List, [], _∷_, map}
 use Prim.Native.Nat.{ℕ}
 use lib.ListN.{length, take}
 use Rattle.bits.specs.Laid.{laid}
-use Rattle.states.specs.declared.shapes.Settings.{Settings}
+use Rattle.device_state.specs.declared.shapes.Settings.{Settings}
 use Rattle.device.specs.Device.{powerOn}
 use Rattle.device.specs.Lent.{Lent, Gave, gave, Typed}
 use Rattle.device.specs.Step.{step, bytesOf}

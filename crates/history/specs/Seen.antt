@@ -13,14 +13,14 @@ use Rattle.history.specs.Asked.{Asked, asks}
 use Rattle.history.specs.Replied.{frames, some, errIn, registerIn, setBitsIn, setupIn, collect, sent}
 
 -- what seems to be under way: nothing; or the data of a tag to the host (D 1) or from it (D 0), at its next byte, up to its end
-pub data Flow : Type 0 where
-  still : Flow
-  flows : Bool → ℕ → ℕ → ℕ → Flow
+pub data Transfer : Type 0 where
+  noTransfer : Transfer
+  underWay : Bool → ℕ → ℕ → ℕ → Transfer
 
 -- a DMA Setup begins at its offset, and ends behind its byte count
-unfoldable pub begun : List DmaSetup → Flow → Flow
+unfoldable pub begun : List DmaSetup → Transfer → Transfer
 begun [] x = x
-begun (s ∷ ss) x = begun ss (flows (s .«to_host») (s .tag) (s .offset) (s .offset + s .count))
+begun (s ∷ ss) x = begun ss (underWay (s .«to_host») (s .tag) (s .offset) (s .offset + s .count))
 
 -- what is seen of an event
 pub record Seen : Type 0 where
@@ -38,15 +38,15 @@ pub record Seen : Type 0 where
   -- the bytes of data, not of a page, that were sent
   pub sends : ℕ
   -- what its DMA Setups begin
-  pub begins : Flow → Flow
+  pub begins : Transfer → Transfer
 
 -- an A1h names a tag
 abbrev pub names : ℕ → SetBits → Bool
 names t f = bitIn 32 (f .active) t
 
 -- what was asked for, the replies, and the bytes of data in them
-abbrev pub sight : Asked → List Frame → ℕ → Seen
-sight a fs n = record {
+abbrev pub seenIn : Asked → List Frame → ℕ → Seen
+seenIn a fs n = record {
   asks = a;
   good = some (λ r. not (errIn (r .status))) (collect registerIn fs);
   bad = a .command && some (λ r. errIn (r .status)) (collect registerIn fs);
@@ -60,7 +60,7 @@ sight a fs n = record {
 
 -- an event as demand 3 reads it
 unfoldable pub seen : Event → Seen
-seen e = sight (asks e) (frames e) (length (sent e))
+seen e = seenIn (asks e) (frames e) (length (sent e))
 
 -- an error was answered
 abbrev pub errs : Seen → Bool

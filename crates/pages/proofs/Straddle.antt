@@ -8,11 +8,11 @@ use native.Mathlib.Omega.{arith}
 use lib.Dec.{ltb, leb, eqb}
 use borrow.Author.Tests.{leb-false, le-ltb}
 use Rattle.bits.proofs.Picks.{by-test, tested, or-left}
-use Rattle.pages.specs.Entries.{Entry, entryAt, idAt, endOf, wrongWidth, pastEnd, entriesFrom, entries, someOf}
+use Rattle.pages.specs.Entries.{CounterEntry, entryAt, idAt, endOf, wrongWidth, pastEnd, entriesFrom, entries, someOf}
 use Rattle.pages.proofs.Walking.{ends, entries-end, entries-some}
 
 -- an identifier that does not end within 508 bytes
-abbrev pub straddles : Entry → Bool
+abbrev pub straddles : CounterEntry → Bool
 straddles e = ltb 508 (e .place + 2)
 
 none-straddles : (page : List ℕ) (fuel at : ℕ) → at % 2 ≡ 0 → someOf straddles (entriesFrom page fuel at) ≡ false
@@ -25,7 +25,7 @@ none-straddles page (suc fuel) at even =
     let l : at < 508 = leb-false 508 at (or-left (leb 508 at) (eqb (idAt page at) 0) n) in
     let here : ltb 508 (at + 2) ≡ false = le-ltb 508 (at + 2) (omega arith) in
     let next : endOf (entryAt page at) % 2 ≡ 0 = omega arith in
-    let tail = by-test (λ (es : List Entry). someOf straddles es ≡ false) (wrongWidth (entryAt page at) || pastEnd (entryAt page at)) [] (entriesFrom page fuel (endOf (entryAt page at)))
+    let tail = by-test (λ (es : List CounterEntry). someOf straddles es ≡ false) (wrongWidth (entryAt page at) || pastEnd (entryAt page at)) [] (entriesFrom page fuel (endOf (entryAt page at)))
     (λ _. refl) (λ _. none-straddles page fuel (endOf (entryAt page at)) next) in
     rw (entries-some page at fuel n) (ap₂ (λ (a b : Bool). a || b) here tail))
     (tested (ends page at))

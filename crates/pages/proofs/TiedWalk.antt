@@ -14,8 +14,8 @@ use contract.Notation.{connectives}
 use denote.Ref.{RefT, now}
 use denote.Triple.Clauses.{AtExit}
 use Rattle.bits.proofs.Tying.{same}
-use Rattle.pages.specs.Step.{stepAt}
-use Rattle.pages.specs.declared.walk.Step.{Step}
+use Rattle.pages.specs.WalkStep.{stepAt}
+use Rattle.pages.specs.declared.walk.WalkStep.{WalkStep}
 use Rattle.pages.specs.declared.walk.Walk.{Walk}
 use Rattle.pages.proofs.walk
 
@@ -34,7 +34,7 @@ module _ {M : Type 1} (𝓤 : URA M) (H : Heap 𝓤) (A : Atoms 𝓤) (mem : Mem
   pub tied-from : (p : RefT (List ℕ)) (at : ℕ) (r : Walk) (s : AtExit walk.Walk.from.ended κs) → walk.Walk.from.clauses 𝓤 H A mem run κs (p, (at, tt)) .ensures tt r s ≡ connectives 𝓤 .⌜_⌝ (Begun p at r)
   tied-from p at r s = refl
 
-  pub tied-step : (w : Walk) (r : Step) (s : AtExit walk.Walk.step.ended κs) → walk.Walk.step.clauses 𝓤 H A mem run κs (w, tt) .ensures tt r s ≡ connectives 𝓤 .⌜_⌝ (r ≡ stepAt (now (w .page)) (w .at))
+  pub tied-step : (w : Walk) (r : WalkStep) (s : AtExit walk.Walk.step.ended κs) → walk.Walk.step.clauses 𝓤 H A mem run κs (w, tt) .ensures tt r s ≡ connectives 𝓤 .⌜_⌝ (r ≡ stepAt (now (w .page)) (w .at))
   tied-step w r s = refl
 
   -- and they ask nothing of their caller

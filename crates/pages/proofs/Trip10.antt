@@ -12,15 +12,15 @@ use Rattle.bits.specs.Pick.{pick}
 use Rattle.bits.specs.Bit.{bitIn}
 use Rattle.bits.specs.First.{firstOf}
 use Rattle.bits.proofs.Firsts as firsts
-use Rattle.wire.specs.Piece.{registerBytes, below, taskFits}
-use Rattle.wire.specs.Emit.{Emitted}
-use Rattle.wire.specs.declared.pieces.Task.{Task}
-use Rattle.wire.specs.declared.emitting.Written.{Written}
+use Rattle.frame_parts.specs.Shared.{registerBytes, below, taskFits}
+use Rattle.frame_parts.specs.Emit.{WriteGiven}
+use Rattle.frame_parts.specs.declared.shared.Task.{Task}
+use Rattle.frame_parts.specs.declared.emitting.Written.{Written}
 use Rattle.bits.proofs.Picks.{and-left, and-right}
-use Rattle.wire.proofs.EmitLaws.{wrote-all}
-use Rattle.wire.proofs.TaskLaws.{task-all}
+use Rattle.frame_parts.proofs.EmitLaws.{wrote-all}
+use Rattle.frame_parts.proofs.TaskLaws.{task-all}
 use Rattle.pages.specs.Sum.{sum256, sealed}
-use Rattle.pages.specs.Page10.{firstByte, page10, fits10, tagIn, fields10, readLog}
+use Rattle.pages.specs.Page10.{firstByte, page10, fits10, tagShown, fields10, readLog}
 use Rattle.pages.specs.declared.page10.ErrorLog.{ErrorLog}
 use Rattle.pages.specs.declared.page10.Page10.the-variants.{Fields}
 use Rattle.pages.proofs.Bytes11.{sum-sealed}
@@ -31,7 +31,7 @@ nq-back : (b : Bool) (t : ℕ) → bitIn 8 (firstByte b t) 7 ≡ b
 nq-back true t = eq-eqb ((128 + t % 32) / 2 ^ 7 % 2) 1 (omega arith)
 nq-back false t = ne-eqb ((0 + t % 32) / 2 ^ 7 % 2) 1 (λ e. omega arith)
 
-tag-back : (b : Bool) (t : ℕ) → t < 32 → not b || eqb t 0 ≡ true → tagIn (firstByte b t) b ≡ t
+tag-back : (b : Bool) (t : ℕ) → t < 32 → not b || eqb t 0 ≡ true → tagShown (firstByte b t) b ≡ t
 unfolding pick
 tag-back true t h e = sym (eqb-true t 0 e)
 tag-back false t h e = omega arith
@@ -72,7 +72,7 @@ module _ (f : ErrorLog) where
     fields-back : fields10 (page10 f) ≡ f
     unfolding page10 sealed registerBytes
     fields-back =
-        same-log (nq-back (f .nq) (f .tag)) (ap (tagIn (firstByte (f .nq) (f .tag))) (nq-back (f .nq) (f .tag)) ∙ tag-back (f .nq) (f .tag) tag-ok nq-ok) refl refl
+        same-log (nq-back (f .nq) (f .tag)) (ap (tagShown (firstByte (f .nq) (f .tag))) (nq-back (f .nq) (f .tag)) ∙ tag-back (f .nq) (f .tag) tag-ok nq-ok) refl refl
         (task-all (firstByte (f .nq) (f .tag)) 0 (f .status) (f .error) (f .task) 0 0 0 task-ok)
 
     read-page : readLog (page10 f) ≡ Fields f
@@ -80,7 +80,7 @@ module _ (f : ErrorLog) where
     read-page = rw (eq-eqb (length (page10 f)) 512 length-10, eq-eqb (sum256 (page10 f)) 0 sums-to-zero) (ap Fields fields-back)
 
 -- reading the page that was written gives its fields back
-pub read-write : (f : ErrorLog) (d d′ : List ℕ) (r : Written) → Emitted (fits10 f) (page10 f) d r d′ → r .number ≡ 0 → readLog (take (r .len) d′) ≡ Fields f
+pub read-write : (f : ErrorLog) (d d′ : List ℕ) (r : Written) → WriteGiven (fits10 f) (page10 f) d r d′ → r .number ≡ 0 → readLog (take (r .len) d′) ≡ Fields f
 read-write f d d′ r w z =
     let a = wrote-all (fits10 f) (page10 f) d r d′ w z in
     rw (a .2, a .3, take-at (page10 f) (drop (length (page10 f)) d) (length (page10 f)) refl) (read-page f (a .0))

@@ -11,13 +11,13 @@ use lib.ListN.{getD}
 use Rattle.bits.specs.Pick.{pick}
 use Rattle.bits.proofs.Picks.{pick-yes, pick-no, tested}
 use Rattle.pages.specs.Rows.{idOf, kept, rowOf}
-use Rattle.pages.specs.Entries.{entryOf, entryAt, widthOf, numberOf, vendorOf}
+use Rattle.pages.specs.Entries.{counterEntry, entryAt, widthOf, numberIn, vendorOf}
 use Rattle.pages.specs.Page11.{readCounter}
-use Rattle.pages.specs.Step.{faulty, stepAt, onStep, turnOf}
+use Rattle.pages.specs.WalkStep.{faulty, stepAt, onStep, turnOf}
 use Rattle.pages.specs.Made11.{rowsTo, page11}
 use Rattle.pages.specs.declared.rows.Place.{Place}
 use Rattle.pages.specs.declared.rows.Place.the-variants as place
-use Rattle.pages.specs.declared.walk.Step.the-variants.{Row, End}
+use Rattle.pages.specs.declared.walk.WalkStep.the-variants.{Row, End}
 use Rattle.pages.specs.declared.page11.Counter.{Counter}
 use Rattle.pages.specs.declared.page11.Counter.the-variants.{Value, Absent}
 use Rattle.pages.specs.declared.page11.Turn.the-variants.{Next}
@@ -32,7 +32,7 @@ use Rattle.pages.proofs.Bytes11.{L, page-length, page-sum, page-id, pag
 width-row : (id : ℕ) → id < 4096 → widthOf (8192 + id) ≡ 2
 width-row id h = omega arith
 
-number-row : (id : ℕ) → id < 4096 → numberOf (8192 + id) ≡ id
+number-row : (id : ℕ) → id < 4096 → numberIn (8192 + id) ≡ id
 number-row id h = omega arith
 
 vendor-row : (id : ℕ) → id < 4096 → vendorOf (8192 + id) ≡ false
@@ -40,7 +40,7 @@ vendor-row id h =
     let v : (8192 + id) / 32768 % 2 ≡ 0 = omega arith in
     simp v
 
-faulty-row : (a id : ℕ) → a ≤ 502 → 0 < id → id < 4096 → faulty (entryOf a (8192 + id)) ≡ false
+faulty-row : (a id : ℕ) → a ≤ 502 → 0 < id → id < 4096 → faulty (counterEntry a (8192 + id)) ≡ false
 faulty-row a id h p q =
     simp (width-row id q, number-row id q, vendor-row id q, ne-eqb id 0 (λ e. omega arith), le-ltb 508 (a + 2 + 4) (omega arith))
 

@@ -14,18 +14,18 @@ use Rattle.bits.specs.First.{firstOf}
 use Rattle.bits.specs.Little.{leAt, leBytes}
 use Rattle.bits.proofs.Picks.{pick-yes, pick-no, tested, or-right}
 use Rattle.bits.proofs.Firsts as firsts
-use Rattle.pages.specs.Entries.{Entry, entryOf, widthOf, bytesIn, asks, entries, someOf, howMany, wrongWidth, pastEnd, nameless}
+use Rattle.pages.specs.Entries.{CounterEntry, counterEntry, widthOf, bytesIn, entryAsked, entries, someOf, countEntries, wrongWidth, pastEnd, nameless}
 use Rattle.pages.specs.Page11.{damaged, valueIn, ladder11, readCounter}
 use Rattle.pages.specs.declared.page11.Counter.the-variants.{Value, Refused}
 use Rattle.pages.proofs.ByWidth.{le-stands}
 
 -- what stands past the end of a list of entries
-abbrev pub noEntry : Entry
-noEntry = entryOf 0 0
+abbrev pub noEntry : CounterEntry
+noEntry = counterEntry 0 0
 
 -- a hit somewhere in a list is counted
-hit-counts : (number : ℕ) (es : List Entry) (i : ℕ) → i < length es → asks number (getD es i noEntry) ≡ true → 1 ≤ howMany (asks number) es
-unfolding howMany pick
+hit-counts : (number : ℕ) (es : List CounterEntry) (i : ℕ) → i < length es → entryAsked number (getD es i noEntry) ≡ true → 1 ≤ countEntries (entryAsked number) es
+unfolding countEntries pick
 hit-counts number [] i h t = absurd (not-suc-le-zero h)
 hit-counts number (e ∷ es) zero h t = rw t (omega arith)
 hit-counts number (e ∷ es) (suc i) h t =
@@ -33,32 +33,32 @@ hit-counts number (e ∷ es) (suc i) h t =
     omega arith
 
 -- where no number is found twice, a hit is the answer
-hit-reads : (page : List ℕ) (number : ℕ) (es : List Entry) (i : ℕ) → howMany (asks number) es < 2 → i < length es → asks number (getD es i noEntry) ≡ true
+hit-reads : (page : List ℕ) (number : ℕ) (es : List CounterEntry) (i : ℕ) → countEntries (entryAsked number) es < 2 → i < length es → entryAsked number (getD es i noEntry) ≡ true
     → valueIn page number es ≡ Value (leAt page (getD es i noEntry .place + 2) (bytesIn (getD es i noEntry .id)))
-unfolding valueIn howMany
+unfolding valueIn countEntries
 hit-reads page number [] i m h t = absurd (not-suc-le-zero h)
-hit-reads page number (e ∷ es) zero m h t = pick-yes (asks number e) (Value (leAt page (e .place + 2) (bytesIn (e .id)))) (valueIn page number es) t
+hit-reads page number (e ∷ es) zero m h t = pick-yes (entryAsked number e) (Value (leAt page (e .place + 2) (bytesIn (e .id)))) (valueIn page number es) t
 hit-reads page number (e ∷ es) (suc i) m h t =
     let k = le-of-suc-le-suc h in
     let r = hit-counts number es i k t in
     ⊎-elim
-    (λ (y : asks number e ≡ true). let one : pick {A = ℕ} (asks number e) 1 0 ≡ 1 = pick-yes (asks number e) 1 0 y in absurd (omega (arith, one)))
-    (λ (n : asks number e ≡ false).
-    let none : pick {A = ℕ} (asks number e) 1 0 ≡ 0 = pick-no (asks number e) 1 0 n in
-    pick-no (asks number e) (Value (leAt page (e .place + 2) (bytesIn (e .id)))) (valueIn page number es) n ∙ hit-reads page number es i (omega arith) k t)
-    (tested (asks number e))
+    (λ (y : entryAsked number e ≡ true). let one : pick {A = ℕ} (entryAsked number e) 1 0 ≡ 1 = pick-yes (entryAsked number e) 1 0 y in absurd (omega (arith, one)))
+    (λ (n : entryAsked number e ≡ false).
+    let none : pick {A = ℕ} (entryAsked number e) 1 0 ≡ 0 = pick-no (entryAsked number e) 1 0 n in
+    pick-no (entryAsked number e) (Value (leAt page (e .place + 2) (bytesIn (e .id)))) (valueIn page number es) n ∙ hit-reads page number es i (omega arith) k t)
+    (tested (entryAsked number e))
 
 -- a page that is not refused has the asked number at most once
-found-once : (page : List ℕ) (number : ℕ) → firstOf (ladder11 page number) ≡ 0 → howMany (asks number) (entries page) < 2
+found-once : (page : List ℕ) (number : ℕ) → firstOf (ladder11 page number) ≡ 0 → countEntries (entryAsked number) (entries page) < 2
 unfolding damaged
 found-once page number z =
     let d = firsts.first-exactly (ladder11 page number) tt .none .0 z 3 (lit< tt) in
     let es = entries page in
-    leb-false 2 (howMany (asks number) es) (or-right ((someOf wrongWidth es || someOf pastEnd es) || someOf nameless es) (leb 2 (howMany (asks number) es)) d)
+    leb-false 2 (countEntries (entryAsked number) es) (or-right ((someOf wrongWidth es || someOf pastEnd es) || someOf nameless es) (leb 2 (countEntries (entryAsked number) es)) d)
 
 -- of a page that is not refused: an entry of the asked number whose width is w, and whose 2 * w value bytes are those of v, reads as v
 pub value-by-width : (page : List ℕ) (number i w v : ℕ) → firstOf (ladder11 page number) ≡ 0 → i < length (entries page)
-    → asks number (getD (entries page) i noEntry) ≡ true → widthOf (getD (entries page) i noEntry .id) ≡ w → v < 2 ^ (8 * (2 * w))
+    → entryAsked number (getD (entries page) i noEntry) ≡ true → widthOf (getD (entries page) i noEntry .id) ≡ w → v < 2 ^ (8 * (2 * w))
     → ((j : ℕ) → j < 2 * w → getD page (getD (entries page) i noEntry .place + 2 + j) 0 ≡ getD (leBytes (2 * w) v) j 0)
     → readCounter page number ≡ Value v
 unfolding readCounter

@@ -10,26 +10,26 @@ use lib.ListN.{length}
 use borrow.Author.Tests.{ltb-false, le-leb, le-ltb, eq-eqb}
 use Rattle.bits.specs.Pick.{pick}
 use Rattle.bits.specs.First.{firstOf}
-use Rattle.bits.specs.Little.{leAt, Number}
+use Rattle.bits.specs.Little.{leAt, NumberGiven}
 use Rattle.bits.proofs.Picks.{by-test, pick-yes, pick-no, tested, or-left, or-right}
-use Rattle.pages.specs.Entries.{Entry, entryAt, idAt, endOf, bytesIn, widthOf, wrongWidth, pastEnd, nameless, asked, asks, entriesFrom, entries}
+use Rattle.pages.specs.Entries.{CounterEntry, entryAt, idAt, endOf, bytesIn, widthOf, wrongWidth, pastEnd, nameless, idAsked, entryAsked, entriesFrom, entries}
 use Rattle.pages.specs.Page11.{damaged, valueIn, readCounter}
 use Rattle.pages.specs.Sum.{sum256}
-use Rattle.pages.specs.Step.{faulty, stepAt, hit, onStep, turnOf}
-use Rattle.pages.specs.declared.walk.Step.{Step}
-use Rattle.pages.specs.declared.walk.Step.the-variants.{Row, End, Fault}
+use Rattle.pages.specs.WalkStep.{faulty, stepAt, hit, onStep, turnOf}
+use Rattle.pages.specs.declared.walk.WalkStep.{WalkStep}
+use Rattle.pages.specs.declared.walk.WalkStep.the-variants.{Row, End, Fault}
 use Rattle.pages.specs.declared.page11.Counter.{Counter}
 use Rattle.pages.specs.declared.page11.Counter.the-variants.{Value, Absent, Refused}
 use Rattle.pages.specs.declared.page11.Turn.{Turn}
 use Rattle.pages.specs.declared.page11.Turn.the-variants.{Done, Next}
 use Rattle.pages.proofs.Rest.{restOf, rest-none, rest-fault, rest-hit, rest-twice, rest-miss}
 
-pub id-read : (page : List ℕ) (at r : ℕ) → Number page at 2 r → r ≡ idAt page at
+pub id-read : (page : List ℕ) (at r : ℕ) → NumberGiven page at 2 r → r ≡ idAt page at
 unfolding idAt
 id-read page at r n = n .value
 
 -- a value is never wider than 8 bytes, so that the reader of numbers takes all of it
-pub value-read : (page : List ℕ) (start len r : ℕ) → len ≤ 8 → Number page start (min len 8) r → r ≡ leAt page start len
+pub value-read : (page : List ℕ) (start len r : ℕ) → len ≤ 8 → NumberGiven page start (min len 8) r → r ≡ leAt page start len
 value-read page start len r h n =
     let e : min len 8 ≡ len = omega arith in
     rw e at (n .value)
@@ -46,17 +46,17 @@ some-width : (w : ℕ) → (ltb w 1 || ltb 4 w) ≡ false → (1 ≤ w) × (w �
 some-width w h = (ltb-false w 1 (or-left (ltb w 1) (ltb 4 w) h), ltb-false 4 w (or-right (ltb w 1) (ltb 4 w) h))
 
 -- an entry whose width and end are right
-sized : (e : Entry) → (wrongWidth e || pastEnd e) ≡ false → Lies (e .place) (e .place + 2) (bytesIn (e .id))
+sized : (e : CounterEntry) → (wrongWidth e || pastEnd e) ≡ false → Lies (e .place) (e .place + 2) (bytesIn (e .id))
 sized e h =
     let w = some-width (widthOf (e .id)) (or-left (wrongWidth e) (pastEnd e) h) in
     let past : endOf e ≤ 508 = ltb-false 508 (endOf e) (or-right (wrongWidth e) (pastEnd e) h) in
     record { next = refl; some = omega arith; most = omega arith; within = past }
 
-sound : (e : Entry) → faulty e ≡ false → Lies (e .place) (e .place + 2) (bytesIn (e .id))
+sound : (e : CounterEntry) → faulty e ≡ false → Lies (e .place) (e .place + 2) (bytesIn (e .id))
 sound e h = sized e (or-left (wrongWidth e || pastEnd e) (nameless e) h)
 
 -- of a step at a place: if it is a row, where it lies
-unfoldable pub Placed : ℕ → Step → Type 0
+unfoldable pub Placed : ℕ → WalkStep → Type 0
 Placed at End = Unit
 Placed at Fault = Unit
 Placed at (Row id start len) = Lies at start len
@@ -80,7 +80,7 @@ hit-forward at n v Absent h k = (h, k)
 hit-forward at n v (Value w) h k = tt
 hit-forward at n v (Refused w) h k = tt
 
-step-forward : (page : List ℕ) (number at : ℕ) (found : Counter) (e : Step) → Placed at e → Forward at (onStep page number found e)
+step-forward : (page : List ℕ) (number at : ℕ) (found : Counter) (e : WalkStep) → Placed at e → Forward at (onStep page number found e)
 unfolding Forward Placed
 step-forward page number at found End p = tt
 step-forward page number at found Fault p = tt
@@ -117,7 +117,7 @@ module _ (page : List ℕ) (at : ℕ) where
       → entriesFrom page (suc fuel) at ≡ entryAt page at ∷ entriesFrom page fuel (endOf (entryAt page at))
   entries-row fuel h s =
       entries-some fuel h
-      ∙ ap (λ (es : List Entry). entryAt page at ∷ es)
+      ∙ ap (λ (es : List CounterEntry). entryAt page at ∷ es)
       (pick-no (wrongWidth (entryAt page at) || pastEnd (entryAt page at)) [] (entriesFrom page fuel (endOf (entryAt page at)))
       (or-left (wrongWidth (entryAt page at) || pastEnd (entryAt page at)) (nameless (entryAt page at)) s))
 
@@ -133,7 +133,7 @@ module _ (page : List ℕ) (at : ℕ) where
   unfolding stepAt
   step-row h s = pick-no ends End _ h ∙ pick-no (faulty (entryAt page at)) Fault _ s
 
-same-tail : (b : Bool) (xs ys : List Entry) → (b ≡ false → xs ≡ ys) → pick b [] xs ≡ pick b [] ys
+same-tail : (b : Bool) (xs ys : List CounterEntry) → (b ≡ false → xs ≡ ys) → pick b [] xs ≡ pick b [] ys
 unfolding pick
 same-tail true xs ys h = refl
 same-tail false xs ys h = h refl
@@ -147,7 +147,7 @@ entries-fuel page (suc f) (suc g) at h k =
     (λ (t : ends page at ≡ true). entries-end page at (suc f) t ∙ sym (entries-end page at (suc g) t))
     (λ (n : ends page at ≡ false).
     entries-some page at f n
-    ∙ ap (λ (es : List Entry). entryAt page at ∷ es)
+    ∙ ap (λ (es : List CounterEntry). entryAt page at ∷ es)
     (same-tail (wrongWidth (entryAt page at) || pastEnd (entryAt page at)) _ _
     (λ s.
     let l = sized (entryAt page at) s in
@@ -171,15 +171,15 @@ module _ (page : List ℕ) (number fuel at : ℕ) where
       ≡ afterTurn go (onStep page number found (Row (idAt page at) (at + 2) (bytesIn (idAt page at))))
   row-turn found s =
       ⊎-elim
-      (λ (t : asks number (entryAt page at) ≡ true).
+      (λ (t : entryAsked number (entryAt page at) ≡ true).
       asked-turn found t
-      ∙ ap (afterTurn go) (sym (pick-yes (asked number (idAt page at)) (hit found (endOf (entryAt page at)) (leAt page (at + 2) (bytesIn (idAt page at)))) (Next (endOf (entryAt page at)) found) t)))
-      (λ (n : asks number (entryAt page at) ≡ false).
+      ∙ ap (afterTurn go) (sym (pick-yes (idAsked number (idAt page at)) (hit found (endOf (entryAt page at)) (leAt page (at + 2) (bytesIn (idAt page at)))) (Next (endOf (entryAt page at)) found) t)))
+      (λ (n : entryAsked number (entryAt page at) ≡ false).
       rest-miss page number (entryAt page at) _ found s n
-      ∙ ap (afterTurn go) (sym (pick-no (asked number (idAt page at)) (hit found (endOf (entryAt page at)) (leAt page (at + 2) (bytesIn (idAt page at)))) (Next (endOf (entryAt page at)) found) n)))
-      (tested (asks number (entryAt page at)))
+      ∙ ap (afterTurn go) (sym (pick-no (idAsked number (idAt page at)) (hit found (endOf (entryAt page at)) (leAt page (at + 2) (bytesIn (idAt page at)))) (Next (endOf (entryAt page at)) found) n)))
+      (tested (entryAsked number (entryAt page at)))
     where
-      asked-turn : (more : Counter) → asks number (entryAt page at) ≡ true
+      asked-turn : (more : Counter) → entryAsked number (entryAt page at) ≡ true
           → restOf page number (entryAt page at ∷ entriesFrom page fuel (endOf (entryAt page at))) more
           ≡ afterTurn go (hit more (endOf (entryAt page at)) (leAt page (at + 2) (bytesIn (idAt page at))))
       asked-turn Absent t = rest-hit page number (entryAt page at) _ s t

@@ -9,9 +9,9 @@ use lib.ListN.{length, getD, take, drop}
 use lib.Seq.{take-at}
 use borrow.Author.Tests.{eqb-true, eqb-false}
 use Rattle.bits.proofs.Picks.{pick-yes, pick-no, tested}
-use Rattle.wire.specs.Emit.{Emitted}
-use Rattle.wire.specs.declared.emitting.Written.{Written}
-use Rattle.wire.proofs.EmitLaws.{wrote-all}
+use Rattle.frame_parts.specs.Emit.{WriteGiven}
+use Rattle.frame_parts.specs.declared.emitting.Written.{Written}
+use Rattle.frame_parts.proofs.EmitLaws.{wrote-all}
 use Rattle.pages.specs.Rows.{idOf, kept, keepsBoth, rowOf}
 use Rattle.pages.specs.Sum.{sum256}
 use Rattle.pages.specs.Page11.{readCounter}
@@ -51,7 +51,7 @@ module _ (mask : ℕ) (values : List ℕ) where
     read-made = by-place (rowOf number) refl
 
     -- reading the page that was written gives the value of each kept row, and absent for every other number
-    pub read-write : (d d′ : List ℕ) (r : Written) → Emitted (keepsBoth mask) (page11 mask values) d r d′ → r .number ≡ 0
+    pub read-write : (d d′ : List ℕ) (r : Written) → WriteGiven (keepsBoth mask) (page11 mask values) d r d′ → r .number ≡ 0
         → readCounter (take (r .len) d′) number ≡ shownFor mask values number
     read-write d d′ r w z =
         let a = wrote-all (keepsBoth mask) (page11 mask values) d r d′ w z in

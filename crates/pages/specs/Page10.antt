@@ -7,9 +7,9 @@ use lib.ListN.{length, getD, replicate}
 use lib.Dec.{eqb}
 use Rattle.bits.specs.Pick.{pick}
 use Rattle.bits.specs.Bit.{bitIn, bitByte}
-use Rattle.bits.specs.First.{Rung, firstOf}
-use Rattle.bits.specs.Told.{Told, bitNumber}
-use Rattle.wire.specs.Piece.{taskOf, registerBytes, below, taskFits}
+use Rattle.bits.specs.First.{Rung, firstOf, rung}
+use Rattle.bits.specs.Answer.{Answer, bitNumber}
+use Rattle.frame_parts.specs.Shared.{taskOf, registerBytes, below, taskFits}
 use Rattle.pages.specs.Sum.{sum256, sealed}
 use Rattle.pages.specs.declared.page10.ErrorLog.{ErrorLog}
 use Rattle.pages.specs.declared.page10.Page10.{Page10}
@@ -28,14 +28,14 @@ unfoldable pub fits10 : ErrorLog → Bool
 fits10 f = below 8 (f .status) && below 8 (f .error) && taskFits (f .task) && below 5 (f .tag) && (not (f .nq) || eqb (f .tag) 0)
 
 -- the tag as 0 under NQ
-abbrev pub tagIn : ℕ → Bool → ℕ
-tagIn first nq = pick nq 0 (first % 32)
+abbrev pub tagShown : ℕ → Bool → ℕ
+tagShown first nq = pick nq 0 (first % 32)
 
 -- each named field as it stands
 abbrev pub fields10 : List ℕ → ErrorLog
 fields10 l = record {
   nq = bitIn 8 (getD l 0 0) 7;
-  tag = tagIn (getD l 0 0) (bitIn 8 (getD l 0 0) 7);
+  tag = tagShown (getD l 0 0) (bitIn 8 (getD l 0 0) 7);
   status = getD l 2 0;
   error = getD l 3 0;
   task = taskOf l;
@@ -43,18 +43,18 @@ fields10 l = record {
 
 -- 20: not 512 bytes; 21: sum wrong
 abbrev pub ladder10 : List ℕ → List Rung
-ladder10 l = record { number = 20; holds = not (eqb (length l) 512) } ∷ record { number = 21; holds = not (eqb (sum256 l) 0) } ∷ []
+ladder10 l = rung 20 (not (eqb (length l) 512)) ∷ rung 21 (not (eqb (sum256 l) 0)) ∷ []
 
 -- the fields, unless the page is refused
 unfoldable pub readLog : List ℕ → Page10
 readLog l = pick (eqb (firstOf (ladder10 l)) 0) (Fields (fields10 l)) (Refused (firstOf (ladder10 l)))
 
 -- what each answer tells: NQ, tag, status, error and the command's bytes, or the refusal's number
-unfoldable pub toldLog : Page10 → Told
-toldLog (Fields f) = record { number = 0; values = bitNumber (f .nq) ∷ f .tag ∷ f .status ∷ f .error ∷ f .task .lba ∷ f .task .device ∷ f .task .count ∷ [] }
-toldLog (Refused n) = record { number = n; values = [] }
+unfoldable pub logAnswer : Page10 → Answer
+logAnswer (Fields f) = record { number = 0; values = bitNumber (f .nq) ∷ f .tag ∷ f .status ∷ f .error ∷ f .task .lba ∷ f .task .device ∷ f .task .count ∷ [] }
+logAnswer (Refused n) = record { number = n; values = [] }
 
 -- what the reader promises: the fields or the refusal, and the refusal exactly by its list
-pub record LogRead (l : List ℕ) (r : Page10) : Type 0 where
+pub record LogGiven (l : List ℕ) (r : Page10) : Type 0 where
   pub answer : r ≡ readLog l
-  pub refusal : toldLog r .number ≡ firstOf (ladder10 l)
+  pub refusal : logAnswer r .number ≡ firstOf (ladder10 l)

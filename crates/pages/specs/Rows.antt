@@ -6,7 +6,7 @@ use lib.ListN.{getD}
 use lib.Dec.{eqb}
 use Rattle.bits.specs.Pick.{pick}
 use Rattle.bits.specs.Bit.{bitIn}
-use Rattle.bits.specs.Told.{Told}
+use Rattle.bits.specs.Answer.{Answer}
 use Rattle.pages.specs.declared.rows.Place.{Place}
 use Rattle.pages.specs.declared.rows.Place.the-variants.{Row, Nowhere}
 
@@ -32,9 +32,9 @@ rowFrom row [] number = Nowhere
 rowFrom row (id ∷ more) number = pick (eqb id number) (Row row) (rowFrom (suc row) more number)
 
 -- what each place tells: its row, or none
-unfoldable pub toldPlace : Place → Told
-toldPlace (Row k) = record { number = 0; values = k ∷ [] }
-toldPlace Nowhere = record { number = 0; values = [] }
+unfoldable pub placeAnswer : Place → Answer
+placeAnswer (Row k) = record { number = 0; values = k ∷ [] }
+placeAnswer Nowhere = record { number = 0; values = [] }
 
 -- the row of an identifier
 unfoldable pub rowOf : ℕ → Place

@@ -1,9 +1,9 @@
 // Log page 10h: the error record, made by value and read.
 ghost use mathlib.Core.Path.{_≡_};
-ghost use Rattle.pages.specs.Page10.{firstByte, tagIn, fits10, page10, fields10, LogRead};
+ghost use Rattle.pages.specs.Page10.{firstByte, tagShown, fits10, page10, fields10, LogGiven};
 use crate::sums::byte_sum;
 use crate::sums::sum_byte;
-use wire::Task;
+use frame_parts::Task;
 
 // The named fields of page 10h.
 pub struct ErrorLog {
@@ -37,7 +37,7 @@ pub fn log_fits(f: ErrorLog) -> bool
     ensures { λ r. ⌜ r ≡ fits10 f ⌝ }
 {
     let t = f.task;
-    wire::task_fits(t) & (f.tag >> 5 == 0) & (!f.nq | (f.tag == 0))
+    frame_parts::task_fits(t) & (f.tag >> 5 == 0) & (!f.nq | (f.tag == 0))
 }
 
 // The page of a record. Private to the crate: a writer that refuses stands over it.
@@ -46,7 +46,7 @@ pub fn page10_bytes(f: ErrorLog) -> [u8; 512]
 {
     let t = f.task;
     let first = first_byte(f.nq, f.tag);
-    let head = wire::register_bytes(first, 0, f.status, f.error, t, 0, 0, 0);
+    let head = frame_parts::register_bytes(first, 0, f.status, f.error, t, 0, 0, 0);
     let mut page = [0u8; 512];
     bits::lay(&mut page, &head);
     page[511] = sum_byte(&page);
@@ -54,8 +54,8 @@ pub fn page10_bytes(f: ErrorLog) -> [u8; 512]
 }
 
 // The tag as it stands, and 0 under NQ.
-fn tag_in(first: u8, nq: bool) -> u8
-    ensures { λ r. ⌜ r ≡ tagIn first nq ⌝ }
+fn tag_shown(first: u8, nq: bool) -> u8
+    ensures { λ r. ⌜ r ≡ tagShown first nq ⌝ }
 {
     if nq { 0 } else { first & 31 }
 }
@@ -63,20 +63,20 @@ fn tag_in(first: u8, nq: bool) -> u8
 fn read_fields(page: &[u8]) -> ErrorLog
     ensures { λ r. ⌜ r ≡ fields10 (now (page .entry)) ⌝ }
 {
-    let first = wire::byte_of(page, 0);
-    let nq = wire::flag(first, 7);
+    let first = frame_parts::byte_of(page, 0);
+    let nq = frame_parts::flag(first, 7);
     ErrorLog {
         nq,
-        tag: tag_in(first, nq),
-        status: wire::byte_of(page, 2),
-        error: wire::byte_of(page, 3),
-        task: wire::task_of(page),
+        tag: tag_shown(first, nq),
+        status: frame_parts::byte_of(page, 2),
+        error: frame_parts::byte_of(page, 3),
+        task: frame_parts::task_of(page),
     }
 }
 
 // Page 10h is read.
 pub fn read_log(page: &[u8]) -> Page10
-    ensures { λ r. ⌜ LogRead (now (page .entry)) r ⌝ }
+    ensures { λ r. ⌜ LogGiven (now (page .entry)) r ⌝ }
 {
     if page.len() != 512 {
         return Page10::Refused(20);

@@ -1,13 +1,13 @@
 // Log page 11h: the answer for a counter's number.
 ghost use mathlib.Core.Path.{_≡_};
 ghost use Rattle.bits.specs.Pick.{pick};
-ghost use Rattle.pages.specs.Entries.{asked, entries};
-ghost use Rattle.pages.specs.Page11.{damaged, valueIn, CounterRead};
-ghost use Rattle.pages.specs.Step.{turnOf};
+ghost use Rattle.pages.specs.Entries.{idAsked, entries};
+ghost use Rattle.pages.specs.Page11.{damaged, valueIn, PageCounterGiven};
+ghost use Rattle.pages.specs.WalkStep.{turnOf};
 use crate::sums::byte_sum;
-use crate::walk::Step;
+use crate::walk::WalkStep;
 use crate::walk::is_vendor;
-use crate::walk::number_of;
+use crate::walk::number_in;
 use crate::walk::walk_step;
 
 // What the page says of a counter: its value, that it is not kept, or the refusal's number.
@@ -25,12 +25,12 @@ enum Turn {
 
 // Whether an identifier is the asked counter's. Those with bit 15 are stepped over.
 fn is_asked(number: u16, id: u64) -> bool
-    ensures { λ r. ⌜ r ≡ asked number id ⌝ }
+    ensures { λ r. ⌜ r ≡ idAsked number id ⌝ }
 {
     if is_vendor(id) {
         return false;
     }
-    number_of(id) == number as u64
+    number_in(id) == number as u64
 }
 
 // The walk goes on after a hit, since a fault or a second hit behind it refuses the page.
@@ -38,9 +38,9 @@ fn take_turn(page: &[u8], number: u16, at: usize, found: Counter) -> Turn
     ensures { λ r. ⌜ r ≡ turnOf (now (page .entry)) number at found ⌝ }
 {
     match walk_step(page, at) {
-        Step::End => Turn::Done(found),
-        Step::Fault => Turn::Done(Counter::Refused(22)),
-        Step::Row { id, start, len } => {
+        WalkStep::End => Turn::Done(found),
+        WalkStep::Fault => Turn::Done(Counter::Refused(22)),
+        WalkStep::Row { id, start, len } => {
             if is_asked(number, id) {
                 match found {
                     Counter::Absent => Turn::Next {
@@ -85,7 +85,7 @@ fn walk_page(page: &[u8], number: u16) -> Counter
 
 // Page 11h is read for a number.
 pub fn read_counter(page: &[u8], number: u16) -> Counter
-    ensures { λ r. ⌜ CounterRead (now (page .entry)) number r ⌝ }
+    ensures { λ r. ⌜ PageCounterGiven (now (page .entry)) number r ⌝ }
 {
     if page.len() != 512 {
         return Counter::Refused(20);

@@ -3,12 +3,12 @@
 // straddles 508 (`no-straddle`), and it is enough to test where each value ends.
 ghost use mathlib.Core.Path.{_≡_};
 ghost use Prim.Native.Nat.{_<_};
-ghost use Rattle.pages.specs.Entries.{entryOf, widthOf, numberOf, vendorOf};
-ghost use Rattle.pages.specs.Step.{faulty, stepAt};
+ghost use Rattle.pages.specs.Entries.{counterEntry, widthOf, numberIn, vendorOf};
+ghost use Rattle.pages.specs.WalkStep.{faulty, stepAt};
 
 // What stands at a place: a row with its identifier, the place of its value and the value's length in bytes; the end;
 // or what no page may have.
-pub enum Step {
+pub enum WalkStep {
     Row { id: u64, start: usize, len: usize },
     End,
     Fault,
@@ -22,8 +22,8 @@ fn width_of(id: u64) -> usize
 }
 
 // Bits 11:0 of an identifier: the counter's number.
-pub fn number_of(id: u64) -> u64
-    ensures { λ r. ⌜ r ≡ numberOf id ⌝ }
+pub fn number_in(id: u64) -> u64
+    ensures { λ r. ⌜ r ≡ numberIn id ⌝ }
 {
     id & 0xfff
 }
@@ -38,7 +38,7 @@ pub fn is_vendor(id: u64) -> bool
 // Whether an entry is one that no page may have. A vendor's has a width too, but its low 12 bits may be 0.
 fn is_faulty(at: usize, id: u64) -> bool
     requires { ⌜ at < 508 ⌝ }
-    ensures { λ r. ⌜ r ≡ faulty (entryOf at id) ⌝ }
+    ensures { λ r. ⌜ r ≡ faulty (counterEntry at id) ⌝ }
 {
     let width = width_of(id);
     if width < 1 {
@@ -53,26 +53,26 @@ fn is_faulty(at: usize, id: u64) -> bool
     if is_vendor(id) {
         return false;
     }
-    number_of(id) == 0
+    number_in(id) == 0
 }
 
 // What stands at a place.
-pub fn entry_at(page: &[u8], at: usize) -> Step
+pub fn entry_at(page: &[u8], at: usize) -> WalkStep
     ensures { λ r. ⌜ r ≡ stepAt (now (page .entry)) at ⌝ }
 {
     if 508 <= at {
-        return Step::End;
+        return WalkStep::End;
     }
     let id = bits::le(page, at, 2);
     if id == 0 {
-        return Step::End;
+        return WalkStep::End;
     }
     if is_faulty(at, id) {
-        return Step::Fault;
+        return WalkStep::Fault;
     }
     let start = at + 2;
     let len = 2 * width_of(id);
-    Step::Row { id, start, len }
+    WalkStep::Row { id, start, len }
 }
 
 // The walk keeps its page and its place together.
@@ -88,7 +88,7 @@ impl<'a> Walk<'a> {
         Walk { page, at }
     }
 
-    pub fn step(self) -> Step
+    pub fn step(self) -> WalkStep
         ensures { λ r. ⌜ r ≡ stepAt (now (self .entry .page)) (self .entry .at) ⌝ }
     {
         entry_at(self.page, self.at)
@@ -96,7 +96,7 @@ impl<'a> Walk<'a> {
 }
 
 // One step of the walk, with plain parameters: whoever calls it needs no proof by hand.
-pub fn walk_step(page: &[u8], at: usize) -> Step
+pub fn walk_step(page: &[u8], at: usize) -> WalkStep
     ensures { λ r. ⌜ r ≡ stepAt (now (page .entry)) at ⌝ }
 {
     Walk::from(page, at).step()

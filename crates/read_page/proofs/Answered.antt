@@ -10,7 +10,7 @@ use lib.ListN.{length, getD}
 use borrow.Author.Tests.{eqb-true, eq-eqb}
 use Rattle.bits.specs.First.{firstOf}
 use Rattle.bits.proofs.Picks.{pick-yes, pick-no, tested}
-use Rattle.pages.specs.Entries.{Entry, asks, entries}
+use Rattle.pages.specs.Entries.{CounterEntry, entryAsked, entries}
 use Rattle.pages.specs.Page11.{valueIn, ladder11, readCounter}
 use Rattle.pages.specs.Rows.{ids, idOf}
 use Rattle.pages.specs.declared.page11.Counter.the-variants.{Refused}
@@ -36,14 +36,14 @@ each page (number ∷ more) zero e h = first page more number e .0
 each page (number ∷ more) (suc i) e h = each page more i (first page more number e .1) (omega arith)
 
 -- what is found among the entries is a value or absent
-found : (page : List ℕ) (number n : ℕ) (es : List Entry) → valueIn page number es ≡ Refused n → ⊥
+found : (page : List ℕ) (number n : ℕ) (es : List CounterEntry) → valueIn page number es ≡ Refused n → ⊥
 unfolding valueIn
 found page number n [] e = let z : _≡_ {A = ℕ} 0 1 = cc in omega arith
 found page number n (x ∷ es) e =
     ⊎-elim
-    (λ (t : asks number x ≡ true). let k = sym (pick-yes (asks number x) _ (valueIn page number es) t) ∙ e in let z : _≡_ {A = ℕ} 0 1 = cc in omega arith)
-    (λ (f : asks number x ≡ false). found page number n es (sym (pick-no (asks number x) _ (valueIn page number es) f) ∙ e))
-    (tested (asks number x))
+    (λ (t : entryAsked number x ≡ true). let k = sym (pick-yes (entryAsked number x) _ (valueIn page number es) t) ∙ e in let z : _≡_ {A = ℕ} 0 1 = cc in omega arith)
+    (λ (f : entryAsked number x ≡ false). found page number n es (sym (pick-no (entryAsked number x) _ (valueIn page number es) f) ∙ e))
+    (tested (entryAsked number x))
 
 -- no row is refused
 pub never-refused : (page : List ℕ) (row n : ℕ) → refusalIn page ids ≡ 0 → row < 16 → readCounter page (idOf row) ≡ Refused n → ⊥

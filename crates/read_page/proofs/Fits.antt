@@ -9,11 +9,11 @@ use lib.ListN.{length, drop, length-append, length-drop}
 use lib.Seq.{take-all, take-at}
 use borrow.Author.Tests.{le-leb}
 use Rattle.bits.specs.Pick.{pick}
-use Rattle.bits.specs.Told.{bitNumber}
+use Rattle.bits.specs.Answer.{bitNumber}
 use Rattle.bits.proofs.Picks.{by-test, pick-yes}
-use Rattle.text.specs.Sheet.{Fronted}
+use Rattle.text.specs.Sheet.{WholeTextGiven}
 use Rattle.text.specs.Digits.{decimalTo, decimal, hex}
-use Rattle.wire.specs.declared.pieces.Task.{Task}
+use Rattle.frame_parts.specs.declared.shared.Task.{Task}
 use Rattle.pages.specs.Rows.{ids}
 use Rattle.pages.specs.Page10.{readLog}
 use Rattle.pages.specs.Page11.{readCounter}
@@ -27,7 +27,7 @@ use Rattle.read_page.specs.declared.Page.the-variants.{Errors, Counters}
 use Rattle.read_page.specs.Asking.{refusalIn}
 use Rattle.read_page.specs.Top.{atTop}
 use Rattle.read_page.specs.Words.{nqWord, tagWord, statusWord, errorWord, lbaWord, deviceWord, countWord, refusedWord, topWord}
-use Rattle.read_page.specs.Lines.{upper, numberLine, hexLine, refusalLine, valueLine, answerLine, counterLine, counterLines, countersText, marksText, taskText, logText, fieldsText, pageText, Held}
+use Rattle.read_page.specs.Lines.{upper, numberLine, hexLine, refusalLine, valueLine, answerLine, counterLine, counterLines, countersText, marksText, taskText, logText, fieldsText, pageText, PageTextGiven}
 use Rattle.read_page.proofs.Asked.{length-ids}
 
 -- a text has at most so many bytes
@@ -120,7 +120,7 @@ text-most Counters page =
     (λ f. omega (arith, refusal-most (refusalIn page ids)))
 
 -- so a buffer of 1,024 bytes or more holds all of it
-pub held : (s b b′ : List ℕ) (r : ℕ) → length s ≤ length b → length b′ ≡ length b → Fronted s b r b′ → Held s r b′
+pub held : (s b b′ : List ℕ) (r : ℕ) → length s ≤ length b → length b′ ≡ length b → WholeTextGiven s b r b′ → PageTextGiven s r b′
 held s b b′ r h l f =
     let n : r ≡ length s = f .len ∙ pick-yes (leb (length s) (length b)) (length s) 0 (le-leb _ _ h) in
     let all : b′ ≡ s ++ drop (length s) b = f .bytes ∙ rw (take-all (length b) s h) refl in

@@ -13,50 +13,50 @@ use Rattle.bits.specs.First.{firstOf, Iff}
 use Rattle.bits.specs.Little.{leAt}
 use Rattle.bits.proofs.Picks.{pick-yes, pick-no, tested, or-left, or-right}
 use Rattle.bits.proofs.Firsts as firsts
-use Rattle.pages.specs.Entries.{Entry, widthOf, bytesIn, wrongWidth, pastEnd, nameless, asks, entries, someOf, howMany}
+use Rattle.pages.specs.Entries.{CounterEntry, widthOf, bytesIn, wrongWidth, pastEnd, nameless, entryAsked, entries, someOf, countEntries}
 use Rattle.pages.specs.Page11.{damaged, valueIn, ladder11, readCounter}
 use Rattle.pages.specs.declared.page11.Counter.the-variants.{Value, Refused}
 use Rattle.pages.proofs.Values.{noEntry}
 use Rattle.read_page.specs.Top.{bytesFor, topOf, atTop}
 
 -- the entry of a list that a value was read from
-pub record From (page : List ℕ) (number : ℕ) (es : List Entry) (v : ℕ) : Type 0 where
+pub record From (page : List ℕ) (number : ℕ) (es : List CounterEntry) (v : ℕ) : Type 0 where
   pub entry : ℕ
   pub there : entry < length es
-  pub hit : asks number (getD es entry noEntry) ≡ true
+  pub hit : entryAsked number (getD es entry noEntry) ≡ true
   pub value : v ≡ leAt page (getD es entry noEntry .place + 2) (bytesIn (getD es entry noEntry .id))
   pub bytes : bytesFor number es ≡ bytesIn (getD es entry noEntry .id)
   pub most : bytesIn (getD es entry noEntry .id) ≤ 8
 
-from : (page : List ℕ) (number : ℕ) (es : List Entry) (v : ℕ) → someOf wrongWidth es ≡ false → valueIn page number es ≡ Value v → From page number es v
+from : (page : List ℕ) (number : ℕ) (es : List CounterEntry) (v : ℕ) → someOf wrongWidth es ≡ false → valueIn page number es ≡ Value v → From page number es v
 unfolding valueIn bytesFor someOf
 from page number [] v s e = absurd (let z : _≡_ {A = ℕ} 0 1 = cc in omega arith)
 from page number (x ∷ es) v s e =
     let w = or-left (wrongWidth x) (someOf wrongWidth es) s in
     let here = Value (leAt page (x .place + 2) (bytesIn (x .id))) in
     ⊎-elim
-    (λ (t : asks number x ≡ true).
-    let k : here ≡ Value v = sym (pick-yes (asks number x) here (valueIn page number es) t) ∙ e in
+    (λ (t : entryAsked number x ≡ true).
+    let k : here ≡ Value v = sym (pick-yes (entryAsked number x) here (valueIn page number es) t) ∙ e in
     let m : widthOf (x .id) ≤ 4 = ltb-false 4 (widthOf (x .id)) (or-right (ltb (widthOf (x .id)) 1) (ltb 4 (widthOf (x .id))) w) in
     record {
       entry = 0;
       there = zero-lt-suc (length es);
       hit = t;
       value = cc;
-      bytes = pick-yes (asks number x) (bytesIn (x .id)) (bytesFor number es) t;
+      bytes = pick-yes (entryAsked number x) (bytesIn (x .id)) (bytesFor number es) t;
       most = omega arith;
     })
-    (λ (n : asks number x ≡ false).
-    let r = from page number es v (or-right (wrongWidth x) (someOf wrongWidth es) s) (sym (pick-no (asks number x) here (valueIn page number es) n) ∙ e) in
+    (λ (n : entryAsked number x ≡ false).
+    let r = from page number es v (or-right (wrongWidth x) (someOf wrongWidth es) s) (sym (pick-no (entryAsked number x) here (valueIn page number es) n) ∙ e) in
     record {
       entry = suc (r .entry);
       there = suc-le-suc (r .there);
       hit = r .hit;
       value = r .value;
-      bytes = pick-no (asks number x) (bytesIn (x .id)) (bytesFor number es) n ∙ r .bytes;
+      bytes = pick-no (entryAsked number x) (bytesIn (x .id)) (bytesFor number es) n ∙ r .bytes;
       most = r .most;
     })
-    (tested (asks number x))
+    (tested (entryAsked number x))
 
 -- a page that answers with a value has it in its entries, whose widths are all 1 to 4
 answered : (page : List ℕ) (number v : ℕ) → readCounter page number ≡ Value v → (someOf wrongWidth (entries page) ≡ false) × (valueIn page number (entries page) ≡ Value v)
@@ -67,7 +67,7 @@ answered page number v e =
     ⊎-elim
     (λ (t : eqb n 0 ≡ true).
     let d = firsts.first-exactly (ladder11 page number) tt .none .0 (eqb-true n 0 t) 3 (lit< tt) in
-    let f = or-left ((someOf wrongWidth es || someOf pastEnd es) || someOf nameless es) (leb 2 (howMany (asks number) es)) d in
+    let f = or-left ((someOf wrongWidth es || someOf pastEnd es) || someOf nameless es) (leb 2 (countEntries (entryAsked number) es)) d in
     (or-left (someOf wrongWidth es) (someOf pastEnd es) (or-left (someOf wrongWidth es || someOf pastEnd es) (someOf nameless es) f), sym (pick-yes (eqb n 0) (valueIn page number es) (Refused n) t) ∙ e))
     (λ (f : eqb n 0 ≡ false).
     let k : Refused n ≡ Value v = sym (pick-no (eqb n 0) (valueIn page number es) (Refused n) f) ∙ e in

@@ -11,7 +11,7 @@ use lib.Seq.{drop-cons, take-all}
 use borrow.Author.Tests.{eq-eqb, ne-eqb}
 use Rattle.bits.specs.Little.{byteOf}
 use Rattle.bits.proofs.Picks.{pick-yes, pick-no}
-use Rattle.text.specs.Sheet.{Sheet, written, Wrote}
+use Rattle.text.specs.Sheet.{Sheet, written, TextGiven}
 use Rattle.text.specs.Digits.{hex}
 use Rattle.text.proofs.Writing.{written-more, fronted}
 use Rattle.pages.specs.Rows.{ids, idOf}
@@ -20,7 +20,7 @@ use Rattle.read_page.specs.Lines.{upper, refusalLine, counterLine, count
 use Rattle.read_page.proofs.Asked.{length-ids}
 
 -- a text as long as its buffer is all that the buffer then holds
-filled : (s b b′ : List ℕ) (r : ℕ) → length s ≡ length b → Wrote s 0 b r b′ → b′ ≡ s
+filled : (s b b′ : List ℕ) (r : ℕ) → length s ≡ length b → TextGiven s 0 b r b′ → b′ ≡ s
 filled s b b′ r l p =
     let t = take-all (length b) s (omega arith) in
     fronted s b r _ b′ p refl .bytes ∙ rw (t, drop-of-length-le b {i = length s} (omega arith)) (append-nil s)
@@ -30,7 +30,7 @@ abbrev sixteen : ℕ → List ℕ
 sixteen n = hex true (byteOf n 7 ∷ byteOf n 6 ∷ byteOf n 5 ∷ byteOf n 4 ∷ byteOf n 3 ∷ byteOf n 2 ∷ byteOf n 1 ∷ byteOf n 0 ∷ [])
 
 -- the last digits, cut out of a buffer of sixteen that all were written to
-pub last-digits : (digits n : ℕ) (b b′ : List ℕ) (r : ℕ) → length b ≡ 16 → Wrote (sixteen n) 0 b r b′ → take (16 - (16 - digits)) (drop (16 - digits) b′) ≡ upper digits n
+pub last-digits : (digits n : ℕ) (b b′ : List ℕ) (r : ℕ) → length b ≡ 16 → TextGiven (sixteen n) 0 b r b′ → take (16 - (16 - digits)) (drop (16 - digits) b′) ≡ upper digits n
 unfolding upper hex
 last-digits digits n b b′ r l p =
     let e : b′ ≡ sixteen n = filled (sixteen n) b b′ r (sym l) p in

@@ -8,7 +8,7 @@ use lib.Dec.{ltb}
 use borrow.Author.Tests.{eq-eqb, ne-eqb, le-leb, lt-leb}
 use Rattle.bits.specs.Pick.{pick}
 use Rattle.bits.proofs.Picks.{pick-yes, pick-no}
-use Rattle.pages.specs.Entries.{idAt, widthOf, bytesIn, asked, entriesFrom, entries}
+use Rattle.pages.specs.Entries.{idAt, widthOf, bytesIn, idAsked, entriesFrom, entries}
 use Rattle.pages.proofs.Walking.{ends, entries-end, entries-some, entries-fuel}
 use Rattle.read_page.specs.Top.{bytesFor}
 
@@ -34,19 +34,19 @@ module _ (page : List ℕ) (number at : ℕ) where
 
     module _ (z : id ≡ 0 → ⊥) where
       -- an entry stands here, and maybe some behind it
-      some : fromHere page number at ≡ pick (asked number id) (bytesIn id) (bytesFor number (pick (broken (widthOf id) (at + 2 + bytesIn id)) [] (entriesFrom page (507 - at) (at + 2 + bytesIn id))))
+      some : fromHere page number at ≡ pick (idAsked number id) (bytesIn id) (bytesFor number (pick (broken (widthOf id) (at + 2 + bytesIn id)) [] (entriesFrom page (507 - at) (at + 2 + bytesIn id))))
       unfolding bytesFor
       some =
           let e : 508 - at ≡ suc (507 - at) = omega arith in
           let f : ends page at ≡ false = simp (lt-leb 508 at h, ne-eqb (idAt page at) 0 (λ k. z (i ∙ k))) in
           rw (e, i) (ap (bytesFor number) (entries-some page at (507 - at) f))
 
-      pub width-hit : asked number id ≡ true → fromHere page number at ≡ bytesIn id
-      width-hit t = some ∙ pick-yes (asked number id) (bytesIn id) _ t
+      pub width-hit : idAsked number id ≡ true → fromHere page number at ≡ bytesIn id
+      width-hit t = some ∙ pick-yes (idAsked number id) (bytesIn id) _ t
 
-      module _ (t : asked number id ≡ false) (w n : ℕ) (p : w ≡ widthOf id) (q : n ≡ bytesIn id) where
+      module _ (t : idAsked number id ≡ false) (w n : ℕ) (p : w ≡ widthOf id) (q : n ≡ bytesIn id) where
         miss : fromHere page number at ≡ bytesFor number (pick (broken w (at + 2 + n)) [] (entriesFrom page (507 - at) (at + 2 + n)))
-        miss = rw (p, q) (some ∙ pick-no (asked number id) (bytesIn id) _ t)
+        miss = rw (p, q) (some ∙ pick-no (idAsked number id) (bytesIn id) _ t)
 
         pub width-stop : broken w (at + 2 + n) ≡ true → fromHere page number at ≡ 0
         unfolding bytesFor

@@ -6,10 +6,10 @@ use mathlib.Core.List.{List, [], _∷_, _++_}
 use lib.Dec.{eqb}
 use lib.ListN.{length, take, drop}
 use Rattle.bits.specs.Pick.{pick}
-use Rattle.bits.specs.Told.{bitNumber}
+use Rattle.bits.specs.Answer.{bitNumber}
 use Rattle.bits.specs.Little.{byteOf}
 use Rattle.text.specs.Digits.{decimal, hex}
-use Rattle.wire.specs.declared.pieces.Task.{Task}
+use Rattle.frame_parts.specs.declared.shared.Task.{Task}
 use Rattle.pages.specs.Rows.{ids}
 use Rattle.pages.specs.Page10.{readLog}
 use Rattle.pages.specs.Page11.{readCounter}
@@ -93,7 +93,7 @@ pageText Errors page = fieldsText page
 pageText Counters page = countersText page
 
 -- all of a text stands in front of a buffer
-pub record Held (text : List ℕ) (r : ℕ) (b : List ℕ) : Type 0 where
+pub record PageTextGiven (text : List ℕ) (r : ℕ) (b : List ℕ) : Type 0 where
   pub len : r ≡ length text
   pub room : r ≤ length b
   pub bytes : take r b ≡ text

@@ -4,12 +4,12 @@ use mathlib.Core.Bool.{Bool}
 use mathlib.Core.List.{List, [], _∷_}
 use lib.Dec.{eqb}
 use Rattle.bits.specs.Pick.{pick}
-use Rattle.pages.specs.Entries.{Entry, bytesIn, asks, entries}
+use Rattle.pages.specs.Entries.{CounterEntry, bytesIn, entryAsked, entries}
 
 -- how many bytes the value of the asked number has, by the entry whose value `valueIn` gives; 0 where there is none
-unfoldable pub bytesFor : ℕ → List Entry → ℕ
+unfoldable pub bytesFor : ℕ → List CounterEntry → ℕ
 bytesFor number [] = 0
-bytesFor number (e ∷ es) = pick (asks number e) (bytesIn (e .id)) (bytesFor number es)
+bytesFor number (e ∷ es) = pick (entryAsked number e) (bytesIn (e .id)) (bytesFor number es)
 
 -- the largest value of n bytes, of which a value has at most 8
 unfoldable pub topOf : ℕ → ℕ

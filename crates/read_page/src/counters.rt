@@ -3,7 +3,7 @@ ghost use mathlib.Core.Path.{_≡_};
 ghost use Rattle.bits.specs.First.{firstOf};
 ghost use Rattle.pages.specs.Page11.{ladder11, readCounter};
 ghost use Rattle.pages.specs.Rows.{ids};
-ghost use Rattle.text.specs.Sheet.{Wrote, Fronted};
+ghost use Rattle.text.specs.Sheet.{TextGiven, WholeTextGiven};
 ghost use Rattle.read_page.specs.Asking.{refusalIn};
 ghost use Rattle.read_page.specs.Lines.{valueLine, answerLine, counterLine, counterLines, countersText};
 use crate::tops::is_top;
@@ -42,7 +42,7 @@ fn refusal(page: &[u8]) -> u8
 
 // A value that stands at the top of its width may have had more events.
 fn put_value(out: &mut [u8], at: usize, v: u64, top: bool) -> usize
-    ensures { λ r. ⌜ Wrote (valueLine top v) at (now (out .entry)) r (now (out .exit)) ⌝ }
+    ensures { λ r. ⌜ TextGiven (valueLine top v) at (now (out .entry)) r (now (out .exit)) ⌝ }
 {
     let a = put_decimal(out, at, v);
     if top {
@@ -53,7 +53,7 @@ fn put_value(out: &mut [u8], at: usize, v: u64, top: bool) -> usize
 
 // What the page says of one counter. None is refused here: all were asked before the first line (`Answered.never-refused`).
 fn put_answer(out: &mut [u8], at: usize, page: &[u8], number: u16) -> usize
-    ensures { λ r. ⌜ Wrote (answerLine (now (page .entry)) number (readCounter (now (page .entry)) number)) at (now (out .entry)) r (now (out .exit)) ⌝ }
+    ensures { λ r. ⌜ TextGiven (answerLine (now (page .entry)) number (readCounter (now (page .entry)) number)) at (now (out .entry)) r (now (out .exit)) ⌝ }
 {
     match pages::read_counter(page, number) {
         Counter::Value(v) => put_value(out, at, v, is_top(page, number, v)),
@@ -64,7 +64,7 @@ fn put_answer(out: &mut [u8], at: usize, page: &[u8], number: u16) -> usize
 
 // The line of one counter.
 fn put_counter(out: &mut [u8], at: usize, page: &[u8], number: u16) -> usize
-    ensures { λ r. ⌜ Wrote (counterLine (now (page .entry)) number) at (now (out .entry)) r (now (out .exit)) ⌝ }
+    ensures { λ r. ⌜ TextGiven (counterLine (now (page .entry)) number) at (now (out .entry)) r (now (out .exit)) ⌝ }
 {
     let a = put_upper(out, at, number as u64, 3);
     let b = put(out, a, b"h ");
@@ -72,7 +72,7 @@ fn put_counter(out: &mut [u8], at: usize, page: &[u8], number: u16) -> usize
 }
 
 fn put_all(out: &mut [u8], page: &[u8]) -> usize
-    ensures { λ r. ⌜ Wrote (counterLines (now (page .entry)) ids) 0 (now (out .entry)) r (now (out .exit)) ⌝ }
+    ensures { λ r. ⌜ TextGiven (counterLines (now (page .entry)) ids) 0 (now (out .entry)) r (now (out .exit)) ⌝ }
 {
     let mut end: usize = 0;
     let mut row: usize = 0;
@@ -85,7 +85,7 @@ fn put_all(out: &mut [u8], page: &[u8]) -> usize
 
 // A page on which one number is refused is an unread page: none of its values is told.
 fn put_read(out: &mut [u8], page: &[u8]) -> usize
-    ensures { λ r. ⌜ Wrote (countersText (now (page .entry))) 0 (now (out .entry)) r (now (out .exit)) ⌝ }
+    ensures { λ r. ⌜ TextGiven (countersText (now (page .entry))) 0 (now (out .entry)) r (now (out .exit)) ⌝ }
 {
     let first = refusal(page);
     if first != 0 {
@@ -96,7 +96,7 @@ fn put_read(out: &mut [u8], page: &[u8]) -> usize
 
 // The whole text of a page 11h in front of a buffer, and its length; 0 where the buffer has no room for all of it.
 pub fn put_counters(out: &mut [u8], page: &[u8]) -> usize
-    ensures { λ r. ⌜ Fronted (countersText (now (page .entry))) (now (out .entry)) r (now (out .exit)) ⌝ }
+    ensures { λ r. ⌜ WholeTextGiven (countersText (now (page .entry))) (now (out .entry)) r (now (out .exit)) ⌝ }
 {
     let end = put_read(out, page);
     text::whole(end, out.len())

@@ -1,16 +1,16 @@
 // The fields of page 10h, each by its name.
 ghost use mathlib.Core.List.{_++_};
-ghost use Rattle.text.specs.Sheet.{Wrote, Fronted};
+ghost use Rattle.text.specs.Sheet.{TextGiven, WholeTextGiven};
 ghost use Rattle.read_page.specs.Lines.{marksText, taskText, fieldsText};
 use crate::words::put_hex;
 use crate::words::put_number;
 use crate::words::put_refusal;
+use frame_parts::Task;
 use pages::ErrorLog;
 use pages::Page10;
-use wire::Task;
 
 fn put_marks(out: &mut [u8], log: ErrorLog) -> usize
-    ensures { λ r. ⌜ Wrote (marksText log) 0 (now (out .entry)) r (now (out .exit)) ⌝ }
+    ensures { λ r. ⌜ TextGiven (marksText log) 0 (now (out .entry)) r (now (out .exit)) ⌝ }
 {
     let a = put_number(out, 0, b"NQ ", log.nq as u64);
     let b = put_number(out, a, b"tag ", log.tag as u64);
@@ -19,7 +19,7 @@ fn put_marks(out: &mut [u8], log: ErrorLog) -> usize
 }
 
 fn put_task(out: &mut [u8], at: usize, task: Task) -> usize
-    ensures { λ r. ⌜ Wrote (taskText task) at (now (out .entry)) r (now (out .exit)) ⌝ }
+    ensures { λ r. ⌜ TextGiven (taskText task) at (now (out .entry)) r (now (out .exit)) ⌝ }
 {
     let a = put_hex(out, at, b"LBA ", task.lba, 12);
     let b = put_hex(out, a, b"device ", task.device as u64, 2);
@@ -27,7 +27,7 @@ fn put_task(out: &mut [u8], at: usize, task: Task) -> usize
 }
 
 fn put_log(out: &mut [u8], log: ErrorLog) -> usize
-    ensures { λ r. ⌜ Wrote (marksText log ++ taskText (log .task)) 0 (now (out .entry)) r (now (out .exit)) ⌝ }
+    ensures { λ r. ⌜ TextGiven (marksText log ++ taskText (log .task)) 0 (now (out .entry)) r (now (out .exit)) ⌝ }
 {
     let a = put_marks(out, log);
     put_task(out, a, log.task)
@@ -35,7 +35,7 @@ fn put_log(out: &mut [u8], log: ErrorLog) -> usize
 
 // The fields, or the refusal alone.
 fn put_read(out: &mut [u8], page: &[u8]) -> usize
-    ensures { λ r. ⌜ Wrote (fieldsText (now (page .entry))) 0 (now (out .entry)) r (now (out .exit)) ⌝ }
+    ensures { λ r. ⌜ TextGiven (fieldsText (now (page .entry))) 0 (now (out .entry)) r (now (out .exit)) ⌝ }
 {
     match pages::read_log(page) {
         Page10::Fields(log) => put_log(out, log),
@@ -45,7 +45,7 @@ fn put_read(out: &mut [u8], page: &[u8]) -> usize
 
 // The whole text of a page 10h in front of a buffer, and its length; 0 where the buffer has no room for all of it.
 pub fn put_fields(out: &mut [u8], page: &[u8]) -> usize
-    ensures { λ r. ⌜ Fronted (fieldsText (now (page .entry))) (now (out .entry)) r (now (out .exit)) ⌝ }
+    ensures { λ r. ⌜ WholeTextGiven (fieldsText (now (page .entry))) (now (out .entry)) r (now (out .exit)) ⌝ }
 {
     let end = put_read(out, page);
     text::whole(end, out.len())

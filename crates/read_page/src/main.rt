@@ -3,7 +3,7 @@
 // All is written at once, and a write that fails is told on standard error.
 ghost use Prim.Native.Nat.{_≤_};
 ghost use lib.ListN.{length};
-ghost use Rattle.read_page.specs.Lines.{pageText, Held};
+ghost use Rattle.read_page.specs.Lines.{pageText, PageTextGiven};
 
 mod counters;
 mod fields;
@@ -22,7 +22,7 @@ enum Page {
 // The page's whole text in front of a buffer, and its length. No text is longer: sixteen lines of at most 34 bytes.
 fn put_page(out: &mut [u8], which: Page, page: &[u8]) -> usize
     requires { ⌜ 1024 ≤ length (now out) ⌝ }
-    ensures { λ r. ⌜ Held (pageText which (now (page .entry))) r (now (out .exit)) ⌝ }
+    ensures { λ r. ⌜ PageTextGiven (pageText which (now (page .entry))) r (now (out .exit)) ⌝ }
 {
     match which {
         Page::Errors => fields::put_fields(out, page),

@@ -3,7 +3,7 @@
 ghost use mathlib.Core.Path.{_≡_};
 ghost use mathlib.Core.Bool.{_||_};
 ghost use lib.Dec.{ltb};
-ghost use Rattle.pages.specs.Entries.{widthOf, bytesIn, asked, entries};
+ghost use Rattle.pages.specs.Entries.{widthOf, bytesIn, idAsked, entries};
 ghost use Rattle.read_page.specs.Top.{bytesFor, topOf, atTop};
 
 // Bits 14:12 of an identifier.
@@ -22,7 +22,7 @@ fn value_bytes(id: u64) -> usize
 
 // Whether an identifier is the asked counter's: no vendor's, and its low 12 bits are the number.
 fn is_asked(number: u16, id: u64) -> bool
-    ensures { λ r. ⌜ r ≡ asked number id ⌝ }
+    ensures { λ r. ⌜ r ≡ idAsked number id ⌝ }
 {
     !((id >> 15) & 1 == 1) & (id & 0xfff == number as u64)
 }

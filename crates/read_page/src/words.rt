@@ -1,7 +1,7 @@
 // Words and numbers in a text. As with `text`, each writer is handed the place and answers the place behind.
 ghost use mathlib.Core.Path.{_≡_};
 ghost use Prim.Native.Nat.{_-_};
-ghost use Rattle.text.specs.Sheet.{Wrote};
+ghost use Rattle.text.specs.Sheet.{TextGiven};
 ghost use Rattle.read_page.specs.Lines.{upper, numberLine, hexLine, refusalLine};
 use text::put;
 use text::put_byte;
@@ -15,7 +15,7 @@ pub fn is_word(s: &[u8], w: &[u8]) -> bool {
 
 // A name, a number, and the line's end.
 pub fn put_number(out: &mut [u8], at: usize, name: &[u8], n: u64) -> usize
-    ensures { λ r. ⌜ Wrote (numberLine (now (name .entry)) n) at (now (out .entry)) r (now (out .exit)) ⌝ }
+    ensures { λ r. ⌜ TextGiven (numberLine (now (name .entry)) n) at (now (out .entry)) r (now (out .exit)) ⌝ }
 {
     let a = put(out, at, name);
     let b = put_decimal(out, a, n);
@@ -31,7 +31,7 @@ fn left_out(digits: usize) -> usize
 
 // The last `digits` of the sixteen upper-case hex digits of a number.
 pub fn put_upper(out: &mut [u8], at: usize, n: u64, digits: usize) -> usize
-    ensures { λ r. ⌜ Wrote (upper digits n) at (now (out .entry)) r (now (out .exit)) ⌝ }
+    ensures { λ r. ⌜ TextGiven (upper digits n) at (now (out .entry)) r (now (out .exit)) ⌝ }
 {
     let b = [
         bits::byte(n, 7),
@@ -51,7 +51,7 @@ pub fn put_upper(out: &mut [u8], at: usize, n: u64, digits: usize) -> usize
 
 // A name, a number in hex with its `h`, and the line's end.
 pub fn put_hex(out: &mut [u8], at: usize, name: &[u8], n: u64, digits: usize) -> usize
-    ensures { λ r. ⌜ Wrote (hexLine (now (name .entry)) digits n) at (now (out .entry)) r (now (out .exit)) ⌝ }
+    ensures { λ r. ⌜ TextGiven (hexLine (now (name .entry)) digits n) at (now (out .entry)) r (now (out .exit)) ⌝ }
 {
     let a = put(out, at, name);
     let b = put_upper(out, a, n, digits);
@@ -59,7 +59,7 @@ pub fn put_hex(out: &mut [u8], at: usize, name: &[u8], n: u64, digits: usize) ->
 }
 
 pub fn put_refusal(out: &mut [u8], at: usize, n: u8) -> usize
-    ensures { λ r. ⌜ Wrote (refusalLine n) at (now (out .entry)) r (now (out .exit)) ⌝ }
+    ensures { λ r. ⌜ TextGiven (refusalLine n) at (now (out .entry)) r (now (out .exit)) ⌝ }
 {
     put_number(out, at, b"refused ", n as u64)
 }

@@ -10,29 +10,29 @@ use borrow.Author.Tests.{lt-ltb}
 use Rattle.bits.specs.Pick.{pick}
 use Rattle.bits.specs.Little.{Bytes}
 use Rattle.bits.proofs.Picks.{pick-yes}
-use Rattle.wire.specs.Cut.{cut, joined}
-use Rattle.wire.specs.Piece.{taskFits}
-use Rattle.wire.specs.declared.pieces.Task.{Task}
-use Rattle.wire.proofs.TaskLaws.{task-fits}
-use Rattle.frames.specs.Write.{Sent, payload, encode, fits}
-use Rattle.frames.specs.Neat.{Neat}
+use Rattle.frame_parts.specs.Cut.{cut, joined}
+use Rattle.frame_parts.specs.Shared.{taskFits}
+use Rattle.frame_parts.specs.declared.shared.Task.{Task}
+use Rattle.frame_parts.proofs.TaskLaws.{task-fits}
+use Rattle.frames.specs.Write.{FrameValue, payload, encode, fits}
+use Rattle.frames.specs.DataLast.{DataLast}
 use Rattle.frames.proofs.Cuts.{cut-sent}
 use Rattle.pages.specs.Page10.{page10, fits10}
 use Rattle.pages.specs.Rows.{keepsBoth}
 use Rattle.pages.specs.Made11.{page11}
 use Rattle.pages.proofs.Trip10.{length-10}
 use Rattle.pages.proofs.Bytes11.{page-length}
-use Rattle.states.specs.State.{placedBytes, taskIn, wholeOf}
-use Rattle.states.specs.declared.shapes.Echo.{Echo}
-use Rattle.states.specs.declared.shapes.ErrorRecord.{ErrorRecord}
+use Rattle.device_state.specs.State.{placedBytes, taskIn, wholeOf}
+use Rattle.device_state.specs.declared.shapes.Echo.{Echo}
+use Rattle.device_state.specs.declared.shapes.ErrorRecord.{ErrorRecord}
 use Rattle.replies.specs.declared.shown.Shown.{Shown}
 use Rattle.rules.specs.declared.acts.Act.{Act}
-use Rattle.rules.specs.declared.acts.Act.the-variants.{Refuse, Nothing, Answer, Halt, Accept, Log10, Log11, Reset, Release, Zero, Keep, Open, Send, Finish, Media, Count, Renew}
-use Rattle.replies.specs.Replies.{register, activateIf, pioReply, logOf, page10Of, page11Of, logReplies, repliesOf, sentBytes, sentAll, Sends}
+use Rattle.rules.specs.declared.acts.Act.the-variants.{Refuse, Nothing, Bad, BadAndHalt, Accept, Log10, Log11, Reset, Release, ZeroCounters, Store, Open, Send, Finish, Media, Count, Renew}
+use Rattle.replies.specs.Replies.{register, activateIf, pioReply, logOf, page10Of, page11Of, logReplies, repliesOf, sentBytes, sentAll, RepliesGiven}
 use Rattle.replies.proofs.Fit.{Fitting, Fit}
 
 -- frames that fit are all sent
-pub all-sent : (fs : List Sent) → Fitting fs → sentAll fs ≡ joined (map encode fs)
+pub all-sent : (fs : List FrameValue) → Fitting fs → sentAll fs ≡ joined (map encode fs)
 unfolding Fitting sentAll sentBytes joined
 all-sent [] h = refl
 all-sent (f ∷ fs) h = ap₂ (λ (a b : List ℕ). a ++ b) (pick-yes (fits f) (encode f) [] (h .0)) (all-sent fs (h .1))
@@ -75,15 +75,15 @@ activate-fits false = tt
 off : {A : Type 0} → false ≡ true → A
 off e = absurd (true≢false (sym e))
 
-log-neat : (on : Bool) (task : Task) (page : List ℕ) → Neat (logReplies on task page)
-unfolding Neat pick
-log-neat true task page = (off, (off, (λ _. refl, tt)))
-log-neat false task page = (off, (λ _. refl, tt))
+log-data-last : (on : Bool) (task : Task) (page : List ℕ) → DataLast (logReplies on task page)
+unfolding DataLast pick
+log-data-last true task page = (off, (off, (λ _. refl, tt)))
+log-data-last false task page = (off, (λ _. refl, tt))
 
-activate-neat : (on : Bool) → Neat (activateIf on)
-unfolding Neat pick
-activate-neat true = (off, tt)
-activate-neat false = tt
+activate-data-last : (on : Bool) → DataLast (activateIf on)
+unfolding DataLast pick
+activate-data-last true = (off, tt)
+activate-data-last false = tt
 
 module _ (s : Shown) (part : List ℕ) where
   -- by the act
@@ -91,15 +91,15 @@ module _ (s : Shown) (part : List ℕ) where
   unfolding Fit Fitting repliesOf fits
   replies-fit (Refuse n) h = tt
   replies-fit Nothing h = tt
-  replies-fit (Answer b) h = (register-fits true 0x41 (b .error) (b .task) (omega arith) (h .0) (h .1), tt)
-  replies-fit (Halt f) h = (register-fits true 0x41 (f .error) (taskIn (f .echo)) (omega arith) (h .0) (echo-fits (f .echo) (h .1)), tt)
+  replies-fit (Bad b) h = (register-fits true 0x41 (b .error) (b .task) (omega arith) (h .0) (h .1), tt)
+  replies-fit (BadAndHalt f) h = (register-fits true 0x41 (f .error) (taskIn (f .echo)) (omega arith) (h .0) (echo-fits (f .echo) (h .1)), tt)
   replies-fit (Accept q) h = (register-fits false 0x40 0 (taskIn (q .entry .echo)) (omega arith) (omega arith) (echo-fits (q .entry .echo) h), tt)
   replies-fit (Log10 task) h = log-fits (s .halted) task (page10Of (s .errors)) (h .0) (page10-long (s .errors) (h .1))
   replies-fit (Log11 l) h = log-fits false (l .task) (page11Of (s .settings .mask) (s .values)) (h .0) (page11-long (s .settings .mask) (s .values) (h .1))
   replies-fit Reset h = tt
   replies-fit Release h = (refl, tt)
-  replies-fit Zero h = tt
-  replies-fit (Keep m) h = activate-fits (not (m .last))
+  replies-fit ZeroCounters h = tt
+  replies-fit (Store m) h = activate-fits (not (m .last))
   replies-fit (Open q) h =
       let most : wholeOf (q .entry .count) < 2 ^ 32 = omega arith in
       (rw (lt-ltb (q .tag) (2 ^ 32) h, lt-ltb (wholeOf (q .entry .count)) (2 ^ 32) most), activate-fits (q .entry .write))
@@ -110,28 +110,28 @@ module _ (s : Shown) (part : List ℕ) where
   replies-fit Renew h = (refl, tt)
 
   -- a data frame comes last
-  pub replies-neat : (a : Act) → Neat (repliesOf s part a)
-  unfolding Neat repliesOf
-  replies-neat (Refuse n) = tt
-  replies-neat Nothing = tt
-  replies-neat (Answer x) = (off, tt)
-  replies-neat (Halt x) = (off, tt)
-  replies-neat (Accept x) = (off, tt)
-  replies-neat (Log10 task) = log-neat (s .halted) task (page10Of (s .errors))
-  replies-neat (Log11 l) = log-neat false (l .task) (page11Of (s .settings .mask) (s .values))
-  replies-neat Reset = tt
-  replies-neat Release = (off, tt)
-  replies-neat Zero = tt
-  replies-neat (Keep m) = activate-neat (not (m .last))
-  replies-neat (Open q) = (off, activate-neat (q .entry .write))
-  replies-neat (Send m) = (λ _. refl, tt)
-  replies-neat (Finish x) = (off, tt)
-  replies-neat (Media x) = (off, tt)
-  replies-neat (Count r) = tt
-  replies-neat Renew = (off, tt)
+  pub replies-data-last : (a : Act) → DataLast (repliesOf s part a)
+  unfolding DataLast repliesOf
+  replies-data-last (Refuse n) = tt
+  replies-data-last Nothing = tt
+  replies-data-last (Bad x) = (off, tt)
+  replies-data-last (BadAndHalt x) = (off, tt)
+  replies-data-last (Accept x) = (off, tt)
+  replies-data-last (Log10 task) = log-data-last (s .halted) task (page10Of (s .errors))
+  replies-data-last (Log11 l) = log-data-last false (l .task) (page11Of (s .settings .mask) (s .values))
+  replies-data-last Reset = tt
+  replies-data-last Release = (off, tt)
+  replies-data-last ZeroCounters = tt
+  replies-data-last (Store m) = activate-data-last (not (m .last))
+  replies-data-last (Open q) = (off, activate-data-last (q .entry .write))
+  replies-data-last (Send m) = (λ _. refl, tt)
+  replies-data-last (Finish x) = (off, tt)
+  replies-data-last (Media x) = (off, tt)
+  replies-data-last (Count r) = tt
+  replies-data-last Renew = (off, tt)
 
 -- cut by kind and length, the replies in the buffer are the frames that were sent
-pub cut-replies : (fs : List Sent) (d : List ℕ) (n : ℕ) (d′ : List ℕ) → Fitting fs → Neat fs → Sends fs d n d′ → cut (take n d′) ≡ map encode fs
+pub cut-replies : (fs : List FrameValue) (d : List ℕ) (n : ℕ) (d′ : List ℕ) → Fitting fs → DataLast fs → RepliesGiven fs d n d′ → cut (take n d′) ≡ map encode fs
 cut-replies fs d n d′ h k s =
     let e : take n d′ ≡ sentAll fs = ap₂ (λ (i : ℕ) (l : List ℕ). take i l) (s .len) (s .bytes) ∙ take-at (sentAll fs) (drop (length (sentAll fs)) d) (length (sentAll fs)) refl in
     ap cut (e ∙ all-sent fs h) ∙ cut-sent fs k

@@ -3,17 +3,17 @@ use mathlib.Core.Path.{_≡_, refl, ap}
 use mathlib.Core.Bool.{Bool, true}
 use mathlib.Core.List.{List, [], _∷_}
 use Prim.Native.Nat.{ℕ}
-use Rattle.wire.specs.Piece.{taskFits}
-use Rattle.wire.specs.declared.pieces.Task.{Task}
-use Rattle.frames.specs.Write.{Sent}
+use Rattle.frame_parts.specs.Shared.{taskFits}
+use Rattle.frame_parts.specs.declared.shared.Task.{Task}
+use Rattle.frames.specs.Write.{FrameValue}
 use Rattle.frames.specs.declared.shapes.HostReg.{HostReg}
 use Rattle.rules.specs.Decide.{bad, fault, tagAsked, entryFor}
 use Rattle.replies.specs.declared.shown.Shown.{Shown}
 use Rattle.rules.specs.declared.acts.Act.the-variants.{Accept}
-use Rattle.states.proofs.EchoLaws.{echo-task}
+use Rattle.device_state.proofs.EchoLaws.{echo-task}
 use Rattle.replies.specs.Replies.{good, badReply, repliesOf}
 
-abbrev one : Sent → List Sent
+abbrev one : FrameValue → List FrameValue
 one f = f ∷ []
 
 module _ (s : Shown) (part : List ℕ) (h : HostReg) where

@@ -7,9 +7,12 @@ ghost use lib.Dec.{leb};
 ghost use lib.ListN.{length};
 ghost use Rattle.bits.specs.Pick.{pick};
 ghost use Rattle.frames.specs.Write.{payload, setBits};
-ghost use Rattle.replies.specs.Replies.{register, signature, sweepIf, activateIf, pioReply, setupReply, openReplies, logReplies, page10Of, page11Of, repliesOf, Sends};
+ghost use Rattle.replies.specs.Replies.{register, signature, sweepIf, activateIf, pioReply, setupReply, openReplies, logReplies, page10Of, page11Of, repliesOf, RepliesGiven};
 use crate::shown::Shown;
 use crate::shown::log_of;
+use device_state::ErrorRecord;
+use device_state::Settings;
+use frame_parts::Task;
 use frames::DevReg;
 use frames::DmaSetup;
 use frames::PioSetup;
@@ -17,13 +20,10 @@ use frames::SetBits;
 use pages::ErrorLog;
 use rules::Act;
 use rules::Queued;
-use states::ErrorRecord;
-use states::Settings;
-use wire::Task;
 
 fn put_register(reply: &mut [u8], interrupt: bool, status: u8, error: u8, task: Task) -> usize
     requires { ⌜ 20 ≤ length (now reply) ⌝ }
-    ensures { λ r. ⌜ Sends (register interrupt status error task ∷ []) (now (reply .entry)) r (now (reply .exit)) ⌝ }
+    ensures { λ r. ⌜ RepliesGiven (register interrupt status error task ∷ []) (now (reply .entry)) r (now (reply .exit)) ⌝ }
 {
     let w = frames::write_device(
         reply,
@@ -39,7 +39,7 @@ fn put_register(reply: &mut [u8], interrupt: bool, status: u8, error: u8, task: 
 
 fn put_signature(reply: &mut [u8]) -> usize
     requires { ⌜ 20 ≤ length (now reply) ⌝ }
-    ensures { λ r. ⌜ Sends (signature ∷ []) (now (reply .entry)) r (now (reply .exit)) ⌝ }
+    ensures { λ r. ⌜ RepliesGiven (signature ∷ []) (now (reply .entry)) r (now (reply .exit)) ⌝ }
 {
     let task = Task {
         lba: 1,
@@ -51,7 +51,7 @@ fn put_signature(reply: &mut [u8]) -> usize
 
 fn put_sweep_if(reply: &mut [u8], on: bool) -> usize
     requires { ⌜ 8 ≤ length (now reply) ⌝ }
-    ensures bytes { λ r. ⌜ Sends (sweepIf on) (now (reply .entry)) r (now (reply .exit)) ⌝ }
+    ensures bytes { λ r. ⌜ RepliesGiven (sweepIf on) (now (reply .entry)) r (now (reply .exit)) ⌝ }
     ensures most { λ r. ⌜ r ≤ 8 ⌝ }
 {
     if !on {
@@ -71,7 +71,7 @@ fn put_sweep_if(reply: &mut [u8], on: bool) -> usize
 
 fn put_activate_if(reply: &mut [u8], on: bool) -> usize
     requires { ⌜ 4 ≤ length (now reply) ⌝ }
-    ensures bytes { λ r. ⌜ Sends (activateIf on) (now (reply .entry)) r (now (reply .exit)) ⌝ }
+    ensures bytes { λ r. ⌜ RepliesGiven (activateIf on) (now (reply .entry)) r (now (reply .exit)) ⌝ }
     ensures most { λ r. ⌜ r ≤ 4 ⌝ }
 {
     if !on {
@@ -83,7 +83,7 @@ fn put_activate_if(reply: &mut [u8], on: bool) -> usize
 
 fn put_setup(reply: &mut [u8], q: Queued) -> usize
     requires { ⌜ 28 ≤ length (now reply) ⌝ }
-    ensures bytes { λ r. ⌜ Sends (setupReply q ∷ []) (now (reply .entry)) r (now (reply .exit)) ⌝ }
+    ensures bytes { λ r. ⌜ RepliesGiven (setupReply q ∷ []) (now (reply .entry)) r (now (reply .exit)) ⌝ }
     ensures most { λ r. ⌜ r ≤ 28 ⌝ }
 {
     let entry = q.entry;
@@ -95,7 +95,7 @@ fn put_setup(reply: &mut [u8], q: Queued) -> usize
             to_host: !entry.write,
             tag: q.tag as u32,
             offset: 0,
-            count: states::whole_of(entry.count),
+            count: device_state::whole_of(entry.count),
         },
     );
     w.len
@@ -104,7 +104,7 @@ fn put_setup(reply: &mut [u8], q: Queued) -> usize
 // DMA Setup, and for a write an Activate.
 fn put_open(reply: &mut [u8], q: Queued) -> usize
     requires { ⌜ 8196 ≤ length (now reply) ⌝ }
-    ensures { λ r. ⌜ Sends (openReplies q) (now (reply .entry)) r (now (reply .exit)) ⌝ }
+    ensures { λ r. ⌜ RepliesGiven (openReplies q) (now (reply .entry)) r (now (reply .exit)) ⌝ }
 {
     let first = put_setup(reply, q);
     let entry = q.entry;
@@ -114,7 +114,7 @@ fn put_open(reply: &mut [u8], q: Queued) -> usize
 
 fn put_bits(reply: &mut [u8], status: u8, error: u8, active: u32) -> usize
     requires { ⌜ 8 ≤ length (now reply) ⌝ }
-    ensures { λ r. ⌜ Sends (setBits (record { interrupt = true; status = status; error = error; active = active }) ∷ []) (now (reply .entry)) r (now (reply .exit)) ⌝ }
+    ensures { λ r. ⌜ RepliesGiven (setBits (record { interrupt = true; status = status; error = error; active = active }) ∷ []) (now (reply .entry)) r (now (reply .exit)) ⌝ }
 {
     let w = frames::write_bits(
         reply,
@@ -130,7 +130,7 @@ fn put_bits(reply: &mut [u8], status: u8, error: u8, active: u32) -> usize
 
 fn put_pio(reply: &mut [u8], task: Task) -> usize
     requires { ⌜ 20 ≤ length (now reply) ⌝ }
-    ensures bytes { λ r. ⌜ Sends (pioReply task ∷ []) (now (reply .entry)) r (now (reply .exit)) ⌝ }
+    ensures bytes { λ r. ⌜ RepliesGiven (pioReply task ∷ []) (now (reply .entry)) r (now (reply .exit)) ⌝ }
     ensures most { λ r. ⌜ r ≤ 20 ⌝ }
 {
     let w = frames::write_pio(
@@ -150,7 +150,7 @@ fn put_pio(reply: &mut [u8], task: Task) -> usize
 
 fn put_data(reply: &mut [u8], p: &[u8]) -> usize
     requires { ⌜ 4 + length (now p) ≤ length (now reply) ⌝ }
-    ensures bytes { λ r. ⌜ Sends (payload (now (p .entry)) ∷ []) (now (reply .entry)) r (now (reply .exit)) ⌝ }
+    ensures bytes { λ r. ⌜ RepliesGiven (payload (now (p .entry)) ∷ []) (now (reply .entry)) r (now (reply .exit)) ⌝ }
     ensures most { λ r. ⌜ r ≤ 4 + length (now (p .entry)) ⌝ }
 {
     let w = frames::write_data(reply, p);
@@ -160,7 +160,7 @@ fn put_data(reply: &mut [u8], p: &[u8]) -> usize
 // A data frame of a part of the medium; one that is too long is no data frame's.
 fn put_part(reply: &mut [u8], part: &[u8]) -> usize
     requires { ⌜ 8196 ≤ length (now reply) ⌝ }
-    ensures { λ r. ⌜ Sends (payload (now (part .entry)) ∷ []) (now (reply .entry)) r (now (reply .exit)) ⌝ }
+    ensures { λ r. ⌜ RepliesGiven (payload (now (part .entry)) ∷ []) (now (reply .entry)) r (now (reply .exit)) ⌝ }
 {
     if Settings::FRAME_SIZE < part.len() {
         return 0;
@@ -171,7 +171,7 @@ fn put_part(reply: &mut [u8], part: &[u8]) -> usize
 // Sweep, PIO Setup and page.
 fn put_log(reply: &mut [u8], sweep: bool, task: Task, page: &[u8]) -> usize
     requires { ⌜ 32 + length (now page) ≤ length (now reply) ⌝ }
-    ensures { λ r. ⌜ Sends (logReplies sweep task (now (page .entry))) (now (reply .entry)) r (now (reply .exit)) ⌝ }
+    ensures { λ r. ⌜ RepliesGiven (logReplies sweep task (now (page .entry))) (now (reply .entry)) r (now (reply .exit)) ⌝ }
 {
     let first = put_sweep_if(reply, sweep);
     let second = put_pio(&mut reply[first..], task);
@@ -189,7 +189,7 @@ fn page_room() -> [u8; ErrorLog::PAGE_SIZE]
 
 fn put_log10(reply: &mut [u8], sweep: bool, task: Task, r: ErrorRecord) -> usize
     requires { ⌜ 8196 ≤ length (now reply) ⌝ }
-    ensures { λ n. ⌜ Sends (logReplies sweep task (page10Of r)) (now (reply .entry)) n (now (reply .exit)) ⌝ }
+    ensures { λ n. ⌜ RepliesGiven (logReplies sweep task (page10Of r)) (now (reply .entry)) n (now (reply .exit)) ⌝ }
 {
     let mut page = page_room();
     let f = log_of(r);
@@ -200,7 +200,7 @@ fn put_log10(reply: &mut [u8], sweep: bool, task: Task, r: ErrorRecord) -> usize
 
 fn put_log11(reply: &mut [u8], task: Task, mask: u16, values: [u32; 16]) -> usize
     requires { ⌜ 8196 ≤ length (now reply) ⌝ }
-    ensures { λ n. ⌜ Sends (logReplies false task (page11Of mask values)) (now (reply .entry)) n (now (reply .exit)) ⌝ }
+    ensures { λ n. ⌜ RepliesGiven (logReplies false task (page11Of mask values)) (now (reply .entry)) n (now (reply .exit)) ⌝ }
 {
     let mut page = page_room();
     let w = pages::write_counters(&mut page, mask, values);
@@ -210,23 +210,23 @@ fn put_log11(reply: &mut [u8], task: Task, mask: u16, values: [u32; 16]) -> usiz
 
 fn send(reply: &mut [u8], act: Act, shown: Shown, part: &[u8]) -> usize
     requires { ⌜ 8196 ≤ length (now reply) ⌝ }
-    ensures { λ n. ⌜ Sends (repliesOf shown (now (part .entry)) act) (now (reply .entry)) n (now (reply .exit)) ⌝ }
+    ensures { λ n. ⌜ RepliesGiven (repliesOf shown (now (part .entry)) act) (now (reply .entry)) n (now (reply .exit)) ⌝ }
 {
     match act {
         Act::Refuse(_) => 0,
         Act::Nothing => 0,
-        Act::Answer(b) => {
+        Act::Bad(b) => {
             let task = b.task;
             put_register(reply, true, 0x41, b.error, task)
         }
-        Act::Halt(f) => {
+        Act::BadAndHalt(f) => {
             let echo = f.echo;
-            put_register(reply, true, 0x41, f.error, states::task_in(echo))
+            put_register(reply, true, 0x41, f.error, device_state::task_in(echo))
         }
         Act::Accept(q) => {
             let entry = q.entry;
             let echo = entry.echo;
-            put_register(reply, false, 0x40, 0, states::task_in(echo))
+            put_register(reply, false, 0x40, 0, device_state::task_in(echo))
         }
         Act::Log10(task) => {
             let errors = shown.errors;
@@ -240,8 +240,8 @@ fn send(reply: &mut [u8], act: Act, shown: Shown, part: &[u8]) -> usize
         }
         Act::Reset => 0,
         Act::Release => put_signature(reply),
-        Act::Zero => 0,
-        Act::Keep(m) => put_activate_if(reply, !m.last),
+        Act::ZeroCounters => 0,
+        Act::Store(m) => put_activate_if(reply, !m.last),
         Act::Open(q) => put_open(reply, q),
         Act::Send(_) => put_part(reply, part),
         Act::Finish(set) => put_bits(reply, 0x40, 0, set),
@@ -253,7 +253,7 @@ fn send(reply: &mut [u8], act: Act, shown: Shown, part: &[u8]) -> usize
 
 // The replies of an act; none where the buffer has not the room that every call asks for.
 pub fn emit(reply: &mut [u8], act: Act, shown: Shown, part: &[u8]) -> usize
-    ensures { λ n. ⌜ Sends (pick (leb 8196 (length (now (reply .entry)))) (repliesOf shown (now (part .entry)) act) []) (now (reply .entry)) n (now (reply .exit)) ⌝ }
+    ensures { λ n. ⌜ RepliesGiven (pick (leb 8196 (length (now (reply .entry)))) (repliesOf shown (now (part .entry)) act) []) (now (reply .entry)) n (now (reply .exit)) ⌝ }
 {
     if reply.len() < Settings::REPLY_SIZE {
         return 0;

@@ -1,10 +1,10 @@
 // What an act's replies show, over plain values.
 ghost use mathlib.Core.Path.{_≡_};
 ghost use Rattle.replies.specs.Replies.{logOf};
+use device_state::ErrorRecord;
+use device_state::Settings;
+use frame_parts::Task;
 use pages::ErrorLog;
-use states::ErrorRecord;
-use states::Settings;
-use wire::Task;
 
 // What replies show of the state.
 pub struct Shown {
@@ -20,7 +20,7 @@ pub fn log_of(r: ErrorRecord) -> ErrorLog
 {
     if r.set {
         let echo = r.echo;
-        let task = states::task_in(echo);
+        let task = device_state::task_in(echo);
         return ErrorLog {
             nq: r.nq,
             tag: r.tag,

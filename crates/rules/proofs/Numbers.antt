@@ -9,20 +9,20 @@ use mathlib.Core.Logic.{⊎-elim}
 use borrow.Author.Tests.{eqb-true, not-false, ltb-true, ltb-false, lt-ltb, le-ltb}
 use Rattle.bits.specs.Pick.{pick}
 use Rattle.bits.specs.Bit.{bitIn}
-use Rattle.bits.specs.First.{Rung, firstOf, FirstExactly}
+use Rattle.bits.specs.First.{Rung, firstOf, FirstExactly, rung}
 use Rattle.bits.proofs.Picks.{by-test, tested, pick-yes, pick-no}
 use Rattle.bits.proofs.Firsts as firsts
-use Rattle.wire.specs.Piece.{srstOf}
+use Rattle.frame_parts.specs.Shared.{srstOf}
 use Rattle.frames.specs.Read.{readFrame}
 use Rattle.frames.specs.declared.shapes.HostReg.{HostReg}
 use Rattle.frames.specs.declared.shapes.Frame.{Frame}
 use Rattle.frames.specs.declared.shapes.Frame.the-variants.{Host, Device, Bits, Setup, Activate, Data, Bist, Pio, Refused}
-use Rattle.ladders.specs.Ladders.{rung, hostLadder, lentLadder}
+use Rattle.refusals.specs.Ladders.{hostLadder, lentLadder}
 use Rattle.rules.specs.Call.{Call, hostFrame, openPhase, sendData, finishTags, mediaError, linkEvent, comReset}
 use Rattle.rules.specs.Tests.{wrongKind, wrongTime, wrongSize, kindTests, frameTests, tests}
 use Rattle.rules.specs.Decide.{bad, fault, tagAsked, countAsked, entryFor, pageAsked, isQueued, queuedAct, otherAct, controlAct, registerAct, frameAct}
 use Rattle.rules.specs.Act.{does, decided, act, heardAct, kindAct}
-use Rattle.rules.specs.Taking.{numberOf}
+use Rattle.rules.specs.Medium.{numberOf}
 use Rattle.rules.specs.declared.facts.Facts.{Facts}
 use Rattle.rules.specs.declared.acts.Act.{Act}
 use Rattle.rules.specs.declared.acts.Act.the-variants.{Refuse, Nothing, Accept, Log10, Log11, Reset, Release}
@@ -83,7 +83,7 @@ timed false wrong queued a b c = refl
 
 module _ (v : Facts) (h : HostReg) where
   abbrev late : Bool
-  late = v .flow .held || v .«link_busy»
+  late = v .status .held || v .«link_busy»
 
   register-kind : kindAct v (Host h) ≡ pick (not (h .«command_bit»)) (controlAct v h) (pick late (Refuse 5) (pick (isQueued h) (queuedAct v h) (otherAct v h)))
   unfolding wrongKind wrongTime wrongSize frameAct registerAct
@@ -119,20 +119,20 @@ Done a = numberOf a ≡ 0
 module _ (v : Facts) where
   control-done : (h : HostReg) → Done (controlAct v h)
   unfolding controlAct numberOf
-  control-done h = by-test Done (srstOf (h .control)) Reset _ (λ _. refl) (λ _. by-test Done (v .flow .held) Release Nothing (λ _. refl) (λ _. refl))
+  control-done h = by-test Done (srstOf (h .control)) Reset _ (λ _. refl) (λ _. by-test Done (v .status .held) Release Nothing (λ _. refl) (λ _. refl))
 
   queued-done : (h : HostReg) → Done (queuedAct v h)
   unfolding queuedAct numberOf
   queued-done h =
-      by-test Done (v .flow .halted) (bad h 0x04) _ (λ _. refl)
-      (λ _. by-test Done (leb (v .settings .depth) (tagAsked h) || bitIn 32 (v .flow .outstanding) (tagAsked h)) (fault h false (tagAsked h) 0x04) _ (λ _. refl)
+      by-test Done (v .status .halted) (bad h 0x04) _ (λ _. refl)
+      (λ _. by-test Done (leb (v .settings .depth) (tagAsked h) || bitIn 32 (v .status .outstanding) (tagAsked h)) (fault h false (tagAsked h) 0x04) _ (λ _. refl)
       (λ _. by-test Done (ltb (v .settings .capacity) (h .task .lba + countAsked h)) (fault h false (tagAsked h) 0x10) (Accept (record { tag = tagAsked h; entry = entryFor h })) (λ _. refl) (λ _. refl)))
 
   other-done : (h : HostReg) → Done (otherAct v h)
   unfolding otherAct numberOf
   other-done h =
-      by-test Done (v .flow .halted && not (eqb (pageAsked h) 0x10)) (bad h 0x04) _ (λ _. refl)
-      (λ _. by-test Done (not (eqb (v .flow .outstanding) 0)) (fault h true 0 0x04) _ (λ _. refl)
+      by-test Done (v .status .halted && not (eqb (pageAsked h) 0x10)) (bad h 0x04) _ (λ _. refl)
+      (λ _. by-test Done (not (eqb (v .status .outstanding) 0)) (fault h true 0 0x04) _ (λ _. refl)
       (λ _. by-test Done (eqb (pageAsked h) 0x10) (Log10 (h .task)) _ (λ _. refl)
       (λ _. by-test Done (eqb (pageAsked h) 0x11) (Log11 (record { zero = bitIn 8 (h .features) 0; task = h .task })) (bad h 0x04) (λ _. refl) (λ _. refl))))
 

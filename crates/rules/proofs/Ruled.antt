@@ -10,25 +10,25 @@ use Rattle.bits.specs.Bit.{bitIn}
 use Rattle.bits.specs.First.{firstOf}
 use Rattle.bits.proofs.Picks.{by-test, or-left, or-right, and-left}
 use Rattle.bits.proofs.Firsts as firsts
-use Rattle.wire.specs.Piece.{srstOf}
+use Rattle.frame_parts.specs.Shared.{srstOf}
 use Rattle.frames.specs.Read.{readFrame}
 use Rattle.frames.specs.declared.shapes.HostReg.{HostReg}
 use Rattle.frames.specs.declared.shapes.Frame.{Frame}
 use Rattle.frames.specs.declared.shapes.Frame.the-variants.{Host, Device, Bits, Setup, Activate, Data, Bist, Pio, Refused}
-use Rattle.states.specs.Clauses.{rowRefused}
+use Rattle.device_state.specs.Clauses.{rowRefused}
 use Rattle.rules.specs.Call.{Call, hostFrame, openPhase, sendData, finishTags, mediaError, linkEvent, comReset}
-use Rattle.rules.specs.Facts.{leftOf, moveOf}
+use Rattle.rules.specs.Positions.{leftOf, moveOf}
 use Rattle.rules.specs.Tests.{wrongKind, wrongTime, wrongSize, idleTag, allMoved, noReadPhase, outside, tests}
 use Rattle.rules.specs.Decide.{bad, fault, tagAsked, countAsked, entryFor, pageAsked, isQueued, queuedAct, otherAct, controlAct, registerAct, frameAct}
 use Rattle.rules.specs.Act.{failing, does, decided, act}
 use Rattle.rules.specs.declared.facts.Facts.{Facts}
 use Rattle.rules.specs.declared.acts.Act.{Act}
-use Rattle.rules.specs.declared.acts.Act.the-variants.{Refuse, Nothing, Accept, Log10, Log11, Reset, Release, Zero, Keep, Open, Send, Finish, Media, Count, Renew}
+use Rattle.rules.specs.declared.acts.Act.the-variants.{Refuse, Nothing, Accept, Log10, Log11, Reset, Release, ZeroCounters, Store, Open, Send, Finish, Media, Count, Renew}
 
 -- a command that comes at its time, queued or not
-pub record Command (v : Facts) (h : HostReg) (queued : Bool) : Type 0 where
+pub record TimelyCommand (v : Facts) (h : HostReg) (queued : Bool) : Type 0 where
   pub command : h .«command_bit» ≡ true
-  pub free : v .flow .held ≡ false
+  pub free : v .status .held ≡ false
   pub calm : v .«link_busy» ≡ false
   pub kind : isQueued h ≡ queued
 
@@ -36,36 +36,36 @@ pub record Command (v : Facts) (h : HostReg) (queued : Bool) : Type 0 where
 pub data Heard (v : Facts) : Frame → Act → Type 0 where
   -- control frames
   srst : (h : HostReg) → h .«command_bit» ≡ false → srstOf (h .control) ≡ true → Heard v (Host h) Reset
-  release : (h : HostReg) → h .«command_bit» ≡ false → srstOf (h .control) ≡ false → v .flow .held ≡ true → Heard v (Host h) Release
-  nothing : (h : HostReg) → h .«command_bit» ≡ false → srstOf (h .control) ≡ false → v .flow .held ≡ false → Heard v (Host h) Nothing
+  release : (h : HostReg) → h .«command_bit» ≡ false → srstOf (h .control) ≡ false → v .status .held ≡ true → Heard v (Host h) Release
+  nothing : (h : HostReg) → h .«command_bit» ≡ false → srstOf (h .control) ≡ false → v .status .held ≡ false → Heard v (Host h) Nothing
   -- queued commands, rules 1 to 4
-  rule1 : (h : HostReg) → Command v h true → v .flow .halted ≡ true → Heard v (Host h) (bad h 0x04)
-  rule2 : (h : HostReg) → Command v h true → v .flow .halted ≡ false → leb (v .settings .depth) (tagAsked h) || bitIn 32 (v .flow .outstanding) (tagAsked h) ≡ true
+  rule1 : (h : HostReg) → TimelyCommand v h true → v .status .halted ≡ true → Heard v (Host h) (bad h 0x04)
+  rule2 : (h : HostReg) → TimelyCommand v h true → v .status .halted ≡ false → leb (v .settings .depth) (tagAsked h) || bitIn 32 (v .status .outstanding) (tagAsked h) ≡ true
       → Heard v (Host h) (fault h false (tagAsked h) 0x04)
-  rule3 : (h : HostReg) → Command v h true → v .flow .halted ≡ false → leb (v .settings .depth) (tagAsked h) || bitIn 32 (v .flow .outstanding) (tagAsked h) ≡ false
+  rule3 : (h : HostReg) → TimelyCommand v h true → v .status .halted ≡ false → leb (v .settings .depth) (tagAsked h) || bitIn 32 (v .status .outstanding) (tagAsked h) ≡ false
       → ltb (v .settings .capacity) (h .task .lba + countAsked h) ≡ true → Heard v (Host h) (fault h false (tagAsked h) 0x10)
-  rule4 : (h : HostReg) → Command v h true → v .flow .halted ≡ false → leb (v .settings .depth) (tagAsked h) || bitIn 32 (v .flow .outstanding) (tagAsked h) ≡ false
+  rule4 : (h : HostReg) → TimelyCommand v h true → v .status .halted ≡ false → leb (v .settings .depth) (tagAsked h) || bitIn 32 (v .status .outstanding) (tagAsked h) ≡ false
       → ltb (v .settings .capacity) (h .task .lba + countAsked h) ≡ false → Heard v (Host h) (Accept (record { tag = tagAsked h; entry = entryFor h }))
   -- any other command
-  other-halted : (h : HostReg) → Command v h false → v .flow .halted ≡ true → Heard v (Host h) (bad h 0x04)
-  other-busy : (h : HostReg) → Command v h false → eqb (v .flow .outstanding) 0 ≡ false → Heard v (Host h) (fault h true 0 0x04)
-  page10 : (h : HostReg) → Command v h false → eqb (v .flow .outstanding) 0 ≡ true → eqb (pageAsked h) 0x10 ≡ true → Heard v (Host h) (Log10 (h .task))
-  page11 : (h : HostReg) → Command v h false → v .flow .halted ≡ false → eqb (v .flow .outstanding) 0 ≡ true → eqb (pageAsked h) 0x11 ≡ true
+  other-halted : (h : HostReg) → TimelyCommand v h false → v .status .halted ≡ true → Heard v (Host h) (bad h 0x04)
+  other-busy : (h : HostReg) → TimelyCommand v h false → eqb (v .status .outstanding) 0 ≡ false → Heard v (Host h) (fault h true 0 0x04)
+  page10 : (h : HostReg) → TimelyCommand v h false → eqb (v .status .outstanding) 0 ≡ true → eqb (pageAsked h) 0x10 ≡ true → Heard v (Host h) (Log10 (h .task))
+  page11 : (h : HostReg) → TimelyCommand v h false → v .status .halted ≡ false → eqb (v .status .outstanding) 0 ≡ true → eqb (pageAsked h) 0x11 ≡ true
       → Heard v (Host h) (Log11 (record { zero = bitIn 8 (h .features) 0; task = h .task }))
-  other-bad : (h : HostReg) → Command v h false → v .flow .halted ≡ false → eqb (v .flow .outstanding) 0 ≡ true → Heard v (Host h) (bad h 0x04)
+  other-bad : (h : HostReg) → TimelyCommand v h false → v .status .halted ≡ false → eqb (v .status .outstanding) 0 ≡ true → Heard v (Host h) (bad h 0x04)
   -- host data, BIST
-  due : (n : ℕ) → eqb (v .flow .phase) 0 ≡ false → v .entry .write ≡ true → ltb (leftOf (v .entry)) n ≡ false → Heard v (Data n) (Keep (moveOf (v .flow) (v .entry) n))
-  bist : v .«link_busy» ≡ false → Heard v Bist Zero
+  due : (n : ℕ) → eqb (v .status .phase) 0 ≡ false → v .entry .write ≡ true → ltb (leftOf (v .entry)) n ≡ false → Heard v (Data n) (Store (moveOf (v .status) (v .entry) n))
+  bist : v .«link_busy» ≡ false → Heard v Bist ZeroCounters
 
 -- a call with its act: refused, or taken; refusal 1 never holds of a taken one
 pub data Ruled (v : Facts) : Call → Act → Type 0 where
   refused : (c : Call) (n : ℕ) → (n ≡ 0 → ⊥) → firstOf (tests v c) ≡ n → Ruled v c (Refuse n)
   host : (f : List ℕ) (a : Act) → v .contradicts ≡ false → v .«medium_wrong» ≡ false → v .«reply_short» ≡ false → Heard v (readFrame f) a → Ruled v (hostFrame f) a
-  opened : (t : ℕ) → v .contradicts ≡ false → v .«reply_short» ≡ false → bitIn 32 (v .flow .outstanding) t ≡ true → v .«link_busy» ≡ false → allMoved (v .entry) ≡ false
+  opened : (t : ℕ) → v .contradicts ≡ false → v .«reply_short» ≡ false → bitIn 32 (v .status .outstanding) t ≡ true → v .«link_busy» ≡ false → allMoved (v .entry) ≡ false
       → Ruled v (openPhase t) (Open (record { tag = t; entry = v .entry }))
-  sent : v .contradicts ≡ false → v .«medium_wrong» ≡ false → v .«reply_short» ≡ false → eqb (v .flow .phase) 0 ≡ false → v .entry .write ≡ false → Ruled v sendData (Send (moveOf (v .flow) (v .entry) 8192))
+  sent : v .contradicts ≡ false → v .«medium_wrong» ≡ false → v .«reply_short» ≡ false → eqb (v .status .phase) 0 ≡ false → v .entry .write ≡ false → Ruled v sendData (Send (moveOf (v .status) (v .entry) 8192))
   finished : (s : ℕ) → v .contradicts ≡ false → v .«reply_short» ≡ false → v .«link_busy» ≡ false → eqb s 0 ≡ false → v .unready ≡ false → Ruled v (finishTags s) (Finish s)
-  failed : (t e s : ℕ) → v .contradicts ≡ false → v .«reply_short» ≡ false → bitIn 32 (v .flow .outstanding) t ≡ true → eqb e 0 ≡ false → outside (v .entry) s ≡ false
+  failed : (t e s : ℕ) → v .contradicts ≡ false → v .«reply_short» ≡ false → bitIn 32 (v .status .outstanding) t ≡ true → eqb e 0 ≡ false → outside (v .entry) s ≡ false
       → Ruled v (mediaError t e s) (Media (record { nq = false; tag = t; error = e; echo = failing (v .entry .echo) s }))
   linked : (r : ℕ) → v .contradicts ≡ false → rowRefused (v .settings .mask) r ≡ false → Ruled v (linkEvent r) (Count r)
   renewed : v .contradicts ≡ false → v .«reply_short» ≡ false → Ruled v comReset Renew
@@ -80,22 +80,22 @@ module _ (v : Facts) where
   control-heard : (h : HostReg) → h .«command_bit» ≡ false → Heard v (Host h) (controlAct v h)
   unfolding controlAct
   control-heard h c =
-      by-test (Heard v (Host h)) (srstOf (h .control)) Reset (pick (v .flow .held) Release Nothing) (srst h c)
-      (λ s. by-test (Heard v (Host h)) (v .flow .held) Release Nothing (release h c s) (nothing h c s))
+      by-test (Heard v (Host h)) (srstOf (h .control)) Reset (pick (v .status .held) Release Nothing) (srst h c)
+      (λ s. by-test (Heard v (Host h)) (v .status .held) Release Nothing (release h c s) (nothing h c s))
 
-  queued-heard : (h : HostReg) → Command v h true → Heard v (Host h) (queuedAct v h)
+  queued-heard : (h : HostReg) → TimelyCommand v h true → Heard v (Host h) (queuedAct v h)
   unfolding queuedAct
   queued-heard h c =
       let R : Act → Type 0 = Heard v (Host h) in
       let far : Bool = ltb (v .settings .capacity) (h .task .lba + countAsked h) in
-      let used : Bool = leb (v .settings .depth) (tagAsked h) || bitIn 32 (v .flow .outstanding) (tagAsked h) in
+      let used : Bool = leb (v .settings .depth) (tagAsked h) || bitIn 32 (v .status .outstanding) (tagAsked h) in
       let good : Act = Accept (record { tag = tagAsked h; entry = entryFor h }) in
       let third : Act = pick far (fault h false (tagAsked h) 0x10) good in
-      by-test R (v .flow .halted) (bad h 0x04) (pick used (fault h false (tagAsked h) 0x04) third) (rule1 h c)
+      by-test R (v .status .halted) (bad h 0x04) (pick used (fault h false (tagAsked h) 0x04) third) (rule1 h c)
       (λ x. by-test R used (fault h false (tagAsked h) 0x04) third (rule2 h c x)
       (λ u. by-test R far (fault h false (tagAsked h) 0x10) good (rule3 h c x u) (rule4 h c x u)))
 
-  other-heard : (h : HostReg) → Command v h false → Heard v (Host h) (otherAct v h)
+  other-heard : (h : HostReg) → TimelyCommand v h false → Heard v (Host h) (otherAct v h)
   unfolding otherAct
   other-heard h c =
       let R : Act → Type 0 = Heard v (Host h) in
@@ -104,22 +104,22 @@ module _ (v : Facts) where
       let fourth : Act = pick (eqb (pageAsked h) 0x11) eleven (bad h 0x04) in
       let third : Act = pick (eqb (pageAsked h) 0x10) ten fourth in
       let asked : Bool = eqb (pageAsked h) 0x10 in
-      by-test R (v .flow .halted && not asked) (bad h 0x04) (pick (not (eqb (v .flow .outstanding) 0)) (fault h true 0 0x04) third) (λ x. other-halted h c (and-left (v .flow .halted) (not asked) x))
-      (λ x. by-test R (not (eqb (v .flow .outstanding) 0)) (fault h true 0 0x04) third (λ y. other-busy h c (not-true (eqb (v .flow .outstanding) 0) y))
-      (λ z. let e = not-false (eqb (v .flow .outstanding) 0) z in
+      by-test R (v .status .halted && not asked) (bad h 0x04) (pick (not (eqb (v .status .outstanding) 0)) (fault h true 0 0x04) third) (λ x. other-halted h c (and-left (v .status .halted) (not asked) x))
+      (λ x. by-test R (not (eqb (v .status .outstanding) 0)) (fault h true 0 0x04) third (λ y. other-busy h c (not-true (eqb (v .status .outstanding) 0) y))
+      (λ z. let e = not-false (eqb (v .status .outstanding) 0) z in
       by-test R asked ten fourth (page10 h c e)
-      (λ n. let q = and-other (v .flow .halted) asked x n in
+      (λ n. let q = and-other (v .status .halted) asked x n in
       by-test R (eqb (pageAsked h) 0x11) eleven (bad h 0x04) (page11 h c q e) (λ _. other-bad h c q e))))
 
-  register-heard : (h : HostReg) → h .«command_bit» && (v .flow .held || v .«link_busy») ≡ false → Heard v (Host h) (registerAct v h)
+  register-heard : (h : HostReg) → h .«command_bit» && (v .status .held || v .«link_busy») ≡ false → Heard v (Host h) (registerAct v h)
   unfolding registerAct
   register-heard h t =
       let R : Act → Type 0 = Heard v (Host h) in
       by-test R (not (h .«command_bit»)) (controlAct v h) (pick (isQueued h) (queuedAct v h) (otherAct v h)) (λ c. control-heard h (not-true (h .«command_bit») c))
       (λ n.
       let c = not-false (h .«command_bit») n in
-      let w : v .flow .held || v .«link_busy» ≡ false = rw c at t in
-      let made : (q : Bool) → isQueued h ≡ q → Command v h q = λ q e. record { command = c; free = or-left (v .flow .held) (v .«link_busy») w; calm = or-right (v .flow .held) (v .«link_busy») w; kind = e } in
+      let w : v .status .held || v .«link_busy» ≡ false = rw c at t in
+      let made : (q : Bool) → isQueued h ≡ q → TimelyCommand v h q = λ q e. record { command = c; free = or-left (v .status .held) (v .«link_busy») w; calm = or-right (v .status .held) (v .«link_busy») w; kind = e } in
       by-test R (isQueued h) (queuedAct v h) (otherAct v h) (λ q. queued-heard h (made true q)) (λ q. other-heard h (made false q)))
 
   -- a host frame that no test of 4, 5 and 6 turns down
@@ -130,7 +130,7 @@ module _ (v : Facts) where
   heard (Bits f) k t s = absurd (true≢false k)
   heard (Setup f) k t s = absurd (true≢false k)
   heard Activate k t s = absurd (true≢false k)
-  heard (Data n) k t s = due n (or-left (eqb (v .flow .phase) 0) (not (v .entry .write)) t) (not-false (v .entry .write) (or-right (eqb (v .flow .phase) 0) (not (v .entry .write)) t)) s
+  heard (Data n) k t s = due n (or-left (eqb (v .status .phase) 0) (not (v .entry .write)) t) (not-false (v .entry .write) (or-right (eqb (v .status .phase) 0) (not (v .entry .write)) t)) s
   heard Bist k t s = bist t
   heard (Pio f) k t s = absurd (true≢false k)
   heard Refused k t s = absurd (true≢false k)
@@ -143,16 +143,16 @@ module _ (v : Facts) where
       host f _ (none 0 (lit< tt)) (none 1 (lit< tt)) (none 2 (lit< tt)) (heard (readFrame f) (none 3 (lit< tt)) (none 4 (lit< tt)) (none 5 (lit< tt)))
   taken (openPhase t) z =
       let none = firsts.first-exactly (tests v (openPhase t)) tt .none .0 z in
-      opened t (none 0 (lit< tt)) (none 1 (lit< tt)) (not-false (bitIn 32 (v .flow .outstanding) t) (none 2 (lit< tt))) (none 3 (lit< tt)) (none 4 (lit< tt))
+      opened t (none 0 (lit< tt)) (none 1 (lit< tt)) (not-false (bitIn 32 (v .status .outstanding) t) (none 2 (lit< tt))) (none 3 (lit< tt)) (none 4 (lit< tt))
   taken sendData z =
       let none = firsts.first-exactly (tests v sendData) tt .none .0 z in
-      sent (none 0 (lit< tt)) (none 1 (lit< tt)) (none 2 (lit< tt)) (or-left (eqb (v .flow .phase) 0) (v .entry .write) (none 3 (lit< tt))) (or-right (eqb (v .flow .phase) 0) (v .entry .write) (none 3 (lit< tt)))
+      sent (none 0 (lit< tt)) (none 1 (lit< tt)) (none 2 (lit< tt)) (or-left (eqb (v .status .phase) 0) (v .entry .write) (none 3 (lit< tt))) (or-right (eqb (v .status .phase) 0) (v .entry .write) (none 3 (lit< tt)))
   taken (finishTags s) z =
       let none = firsts.first-exactly (tests v (finishTags s)) tt .none .0 z in
       finished s (none 0 (lit< tt)) (none 1 (lit< tt)) (none 2 (lit< tt)) (or-left (eqb s 0) (v .unready) (none 3 (lit< tt))) (or-right (eqb s 0) (v .unready) (none 3 (lit< tt)))
   taken (mediaError t e s) z =
       let none = firsts.first-exactly (tests v (mediaError t e s)) tt .none .0 z in
-      failed t e s (none 0 (lit< tt)) (none 1 (lit< tt)) (not-false (bitIn 32 (v .flow .outstanding) t) (none 2 (lit< tt))) (or-left (eqb e 0) (outside (v .entry) s) (none 3 (lit< tt)))
+      failed t e s (none 0 (lit< tt)) (none 1 (lit< tt)) (not-false (bitIn 32 (v .status .outstanding) t) (none 2 (lit< tt))) (or-left (eqb e 0) (outside (v .entry) s) (none 3 (lit< tt)))
       (or-right (eqb e 0) (outside (v .entry) s) (none 3 (lit< tt)))
   taken (linkEvent r) z =
       let none = firsts.first-exactly (tests v (linkEvent r)) tt .none .0 z in

@@ -8,9 +8,9 @@ use Rattle.bits.specs.First.{firstOf}
 use Rattle.bits.specs.Little.{byteOf}
 use Rattle.frames.specs.Read.{readFrame}
 use Rattle.frames.specs.declared.shapes.Frame.{Frame}
-use Rattle.states.specs.declared.shapes.Echo.{Echo}
+use Rattle.device_state.specs.declared.shapes.Echo.{Echo}
 use Rattle.rules.specs.Call.{Call, hostFrame, openPhase, sendData, finishTags, mediaError, linkEvent, comReset}
-use Rattle.rules.specs.Facts.{moveOf}
+use Rattle.rules.specs.Positions.{moveOf}
 use Rattle.rules.specs.Tests.{kindTests, frameTests, tests}
 use Rattle.rules.specs.Decide.{frameAct}
 use Rattle.rules.specs.declared.facts.Facts.{Facts}
@@ -35,7 +35,7 @@ failing e sector = record {
 unfoldable pub does : Facts → Call → Act
 does v (hostFrame f) = frameAct v (readFrame f)
 does v (openPhase t) = Open (record { tag = t; entry = v .entry })
-does v sendData = Send (moveOf (v .flow) (v .entry) 8192)
+does v sendData = Send (moveOf (v .status) (v .entry) 8192)
 does v (finishTags s) = Finish s
 does v (mediaError t e s) = Media (record { nq = false; tag = t; error = e; echo = failing (v .entry .echo) s })
 does v (linkEvent r) = Count r

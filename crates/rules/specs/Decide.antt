@@ -4,25 +4,25 @@ use Prim.Native.Nat.{ℕ, _+_}
 use lib.Dec.{ltb, leb, eqb}
 use Rattle.bits.specs.Pick.{pick}
 use Rattle.bits.specs.Bit.{bitIn}
-use Rattle.wire.specs.Piece.{tagOf, sectorsOf, srstOf}
+use Rattle.frame_parts.specs.Shared.{tagOf, sectorsOf, srstOf}
 use Rattle.frames.specs.declared.shapes.HostReg.{HostReg}
 use Rattle.frames.specs.declared.shapes.Frame.{Frame}
 use Rattle.frames.specs.declared.shapes.Frame.the-variants.{Host, Device, Bits, Setup, Activate, Data, Bist, Pio, Refused}
-use Rattle.states.specs.State.{echoOf}
-use Rattle.rules.specs.Facts.{moveOf}
-use Rattle.states.specs.declared.shapes.Echo.{Echo}
-use Rattle.states.specs.declared.shapes.Entry.{Entry}
+use Rattle.device_state.specs.State.{echoOf}
+use Rattle.rules.specs.Positions.{moveOf}
+use Rattle.device_state.specs.declared.shapes.Echo.{Echo}
+use Rattle.device_state.specs.declared.shapes.Entry.{Entry}
 use Rattle.rules.specs.declared.facts.Facts.{Facts}
 use Rattle.rules.specs.declared.acts.Act.{Act}
-use Rattle.rules.specs.declared.acts.Act.the-variants.{Nothing, Answer, Halt, Accept, Log10, Log11, Reset, Release, Zero, Keep}
+use Rattle.rules.specs.declared.acts.Act.the-variants.{Nothing, Bad, BadAndHalt, Accept, Log10, Log11, Reset, Release, ZeroCounters, Store}
 
 -- bad: status 41h, I 1, error as named; no halt
 abbrev pub bad : HostReg → ℕ → Act
-bad h e = Answer (record { error = e; task = h .task })
+bad h e = Bad (record { error = e; task = h .task })
 
 -- bad, and a halt whose record holds this command's bytes
 abbrev pub fault : HostReg → Bool → ℕ → ℕ → Act
-fault h nq t e = Halt (record { nq = nq; tag = t; error = e; echo = echoOf (h .task) })
+fault h nq t e = BadAndHalt (record { nq = nq; tag = t; error = e; echo = echoOf (h .task) })
 
 -- the tag, and the sector count, that a queued command names
 abbrev pub tagAsked : HostReg → ℕ
@@ -47,8 +47,8 @@ entryFor h = record {
 -- queued command, first rule that holds: 1 halted; 2 tag at or above the depth, or already outstanding; 3 first sector + count above capacity; 4 otherwise good
 unfoldable pub queuedAct : Facts → HostReg → Act
 queuedAct v h =
-    pick (v .flow .halted) (bad h 0x04)
-    (pick (leb (v .settings .depth) (tagAsked h) || bitIn 32 (v .flow .outstanding) (tagAsked h)) (fault h false (tagAsked h) 0x04)
+    pick (v .status .halted) (bad h 0x04)
+    (pick (leb (v .settings .depth) (tagAsked h) || bitIn 32 (v .status .outstanding) (tagAsked h)) (fault h false (tagAsked h) 0x04)
     (pick (ltb (v .settings .capacity) (h .task .lba + countAsked h)) (fault h false (tagAsked h) 0x10)
     (Accept (record { tag = tagAsked h; entry = entryFor h }))))
 
@@ -64,14 +64,14 @@ pageAsked h = logPage (h .command) (echoOf (h .task))
 -- any other command: halted and not a well-formed READ LOG EXT of page 10h: bad; something outstanding: bad, halt with NQ; page 10h; page 11h; otherwise bad, no halt
 unfoldable pub otherAct : Facts → HostReg → Act
 otherAct v h =
-    pick (v .flow .halted && not (eqb (pageAsked h) 0x10)) (bad h 0x04)
-    (pick (not (eqb (v .flow .outstanding) 0)) (fault h true 0 0x04)
+    pick (v .status .halted && not (eqb (pageAsked h) 0x10)) (bad h 0x04)
+    (pick (not (eqb (v .status .outstanding) 0)) (fault h true 0 0x04)
     (pick (eqb (pageAsked h) 0x10) (Log10 (h .task))
     (pick (eqb (pageAsked h) 0x11) (Log11 (record { zero = bitIn 8 (h .features) 0; task = h .task })) (bad h 0x04))))
 
 -- control frame with SRST: reset; with SRST 0: if held, release; otherwise nothing
 unfoldable pub controlAct : Facts → HostReg → Act
-controlAct v h = pick (srstOf (h .control)) Reset (pick (v .flow .held) Release Nothing)
+controlAct v h = pick (srstOf (h .control)) Reset (pick (v .status .held) Release Nothing)
 
 -- 60h and 61h are queued
 abbrev pub isQueued : HostReg → Bool
@@ -88,7 +88,7 @@ frameAct v (Device f) = Nothing
 frameAct v (Bits f) = Nothing
 frameAct v (Setup f) = Nothing
 frameAct v Activate = Nothing
-frameAct v (Data n) = Keep (moveOf (v .flow) (v .entry) n)
-frameAct v Bist = Zero
+frameAct v (Data n) = Store (moveOf (v .status) (v .entry) n)
+frameAct v Bist = ZeroCounters
 frameAct v (Pio f) = Nothing
 frameAct v Refused = Nothing

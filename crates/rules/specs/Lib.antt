@@ -1,6 +1,6 @@
 pub mod Call
-pub mod Facts
+pub mod Positions
 pub mod Tests
 pub mod Decide
 pub mod Act
-pub mod Taking
+pub mod Medium

@@ -3,18 +3,18 @@ use mathlib.Core.Bool.{Bool, true, false, not, _&&_, _||_}
 use mathlib.Core.List.{List, [], _∷_}
 use Prim.Native.Nat.{ℕ, _+_}
 use lib.Dec.{ltb, leb, eqb}
-use Rattle.bits.specs.First.{Rung}
+use Rattle.bits.specs.First.{Rung, rung}
 use Rattle.bits.specs.Bit.{bitIn}
 use Rattle.frames.specs.Read.{readFrame}
 use Rattle.frames.specs.declared.shapes.Frame.{Frame}
 use Rattle.frames.specs.declared.shapes.Frame.the-variants.{Host, Device, Bits, Setup, Activate, Data, Bist, Pio, Refused}
-use Rattle.ladders.specs.Ladders.{rung, hostLadder, openLadder, sendLadder, finishLadder, mediaLadder, linkLadder, comresetLadder}
-use Rattle.states.specs.State.{wholeOf}
-use Rattle.states.specs.Table.{someBelow, entryOf}
-use Rattle.states.specs.Clauses.{rowRefused}
-use Rattle.states.specs.declared.shapes.Entry.{Entry}
+use Rattle.refusals.specs.Ladders.{hostLadder, openLadder, sendLadder, finishLadder, mediaLadder, linkLadder, comresetLadder}
+use Rattle.device_state.specs.State.{wholeOf}
+use Rattle.device_state.specs.Table.{someBelow, entryOf}
+use Rattle.device_state.specs.Clauses.{rowRefused}
+use Rattle.device_state.specs.declared.shapes.Entry.{Entry}
 use Rattle.rules.specs.Call.{Call, hostFrame, openPhase, sendData, finishTags, mediaError, linkEvent, comReset}
-use Rattle.rules.specs.Facts.{leftOf}
+use Rattle.rules.specs.Positions.{leftOf}
 use Rattle.rules.specs.declared.facts.Facts.{Facts}
 
 -- 4: frame type not 27h, 46h, 58h; wrong length, for which the reader refuses the frame
@@ -31,12 +31,12 @@ wrongKind Refused = true
 
 -- 5: command while reset is held or a phase is open; data with no write phase; BIST while a phase is open
 unfoldable pub wrongTime : Facts → Frame → Bool
-wrongTime v (Host h) = h .«command_bit» && (v .flow .held || v .«link_busy»)
+wrongTime v (Host h) = h .«command_bit» && (v .status .held || v .«link_busy»)
 wrongTime v (Device f) = false
 wrongTime v (Bits f) = false
 wrongTime v (Setup f) = false
 wrongTime v Activate = false
-wrongTime v (Data n) = eqb (v .flow .phase) 0 || not (v .entry .write)
+wrongTime v (Data n) = eqb (v .status .phase) 0 || not (v .entry .write)
 wrongTime v Bist = v .«link_busy»
 wrongTime v (Pio f) = false
 wrongTime v Refused = false
@@ -63,7 +63,7 @@ frameTests v f = hostLadder (v .contradicts) (v .«medium_wrong») (v .«reply_s
 
 -- 7: a tag that is not outstanding; a tag of 32 or more never is
 abbrev pub idleTag : Facts → ℕ → Bool
-idleTag v tag = not (bitIn 32 (v .flow .outstanding) tag)
+idleTag v tag = not (bitIn 32 (v .status .outstanding) tag)
 
 -- 9: wholly moved
 abbrev pub allMoved : Entry → Bool
@@ -71,7 +71,7 @@ allMoved e = eqb (e .moved) (wholeOf (e .count))
 
 -- 10: no read phase
 abbrev pub noReadPhase : Facts → Bool
-noReadPhase v = eqb (v .flow .phase) 0 || v .entry .write
+noReadPhase v = eqb (v .status .phase) 0 || v .entry .write
 
 -- 11: a tag of the set that is not outstanding or not wholly moved
 abbrev pub unready : Entry → Bool → Bool → Bool

@@ -1,10 +1,10 @@
 // What a call makes the device do: what was asked for, and of the state the entry alone. Its replies, the medium and the new state are made from the act and the old state.
-use states::Echo;
-use states::Entry;
-use wire::Task;
+use device_state::Echo;
+use device_state::Entry;
+use frame_parts::Task;
 
 // A device register reply with ERR.
-pub struct Bad {
+pub struct BadReply {
     pub error: u8,
     pub task: Task,
 }
@@ -42,15 +42,15 @@ pub struct Move {
 pub enum Act {
     Refuse(u8),
     Nothing,
-    Answer(Bad),
-    Halt(Fault),
+    Bad(BadReply),
+    BadAndHalt(Fault),
     Accept(Queued),
     Log10(Task),
     Log11(CountersRead),
     Reset,
     Release,
-    Zero,
-    Keep(Move),
+    ZeroCounters,
+    Store(Move),
     Open(Queued),
     Send(Move),
     Finish(u32),

@@ -6,18 +6,18 @@ ghost use Rattle.frames.specs.declared.shapes.Frame.the-variants.{Host, Data, B
 ghost use Rattle.rules.specs.Decide.{queuedAct, logPage, otherAct, controlAct};
 ghost use Rattle.rules.specs.Act.{kindAct, heardAct};
 use crate::acts::Act;
-use crate::acts::Bad;
+use crate::acts::BadReply;
 use crate::acts::CountersRead;
 use crate::acts::Fault;
 use crate::acts::Queued;
 use crate::facts::Facts;
 use crate::facts::left_of;
 use crate::facts::next_move;
+use device_state::Echo;
+use device_state::Entry;
+use device_state::echo_of;
 use frames::Frame;
 use frames::HostReg;
-use states::Echo;
-use states::Entry;
-use states::echo_of;
 
 // First sector + count above capacity, compared without wrap.
 fn too_far(capacity: u32, first: u64, count: u32) -> bool
@@ -35,17 +35,17 @@ fn queued_act(v: Facts, h: HostReg) -> Act
     ensures { λ r. ⌜ r ≡ queuedAct v h ⌝ }
 {
     let task = h.task;
-    let flow = v.flow;
+    let status = v.status;
     let settings = v.settings;
     let echo = echo_of(task);
-    let tag = wire::tag_of(task.count);
-    let count = wire::sectors_of(h.features, h.features_high);
-    let busy = bits::bit(flow.outstanding, tag as u32);
-    if flow.halted {
-        return Act::Answer(Bad { error: 0x04, task });
+    let tag = frame_parts::tag_of(task.count);
+    let count = frame_parts::sectors_of(h.features, h.features_high);
+    let busy = bits::bit(status.outstanding, tag as u32);
+    if status.halted {
+        return Act::Bad(BadReply { error: 0x04, task });
     }
     if (settings.depth <= tag as u32) | busy {
-        return Act::Halt(Fault {
+        return Act::BadAndHalt(Fault {
             nq: false,
             tag,
             error: 0x04,
@@ -54,7 +54,7 @@ fn queued_act(v: Facts, h: HostReg) -> Act
     }
     let first = task.lba;
     if too_far(settings.capacity, first, count) {
-        return Act::Halt(Fault {
+        return Act::BadAndHalt(Fault {
             nq: false,
             tag,
             error: 0x10,
@@ -89,15 +89,15 @@ fn other_act(v: Facts, h: HostReg) -> Act
     ensures { λ r. ⌜ r ≡ otherAct v h ⌝ }
 {
     let task = h.task;
-    let flow = v.flow;
+    let status = v.status;
     let echo = echo_of(task);
     let page = log_page(h.command, echo);
-    let zero = wire::flag(h.features, 0);
-    if flow.halted & !(page == 0x10) {
-        return Act::Answer(Bad { error: 0x04, task });
+    let zero = frame_parts::flag(h.features, 0);
+    if status.halted & !(page == 0x10) {
+        return Act::Bad(BadReply { error: 0x04, task });
     }
-    if !(flow.outstanding == 0) {
-        return Act::Halt(Fault {
+    if !(status.outstanding == 0) {
+        return Act::BadAndHalt(Fault {
             nq: true,
             tag: 0,
             error: 0x04,
@@ -110,18 +110,18 @@ fn other_act(v: Facts, h: HostReg) -> Act
     if page == 0x11 {
         return Act::Log11(CountersRead { zero, task });
     }
-    Act::Answer(Bad { error: 0x04, task })
+    Act::Bad(BadReply { error: 0x04, task })
 }
 
 // A control frame.
 fn control_act(v: Facts, h: HostReg) -> Act
     ensures { λ r. ⌜ r ≡ controlAct v h ⌝ }
 {
-    let flow = v.flow;
-    if wire::srst(h.control) {
+    let status = v.status;
+    if frame_parts::srst(h.control) {
         return Act::Reset;
     }
-    if flow.held {
+    if status.held {
         return Act::Release;
     }
     Act::Nothing
@@ -131,11 +131,11 @@ fn control_act(v: Facts, h: HostReg) -> Act
 fn register_act(v: Facts, h: HostReg) -> Act
     ensures { λ r. ⌜ r ≡ kindAct v (Host h) ⌝ }
 {
-    let flow = v.flow;
+    let status = v.status;
     if !h.command_bit {
         return control_act(v, h);
     }
-    if flow.held | v.link_busy {
+    if status.held | v.link_busy {
         return Act::Refuse(5);
     }
     if (h.command == 0x60) | (h.command == 0x61) {
@@ -148,15 +148,15 @@ fn register_act(v: Facts, h: HostReg) -> Act
 fn data_act(v: Facts, n: usize) -> Act
     ensures { λ r. ⌜ r ≡ kindAct v (Data n) ⌝ }
 {
-    let flow = v.flow;
+    let status = v.status;
     let e = v.entry;
-    if (flow.phase == 0) | !e.write {
+    if (status.phase == 0) | !e.write {
         return Act::Refuse(5);
     }
     if (left_of(e) as usize) < n {
         return Act::Refuse(6);
     }
-    Act::Keep(next_move(flow, e, n))
+    Act::Store(next_move(status, e, n))
 }
 
 // 58h.
@@ -166,14 +166,14 @@ fn bist_act(v: Facts) -> Act
     if v.link_busy {
         return Act::Refuse(5);
     }
-    Act::Zero
+    Act::ZeroCounters
 }
 
 // A host frame, as it was read.
 pub fn frame_act(v: Facts, f: Frame) -> Act
     ensures { λ r. ⌜ r ≡ heardAct v f ⌝ }
 {
-    let lent = ladders::lent_number(v.contradicts, v.medium_wrong, v.reply_short);
+    let lent = refusals::lent_number(v.contradicts, v.medium_wrong, v.reply_short);
     if !(lent == 0) {
         return Act::Refuse(lent);
     }

@@ -1,11 +1,11 @@
 // What a decision looks at: lengths and control values, never medium or payload bytes.
 ghost use mathlib.Core.Path.{_≡_};
 ghost use Prim.Native.Nat.{_≤_, min};
-ghost use Rattle.rules.specs.Facts.{leftOf, advancedBy, moveOf};
+ghost use Rattle.rules.specs.Positions.{leftOf, advancedBy, moveOf};
 use crate::acts::Move;
-use states::Entry;
-use states::Flow;
-use states::Settings;
+use device_state::Entry;
+use device_state::Settings;
+use device_state::Status;
 
 // The tests of refusals 1, 2 and 3, and whether a phase is open on the link; settings and control values. `entry`: that of the tag asked for, or of the open phase; an idle one if there is none. `unready`: a tag of the set asked for is not outstanding or not wholly moved.
 pub struct Facts {
@@ -14,7 +14,7 @@ pub struct Facts {
     pub reply_short: bool,
     pub link_busy: bool,
     pub settings: Settings,
-    pub flow: Flow,
+    pub status: Status,
     pub entry: Entry,
     pub unready: bool,
 }
@@ -23,7 +23,7 @@ pub struct Facts {
 pub fn left_of(e: Entry) -> u32
     ensures { λ r. ⌜ r ≡ leftOf e ⌝ }
 {
-    let whole = states::whole_of(e.count);
+    let whole = device_state::whole_of(e.count);
     if whole <= e.moved {
         return 0;
     }
@@ -59,14 +59,14 @@ fn advanced(e: Entry, n: u32) -> Entry
 }
 
 // n bytes that move next in the open phase, or what is left.
-pub fn next_move(flow: Flow, e: Entry, n: usize) -> Move
-    ensures { λ r. ⌜ r ≡ moveOf flow e n ⌝ }
+pub fn next_move(status: Status, e: Entry, n: usize) -> Move
+    ensures { λ r. ⌜ r ≡ moveOf status e n ⌝ }
 {
     let size = of_left(e, n);
     let entry = advanced(e, size);
     let left = left_of(e);
     Move {
-        tag: states::below(flow.phase),
+        tag: device_state::below(status.phase),
         at: Settings::SECTOR_SIZE * (e.first as usize) + (e.moved as usize),
         size: size as usize,
         entry,

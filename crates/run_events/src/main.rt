@@ -1,4 +1,4 @@
 // Runs an event file: standard input to standard output, one line an event.
 fn main() {
-    playing::run(libc::STDIN_FILENO, false);
+    event_run::run(libc::STDIN_FILENO, false);
 }

@@ -13,7 +13,7 @@ use Rattle.bits.proofs.Picks.{pick-yes, pick-no}
 use Rattle.bits.proofs.Masks.{lt-or-le}
 use Rattle.bits.proofs.Tying.{same}
 use mathlib.Core.Logic.{⊎-elim}
-use Rattle.text.specs.Sheet.{Sheet, sheet, added, written, Wrote, Fronted}
+use Rattle.text.specs.Sheet.{Sheet, sheet, added, written, TextGiven, WholeTextGiven}
 
 same-sheet : {a a′ : ℕ} {b b′ : List ℕ} → a ≡ a′ → b ≡ b′ → sheet a b ≡ sheet a′ b′
 same-sheet p q = cc
@@ -95,16 +95,16 @@ length-whole n b r e =
     (lt-or-le b n)
 
 -- a whole text in front of a buffer
-pub fronted : (s b : List ℕ) (r n : ℕ) (b′ : List ℕ) → sheet r b′ ≡ written s (sheet 0 b) → n ≡ pick (leb r (length b′)) r 0 → Fronted s b n b′
+pub fronted : (s b : List ℕ) (r n : ℕ) (b′ : List ℕ) → sheet r b′ ≡ written s (sheet 0 b) → n ≡ pick (leb r (length b′)) r 0 → WholeTextGiven s b n b′
 fronted s b r n b′ p q =
     let same : length b′ ≡ length b = ap (λ (x : Sheet). length (x .bytes)) p ∙ length-written s (sheet 0 b) in
     let place : r ≡ min (length s) (length b + 1) = ap (λ (x : Sheet). x .at) p ∙ at-written s (sheet 0 b) (omega arith) ∙ omega arith in
     record { len = q ∙ ap (λ (k : ℕ). pick (leb r k) r 0) same ∙ length-whole (length s) (length b) r place; bytes = ap (λ (x : Sheet). x .bytes) p ∙ bytes-written s [] b ∙ front s b }
 
 -- whoever writes a text has one answer
-pub wrote-once : (s : List ℕ) (at : ℕ) (b : List ℕ) (r r′ : ℕ) (x x′ : List ℕ) → Wrote s at b r x → Wrote s at b r′ x′ → (r ≡ r′) × (x ≡ x′)
+pub wrote-once : (s : List ℕ) (at : ℕ) (b : List ℕ) (r r′ : ℕ) (x x′ : List ℕ) → TextGiven s at b r x → TextGiven s at b r′ x′ → (r ≡ r′) × (x ≡ x′)
 wrote-once s at b r r′ x x′ p q = (ap (λ (z : Sheet). z .at) (same p q), ap (λ (z : Sheet). z .bytes) (same p q))
 
 -- whoever writes a whole text to the front of a buffer too
-pub fronted-once : (s b : List ℕ) (r r′ : ℕ) (x x′ : List ℕ) → Fronted s b r x → Fronted s b r′ x′ → (r ≡ r′) × (x ≡ x′)
+pub fronted-once : (s b : List ℕ) (r r′ : ℕ) (x x′ : List ℕ) → WholeTextGiven s b r x → WholeTextGiven s b r′ x′ → (r ≡ r′) × (x ≡ x′)
 fronted-once s b r r′ x x′ p q = (same (p .len) (q .len), same (p .bytes) (q .bytes))

@@ -26,10 +26,10 @@ written [] s = s
 written (x ∷ xs) s = written xs (added x s)
 
 -- what the code that writes a text answers: the place behind it, and all bytes of the buffer
-abbrev pub Wrote : List ℕ → ℕ → List ℕ → ℕ → List ℕ → Type 0
-Wrote text at b r b′ = sheet r b′ ≡ written text (sheet at b)
+abbrev pub TextGiven : List ℕ → ℕ → List ℕ → ℕ → List ℕ → Type 0
+TextGiven text at b r b′ = sheet r b′ ≡ written text (sheet at b)
 
 -- what the code that writes a whole text to the front of a buffer answers: its length, or 0 for one that is cut; the buffer then holds the front of it
-pub record Fronted (text b : List ℕ) (r : ℕ) (b′ : List ℕ) : Type 0 where
+pub record WholeTextGiven (text b : List ℕ) (r : ℕ) (b′ : List ℕ) : Type 0 where
   pub len : r ≡ pick (leb (length text) (length b)) (length text) 0
   pub bytes : b′ ≡ laid (take (length b) text) b

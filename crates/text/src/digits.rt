@@ -1,7 +1,7 @@
 // Numbers and bytes as text.
 ghost use Prim.Native.Nat.{_<_, _+_, _%_};
 ghost use mathlib.Core.Path.{_≡_};
-ghost use Rattle.text.specs.Sheet.{Wrote};
+ghost use Rattle.text.specs.Sheet.{TextGiven};
 ghost use Rattle.text.specs.Digits.{digit as digitOf, hex, decimal, upper8};
 use crate::sheets::put;
 use crate::sheets::put_byte;
@@ -22,7 +22,7 @@ fn digit(x: u8, upper: bool) -> u8
 
 // Bytes in hex, two digits each.
 pub fn put_hex(out: &mut [u8], at: usize, s: &[u8], upper: bool) -> usize
-    ensures { λ r. ⌜ Wrote (hex upper (now (s .entry))) at (now (out .entry)) r (now (out .exit)) ⌝ }
+    ensures { λ r. ⌜ TextGiven (hex upper (now (s .entry))) at (now (out .entry)) r (now (out .exit)) ⌝ }
 {
     let mut end = at;
     let mut i: usize = 0;
@@ -37,7 +37,7 @@ pub fn put_hex(out: &mut [u8], at: usize, s: &[u8], upper: bool) -> usize
 
 // 32 bits in eight upper-case hex digits.
 pub fn put_upper8(out: &mut [u8], at: usize, n: u32) -> usize
-    ensures { λ r. ⌜ Wrote (upper8 n) at (now (out .entry)) r (now (out .exit)) ⌝ }
+    ensures { λ r. ⌜ TextGiven (upper8 n) at (now (out .entry)) r (now (out .exit)) ⌝ }
 {
     let x = n as u64;
     let b = [
@@ -57,7 +57,7 @@ fn last_digit(n: u64) -> u8
 
 // In decimal. The digits are laid from the back of twenty places, the lowest first.
 pub fn put_decimal(out: &mut [u8], at: usize, n: u64) -> usize
-    ensures { λ r. ⌜ Wrote (decimal n) at (now (out .entry)) r (now (out .exit)) ⌝ }
+    ensures { λ r. ⌜ TextGiven (decimal n) at (now (out .entry)) r (now (out .exit)) ⌝ }
 {
     let mut text = [0u8; 20];
     let mut i: usize = 19;

@@ -4,10 +4,10 @@ ghost use mathlib.Core.Path.{_≡_};
 ghost use mathlib.Core.List.{_∷_, []};
 ghost use lib.Dec.{leb};
 ghost use Rattle.bits.specs.Pick.{pick};
-ghost use Rattle.text.specs.Sheet.{Wrote};
+ghost use Rattle.text.specs.Sheet.{TextGiven};
 
 pub fn put_byte(out: &mut [u8], at: usize, x: u8) -> usize
-    ensures { λ r. ⌜ Wrote (x ∷ []) at (now (out .entry)) r (now (out .exit)) ⌝ }
+    ensures { λ r. ⌜ TextGiven (x ∷ []) at (now (out .entry)) r (now (out .exit)) ⌝ }
 {
     if at < out.len() {
         out[at] = x;
@@ -17,7 +17,7 @@ pub fn put_byte(out: &mut [u8], at: usize, x: u8) -> usize
 }
 
 pub fn put(out: &mut [u8], at: usize, s: &[u8]) -> usize
-    ensures { λ r. ⌜ Wrote (now (s .entry)) at (now (out .entry)) r (now (out .exit)) ⌝ }
+    ensures { λ r. ⌜ TextGiven (now (s .entry)) at (now (out .entry)) r (now (out .exit)) ⌝ }
 {
     let mut end = at;
     let mut i: usize = 0;

@@ -1,4 +1,4 @@
 // Runs an event file as run_events does, each reply with its bytes.
 fn main() {
-    playing::run(libc::STDIN_FILENO, true);
+    event_run::run(libc::STDIN_FILENO, true);
 }

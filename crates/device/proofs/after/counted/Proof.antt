@@ -6,7 +6,7 @@ use Rattle.device.proofs.after.counted.Statement.{statement}
 use Rattle.device.proofs.after.counted.Tie as tie
 use Rattle.device.proofs.after.counted.Reads as reads
 use Rattle.device.proofs.after.counted.Lts as lts
-use Rattle.ladders.proofs.bump.Reads as bump-reads
+use Rattle.device_state.proofs.bump.Reads as bump-reads
 
 returns : tie.Need-returns
 unfolding withValue pick

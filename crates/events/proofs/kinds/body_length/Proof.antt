@@ -1,4 +1,4 @@
-use Rattle.wire.specs.Size.{fixedSize}
+use Rattle.frame_parts.specs.Size.{fixedSize}
 use Rattle.bits.specs.Pick.{pick}
 use borrow.Author.Tests.{ne-eqb}
 use Rattle.events.specs.Kinds.{bodyLength}

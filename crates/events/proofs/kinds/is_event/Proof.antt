@@ -11,7 +11,7 @@ use Rattle.events.proofs.kinds.is_event.Tie as tie
 use Rattle.events.proofs.kinds.is_event.Reads as reads
 use Rattle.events.proofs.kinds.is_event.Lts as lts
 use Rattle.events.proofs.kinds.body_length.Reads as body-length-reads
-use Rattle.wire.proofs.byte_of.Reads as byte-of-reads
+use Rattle.frame_parts.proofs.byte_of.Reads as byte-of-reads
 
 byte-of-requires : tie.Need-byte-of-requires
 byte-of-requires c κs = search needs

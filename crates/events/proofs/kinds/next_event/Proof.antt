@@ -5,7 +5,7 @@ use native.Mathlib.Omega.{arith}
 use lib.ListN.{length}
 use denote.Ref.{now}
 use borrow.Author.Tests.{eq-eqb, ne-eqb, le-leb, lt-leb}
-use Rattle.events.specs.Kinds.{nextOf, wholeOf}
+use Rattle.events.specs.Kinds.{nextOf, nextWhole}
 use borrow.Author.Needs.{needs}
 use Rattle.events.proofs.kinds.next_event.Statement.{statement}
 use Rattle.events.proofs.kinds.next_event.Tie as tie
@@ -13,7 +13,7 @@ use Rattle.events.proofs.kinds.next_event.Reads as reads
 use Rattle.events.proofs.kinds.next_event.Lts as lts
 use Rattle.events.proofs.kinds.body_length.Reads as body-length-reads
 use Rattle.events.proofs.kinds.is_misplaced.Reads as is-misplaced-reads
-use Rattle.wire.proofs.byte_of.Reads as byte-of-reads
+use Rattle.frame_parts.proofs.byte_of.Reads as byte-of-reads
 
 returns : tie.Need-returns
 unfolding nextOf pick
@@ -43,11 +43,11 @@ enum-told : tie.Need-enum-told
 enum-told c = search needs
 
 returns-4 : tie.Need-returns-4
-unfolding nextOf pick wholeOf
+unfolding nextOf pick nextWhole
 returns-4 c = rw (ne-eqb _ 0 (c .before .before .before .before .before .before .if1 .left), ← c .before .before .before .before .before .byte-of .ensures, sym (c .before .before .before .before .is-misplaced .ensures) ∙ c .before .before .before .if3 .left, sym (c .before .before .body-length .ensures) ∙ c .enum-told .given .1)
 
 returns-5 : tie.Need-returns-5
-unfolding nextOf pick wholeOf
+unfolding nextOf pick nextWhole
 returns-5 c =
     let h : length (now (c .before .before .before .before .before .before .before .before .before .before .args .rest)) < c .before .before .n .given .0 .0 + 1 = omega arith in
     rw (ne-eqb _ 0 (c .before .before .before .before .before .before .before .before .if1 .left), ← c .before .before .before .before .before .before .before .byte-of .ensures, sym (c .before .before .before .before .before .before .is-misplaced .ensures) ∙ c .before .before .before .before .before .if3 .left, sym (c .before .before .before .before .body-length .ensures) ∙ c .before .before .n .given .1, lt-leb _ _ h)
@@ -56,7 +56,7 @@ add-t5 : tie.Need-add-t5
 add-t5 c = search needs
 
 returns-6 : tie.Need-returns-6
-unfolding nextOf pick wholeOf
+unfolding nextOf pick nextWhole
 returns-6 c =
     let h : c .before .before .n .given .0 .0 + 1 ≤ length (now (c .before .before .before .before .before .before .before .before .before .before .args .rest)) = omega arith in
     rw (ne-eqb _ 0 (c .before .before .before .before .before .before .before .before .if1 .left), ← c .before .before .before .before .before .before .before .byte-of .ensures, sym (c .before .before .before .before .before .before .is-misplaced .ensures) ∙ c .before .before .before .before .before .if3 .left, sym (c .before .before .before .before .body-length .ensures) ∙ c .before .before .n .given .1, le-leb _ _ h)

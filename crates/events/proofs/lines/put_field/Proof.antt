@@ -14,7 +14,7 @@ use Rattle.events.proofs.lines.put_bytes.Reads as put-bytes-reads
 use Rattle.text.proofs.put_decimal.Reads as put-decimal-reads
 use Rattle.text.proofs.put_hex.Reads as put-hex-reads
 use Rattle.text.proofs.put_byte.Reads as put-byte-reads
-use Rattle.wire.proofs.byte_of.Reads as byte-of-reads
+use Rattle.frame_parts.proofs.byte_of.Reads as byte-of-reads
 
 byte-of-requires : tie.Need-byte-of-requires
 byte-of-requires c κs = search needs

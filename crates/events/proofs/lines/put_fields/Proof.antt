@@ -5,17 +5,17 @@ use native.Mathlib.Omega.{arith}
 use lib.ListN.{length, take, drop}
 use denote.Ref.{now}
 use Rattle.bits.proofs.Fronts.{rest-part}
-use Rattle.wire.specs.Cut.{cut, pieceOf}
+use Rattle.frame_parts.specs.Cut.{cut, firstLength}
 use Rattle.text.specs.Sheet.{sheet, written}
 use Rattle.events.specs.Lines.{fieldsOf}
-use Rattle.events.proofs.Fields.{piece-left, fields-turn, fields-end}
+use Rattle.events.proofs.Fields.{first-length-left, fields-turn, fields-end}
 use borrow.Author.Needs.{needs}
 use Rattle.events.proofs.lines.put_fields.Statement.{statement}
 use Rattle.events.proofs.lines.put_fields.Tie as tie
 use Rattle.events.proofs.lines.put_fields.Reads as reads
 use Rattle.events.proofs.lines.put_fields.Lts as lts
 use Rattle.events.proofs.lines.put_field.Reads as put-field-reads
-use Rattle.wire.proofs.cut_first.Reads as cut-first-reads
+use Rattle.frame_parts.proofs.cut_first.Reads as cut-first-reads
 
 abbrev Inv-loop : tie.InvT-loop
 Inv-loop out₀ at reply traced end₀ from₀ out end from =
@@ -40,7 +40,7 @@ cut-first-requires : tie.Need-cut-first-requires Inv-loop μ-loop
 cut-first-requires c κs = search needs
 
 add-next : tie.Need-add-next Inv-loop μ-loop
-add-next c = let p = piece-left (now (c .before .before .before .before .before .before .args .reply)) (c .before .before .before .loop .from) (c .cut-first .result) (omega arith) (c .cut-first .ensures ∙ ap pieceOf (rest-part (c .before .before .before .loop .from) (now (c .before .before .before .before .before .before .args .reply)))) in omega arith
+add-next c = let p = first-length-left (now (c .before .before .before .before .before .before .args .reply)) (c .before .before .before .loop .from) (c .cut-first .result) (omega arith) (c .cut-first .ensures ∙ ap firstLength (rest-part (c .before .before .before .loop .from) (now (c .before .before .before .before .before .before .args .reply)))) in omega arith
 
 sub-put-field : tie.Need-sub-put-field Inv-loop μ-loop
 sub-put-field c = omega arith
@@ -49,20 +49,20 @@ part-put-field-start : tie.Need-part-put-field-start Inv-loop μ-loop
 part-put-field-start c = omega arith
 
 part-put-field-end : tie.Need-part-put-field-end Inv-loop μ-loop
-part-put-field-end c = let p = piece-left (now (c .before .before .before .before .before .before .before .args .reply)) (c .before .before .before .before .loop .from) (c .before .cut-first .result) (omega arith) (c .before .cut-first .ensures ∙ ap pieceOf (rest-part (c .before .before .before .before .loop .from) (now (c .before .before .before .before .before .before .before .args .reply)))) in omega arith
+part-put-field-end c = let p = first-length-left (now (c .before .before .before .before .before .before .before .args .reply)) (c .before .before .before .before .loop .from) (c .before .cut-first .result) (omega arith) (c .before .cut-first .ensures ∙ ap firstLength (rest-part (c .before .before .before .before .loop .from) (now (c .before .before .before .before .before .before .before .args .reply)))) in omega arith
 
 put-field-requires : tie.Need-put-field-requires Inv-loop μ-loop
 put-field-requires c κs = search needs
 
 loop-less : tie.Need-loop-less Inv-loop μ-loop
-loop-less c = let p = piece-left (now (c .before .before .before .before .before .before .before .before .before .before .before .args .reply)) (c .before .before .before .before .before .before .before .before .loop .from) (c .before .before .before .before .before .cut-first .result) (omega arith) (c .before .before .before .before .before .cut-first .ensures ∙ ap pieceOf (rest-part (c .before .before .before .before .before .before .before .before .loop .from) (now (c .before .before .before .before .before .before .before .before .before .before .before .args .reply)))) in omega arith
+loop-less c = let p = first-length-left (now (c .before .before .before .before .before .before .before .before .before .before .before .args .reply)) (c .before .before .before .before .before .before .before .before .loop .from) (c .before .before .before .before .before .cut-first .result) (omega arith) (c .before .before .before .before .before .cut-first .ensures ∙ ap firstLength (rest-part (c .before .before .before .before .before .before .before .before .loop .from) (now (c .before .before .before .before .before .before .before .before .before .before .before .args .reply)))) in omega arith
 
 loop-again : tie.Need-loop-again Inv-loop μ-loop
 loop-again c =
-    let p = piece-left (now (c .before .before .before .before .before .before .before .before .before .before .before .args .reply)) (c .before .before .before .before .before .before .before .before .loop .from) (c .before .before .before .before .before .cut-first .result) (omega arith) (c .before .before .before .before .before .cut-first .ensures ∙ ap pieceOf (rest-part (c .before .before .before .before .before .before .before .before .loop .from) (now (c .before .before .before .before .before .before .before .before .before .before .before .args .reply)))) in
+    let p = first-length-left (now (c .before .before .before .before .before .before .before .before .before .before .before .args .reply)) (c .before .before .before .before .before .before .before .before .loop .from) (c .before .before .before .before .before .cut-first .result) (omega arith) (c .before .before .before .before .before .cut-first .ensures ∙ ap firstLength (rest-part (c .before .before .before .before .before .before .before .before .loop .from) (now (c .before .before .before .before .before .before .before .before .before .before .before .args .reply)))) in
     let r = now (c .before .before .before .before .before .before .before .before .before .before .before .args .reply) in
     let same : c .before .before .before .before .before .before .before .before .loop .from + c .before .before .before .before .before .cut-first .result - c .before .before .before .before .before .before .before .before .loop .from ≡ c .before .before .before .before .before .cut-first .result = omega arith in
-    (omega arith, search needs, fields-turn (c .before .before .before .before .before .before .before .before .before .before .before .args .traced) r _ (c .before .before .before .before .before .before .before .before .loop .from) (c .before .before .before .before .before .cut-first .result) _ _ _ (omega arith) (c .before .before .before .before .before .cut-first .ensures ∙ ap pieceOf (rest-part (c .before .before .before .before .before .before .before .before .loop .from) r)) (ap (λ (k : ℕ). take k (drop (c .before .before .before .before .before .before .before .before .loop .from) r)) same) (c .before .before .before .before .before .before .before .before .loop .inv .2) (c .before .before .put-field .ensures))
+    (omega arith, search needs, fields-turn (c .before .before .before .before .before .before .before .before .before .before .before .args .traced) r _ (c .before .before .before .before .before .before .before .before .loop .from) (c .before .before .before .before .before .cut-first .result) _ _ _ (omega arith) (c .before .before .before .before .before .cut-first .ensures ∙ ap firstLength (rest-part (c .before .before .before .before .before .before .before .before .loop .from) r)) (ap (λ (k : ℕ). take k (drop (c .before .before .before .before .before .before .before .before .loop .from) r)) same) (c .before .before .before .before .before .before .before .before .loop .inv .2) (c .before .before .put-field .ensures))
 
 same-length : tie.Need-same-length Inv-loop μ-loop
 same-length c = search needs

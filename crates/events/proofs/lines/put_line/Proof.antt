@@ -1,6 +1,6 @@
 use mathlib.Core.List.{[], _∷_, _++_}
 use denote.Ref.{now}
-use Rattle.wire.specs.Cut.{cut}
+use Rattle.frame_parts.specs.Cut.{cut}
 use Rattle.text.proofs.Writing.{wrote-both, fronted}
 use Rattle.events.specs.Lines.{lineOf, headOf, fieldsOf}
 use borrow.Author.Needs.{needs}

@@ -1,5 +1,5 @@
 use mathlib.Core.Path.{refl}
-use Rattle.wire.specs.Cut.{joined}
+use Rattle.frame_parts.specs.Cut.{joined}
 use Rattle.rules.specs.Call.{openPhase, finishTags, mediaError, comReset}
 use Rattle.replies.specs.Replies.{sentAll}
 use Rattle.device.proofs.Lending.{unlent, unlent-link}

@@ -6,7 +6,7 @@ use Rattle.events.proofs.starts.asked.Reads as reads
 use Rattle.events.proofs.starts.asked.Lts as lts
 use Rattle.events.proofs.kinds.is_event.Reads as is-event-reads
 use Rattle.events.proofs.starts.settings_of.Reads as settings-of-reads
-use Rattle.wire.proofs.byte_of.Reads as byte-of-reads
+use Rattle.frame_parts.proofs.byte_of.Reads as byte-of-reads
 
 settings-of-requires : tie.Need-settings-of-requires
 settings-of-requires c κs = search needs

@@ -5,7 +5,7 @@ use Rattle.events.proofs.starts.settings_of.Tie as tie
 use Rattle.events.proofs.starts.settings_of.Reads as reads
 use Rattle.events.proofs.starts.settings_of.Lts as lts
 use Rattle.bits.proofs.le.Reads as le-reads
-use Rattle.wire.proofs.byte_of.Reads as byte-of-reads
+use Rattle.frame_parts.proofs.byte_of.Reads as byte-of-reads
 
 byte-of-requires : tie.Need-byte-of-requires
 byte-of-requires c κs = search needs

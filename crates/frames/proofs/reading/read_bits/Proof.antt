@@ -4,9 +4,9 @@ use Rattle.frames.proofs.reading.read_bits.Tie as tie
 use Rattle.frames.proofs.reading.read_bits.Reads as reads
 use Rattle.frames.proofs.reading.read_bits.Lts as lts
 use Rattle.bits.proofs.le.Reads as le-reads
-use Rattle.wire.proofs.byte_of.Reads as byte-of-reads
-use Rattle.wire.proofs.flag.Reads as flag-reads
-use Rattle.wire.proofs.halves.Reads as halves-reads
+use Rattle.frame_parts.proofs.byte_of.Reads as byte-of-reads
+use Rattle.frame_parts.proofs.flag.Reads as flag-reads
+use Rattle.frame_parts.proofs.halves.Reads as halves-reads
 
 byte-of-requires : tie.Need-byte-of-requires
 byte-of-requires c κs = search needs

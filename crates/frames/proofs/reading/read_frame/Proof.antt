@@ -3,18 +3,18 @@ use denote.Ref.{now}
 use native.Mathlib.Omega.{arith}
 use borrow.Author.Tests.{not-true, not-false, ne-eqb}
 use Rattle.bits.specs.Pick.{pick}
-use Rattle.frames.specs.Read.{byKind}
+use Rattle.frames.specs.Read.{frameByKind}
 use Rattle.frames.specs.declared.shapes.Frame.the-variants.{Host, Device, Bits, Setup, Pio}
 use Rattle.frames.proofs.ReadLaws.{read-by, read-not}
-use Rattle.wire.proofs.SizeLaws.{data-4}
+use Rattle.frame_parts.proofs.SizeLaws.{data-4}
 use Rattle.frames.proofs.Exactly.{read-told}
 use borrow.Author.Needs.{needs}
 use Rattle.frames.proofs.reading.read_frame.Statement.{statement}
 use Rattle.frames.proofs.reading.read_frame.Tie as tie
 use Rattle.frames.proofs.reading.read_frame.Reads as reads
 use Rattle.frames.proofs.reading.read_frame.Lts as lts
-use Rattle.wire.proofs.byte_of.Reads as byte-of-reads
-use Rattle.wire.proofs.is_readable.Reads as is-readable-reads
+use Rattle.frame_parts.proofs.byte_of.Reads as byte-of-reads
+use Rattle.frame_parts.proofs.is_readable.Reads as is-readable-reads
 use Rattle.frames.proofs.reading.read_bits.Reads as read-bits-reads
 use Rattle.frames.proofs.reading.read_device.Reads as read-device-reads
 use Rattle.frames.proofs.reading.read_host.Reads as read-host-reads
@@ -51,39 +51,39 @@ sub-t12 c =
     omega (arith, data-4 _ (rw (c .match .keys8) at e))
 
 returns-2 : tie.Need-returns-2
-unfolding byKind pick
+unfolding frameByKind pick
 returns-2 c = read-told _ _ (rw (read-by (now (c .before .before .before .before .before .before .args .s)) (c .before .before .before .before .byte-of .result) (c .before .before .before .before .byte-of .ensures) (sym (c .before .before .before .is-readable .ensures) ∙ not-false _ (c .before .before .if1 .left)), c .before .match .keys1) (ap Host (c .read-host .ensures)))
 
 returns-3 : tie.Need-returns-3
-unfolding byKind pick
+unfolding frameByKind pick
 returns-3 c = read-told _ _ (rw (read-by (now (c .before .before .before .before .before .before .args .s)) (c .before .before .before .before .byte-of .result) (c .before .before .before .before .byte-of .ensures) (sym (c .before .before .before .is-readable .ensures) ∙ not-false _ (c .before .before .if1 .left)), c .before .match .keys2) (ap Device (c .read-device .ensures)))
 
 returns-4 : tie.Need-returns-4
-unfolding byKind pick
+unfolding frameByKind pick
 returns-4 c = read-told _ _ (rw (read-by (now (c .before .before .before .before .before .before .args .s)) (c .before .before .before .before .byte-of .result) (c .before .before .before .before .byte-of .ensures) (sym (c .before .before .before .is-readable .ensures) ∙ not-false _ (c .before .before .if1 .left)), c .before .match .keys3) (ap Bits (c .read-bits .ensures)))
 
 returns-5 : tie.Need-returns-5
-unfolding byKind pick
+unfolding frameByKind pick
 returns-5 c = read-told _ _ (rw (read-by (now (c .before .before .before .before .before .before .args .s)) (c .before .before .before .before .byte-of .result) (c .before .before .before .before .byte-of .ensures) (sym (c .before .before .before .is-readable .ensures) ∙ not-false _ (c .before .before .if1 .left)), c .before .match .keys4) (ap Setup (c .read-setup .ensures)))
 
 returns-6 : tie.Need-returns-6
-unfolding byKind pick
+unfolding frameByKind pick
 returns-6 c = read-told _ _ (rw (read-by (now (c .before .before .before .before .before .args .s)) (c .before .before .before .byte-of .result) (c .before .before .before .byte-of .ensures) (sym (c .before .before .is-readable .ensures) ∙ not-false _ (c .before .if1 .left)), c .match .keys5))
 
 returns-7 : tie.Need-returns-7
-unfolding byKind pick
+unfolding frameByKind pick
 returns-7 c = read-told _ _ (rw (read-by (now (c .before .before .before .before .before .args .s)) (c .before .before .before .byte-of .result) (c .before .before .before .byte-of .ensures) (sym (c .before .before .is-readable .ensures) ∙ not-false _ (c .before .if1 .left)), c .match .keys6))
 
 returns-8 : tie.Need-returns-8
-unfolding byKind pick
+unfolding frameByKind pick
 returns-8 c = read-told _ _ (rw (read-by (now (c .before .before .before .before .before .before .args .s)) (c .before .before .before .before .byte-of .result) (c .before .before .before .before .byte-of .ensures) (sym (c .before .before .before .is-readable .ensures) ∙ not-false _ (c .before .before .if1 .left)), c .before .match .keys7) (ap Pio (c .read-pio .ensures)))
 
 returns-9 : tie.Need-returns-9
-unfolding byKind pick
+unfolding frameByKind pick
 returns-9 c = read-told _ _ (rw (read-by (now (c .before .before .before .before .before .args .s)) (c .before .before .before .byte-of .result) (c .before .before .before .byte-of .ensures) (sym (c .before .before .is-readable .ensures) ∙ not-false _ (c .before .if1 .left)), c .match .keys8))
 
 returns-10 : tie.Need-returns-10
-unfolding byKind pick
+unfolding frameByKind pick
 returns-10 c =
     let r = c .match .rest in
     read-told _ _ (rw (read-by (now (c .before .before .before .before .before .args .s)) (c .before .before .before .byte-of .result) (c .before .before .before .byte-of .ensures) (sym (c .before .before .is-readable .ensures) ∙ not-false _ (c .before .if1 .left)), ne-eqb _ 0x27 (r .0 .0 .0 .0 .0 .0 .0 .1), ne-eqb _ 0x34 (r .0 .0 .0 .0 .0 .0 .1), ne-eqb _ 0xA1 (r .0 .0 .0 .0 .0 .1), ne-eqb _ 0x41 (r .0 .0 .0 .0 .1), ne-eqb _ 0x39 (r .0 .0 .0 .1), ne-eqb _ 0x58 (r .0 .0 .1), ne-eqb _ 0x5F (r .0 .1), ne-eqb _ 0x46 (r .1)))

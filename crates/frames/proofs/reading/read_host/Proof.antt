@@ -3,9 +3,9 @@ use Rattle.frames.proofs.reading.read_host.Statement.{statement}
 use Rattle.frames.proofs.reading.read_host.Tie as tie
 use Rattle.frames.proofs.reading.read_host.Reads as reads
 use Rattle.frames.proofs.reading.read_host.Lts as lts
-use Rattle.wire.proofs.byte_of.Reads as byte-of-reads
-use Rattle.wire.proofs.flag.Reads as flag-reads
-use Rattle.wire.proofs.task_of.Reads as task-of-reads
+use Rattle.frame_parts.proofs.byte_of.Reads as byte-of-reads
+use Rattle.frame_parts.proofs.flag.Reads as flag-reads
+use Rattle.frame_parts.proofs.task_of.Reads as task-of-reads
 
 byte-of-requires : tie.Need-byte-of-requires
 byte-of-requires c κs = search needs

@@ -4,8 +4,8 @@ use Rattle.frames.proofs.reading.read_setup.Tie as tie
 use Rattle.frames.proofs.reading.read_setup.Reads as reads
 use Rattle.frames.proofs.reading.read_setup.Lts as lts
 use Rattle.bits.proofs.le.Reads as le-reads
-use Rattle.wire.proofs.byte_of.Reads as byte-of-reads
-use Rattle.wire.proofs.flag.Reads as flag-reads
+use Rattle.frame_parts.proofs.byte_of.Reads as byte-of-reads
+use Rattle.frame_parts.proofs.flag.Reads as flag-reads
 
 byte-of-requires : tie.Need-byte-of-requires
 byte-of-requires c κs = search needs

@@ -5,8 +5,8 @@ use Rattle.frames.proofs.writing.bits_bytes.Tie as tie
 use Rattle.frames.proofs.writing.bits_bytes.Reads as reads
 use Rattle.frames.proofs.writing.bits_bytes.Lts as lts
 use Rattle.bits.proofs.byte.Reads as byte-reads
-use Rattle.wire.proofs.flags.Reads as flags-reads
-use Rattle.wire.proofs.halves.Reads as halves-reads
+use Rattle.frame_parts.proofs.flags.Reads as flags-reads
+use Rattle.frame_parts.proofs.halves.Reads as halves-reads
 
 cast-a : tie.Need-cast-a
 cast-a c = search needs

@@ -5,7 +5,7 @@ use Rattle.frames.proofs.writing.bits_fit.Statement.{statement}
 use Rattle.frames.proofs.writing.bits_fit.Tie as tie
 use Rattle.frames.proofs.writing.bits_fit.Reads as reads
 use Rattle.frames.proofs.writing.bits_fit.Lts as lts
-use Rattle.wire.proofs.flag.Reads as flag-reads
+use Rattle.frame_parts.proofs.flag.Reads as flag-reads
 
 flag-requires : tie.Need-flag-requires
 flag-requires c κs = search needs

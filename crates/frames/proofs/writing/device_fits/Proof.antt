@@ -5,7 +5,7 @@ use Rattle.frames.proofs.writing.device_fits.Statement.{statement}
 use Rattle.frames.proofs.writing.device_fits.Tie as tie
 use Rattle.frames.proofs.writing.device_fits.Reads as reads
 use Rattle.frames.proofs.writing.device_fits.Lts as lts
-use Rattle.wire.proofs.task_fits.Reads as task-fits-reads
+use Rattle.frame_parts.proofs.task_fits.Reads as task-fits-reads
 
 task-fits-requires : tie.Need-task-fits-requires
 task-fits-requires c κs = search needs

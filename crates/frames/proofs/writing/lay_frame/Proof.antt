@@ -7,7 +7,7 @@ use borrow.Author.Tests.{not-true, not-false}
 use denote.Ref.{now}
 use lib.ListN.{length, length-append}
 use Rattle.bits.proofs.Fronts.{over-yes, laid-next}
-use Rattle.wire.proofs.EmitLaws.{emitted-large, emitted-short, emitted-done}
+use Rattle.frame_parts.proofs.EmitLaws.{emitted-large, emitted-short, emitted-done}
 use borrow.Author.Needs.{needs}
 use Rattle.frames.proofs.writing.lay_frame.Statement.{statement}
 use Rattle.frames.proofs.writing.lay_frame.Tie as tie

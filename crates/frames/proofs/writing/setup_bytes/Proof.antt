@@ -5,7 +5,7 @@ use Rattle.frames.proofs.writing.setup_bytes.Tie as tie
 use Rattle.frames.proofs.writing.setup_bytes.Reads as reads
 use Rattle.frames.proofs.writing.setup_bytes.Lts as lts
 use Rattle.bits.proofs.byte.Reads as byte-reads
-use Rattle.wire.proofs.flags.Reads as flags-reads
+use Rattle.frame_parts.proofs.flags.Reads as flags-reads
 
 cast-tag : tie.Need-cast-tag
 cast-tag c = search needs

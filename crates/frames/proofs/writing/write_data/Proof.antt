@@ -5,7 +5,7 @@ use Rattle.frames.proofs.writing.write_data.Tie as tie
 use Rattle.frames.proofs.writing.write_data.Reads as reads
 use Rattle.frames.proofs.writing.write_data.Lts as lts
 use Rattle.frames.proofs.writing.lay_frame.Reads as lay-frame-reads
-use Rattle.wire.proofs.payload_size.Reads as payload-size-reads
+use Rattle.frame_parts.proofs.payload_size.Reads as payload-size-reads
 
 payload-size-requires : tie.Need-payload-size-requires
 payload-size-requires c κs = search needs

@@ -7,8 +7,8 @@ use Rattle.frames.proofs.writing.write_host.Reads as reads
 use Rattle.frames.proofs.writing.write_host.Lts as lts
 use Rattle.frames.proofs.writing.host_fits.Reads as host-fits-reads
 use Rattle.frames.proofs.writing.lay_frame.Reads as lay-frame-reads
-use Rattle.wire.proofs.flags.Reads as flags-reads
-use Rattle.wire.proofs.register_bytes.Reads as register-bytes-reads
+use Rattle.frame_parts.proofs.flags.Reads as flags-reads
+use Rattle.frame_parts.proofs.register_bytes.Reads as register-bytes-reads
 
 flags-requires : tie.Need-flags-requires
 flags-requires c κs = search needs

@@ -7,8 +7,8 @@ use Rattle.frames.proofs.writing.write_pio.Reads as reads
 use Rattle.frames.proofs.writing.write_pio.Lts as lts
 use Rattle.frames.proofs.writing.lay_frame.Reads as lay-frame-reads
 use Rattle.frames.proofs.writing.pio_fits.Reads as pio-fits-reads
-use Rattle.wire.proofs.flags.Reads as flags-reads
-use Rattle.wire.proofs.register_bytes.Reads as register-bytes-reads
+use Rattle.frame_parts.proofs.flags.Reads as flags-reads
+use Rattle.frame_parts.proofs.register_bytes.Reads as register-bytes-reads
 
 flags-requires : tie.Need-flags-requires
 flags-requires c κs = search needs

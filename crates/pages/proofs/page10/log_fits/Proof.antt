@@ -1,12 +1,12 @@
 use borrow.Author.Tests.{lt-ltb}
-use Rattle.wire.proofs.PieceLaws.{high-zero}
+use Rattle.frame_parts.proofs.SharedLaws.{high-zero}
 use Rattle.pages.specs.Page10.{fits10}
 use borrow.Author.Needs.{needs}
 use Rattle.pages.proofs.page10.log_fits.Statement.{statement}
 use Rattle.pages.proofs.page10.log_fits.Tie as tie
 use Rattle.pages.proofs.page10.log_fits.Reads as reads
 use Rattle.pages.proofs.page10.log_fits.Lts as lts
-use Rattle.wire.proofs.task_fits.Reads as task-fits-reads
+use Rattle.frame_parts.proofs.task_fits.Reads as task-fits-reads
 
 task-fits-requires : tie.Need-task-fits-requires
 task-fits-requires c κs = search needs

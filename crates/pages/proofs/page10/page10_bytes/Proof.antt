@@ -3,7 +3,7 @@ use Prim.Native.Nat.{ℕ}
 use mathlib.Core.List.{List}
 use lib.ListN.{replicate}
 use Rattle.bits.specs.Laid.{over}
-use Rattle.wire.specs.Piece.{registerBytes}
+use Rattle.frame_parts.specs.Shared.{registerBytes}
 use Rattle.pages.specs.Page10.{page10}
 use Rattle.pages.proofs.Laws10.{made}
 use borrow.Author.Needs.{needs}
@@ -12,7 +12,7 @@ use Rattle.pages.proofs.page10.page10_bytes.Tie as tie
 use Rattle.pages.proofs.page10.page10_bytes.Reads as reads
 use Rattle.pages.proofs.page10.page10_bytes.Lts as lts
 use Rattle.bits.proofs.lay.Reads as lay-reads
-use Rattle.wire.proofs.register_bytes.Reads as register-bytes-reads
+use Rattle.frame_parts.proofs.register_bytes.Reads as register-bytes-reads
 use Rattle.pages.proofs.page10.first_byte.Reads as first-byte-reads
 use Rattle.pages.proofs.sums.sum_byte.Reads as sum-byte-reads
 

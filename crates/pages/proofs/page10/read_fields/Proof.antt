@@ -3,10 +3,10 @@ use Rattle.pages.proofs.page10.read_fields.Statement.{statement}
 use Rattle.pages.proofs.page10.read_fields.Tie as tie
 use Rattle.pages.proofs.page10.read_fields.Reads as reads
 use Rattle.pages.proofs.page10.read_fields.Lts as lts
-use Rattle.pages.proofs.page10.tag_in.Reads as tag-in-reads
-use Rattle.wire.proofs.byte_of.Reads as byte-of-reads
-use Rattle.wire.proofs.flag.Reads as flag-reads
-use Rattle.wire.proofs.task_of.Reads as task-of-reads
+use Rattle.pages.proofs.page10.tag_shown.Reads as tag-shown-reads
+use Rattle.frame_parts.proofs.byte_of.Reads as byte-of-reads
+use Rattle.frame_parts.proofs.flag.Reads as flag-reads
+use Rattle.frame_parts.proofs.task_of.Reads as task-of-reads
 
 byte-of-requires : tie.Need-byte-of-requires
 byte-of-requires c κs = search needs
@@ -14,8 +14,8 @@ byte-of-requires c κs = search needs
 flag-requires : tie.Need-flag-requires
 flag-requires c κs = search needs
 
-tag-in-requires : tie.Need-tag-in-requires
-tag-in-requires c κs = search needs
+tag-shown-requires : tie.Need-tag-shown-requires
+tag-shown-requires c κs = search needs
 
 byte-of-requires-2 : tie.Need-byte-of-requires-2
 byte-of-requires-2 c κs = search needs
@@ -35,7 +35,7 @@ read-fields-spec =
     (tie.spec
     byte-of-requires
     flag-requires
-    tag-in-requires
+    tag-shown-requires
     byte-of-requires-2
     byte-of-requires-3
     task-of-requires

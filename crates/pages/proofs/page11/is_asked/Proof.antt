@@ -5,7 +5,7 @@ use Rattle.pages.proofs.page11.is_asked.Tie as tie
 use Rattle.pages.proofs.page11.is_asked.Reads as reads
 use Rattle.pages.proofs.page11.is_asked.Lts as lts
 use Rattle.pages.proofs.walk.is_vendor.Reads as is-vendor-reads
-use Rattle.pages.proofs.walk.number_of.Reads as number-of-reads
+use Rattle.pages.proofs.walk.number_in.Reads as number-in-reads
 
 is-vendor-requires : tie.Need-is-vendor-requires
 is-vendor-requires c κs = search needs
@@ -13,11 +13,11 @@ is-vendor-requires c κs = search needs
 returns : tie.Need-returns
 returns c = simp (sym (c .before .is-vendor .ensures) ∙ c .if1 .taken)
 
-number-of-requires : tie.Need-number-of-requires
-number-of-requires c κs = search needs
+number-in-requires : tie.Need-number-in-requires
+number-in-requires c κs = search needs
 
 returns-2 : tie.Need-returns-2
-returns-2 c = rw (c .number-of .ensures) (simp (sym (c .before .before .is-vendor .ensures) ∙ c .before .if1 .left))
+returns-2 c = rw (c .number-in .ensures) (simp (sym (c .before .before .is-vendor .ensures) ∙ c .before .if1 .left))
 
 pub is-asked-spec : {M : Type 1} → statement M
-is-asked-spec = tie.close (tie.spec is-vendor-requires returns number-of-requires returns-2)
+is-asked-spec = tie.close (tie.spec is-vendor-requires returns number-in-requires returns-2)

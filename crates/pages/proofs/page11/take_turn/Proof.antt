@@ -1,7 +1,7 @@
 use mathlib.Core.Path.{_∙_, sym, ap}
 use native.Mathlib.Omega.{arith}
 use Rattle.bits.specs.Pick.{pick}
-use Rattle.pages.specs.Step.{turnOf, onStep}
+use Rattle.pages.specs.WalkStep.{turnOf, onStep}
 use Rattle.pages.proofs.Walking.{row-lies, value-read}
 use borrow.Author.Needs.{needs}
 use Rattle.pages.proofs.page11.take_turn.Statement.{statement}

@@ -1,7 +1,7 @@
 use mathlib.Core.Path.{_∙_, sym}
 use borrow.Author.Tests.{eq-eqb, ne-eqb, le-leb, lt-leb}
 use Rattle.bits.specs.Pick.{pick}
-use Rattle.pages.specs.Step.{stepAt}
+use Rattle.pages.specs.WalkStep.{stepAt}
 use Rattle.pages.proofs.Walking.{id-read}
 use borrow.Author.Needs.{needs}
 use Rattle.pages.proofs.walk.entry_at.Statement.{statement}

@@ -6,7 +6,7 @@ use Rattle.pages.proofs.walk.is_faulty.Tie as tie
 use Rattle.pages.proofs.walk.is_faulty.Reads as reads
 use Rattle.pages.proofs.walk.is_faulty.Lts as lts
 use Rattle.pages.proofs.walk.is_vendor.Reads as is-vendor-reads
-use Rattle.pages.proofs.walk.number_of.Reads as number-of-reads
+use Rattle.pages.proofs.walk.number_in.Reads as number-in-reads
 use Rattle.pages.proofs.walk.width_of.Reads as width-of-reads
 
 width-of-requires : tie.Need-width-of-requires
@@ -38,12 +38,12 @@ returns-4 c =
     rw (← c .before .before .before .before .before .width-of .ensures)
     (simp (le-ltb _ 1 (c .before .before .before .before .if1 .left), le-ltb 4 _ (c .before .before .before .if2 .left), le-ltb 508 _ (c .before .before .if3 .left), sym (c .before .is-vendor .ensures) ∙ c .if4 .taken))
 
-number-of-requires : tie.Need-number-of-requires
-number-of-requires c κs = search needs
+number-in-requires : tie.Need-number-in-requires
+number-in-requires c κs = search needs
 
 returns-5 : tie.Need-returns-5
 returns-5 c =
-    rw (← c .before .before .before .before .before .before .width-of .ensures, c .number-of .ensures)
+    rw (← c .before .before .before .before .before .before .width-of .ensures, c .number-in .ensures)
     (simp (le-ltb _ 1 (c .before .before .before .before .before .if1 .left), le-ltb 4 _ (c .before .before .before .before .if2 .left), le-ltb 508 _ (c .before .before .before .if3 .left), sym (c .before .before .is-vendor .ensures) ∙ c .before .if4 .left))
 
 pub is-faulty-spec : {M : Type 1} → statement M
@@ -59,5 +59,5 @@ is-faulty-spec =
     returns-3
     is-vendor-requires
     returns-4
-    number-of-requires
+    number-in-requires
     returns-5)

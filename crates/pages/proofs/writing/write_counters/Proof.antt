@@ -3,7 +3,7 @@ use Rattle.pages.proofs.writing.write_counters.Statement.{statement}
 use Rattle.pages.proofs.writing.write_counters.Tie as tie
 use Rattle.pages.proofs.writing.write_counters.Reads as reads
 use Rattle.pages.proofs.writing.write_counters.Lts as lts
-use Rattle.wire.proofs.emit.Reads as emit-reads
+use Rattle.frame_parts.proofs.emit.Reads as emit-reads
 use Rattle.pages.proofs.made11.page11_bytes.Reads as page11-bytes-reads
 use Rattle.pages.proofs.rows.is_kept.Reads as is-kept-reads
 

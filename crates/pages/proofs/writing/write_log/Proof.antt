@@ -3,7 +3,7 @@ use Rattle.pages.proofs.writing.write_log.Statement.{statement}
 use Rattle.pages.proofs.writing.write_log.Tie as tie
 use Rattle.pages.proofs.writing.write_log.Reads as reads
 use Rattle.pages.proofs.writing.write_log.Lts as lts
-use Rattle.wire.proofs.emit.Reads as emit-reads
+use Rattle.frame_parts.proofs.emit.Reads as emit-reads
 use Rattle.pages.proofs.page10.log_fits.Reads as log-fits-reads
 use Rattle.pages.proofs.page10.page10_bytes.Reads as page10-bytes-reads
 

@@ -1,5 +1,5 @@
 use mathlib.Core.Path.{ap, sym, _∙_}
-use Rattle.pages.specs.Page11.{toldCounter}
+use Rattle.pages.specs.Page11.{counterAnswer}
 use Rattle.pages.specs.declared.page11.Counter.{Counter}
 use borrow.Author.Needs.{needs}
 use Rattle.read_page.proofs.counters.refusal_of.Statement.{statement}
@@ -21,16 +21,16 @@ enum-known-n : tie.Need-enum-known-n
 enum-known-n c = search needs
 
 returns : tie.Need-returns
-unfolding toldCounter
-returns c = ap (λ (r : Counter). toldCounter r .number) (sym (c .enum-told .given .1)) ∙ c .before .before .read-counter .ensures .refusal
+unfolding counterAnswer
+returns c = ap (λ (r : Counter). counterAnswer r .number) (sym (c .enum-told .given .1)) ∙ c .before .before .read-counter .ensures .refusal
 
 returns-2 : tie.Need-returns-2
-unfolding toldCounter
-returns-2 c = ap (λ (r : Counter). toldCounter r .number) (sym (c .enum-told2 .given .1)) ∙ c .before .before .read-counter .ensures .refusal
+unfolding counterAnswer
+returns-2 c = ap (λ (r : Counter). counterAnswer r .number) (sym (c .enum-told2 .given .1)) ∙ c .before .before .read-counter .ensures .refusal
 
 returns-3 : tie.Need-returns-3
-unfolding toldCounter
-returns-3 c = ap (λ (r : Counter). toldCounter r .number) (sym (c .before .n .given .1)) ∙ c .before .before .before .read-counter .ensures .refusal
+unfolding counterAnswer
+returns-3 c = ap (λ (r : Counter). counterAnswer r .number) (sym (c .before .n .given .1)) ∙ c .before .before .before .read-counter .ensures .refusal
 
 pub refusal-of-spec : {M : Type 1} → statement M
 refusal-of-spec =

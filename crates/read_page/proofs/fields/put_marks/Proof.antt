@@ -1,5 +1,5 @@
 use mathlib.Core.List.{_++_}
-use Rattle.bits.specs.Told.{bitNumber}
+use Rattle.bits.specs.Answer.{bitNumber}
 use Rattle.text.proofs.Writing.{wrote-both}
 use Rattle.read_page.specs.Lines.{numberLine, hexLine, marksText}
 use Rattle.read_page.specs.Words.{nqWord, tagWord, statusWord, errorWord}

@@ -11,7 +11,7 @@ use Rattle.replies.proofs.emitting.put_setup.Tie as tie
 use Rattle.replies.proofs.emitting.put_setup.Reads as reads
 use Rattle.replies.proofs.emitting.put_setup.Lts as lts
 use Rattle.frames.proofs.write_setup.Reads as write-setup-reads
-use Rattle.states.proofs.whole_of.Reads as whole-of-reads
+use Rattle.device_state.proofs.whole_of.Reads as whole-of-reads
 
 cast-t8 : tie.Need-cast-t8
 cast-t8 c = search needs

@@ -14,7 +14,7 @@ use Rattle.replies.proofs.emitting.put_open.Reads as put-open-reads
 use Rattle.replies.proofs.emitting.put_part.Reads as put-part-reads
 use Rattle.replies.proofs.emitting.put_register.Reads as put-register-reads
 use Rattle.replies.proofs.emitting.put_signature.Reads as put-signature-reads
-use Rattle.states.proofs.task_in.Reads as task-in-reads
+use Rattle.device_state.proofs.task_in.Reads as task-in-reads
 
 enum-told : tie.Need-enum-told
 enum-told c = search needs

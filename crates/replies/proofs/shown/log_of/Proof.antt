@@ -4,7 +4,7 @@ use Rattle.replies.proofs.shown.log_of.Statement.{statement}
 use Rattle.replies.proofs.shown.log_of.Tie as tie
 use Rattle.replies.proofs.shown.log_of.Reads as reads
 use Rattle.replies.proofs.shown.log_of.Lts as lts
-use Rattle.states.proofs.task_in.Reads as task-in-reads
+use Rattle.device_state.proofs.task_in.Reads as task-in-reads
 
 task-in-requires : tie.Need-task-in-requires
 task-in-requires c κs = search needs

@@ -5,7 +5,7 @@ use Rattle.rules.proofs.decide.control_act.Statement.{statement}
 use Rattle.rules.proofs.decide.control_act.Tie as tie
 use Rattle.rules.proofs.decide.control_act.Reads as reads
 use Rattle.rules.proofs.decide.control_act.Lts as lts
-use Rattle.wire.proofs.srst.Reads as srst-reads
+use Rattle.frame_parts.proofs.srst.Reads as srst-reads
 
 srst-requires : tie.Need-srst-requires
 srst-requires c κs = search needs

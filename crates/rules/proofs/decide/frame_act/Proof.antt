@@ -7,7 +7,7 @@ use Rattle.rules.proofs.decide.frame_act.Statement.{statement}
 use Rattle.rules.proofs.decide.frame_act.Tie as tie
 use Rattle.rules.proofs.decide.frame_act.Reads as reads
 use Rattle.rules.proofs.decide.frame_act.Lts as lts
-use Rattle.ladders.proofs.lent_number.Reads as lent-number-reads
+use Rattle.refusals.proofs.lent_number.Reads as lent-number-reads
 use Rattle.rules.proofs.decide.bist_act.Reads as bist-act-reads
 use Rattle.rules.proofs.decide.data_act.Reads as data-act-reads
 use Rattle.rules.proofs.decide.register_act.Reads as register-act-reads

@@ -7,8 +7,8 @@ use Rattle.rules.proofs.decide.other_act.Tie as tie
 use Rattle.rules.proofs.decide.other_act.Reads as reads
 use Rattle.rules.proofs.decide.other_act.Lts as lts
 use Rattle.rules.proofs.decide.log_page.Reads as log-page-reads
-use Rattle.states.proofs.echo_of.Reads as echo-of-reads
-use Rattle.wire.proofs.flag.Reads as flag-reads
+use Rattle.device_state.proofs.echo_of.Reads as echo-of-reads
+use Rattle.frame_parts.proofs.flag.Reads as flag-reads
 
 echo-of-requires : tie.Need-echo-of-requires
 echo-of-requires c κs = search needs

@@ -11,9 +11,9 @@ use Rattle.rules.proofs.decide.queued_act.Reads as reads
 use Rattle.rules.proofs.decide.queued_act.Lts as lts
 use Rattle.bits.proofs.bit.Reads as bit-reads
 use Rattle.rules.proofs.decide.too_far.Reads as too-far-reads
-use Rattle.states.proofs.echo_of.Reads as echo-of-reads
-use Rattle.wire.proofs.sectors_of.Reads as sectors-of-reads
-use Rattle.wire.proofs.tag_of.Reads as tag-of-reads
+use Rattle.device_state.proofs.echo_of.Reads as echo-of-reads
+use Rattle.frame_parts.proofs.sectors_of.Reads as sectors-of-reads
+use Rattle.frame_parts.proofs.tag_of.Reads as tag-of-reads
 
 echo-of-requires : tie.Need-echo-of-requires
 echo-of-requires c κs = search needs

@@ -1,5 +1,5 @@
 use mathlib.Core.Path.{refl}
-use Rattle.rules.specs.Facts.{advancedBy}
+use Rattle.rules.specs.Positions.{advancedBy}
 use borrow.Author.Needs.{needs}
 use Rattle.rules.proofs.facts.advanced.Statement.{statement}
 use Rattle.rules.proofs.facts.advanced.Tie as tie

@@ -1,4 +1,4 @@
-use Rattle.rules.specs.Facts.{moveOf}
+use Rattle.rules.specs.Positions.{moveOf}
 use borrow.Author.Needs.{needs}
 use Rattle.rules.proofs.facts.next_move.Statement.{statement}
 use Rattle.rules.proofs.facts.next_move.Tie as tie
@@ -7,7 +7,7 @@ use Rattle.rules.proofs.facts.next_move.Lts as lts
 use Rattle.rules.proofs.facts.advanced.Reads as advanced-reads
 use Rattle.rules.proofs.facts.left_of.Reads as left-of-reads
 use Rattle.rules.proofs.facts.of_left.Reads as of-left-reads
-use Rattle.states.proofs.below.Reads as below-reads
+use Rattle.device_state.proofs.below.Reads as below-reads
 
 of-left-requires : tie.Need-of-left-requires
 of-left-requires c κs = search needs

@@ -5,7 +5,7 @@ use Rattle.device.proofs.state.Device.accepted_by.Tie as tie
 use Rattle.device.proofs.state.Device.accepted_by.Reads as reads
 use Rattle.device.proofs.state.Device.accepted_by.Lts as lts
 use Rattle.bits.proofs.with_bit.Reads as with-bit-reads
-use Rattle.states.proofs.with_entry.Reads as with-entry-reads
+use Rattle.device_state.proofs.with_entry.Reads as with-entry-reads
 
 cast-tag : tie.Need-cast-tag
 cast-tag c = search needs

@@ -12,7 +12,7 @@ use Rattle.device.proofs.state.Device.counter.Lts as lts
 use Rattle.device.proofs.counter.shown.Reads as shown-reads
 use Rattle.device.proofs.state.Device.contradicts.Reads as contradicts-reads
 use Rattle.pages.proofs.row_of.Reads as row-of-reads
-use Rattle.ladders.proofs.counter_number.Reads as counter-number-reads
+use Rattle.refusals.proofs.counter_number.Reads as counter-number-reads
 
 contradicts-requires : tie.Need-contradicts-requires
 contradicts-requires c κs = search needs

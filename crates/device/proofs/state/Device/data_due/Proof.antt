@@ -7,7 +7,7 @@ use Rattle.device.proofs.state.Device.data_due.Reads as reads
 use Rattle.device.proofs.state.Device.data_due.Lts as lts
 use Rattle.device.proofs.calls.due_of.Reads as due-of-reads
 use Rattle.device.proofs.calls.open_tag.Reads as open-tag-reads
-use Rattle.states.proofs.entry_of.Reads as entry-of-reads
+use Rattle.device_state.proofs.entry_of.Reads as entry-of-reads
 
 open-tag-requires : tie.Need-open-tag-requires
 open-tag-requires c κs = search needs

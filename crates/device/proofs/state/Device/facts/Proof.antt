@@ -4,7 +4,7 @@ use Rattle.device.proofs.state.Device.facts.Tie as tie
 use Rattle.device.proofs.state.Device.facts.Reads as reads
 use Rattle.device.proofs.state.Device.facts.Lts as lts
 use Rattle.device.proofs.state.Device.contradicts.Reads as contradicts-reads
-use Rattle.states.proofs.entry_of.Reads as entry-of-reads
+use Rattle.device_state.proofs.entry_of.Reads as entry-of-reads
 
 contradicts-requires : tie.Need-contradicts-requires
 contradicts-requires c κs = search needs

@@ -5,7 +5,7 @@ use Rattle.device.proofs.state.Device.finished_by.Tie as tie
 use Rattle.device.proofs.state.Device.finished_by.Reads as reads
 use Rattle.device.proofs.state.Device.finished_by.Lts as lts
 use Rattle.bits.proofs.without.Reads as without-reads
-use Rattle.states.proofs.cleared.Reads as cleared-reads
+use Rattle.device_state.proofs.cleared.Reads as cleared-reads
 
 cleared-requires : tie.Need-cleared-requires
 cleared-requires c κs = search needs

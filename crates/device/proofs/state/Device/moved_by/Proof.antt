@@ -5,7 +5,7 @@ use Rattle.device.proofs.state.Device.moved_by.Statement.{statement}
 use Rattle.device.proofs.state.Device.moved_by.Tie as tie
 use Rattle.device.proofs.state.Device.moved_by.Reads as reads
 use Rattle.device.proofs.state.Device.moved_by.Lts as lts
-use Rattle.states.proofs.with_entry.Reads as with-entry-reads
+use Rattle.device_state.proofs.with_entry.Reads as with-entry-reads
 
 with-entry-requires : tie.Need-with-entry-requires
 with-entry-requires c κs = search needs

@@ -7,7 +7,7 @@ use Rattle.device.proofs.state.Device.renewed.Tie as tie
 use Rattle.device.proofs.state.Device.renewed.Reads as reads
 use Rattle.device.proofs.state.Device.renewed.Lts as lts
 use Rattle.device.proofs.state.fresh.Reads as fresh-reads
-use Rattle.ladders.proofs.bump.Reads as bump-reads
+use Rattle.device_state.proofs.bump.Reads as bump-reads
 
 element-copy-out-v : tie.Need-element-copy-out-v
 element-copy-out-v c = search needs

@@ -2,7 +2,7 @@ use denote.Ref.{now}
 use mathlib.Core.Path.{sym, ap, _∙_}
 use mathlib.Core.List.{[]}
 use Rattle.rules.specs.Call.{sendData}
-use Rattle.rules.specs.Taking.{spanOf, partOf, keptIn}
+use Rattle.rules.specs.Medium.{spanOf, partOf, mediumAfter}
 use Rattle.rules.specs.declared.acts.Act.{Act}
 use Rattle.device.specs.Lent.{lent}
 use Rattle.device.proofs.Doing.{has-room, given-by, send-left, send-act, span-known, sent-part}
@@ -67,7 +67,7 @@ returns c =
     let a = c .before .before .before .before .before .before .before .before .before .before .before .before .before .args in
     let e = send-act (a .self) (now (a .medium)) (now (a .reply)) (c .before .before .before .before .before .before .before .before .before .before .open-tag .result) (c .before .before .before .before .before .before .before .before .before .medium-wrong .result) (c .before .before .before .before .before .before .before .before .facts .result) (c .before .before .before .before .before .before .before .send-act .result) (c .before .before .before .before .before .before .before .before .before .before .open-tag .ensures) (c .before .before .before .before .before .before .before .before .before .medium-wrong .ensures) (c .before .before .before .before .before .before .before .before .facts .ensures) (c .before .before .before .before .before .before .before .send-act .ensures) in
     let w = c .before .before .done .ensures in
-    given-by (a .self) (lent sendData (now (a .medium)) (now (a .reply))) (c .before .before .before .before .before .before .before .send-act .result) _ (now (a .medium)) (c .before .before .done .last .1 .0) (c .before .before .done .result) e (sent-part (now (a .medium)) (c .before .before .before .before .before .before .before .send-act .result) (c .before .before .before .before .before .before .span-of .result) (c .before .before .before .before .before .before .span-of .ensures)) (send-left (a .self) (now (a .medium)) (now (a .reply)) ∙ ap (λ (x : Act). keptIn x [] (now (a .medium))) (sym e)) (w .0) (w .1 .0) (w .1 .1)
+    given-by (a .self) (lent sendData (now (a .medium)) (now (a .reply))) (c .before .before .before .before .before .before .before .send-act .result) _ (now (a .medium)) (c .before .before .done .last .1 .0) (c .before .before .done .result) e (sent-part (now (a .medium)) (c .before .before .before .before .before .before .before .send-act .result) (c .before .before .before .before .before .before .span-of .result) (c .before .before .before .before .before .before .span-of .ensures)) (send-left (a .self) (now (a .medium)) (now (a .reply)) ∙ ap (λ (x : Act). mediumAfter x [] (now (a .medium))) (sym e)) (w .0) (w .1 .0) (w .1 .1)
 
 pub send-spec : {M : Type 1} → statement M
 send-spec =

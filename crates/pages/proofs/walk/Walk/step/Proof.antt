@@ -43,13 +43,13 @@ use denote.Triple.Table.{entered, cited}
 use denote.Triple.Walked.{says, Stays, stay-none, walkOf, goes-none, Walks, ends-at, walked, walk-meets}
 use denote.Exit.{yes}
 use denote.Triple.Clauses.{ensured, lasts}
-use Rattle.pages.specs.Step.{stepAt}
+use Rattle.pages.specs.WalkStep.{stepAt}
 use Rattle.pages.specs.declared.walk.Walk.{Walk}
-use Rattle.pages.specs.declared.walk.Step.{Step}
+use Rattle.pages.specs.declared.walk.WalkStep.{WalkStep}
 use Rattle.pages.proofs.walk.Walk as T
 use Rattle.pages.proofs.walk.Walk.Laws as T′
-use Rattle.pages.proofs.walk.Step as S
-use Rattle.pages.proofs.walk.Step.Laws as S′
+use Rattle.pages.proofs.walk.WalkStep as S
+use Rattle.pages.proofs.walk.WalkStep.Laws as S′
 use Rattle.pages.proofs.walk.entry_at as step
 use Rattle.pages.proofs.walk.entry_at.Symbol as step-def
 use Rattle.pages.proofs.walk.entry_at.Symbol.{name as #pages·entry-at}
@@ -79,7 +79,7 @@ module _ {M : Type 1} (𝓤 : URA M) (H : Heap 𝓤) (A : Atoms 𝓤) (W : Given
   abbrev v : Val
   v = sliceVal (d .page .ptr) (length (d .page .now))
 
-  abbrev found : Step
+  abbrev found : WalkStep
   found = stepAt (now (d .page)) (d .at)
 
   abbrev Post : Val → SProp 𝓤
@@ -119,10 +119,10 @@ module _ {M : Type 1} (𝓤 : URA M) (H : Heap 𝓤) (A : Atoms 𝓤) (W : Given
       move ! (2 ∷ 0 ∷ []) $ use2 W (raw (EntryAt 𝓤 H A mem run .pre to)) asked $ frame ! $ done !)
 
   -- of the callee's `ensured`, the clause alone: it has no `&mut`, so what is said of last values is dropped
-  said : (r : Step) → ent 𝓤 (ensured 𝓤 H A step.ended (step.clauses 𝓤 H A mem run) (κ, tt) (d .page, (d .at, tt)) tt r) (fact 𝓤 (r ≡ found))
+  said : (r : WalkStep) → ent 𝓤 (ensured 𝓤 H A step.ended (step.clauses 𝓤 H A mem run) (κ, tt) (d .page, (d .at, tt)) tt r) (fact 𝓤 (r ≡ found))
   said r = exE 𝓤 _ (λ ws. snd∗ 𝓤 (sem 𝓤 H A (lasts step.ended (κ, tt) (d .page, (d .at, tt)) ws)) (fact 𝓤 (r ≡ found)))
 
-  exits : (r : Step) (u : Val) → r ≡ found → ent 𝓤 (⋆ 𝓤 H A (‵ (S.the-row .own r (u ∷ [])) ∷ (‵ (flft κ q) ⊛ ‵ ftrue) ∷ ‵ Own ∷ [])) (Post u)
+  exits : (r : WalkStep) (u : Val) → r ≡ found → ent 𝓤 (⋆ 𝓤 H A (‵ (S.the-row .own r (u ∷ [])) ∷ (‵ (flft κ q) ⊛ ‵ ftrue) ∷ ‵ Own ∷ [])) (Post u)
   exits r u e =
       qed W (‵ (S.the-row .own r (u ∷ [])) ∷ (‵ (flft κ q) ⊛ ‵ ftrue) ∷ ‵ Own ∷ []) ∵
       suffices ! _ (ends-at 𝓤 H A self.ended stayed (self.clauses 𝓤 H A mem run) W (((κ, tt), (q, tt), tt, (d, tt), (mach ∷ [], tt)), tt) u r (tt, tt) (tt, tt)) $ says ! e $
@@ -137,7 +137,7 @@ module _ {M : Type 1} (𝓤 : URA M) (H : Heap 𝓤) (A : Atoms 𝓤) (W : Given
         assigns ! (of-opd ! (load ! (from ! (fld ! refl (stop !))) (look-in ! 4 (sub ! 1 refl (whole !))))) (from ! (stop !)) (init ! 0 refl (tt, wt .1 .1 .0)) $
         move ! (8 ∷ []) $ use1 W (raw (EntryAt 𝓤 H A mem run .pre to) ⊛ ‵ Own) (apart (wt .1 .1 .0 .fits)) $ split ! $
         calls-at ! fm (EntryAt 𝓤 H A mem run) known to (and-then ! (load ! (from ! (stop !)) (look ! 4 refl)) (and-then ! (load ! (from ! (stop !)) (look ! 2 refl)) (no-more !))) (λ u.
-        use1 W (later (some (λ (r : Step). ((‵ (flft κ q) ⊛ ‵ ftrue) ⊛ ‵ (S.the-row .own r (u ∷ []))) ⊛ raw (ensured 𝓤 H A step.ended (step.clauses 𝓤 H A mem run) (κ, tt) (d .page, (d .at, tt)) tt r)))) (id⊢ 𝓤 _) $ await ! tt $ pick ! (λ r.
+        use1 W (later (some (λ (r : WalkStep). ((‵ (flft κ q) ⊛ ‵ ftrue) ⊛ ‵ (S.the-row .own r (u ∷ []))) ⊛ raw (ensured 𝓤 H A step.ended (step.clauses 𝓤 H A mem run) (κ, tt) (d .page, (d .at, tt)) tt r)))) (id⊢ 𝓤 _) $ await ! tt $ pick ! (λ r.
         split ! $ move ! (1 ∷ []) $ use1 W (raw (fact 𝓤 (r ≡ found))) (said r) $ heard ! (r ≡ found) (λ e. split ! $ move ! (1 ∷ []) $
         -- [the result; the token; what the struct owns; _3; …; _2; …; _1; …; room for _0; …]
         peeks ! S.the-row (Is S.the-row) (shows 𝓤 H A S.the-row) r (u ∷ []) (λ is.

@@ -1,0 +1,4 @@
+pub mod State
+pub mod Table
+pub mod Clauses
+pub mod Counts

@@ -1,0 +1,4 @@
+pub mod Shared
+pub mod Size
+pub mod Emit
+pub mod Cut

@@ -1,2 +1,0 @@
-pub mod Ladders
-pub mod Counts

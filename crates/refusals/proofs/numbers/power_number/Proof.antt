@@ -1,0 +1,17 @@
+use Rattle.bits.specs.First.{firstOf}
+use borrow.Author.Needs.{needs}
+use Rattle.refusals.proofs.numbers.power_number.Statement.{statement}
+use Rattle.refusals.proofs.numbers.power_number.Tie as tie
+use Rattle.refusals.proofs.numbers.power_number.Reads as reads
+use Rattle.refusals.proofs.numbers.power_number.Lts as lts
+use Rattle.refusals.proofs.numbers.or_else.Reads as or-else-reads
+
+or-else-requires : tie.Need-or-else-requires
+or-else-requires c κs = search needs
+
+returns : tie.Need-returns
+unfolding firstOf
+returns c = rw (c .or-else .ensures)
+
+pub power-number-spec : {M : Type 1} → statement M
+power-number-spec = tie.close (tie.spec or-else-requires returns)

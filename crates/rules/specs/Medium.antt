@@ -1,0 +1,90 @@
+-- What an act says besides: its number, and what it takes from the medium or puts there. Assumes nothing.
+use mathlib.Core.Bool.{_&&_}
+use mathlib.Core.List.{List, _++_}
+use Prim.Native.Nat.{ℕ}
+use lib.Dec.{leb}
+use lib.ListN.{length, take, drop}
+use Rattle.bits.specs.Pick.{pick}
+use Rattle.bits.specs.Laid.{over}
+use Rattle.rules.specs.declared.acts.Move.{Move}
+use Rattle.rules.specs.declared.acts.Act.{Act}
+use Rattle.rules.specs.declared.acts.Act.the-variants.{Refuse, Nothing, Bad, BadAndHalt, Accept, Log10, Log11, Reset, Release, ZeroCounters, Store, Open, Send, Finish, Media, Count, Renew}
+use Rattle.rules.specs.declared.medium.Span.{Span}
+
+-- the number of a refusal; an act that is done has 0
+unfoldable pub numberOf : Act → ℕ
+numberOf (Refuse n) = n
+numberOf Nothing = 0
+numberOf (Bad b) = 0
+numberOf (BadAndHalt g) = 0
+numberOf (Accept q) = 0
+numberOf (Log10 l) = 0
+numberOf (Log11 l) = 0
+numberOf Reset = 0
+numberOf Release = 0
+numberOf ZeroCounters = 0
+numberOf (Store k) = 0
+numberOf (Open q) = 0
+numberOf (Send k) = 0
+numberOf (Finish s) = 0
+numberOf (Media g) = 0
+numberOf (Count r) = 0
+numberOf Renew = 0
+
+-- what an act has to do with the medium: nothing, a part of it is sent, or host data goes there
+pub data Touch : Type 0 where
+  leaves : Touch
+  sends : Move → Touch
+  stores : Move → Touch
+
+-- of each act
+unfoldable pub touchOf : Act → Touch
+touchOf (Refuse n) = leaves
+touchOf Nothing = leaves
+touchOf (Bad b) = leaves
+touchOf (BadAndHalt g) = leaves
+touchOf (Accept q) = leaves
+touchOf (Log10 l) = leaves
+touchOf (Log11 l) = leaves
+touchOf Reset = leaves
+touchOf Release = leaves
+touchOf ZeroCounters = leaves
+touchOf (Store k) = stores k
+touchOf (Open q) = leaves
+touchOf (Send k) = sends k
+touchOf (Finish s) = leaves
+touchOf (Media g) = leaves
+touchOf (Count r) = leaves
+touchOf Renew = leaves
+
+-- no part of the medium
+abbrev pub nowhere : Span
+nowhere = record { at = 0; size = 0 }
+
+-- what of the medium is sent
+abbrev pub spanIn : Touch → Span
+spanIn leaves = nowhere
+spanIn (sends m) = record { at = m .at; size = m .size }
+spanIn (stores m) = nowhere
+
+-- by the act
+abbrev pub spanOf : Act → Span
+spanOf a = spanIn (touchOf a)
+
+-- the bytes of a part of the medium
+abbrev pub partOf : Span → List ℕ → List ℕ
+partOf s m = take (s .size) (drop (s .at) m)
+
+-- the payload of frame f laid over the medium m from a place on, where there is room for all of it; that a taken frame's payload has it is `data-stored`
+unfoldable pub stored : ℕ → List ℕ → List ℕ → List ℕ
+stored at f m = pick (leb 4 (length f) && leb at (length m)) (take at m ++ over (drop 4 f) (drop at m)) m
+
+-- the medium m after an act of frame f
+abbrev pub keptBy : Touch → List ℕ → List ℕ → List ℕ
+keptBy leaves f m = m
+keptBy (sends k) f m = m
+keptBy (stores k) f m = stored (k .at) f m
+
+-- by the act
+abbrev pub mediumAfter : Act → List ℕ → List ℕ → List ℕ
+mediumAfter a f m = keptBy (touchOf a) f m

@@ -1,4 +1,0 @@
-pub mod Piece
-pub mod Size
-pub mod Emit
-pub mod Cut
