@@ -6,7 +6,7 @@ use Rattle.events.proofs.plays.play.Lts as lts
 use Rattle.events.proofs.asked.request_of.Reads as request-of-reads
 use Rattle.events.proofs.plays.make_call.Reads as make-call-reads
 
-request-of-requires : tie.Need-event-of-requires
+request-of-requires : tie.Need-request-of-requires
 request-of-requires c κs = search needs
 
 make-call-requires : tie.Need-make-call-requires
