@@ -33,7 +33,7 @@ pub record Play : Type 0 where
   pub after : List ℕ
   pub written : List ℕ
 
--- of these
+-- an event as it was played, of these eight
 abbrev pub play : List ℕ → List ℕ → List ℕ → List ℕ → tells.EventLine → List ℕ → List ℕ → List ℕ → Play
 play e m b o t m′ b′ o′ = record { event = e; medium = m; buffer = b; line = o; told = t; left = m′; after = b′; written = o′ }
 
@@ -50,7 +50,7 @@ pub record Start : Type 0 where
   pub told : tells.EventLine
   pub written : List ℕ
 
--- of these
+-- a settings record as it was taken, of these four
 abbrev pub start : List ℕ → List ℕ → tells.EventLine → List ℕ → Start
 start e o t o′ = record { event = e; line = o; told = t; written = o′ }
 

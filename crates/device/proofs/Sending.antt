@@ -2,6 +2,7 @@
 use mathlib.Core.Path.{_≡_, refl, sym, subst}
 use mathlib.Core.Bool.{true, false}
 use mathlib.Core.List.{List, [], map}
+use Rattle.bits.specs.Little.{Bytes}
 use Prim.Native.Nat.{ℕ, _+_, _-_, _*_, _%_, _^_, _≤_, _<_, min}
 use native.Mathlib.Omega.{arith}
 use lib.Dec.{eqb}
@@ -56,23 +57,43 @@ part-sized d m good w phase =
     let long : length (partOf (record { at = 512 * e .first + e .moved; size = due }) m) ≡ due = simp (length-take, length-drop) (omega arith) in
     rw long (sized due (omega arith) (omega arith) four)
 
--- a call that was decided: what its replies ask of it holds
-ruled-fits : (d : Device) (m b : List ℕ) {c : Call} {a : Act} → Typed c → SizedRecord d → by.Ruled (factsOf d (lent c m b)) c a → Fit (shown d) (partOf (spanOf a) m) a
-unfolding Fit touchOf
-ruled-fits d m b t s (by.refused c n h e) = tt
-ruled-fits d m b t s (by.host f a g w r h) =
-    subst (λ (p : List ℕ). Fit (shown d) p a) (heard-unsent (factsOf d (lent (hostFrame f) m b)) m h) (heard-fits d (factsOf d (lent (hostFrame f) m b)) (record-fits d s g) (both-kept d g) (read-fits f t) h)
-ruled-fits d m b t s (by.opened u g r o p e) = let small = busy-below (d .status .outstanding) u o in omega arith
-ruled-fits d m b t s (by.sent g w r p x) = part-sized d m g w p
-ruled-fits d m b t s (by.finished u g r p e x) = t
-ruled-fits d m b t s (by.failed u e x g r o y w) = t
-ruled-fits d m b t s (by.linked r g x) = tt
-ruled-fits d m b t s (by.renewed g r) = tt
+-- what a call's replies ask: of a host frame that it is of bytes, and of the record; of a finish that its set has 32 bits; of a media error that its error is a byte
+abbrev pub Asks : Device → Call → Type 0
+Asks d (hostFrame f) = Bytes f × SizedRecord d
+Asks d (openPhase t) = Unit
+Asks d sendData = Unit
+Asks d (finishTags s) = s < 2 ^ 32
+Asks d (mediaError t e s) = e < 256
+Asks d (linkEvent r) = Unit
+Asks d comReset = Unit
 
--- every call whose arguments are of their types
-pub whole : (d : Device) (l : Lent) → Typed (l .call) → SizedRecord d → Whole (step d l)
+-- as the types give
+pub typed-asks : (d : Device) (c : Call) → Typed c → SizedRecord d → Asks d c
+typed-asks d (hostFrame f) t s = (t, s)
+typed-asks d (openPhase u) t s = tt
+typed-asks d sendData t s = tt
+typed-asks d (finishTags u) t s = t
+typed-asks d (mediaError u e x) t s = t
+typed-asks d (linkEvent r) t s = tt
+typed-asks d comReset t s = tt
+
+-- a call that was decided: what its replies ask of it holds
+ruled-fits : (d : Device) (m b : List ℕ) {c : Call} {a : Act} → Asks d c → by.Ruled (factsOf d (lent c m b)) c a → Fit (shown d) (partOf (spanOf a) m) a
+unfolding Fit touchOf
+ruled-fits d m b t (by.refused c n h e) = tt
+ruled-fits d m b t (by.host f a g w r h) =
+    subst (λ (p : List ℕ). Fit (shown d) p a) (heard-unsent (factsOf d (lent (hostFrame f) m b)) m h) (heard-fits d (factsOf d (lent (hostFrame f) m b)) (record-fits d (t .1) g) (both-kept d g) (read-fits f (t .0)) h)
+ruled-fits d m b t (by.opened u g r o p e) = let small = busy-below (d .status .outstanding) u o in omega arith
+ruled-fits d m b t (by.sent g w r p x) = part-sized d m g w p
+ruled-fits d m b t (by.finished u g r p e x) = t
+ruled-fits d m b t (by.failed u e x g r o y w) = t
+ruled-fits d m b t (by.linked r g x) = tt
+ruled-fits d m b t (by.renewed g r) = tt
+
+-- every call
+pub whole : (d : Device) (l : Lent) → Asks d (l .call) → Whole (step d l)
 unfolding actOf
-whole d l t s =
+whole d l t =
     let part = partOf (spanOf (actOf d l)) (l .medium) in
-    let fit = replies-fit (shown d) part (actOf d l) (ruled-fits d (l .medium) (l .buffer) t s (by.ruled (factsOf d l) (l .call))) in
+    let fit = replies-fit (shown d) part (actOf d l) (ruled-fits d (l .medium) (l .buffer) t (by.ruled (factsOf d l) (l .call))) in
     record { fitting = fit; all = all-sent (step d l .frames) fit; cut-replies = λ b n b′ w. cut-replies (step d l .frames) b n b′ fit (replies-data-last (shown d) part (actOf d l)) w }

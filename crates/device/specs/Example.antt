@@ -30,7 +30,7 @@ unfoldable pub Hold : List Example → Type 0
 Hold [] = Unit
 Hold (e ∷ es) = (e .given ≡ e .wanted) × Hold es
 
--- the bytes of a step's replies
+-- the bytes of a step's replies, each as it is written
 abbrev pub replyBytes : Step → List ℕ
 replyBytes s = joined (map encode (s .frames))
 
@@ -56,7 +56,7 @@ queuedRead count sector tag =
 abbrev pub room : List ℕ
 room = replicate 8196 0
 
--- what a host frame comes to with a medium of the right length and room enough
+-- what a host frame comes to with a medium of the right length and room enough; that this is the machine's own `step` is `reply-to-is`
 abbrev pub replyTo : Device → List ℕ → Step
 replyTo d f = stepBy d (lent (hostFrame f) [] room) (act (factsWith d (openTag (d .status .phase)) false false 8196) (hostFrame f))
 

@@ -16,7 +16,7 @@ use Rattle.device.specs.declared.state.Device.{Device}
 unfoldable pub openTag : ℕ → ℕ
 openTag phase = pick (eqb phase 0) 32 (phase - 1)
 
--- 2: medium length wrong; it is 512 × capacity
+-- 2: medium length wrong; it is 512 × capacity. Read of a host frame and of a send alone: of a call that is lent no medium it says nothing
 abbrev pub mediumWrong : ℕ → ℕ → Bool
 mediumWrong capacity n = not (eqb n (512 * capacity))
 

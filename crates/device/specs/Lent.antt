@@ -5,7 +5,7 @@ use Rattle.bits.specs.Little.{Bytes}
 use Rattle.rules.specs.Call.{Call, hostFrame, openPhase, sendData, finishTags, mediaError, linkEvent, comReset}
 use Rattle.device.specs.declared.state.Outcome.{Outcome}
 
--- a call with what is lent to it: any medium, any reply buffer; what a call is not lent has no bytes
+-- a call with a medium and a reply buffer beside it, any of them; what it is not lent it does not look at and leaves as it was (`unlent`), and a method's own contract has no bytes there
 pub record Lent : Type 0 where
   pub call : Call
   pub medium : List ℕ

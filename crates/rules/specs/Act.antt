@@ -49,10 +49,10 @@ decided n act = pick (not (eqb n 0)) (Refuse n) act
 unfoldable pub act : Facts → Call → Act
 act v c = decided (firstOf (tests v c)) (does v c)
 
--- of a host frame as it was read; and by 4, 5 and 6 alone
+-- of a host frame as it was read: what its code comes to
 abbrev pub heardAct : Facts → Frame → Act
 heardAct v f = decided (firstOf (frameTests v f)) (frameAct v f)
 
--- by 4, 5 and 6 alone
+-- the same by 4, 5 and 6 alone, where 1, 2 and 3 do not hold
 abbrev pub kindAct : Facts → Frame → Act
 kindAct v f = decided (firstOf (kindTests v f)) (frameAct v f)

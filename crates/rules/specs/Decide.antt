@@ -24,7 +24,7 @@ bad h e = Bad (record { error = e; task = h .task })
 abbrev pub fault : HostReg → Bool → ℕ → ℕ → Act
 fault h nq t e = BadAndHalt (record { nq = nq; tag = t; error = e; echo = echoOf (h .task) })
 
--- the tag, and the sector count, that a queued command names
+-- the tag that a queued command names
 abbrev pub tagAsked : HostReg → ℕ
 tagAsked h = tagOf (h .task .count)
 

@@ -37,7 +37,7 @@ pub data Touch : Type 0 where
   sends : Move → Touch
   stores : Move → Touch
 
--- of each act
+-- an act's: host data is stored, a send sends, every other act leaves the medium
 unfoldable pub touchOf : Act → Touch
 touchOf (Refuse n) = leaves
 touchOf Nothing = leaves
@@ -67,7 +67,7 @@ spanIn leaves = nowhere
 spanIn (sends m) = record { at = m .at; size = m .size }
 spanIn (stores m) = nowhere
 
--- by the act
+-- what of the medium an act sends
 abbrev pub spanOf : Act → Span
 spanOf a = spanIn (touchOf a)
 
@@ -85,6 +85,6 @@ keptBy leaves f m = m
 keptBy (sends k) f m = m
 keptBy (stores k) f m = stored (k .at) f m
 
--- by the act
+-- the medium m after an act of frame f
 abbrev pub mediumAfter : Act → List ℕ → List ℕ → List ℕ
 mediumAfter a f m = keptBy (touchOf a) f m
