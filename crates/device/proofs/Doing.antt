@@ -114,7 +114,7 @@ host-unsent d f m b = ruled-unsent (factsOf d (lent (hostFrame f) m b)) m (by.ru
 ruled-left : (v : Facts) (m : List ℕ) {a : Act} → by.Ruled v sendData a → m ≡ mediumAfter a [] m
 unfolding touchOf
 ruled-left v m (by.refused c n h e) = refl
-ruled-left v m (by.sent g w s p r) = refl
+ruled-left v m (by.own (by.sent g w s p r)) = refl
 
 pub send-left : (d : Device) (m b : List ℕ) → m ≡ mediumAfter (actOf d (lent sendData m b)) [] m
 unfolding actOf
@@ -124,7 +124,7 @@ send-left d m b = ruled-left (factsOf d (lent sendData m b)) m (by.ruled (factsO
 ruled-silent : (d : Device) (v : Facts) {r : ℕ} {a : Act} → by.Ruled v (linkEvent r) a → RepliesGiven (repliesOf (shown d) [] a) [] 0 []
 unfolding repliesOf
 ruled-silent d v (by.refused c n h e) = sends-none []
-ruled-silent d v (by.linked r g x) = sends-none []
+ruled-silent d v (by.own (by.linked r g x)) = sends-none []
 
 pub link-silent : (d : Device) (r : ℕ) (a : Act) → a ≡ actOf d (lent (linkEvent r) [] []) → RepliesGiven (repliesOf (shown d) [] a) [] 0 []
 unfolding actOf

@@ -47,12 +47,12 @@ ruled-leaves : (v : Facts) {c : Call} {a : Act} → Unlent c → by.Ruled v c a 
 unfolding touchOf
 ruled-leaves v u (by.refused c n h e) = refl
 ruled-leaves v u (by.host f a g w s h) = absurd u
-ruled-leaves v u (by.opened t g s o q e) = refl
-ruled-leaves v u (by.sent g w s p r) = absurd u
-ruled-leaves v u (by.finished t g s q e r) = refl
-ruled-leaves v u (by.failed t e x g s o y w) = refl
-ruled-leaves v u (by.linked r g x) = refl
-ruled-leaves v u (by.renewed g s) = refl
+ruled-leaves v u (by.own (by.opened t g s o q e)) = refl
+ruled-leaves v u (by.own (by.sent g w s p r)) = absurd u
+ruled-leaves v u (by.own (by.finished t g s q e r)) = refl
+ruled-leaves v u (by.own (by.failed t e x g s o y w)) = refl
+ruled-leaves v u (by.own (by.linked r g x)) = refl
+ruled-leaves v u (by.own (by.renewed g s)) = refl
 
 act-leaves : (d : Device) (c : Call) (m b : List ℕ) → Unlent c → touchOf (actOf d (lent c m b)) ≡ leaves
 unfolding actOf
@@ -92,7 +92,7 @@ link-act-unlent d k m b = refl
 ruled-frames : (d : Device) (v : Facts) (part : List ℕ) {k : ℕ} {a : Act} → by.Ruled v (linkEvent k) a → repliesOf (shown d) part a ≡ []
 unfolding repliesOf
 ruled-frames d v part (by.refused c n h e) = refl
-ruled-frames d v part (by.linked k g x) = refl
+ruled-frames d v part (by.own (by.linked k g x)) = refl
 
 pub link-frames : (d : Device) (k : ℕ) (m b : List ℕ) → step d (lent (linkEvent k) m b) .frames ≡ []
 unfolding actOf

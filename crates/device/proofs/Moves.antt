@@ -93,7 +93,7 @@ six-exactly d f m b k kind long some most c w s o u =
 ruled-carries : (d : Device) (m b : List ℕ) {a : Act} → by.Ruled (factsOf d (lent sendData m b)) sendData a → numberOf a ≡ 0 → repliesOf (shown d) (partOf (spanOf a) m) a ≡ payload (take (min 8192 (left d)) (drop (place d) m)) ∷ []
 unfolding touchOf repliesOf moveOf numberOf
 ruled-carries d m b (by.refused c n h e) z = absurd (h z)
-ruled-carries d m b (by.sent g w s p r) z = ap (λ (x : ℕ). payload (take (min 8192 x) (drop (place d) m)) ∷ []) (left-is d g p)
+ruled-carries d m b (by.own (by.sent g w s p r)) z = ap (λ (x : ℕ). payload (take (min 8192 x) (drop (place d) m)) ∷ []) (left-is d g p)
 
 -- a taken send: one data frame of min(8,192, what is left) bytes of the medium, from the command's place on
 pub send-carries : (d : Device) (m b : List ℕ) → step d (lent sendData m b) .refusal ≡ 0 → step d (lent sendData m b) .frames ≡ payload (take (min 8192 (left d)) (drop (place d) m)) ∷ []

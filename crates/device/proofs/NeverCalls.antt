@@ -103,16 +103,16 @@ ruled-good : (d : Device) (m b : List ℕ) {c : Call} {a : Act} → SetOf32 c �
 unfolding afterOf numberOf
 ruled-good d m b t (by.refused c n h e) z = absurd (h z)
 ruled-good d m b t (by.host f a g w s h) z = heard-good d (mediumWrong (d .settings .capacity) (length m)) false (length b) g _ f (read-data f) h
-ruled-good d m b t (by.opened u g s o p e) z = opened-good d u g (not-false (eqb (d .status .phase) 0) p) o e
-ruled-good d m b t (by.sent g w s p r) z = moving-good d 8192 g p refl
-ruled-good d m b t (by.finished u g s p e r) z = finished-good d u g t (not-false (eqb (d .status .phase) 0) p)
-ruled-good d m b t (by.failed u e s g r o x y) z =
+ruled-good d m b t (by.own (by.opened u g s o p e)) z = opened-good d u g (not-false (eqb (d .status .phase) 0) p) o e
+ruled-good d m b t (by.own (by.sent g w s p r)) z = moving-good d 8192 g p refl
+ruled-good d m b t (by.own (by.finished u g s p e r)) z = finished-good d u g t (not-false (eqb (d .status .phase) 0) p)
+ruled-good d m b t (by.own (by.failed u e s g r o x y)) z =
     let small : u < 32 = busy-below (d .status .outstanding) u o in
     failed-good d _ g (le-ltb 31 u (omega arith)) refl
-ruled-good d m b t (by.linked r g x) z =
+ruled-good d m b t (by.own (by.linked r g x)) z =
     counted-good d r g
     (not-false (kept (d .settings .mask) r) (or-right (ltb 15 r) (not (kept (d .settings .mask) r)) (or-right (eqb r 0 || eqb r 9) (ltb 15 r || not (kept (d .settings .mask) r)) x)))
-ruled-good d m b t (by.renewed g s) z = renewed-good d g
+ruled-good d m b t (by.own (by.renewed g s)) z = renewed-good d g
 
 -- every call
 pub never-contradicts-call : (d : Device) (l : Lent) → SetOf32 (l .call) → step d l .refusal ≡ 0 → contradictoryDevice (step d l .state) ≡ false

@@ -40,12 +40,12 @@ ruled-room : (v : Facts) {c : Call} {a : Act} → Replying c → by.Ruled v c a 
 unfolding numberOf
 ruled-room v p (by.refused c n h e) z = absurd (h z)
 ruled-room v p (by.host f a g w s h) z = s
-ruled-room v p (by.opened u g s o q e) z = s
-ruled-room v p (by.sent g w s q r) z = s
-ruled-room v p (by.finished u g s q e r) z = s
-ruled-room v p (by.failed u e x g s o y w) z = s
-ruled-room v p (by.linked r g x) z = absurd p
-ruled-room v p (by.renewed g s) z = s
+ruled-room v p (by.own (by.opened u g s o q e)) z = s
+ruled-room v p (by.own (by.sent g w s q r)) z = s
+ruled-room v p (by.own (by.finished u g s q e r)) z = s
+ruled-room v p (by.own (by.failed u e x g s o y w)) z = s
+ruled-room v p (by.own (by.linked r g x)) z = absurd p
+ruled-room v p (by.own (by.renewed g s)) z = s
 
 -- so it has 8,196 bytes
 pub roomy : (d : Device) (l : Lent) → Replying (l .call) → numberOf (actOf d l) ≡ 0 → leb 8196 (length (l .buffer)) ≡ true
@@ -74,7 +74,7 @@ module _ (d : Device) (h : contradictoryDevice d ≡ false) (p : eqb (d .status 
 ruled-span : (d : Device) (m b : List ℕ) {a : Act} → by.Ruled (factsOf d (lent sendData m b)) sendData a → spanOf a .at + spanOf a .size ≤ length m
 unfolding touchOf
 ruled-span d m b (by.refused c n h e) = omega arith
-ruled-span d m b (by.sent g w s p r) = move-within d g p 8192 (length m) w
+ruled-span d m b (by.own (by.sent g w s p r)) = move-within d g p 8192 (length m) w
 
 pub span-within : (d : Device) (m b : List ℕ) → spanOf (actOf d (lent sendData m b)) .at + spanOf (actOf d (lent sendData m b)) .size ≤ length m
 unfolding actOf

@@ -83,12 +83,12 @@ unfolding Fit touchOf
 ruled-fits d m b t (by.refused c n h e) = tt
 ruled-fits d m b t (by.host f a g w r h) =
     subst (λ (p : List ℕ). Fit (shown d) p a) (heard-unsent (factsOf d (lent (hostFrame f) m b)) m h) (heard-fits d (factsOf d (lent (hostFrame f) m b)) (record-fits d (t .1) g) (both-kept d g) (read-fits f (t .0)) h)
-ruled-fits d m b t (by.opened u g r o p e) = let small = busy-below (d .status .outstanding) u o in omega arith
-ruled-fits d m b t (by.sent g w r p x) = part-sized d m g w p
-ruled-fits d m b t (by.finished u g r p e x) = t
-ruled-fits d m b t (by.failed u e x g r o y w) = t
-ruled-fits d m b t (by.linked r g x) = tt
-ruled-fits d m b t (by.renewed g r) = tt
+ruled-fits d m b t (by.own (by.opened u g r o p e)) = let small = busy-below (d .status .outstanding) u o in omega arith
+ruled-fits d m b t (by.own (by.sent g w r p x)) = part-sized d m g w p
+ruled-fits d m b t (by.own (by.finished u g r p e x)) = t
+ruled-fits d m b t (by.own (by.failed u e x g r o y w)) = t
+ruled-fits d m b t (by.own (by.linked r g x)) = tt
+ruled-fits d m b t (by.own (by.renewed g r)) = tt
 
 -- every call
 pub whole : (d : Device) (l : Lent) → Asks d (l .call) → Whole (step d l)

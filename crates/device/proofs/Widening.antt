@@ -99,12 +99,12 @@ ruled-puts : (d : Device) (m b : List ℕ) → SmallAll (d .entries) → {c : Ca
 unfolding Puts
 ruled-puts d m b e t (by.refused c n h x) = tt
 ruled-puts d m b e t (by.host f a g w s h) = heard-puts d (openTag (d .status .phase)) (mediumWrong (d .settings .capacity) (length m)) false (length b) e (read-fits f t) h
-ruled-puts d m b e t (by.opened u g s o p x) = tt
-ruled-puts d m b e t (by.sent g w s p r) = move-small d (openTag (d .status .phase)) 8192 e
-ruled-puts d m b e t (by.finished u g s p x r) = tt
-ruled-puts d m b e t (by.failed u x y g s o z w) = (t, failing-small (entryOf (d .entries) u .echo) y (e u))
-ruled-puts d m b e t (by.linked r g x) = tt
-ruled-puts d m b e t (by.renewed g s) = tt
+ruled-puts d m b e t (by.own (by.opened u g s o p x)) = tt
+ruled-puts d m b e t (by.own (by.sent g w s p r)) = move-small d (openTag (d .status .phase)) 8192 e
+ruled-puts d m b e t (by.own (by.finished u g s p x r)) = tt
+ruled-puts d m b e t (by.own (by.failed u x y g s o z w)) = (t, failing-small (entryOf (d .entries) u .echo) y (e u))
+ruled-puts d m b e t (by.own (by.linked r g x)) = tt
+ruled-puts d m b e t (by.own (by.renewed g s)) = tt
 
 -- every call whose arguments are of their types keeps it
 pub wide-step : (d : Device) (l : Lent) → Typed (l .call) → Wide d → Wide (step d l .state)

@@ -110,12 +110,12 @@ ruled-reckons d m b (by.host f a g w s h) =
     let y : Hears (readFrame f) (pioIn (repliesOf (shown d) (partOf (spanOf a) m) a)) a =
     subst (λ (p : List ℕ). Hears (readFrame f) (pioIn (repliesOf (shown d) p a)) a) (heard-unsent v m h) (heard-heard (shown d) v h) in
     record { zeroed = y .zeroed; raised = λ r l. rw (none-raised r l) (and-never (eqb (numberOf a) 0) ∙ sym (y .rowless r)); on = y .on }
-ruled-reckons d m b (by.opened u g s o p e) = record { zeroed = refl; raised = none-raised; on = tt }
-ruled-reckons d m b (by.sent g w s p r) = record { zeroed = refl; raised = none-raised; on = tt }
-ruled-reckons d m b (by.finished u g s p e r) = record { zeroed = refl; raised = none-raised; on = tt }
-ruled-reckons d m b (by.failed u e x g s o y w) = record { zeroed = sym (bit-wipeless (bitIn 8 e 7)); raised = bit-raised (bitIn 8 e 7); on = tt }
-ruled-reckons d m b (by.linked r g x) = record { zeroed = refl; raised = λ k l. refl; on = link-row (d .settings .mask) r x }
-ruled-reckons d m b (by.renewed g s) = record { zeroed = refl; raised = λ k l. refl; on = tt }
+ruled-reckons d m b (by.own (by.opened u g s o p e)) = record { zeroed = refl; raised = none-raised; on = tt }
+ruled-reckons d m b (by.own (by.sent g w s p r)) = record { zeroed = refl; raised = none-raised; on = tt }
+ruled-reckons d m b (by.own (by.finished u g s p e r)) = record { zeroed = refl; raised = none-raised; on = tt }
+ruled-reckons d m b (by.own (by.failed u e x g s o y w)) = record { zeroed = sym (bit-wipeless (bitIn 8 e 7)); raised = bit-raised (bitIn 8 e 7); on = tt }
+ruled-reckons d m b (by.own (by.linked r g x)) = record { zeroed = refl; raised = λ k l. refl; on = link-row (d .settings .mask) r x }
+ruled-reckons d m b (by.own (by.renewed g s)) = record { zeroed = refl; raised = λ k l. refl; on = tt }
 
 -- every call, refused or taken: the counters go on telling the history
 pub counting-step : (d : Device) (l : Lent) (h : List Event) → Replies d l → Counting d h → Counting (step d l .state) (eventOf d l ∷ h)

@@ -74,12 +74,12 @@ ruled-lies : (d : Device) (m b : List ℕ) {c : Call} {a : Act} → actOf d (len
 unfolding touchOf numberOf
 ruled-lies d m b q z (by.refused c n h e) = absurd (h (sym (ap numberOf q) ∙ z))
 ruled-lies d m b q z (by.host f a g w s h) = heard-lies d f m b (factsOf d (lent (hostFrame f) m b)) (read-data f) q z h
-ruled-lies d m b q z (by.opened u g s o p e) = nowhere-lies _ m
-ruled-lies d m b q z (by.sent g w s p r) = nowhere-lies _ m
-ruled-lies d m b q z (by.finished u g s p e r) = nowhere-lies _ m
-ruled-lies d m b q z (by.failed u e x g s o y w) = nowhere-lies _ m
-ruled-lies d m b q z (by.linked r g x) = nowhere-lies _ m
-ruled-lies d m b q z (by.renewed g s) = nowhere-lies _ m
+ruled-lies d m b q z (by.own (by.opened u g s o p e)) = nowhere-lies _ m
+ruled-lies d m b q z (by.own (by.sent g w s p r)) = nowhere-lies _ m
+ruled-lies d m b q z (by.own (by.finished u g s p e r)) = nowhere-lies _ m
+ruled-lies d m b q z (by.own (by.failed u e x g s o y w)) = nowhere-lies _ m
+ruled-lies d m b q z (by.own (by.linked r g x)) = nowhere-lies _ m
+ruled-lies d m b q z (by.own (by.renewed g s)) = nowhere-lies _ m
 
 -- a taken call
 taken-lies : (d : Device) (l : Lent) → step d l .refusal ≡ 0 → DataStands (placeOf (phaseEntry d)) (l .medium) (step d l .medium) (callBrings (l .call))

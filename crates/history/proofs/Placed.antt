@@ -132,12 +132,12 @@ unfolding touchOf moveOf
 ruled-sent d m b (by.refused c n h e) = sent-none (placeOf (phaseEntry d)) m _ (no-part (shown d) _)
 ruled-sent d m b (by.host f a g w s h) =
     sent-none (placeOf (phaseEntry d)) m _ (ap (λ (p : List ℕ). sentIn (repliesOf (shown d) p a)) (sym (heard-unsent (factsOf d (lent (hostFrame f) m b)) m h)) ∙ no-part (shown d) a)
-ruled-sent d m b (by.opened u g s o p e) = sent-none (placeOf (phaseEntry d)) m _ (no-part (shown d) _)
-ruled-sent d m b (by.sent g w s p r) = part-sent (shown d) m (moveOf (d .status) (phaseEntry d) 8192)
-ruled-sent d m b (by.finished u g s p e r) = sent-none (placeOf (phaseEntry d)) m _ (no-part (shown d) _)
-ruled-sent d m b (by.failed u e x g s o y w) = sent-none (placeOf (phaseEntry d)) m _ (no-part (shown d) _)
-ruled-sent d m b (by.linked r g x) = sent-none (placeOf (phaseEntry d)) m _ (no-part (shown d) _)
-ruled-sent d m b (by.renewed g s) = sent-none (placeOf (phaseEntry d)) m _ (no-part (shown d) _)
+ruled-sent d m b (by.own (by.opened u g s o p e)) = sent-none (placeOf (phaseEntry d)) m _ (no-part (shown d) _)
+ruled-sent d m b (by.own (by.sent g w s p r)) = part-sent (shown d) m (moveOf (d .status) (phaseEntry d) 8192)
+ruled-sent d m b (by.own (by.finished u g s p e r)) = sent-none (placeOf (phaseEntry d)) m _ (no-part (shown d) _)
+ruled-sent d m b (by.own (by.failed u e x g s o y w)) = sent-none (placeOf (phaseEntry d)) m _ (no-part (shown d) _)
+ruled-sent d m b (by.own (by.linked r g x)) = sent-none (placeOf (phaseEntry d)) m _ (no-part (shown d) _)
+ruled-sent d m b (by.own (by.renewed g s)) = sent-none (placeOf (phaseEntry d)) m _ (no-part (shown d) _)
 
 -- every call
 pub call-sent : (d : Device) (l : Lent) → SentFrom (placeOf (phaseEntry d)) (l .medium) (sentIn (step d l .frames))

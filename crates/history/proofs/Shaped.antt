@@ -129,9 +129,9 @@ ruled-shaped d m b (by.refused c n h e) z = absurd (h z)
 ruled-shaped d m b (by.host f a g w s h) z =
     let v = factsOf d (lent (hostFrame f) m b) in
     subst (λ (p : List ℕ). CallShaped (hostFrame f) (repliesOf (shown d) p a)) (heard-unsent v m h) (heard-shaped (shown d) v h)
-ruled-shaped d m b (by.opened u g s o p e) z = setup-shaped u (record { tag = u; entry = entryOf (d .entries) u }) (entryOf (d .entries) u .write)
-ruled-shaped d m b (by.sent g w s p r) z = unblamed _ refl (inl refl) refl refl
-ruled-shaped d m b (by.finished u g s p e r) z = unblamed _ refl (inl refl) refl refl
-ruled-shaped d m b (by.failed u e x g s o y w) z = unblamed _ refl (inl refl) refl refl
-ruled-shaped d m b (by.linked r g x) z = unblamed [] refl (inl refl) refl refl
-ruled-shaped d m b (by.renewed g s) z = unblamed (signature ∷ []) refl (inl refl) refl refl
+ruled-shaped d m b (by.own (by.opened u g s o p e)) z = setup-shaped u (record { tag = u; entry = entryOf (d .entries) u }) (entryOf (d .entries) u .write)
+ruled-shaped d m b (by.own (by.sent g w s p r)) z = unblamed _ refl (inl refl) refl refl
+ruled-shaped d m b (by.own (by.finished u g s p e r)) z = unblamed _ refl (inl refl) refl refl
+ruled-shaped d m b (by.own (by.failed u e x g s o y w)) z = unblamed _ refl (inl refl) refl refl
+ruled-shaped d m b (by.own (by.linked r g x)) z = unblamed [] refl (inl refl) refl refl
+ruled-shaped d m b (by.own (by.renewed g s)) z = unblamed (signature ∷ []) refl (inl refl) refl refl

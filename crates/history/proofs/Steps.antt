@@ -70,12 +70,12 @@ ruled-comes d m b t (by.refused c n h e) z = absurd (h z)
 ruled-comes d m b t (by.host f a g w s h) z =
     subst (λ (p : List ℕ). Comes d p (frameAsks (readFrame f)) a) (heard-unsent (factsOf d (lent (hostFrame f) m b)) m h)
     (heard-comes d g (mediumWrong (d .settings .capacity) (length m)) false (length b) _ f (read-data f) h)
-ruled-comes d m b t (by.opened u g s o p e) z = opened-comes d _ u g o (eqb-true (d .status .phase) 0 (not-false (eqb (d .status .phase) 0) p)) e
-ruled-comes d m b t (by.sent g w s p r) z = send-comes d m g w p r
-ruled-comes d m b t (by.finished u g s p e r) z = finished-comes d _ u g t (eqb-true (d .status .phase) 0 (not-false (eqb (d .status .phase) 0) p)) e r
-ruled-comes d m b t (by.failed u e y g s o x w) z = failed-comes d _ _ (busy-calm d g u o)
-ruled-comes d m b t (by.linked r g y) z = counted-comes d _ r
-ruled-comes d m b t (by.renewed g s) z = renewed-comes d _
+ruled-comes d m b t (by.own (by.opened u g s o p e)) z = opened-comes d _ u g o (eqb-true (d .status .phase) 0 (not-false (eqb (d .status .phase) 0) p)) e
+ruled-comes d m b t (by.own (by.sent g w s p r)) z = send-comes d m g w p r
+ruled-comes d m b t (by.own (by.finished u g s p e r)) z = finished-comes d _ u g t (eqb-true (d .status .phase) 0 (not-false (eqb (d .status .phase) 0) p)) e r
+ruled-comes d m b t (by.own (by.failed u e y g s o x w)) z = failed-comes d _ _ (busy-calm d g u o)
+ruled-comes d m b t (by.own (by.linked r g y)) z = counted-comes d _ r
+ruled-comes d m b t (by.own (by.renewed g s)) z = renewed-comes d _
 
 -- every call
 pub comes : (d : Device) (l : Lent) → Typed (l .call) → SizedRecord d → Class d (seen (event (done l (result d l)))) (step d l .state)

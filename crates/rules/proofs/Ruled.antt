@@ -57,18 +57,22 @@ pub data Heard (v : Facts) : Frame → Act → Type 0 where
   due : (n : ℕ) → eqb (v .status .phase) 0 ≡ false → v .entry .write ≡ true → ltb (leftOf (v .entry)) n ≡ false → Heard v (Data n) (Store (moveOf (v .status) (v .entry) n))
   bist : v .«link_busy» ≡ false → Heard v Bist ZeroCounters
 
+-- a device event that is taken
+pub data Own (v : Facts) : Call → Act → Type 0 where
+  opened : (t : ℕ) → v .contradicts ≡ false → v .«reply_short» ≡ false → bitIn 32 (v .status .outstanding) t ≡ true → v .«link_busy» ≡ false → allMoved (v .entry) ≡ false
+      → Own v (openPhase t) (Open (record { tag = t; entry = v .entry }))
+  sent : v .contradicts ≡ false → v .«medium_wrong» ≡ false → v .«reply_short» ≡ false → eqb (v .status .phase) 0 ≡ false → v .entry .write ≡ false → Own v sendData (Send (moveOf (v .status) (v .entry) 8192))
+  finished : (s : ℕ) → v .contradicts ≡ false → v .«reply_short» ≡ false → v .«link_busy» ≡ false → eqb s 0 ≡ false → v .unready ≡ false → Own v (finishTags s) (Finish s)
+  failed : (t e s : ℕ) → v .contradicts ≡ false → v .«reply_short» ≡ false → bitIn 32 (v .status .outstanding) t ≡ true → eqb e 0 ≡ false → outside (v .entry) s ≡ false
+      → Own v (mediaError t e s) (Media (record { nq = false; tag = t; error = e; echo = failing (v .entry .echo) s }))
+  linked : (r : ℕ) → v .contradicts ≡ false → rowRefused (v .settings .mask) r ≡ false → Own v (linkEvent r) (Count r)
+  renewed : v .contradicts ≡ false → v .«reply_short» ≡ false → Own v comReset Renew
+
 -- a call with its act: refused, or taken; refusal 1 never holds of a taken one
 pub data Ruled (v : Facts) : Call → Act → Type 0 where
   refused : (c : Call) (n : ℕ) → (n ≡ 0 → ⊥) → firstOf (tests v c) ≡ n → Ruled v c (Refuse n)
   host : (f : List ℕ) (a : Act) → v .contradicts ≡ false → v .«medium_wrong» ≡ false → v .«reply_short» ≡ false → Heard v (readFrame f) a → Ruled v (hostFrame f) a
-  opened : (t : ℕ) → v .contradicts ≡ false → v .«reply_short» ≡ false → bitIn 32 (v .status .outstanding) t ≡ true → v .«link_busy» ≡ false → allMoved (v .entry) ≡ false
-      → Ruled v (openPhase t) (Open (record { tag = t; entry = v .entry }))
-  sent : v .contradicts ≡ false → v .«medium_wrong» ≡ false → v .«reply_short» ≡ false → eqb (v .status .phase) 0 ≡ false → v .entry .write ≡ false → Ruled v sendData (Send (moveOf (v .status) (v .entry) 8192))
-  finished : (s : ℕ) → v .contradicts ≡ false → v .«reply_short» ≡ false → v .«link_busy» ≡ false → eqb s 0 ≡ false → v .unready ≡ false → Ruled v (finishTags s) (Finish s)
-  failed : (t e s : ℕ) → v .contradicts ≡ false → v .«reply_short» ≡ false → bitIn 32 (v .status .outstanding) t ≡ true → eqb e 0 ≡ false → outside (v .entry) s ≡ false
-      → Ruled v (mediaError t e s) (Media (record { nq = false; tag = t; error = e; echo = failing (v .entry .echo) s }))
-  linked : (r : ℕ) → v .contradicts ≡ false → rowRefused (v .settings .mask) r ≡ false → Ruled v (linkEvent r) (Count r)
-  renewed : v .contradicts ≡ false → v .«reply_short» ≡ false → Ruled v comReset Renew
+  own : {c : Call} {a : Act} → Own v c a → Ruled v c a
 
 -- of one that does not hold beside one that does
 and-other : (a b : Bool) → a && not b ≡ false → b ≡ false → a ≡ false
@@ -143,23 +147,25 @@ module _ (v : Facts) where
       host f _ (none 0 (lit< tt)) (none 1 (lit< tt)) (none 2 (lit< tt)) (heard (readFrame f) (none 3 (lit< tt)) (none 4 (lit< tt)) (none 5 (lit< tt)))
   taken (openPhase t) z =
       let none = firsts.first-exactly (tests v (openPhase t)) tt .none .0 z in
-      opened t (none 0 (lit< tt)) (none 1 (lit< tt)) (not-false (bitIn 32 (v .status .outstanding) t) (none 2 (lit< tt))) (none 3 (lit< tt)) (none 4 (lit< tt))
+      own (opened t (none 0 (lit< tt)) (none 1 (lit< tt)) (not-false (bitIn 32 (v .status .outstanding) t) (none 2 (lit< tt))) (none 3 (lit< tt)) (none 4 (lit< tt)))
   taken sendData z =
       let none = firsts.first-exactly (tests v sendData) tt .none .0 z in
-      sent (none 0 (lit< tt)) (none 1 (lit< tt)) (none 2 (lit< tt)) (or-left (eqb (v .status .phase) 0) (v .entry .write) (none 3 (lit< tt))) (or-right (eqb (v .status .phase) 0) (v .entry .write) (none 3 (lit< tt)))
+      let last = none 3 (lit< tt) in
+      own (sent (none 0 (lit< tt)) (none 1 (lit< tt)) (none 2 (lit< tt)) (or-left (eqb (v .status .phase) 0) (v .entry .write) last) (or-right (eqb (v .status .phase) 0) (v .entry .write) last))
   taken (finishTags s) z =
       let none = firsts.first-exactly (tests v (finishTags s)) tt .none .0 z in
-      finished s (none 0 (lit< tt)) (none 1 (lit< tt)) (none 2 (lit< tt)) (or-left (eqb s 0) (v .unready) (none 3 (lit< tt))) (or-right (eqb s 0) (v .unready) (none 3 (lit< tt)))
+      let last = none 3 (lit< tt) in
+      own (finished s (none 0 (lit< tt)) (none 1 (lit< tt)) (none 2 (lit< tt)) (or-left (eqb s 0) (v .unready) last) (or-right (eqb s 0) (v .unready) last))
   taken (mediaError t e s) z =
       let none = firsts.first-exactly (tests v (mediaError t e s)) tt .none .0 z in
-      failed t e s (none 0 (lit< tt)) (none 1 (lit< tt)) (not-false (bitIn 32 (v .status .outstanding) t) (none 2 (lit< tt))) (or-left (eqb e 0) (outside (v .entry) s) (none 3 (lit< tt)))
-      (or-right (eqb e 0) (outside (v .entry) s) (none 3 (lit< tt)))
+      let last = none 3 (lit< tt) in
+      own (failed t e s (none 0 (lit< tt)) (none 1 (lit< tt)) (not-false (bitIn 32 (v .status .outstanding) t) (none 2 (lit< tt))) (or-left (eqb e 0) (outside (v .entry) s) last) (or-right (eqb e 0) (outside (v .entry) s) last))
   taken (linkEvent r) z =
       let none = firsts.first-exactly (tests v (linkEvent r)) tt .none .0 z in
-      linked r (none 0 (lit< tt)) (none 1 (lit< tt))
+      own (linked r (none 0 (lit< tt)) (none 1 (lit< tt)))
   taken comReset z =
       let none = firsts.first-exactly (tests v comReset) tt .none .0 z in
-      renewed (none 0 (lit< tt)) (none 1 (lit< tt))
+      own (renewed (none 0 (lit< tt)) (none 1 (lit< tt)))
 
   -- every call is decided by one of the rules
   pub ruled : (c : Call) → Ruled v c (act v c)
