@@ -32,6 +32,7 @@ use Rattle.events.specs.declared.asked.Request.the-variants.{OpenPhase, SendDat
 use Rattle.events.specs.declared.tells.EventLine as tells
 use Rattle.rules.specs.Call.{Call}
 use Rattle.device.specs.Lent.{Lent, lent, Typed}
+use Rattle.device.proofs.Typing.{none-typed, frame-typed, set-typed, error-typed}
 use Rattle.history.specs.Run.{AllTyped, result, Done, done, event, Run, run, runFrom}
 use Rattle.history.specs.Allowed.{newestFirst, lents, historyOf}
 use Rattle.history.specs.Demand3.{Demand3}
@@ -159,15 +160,15 @@ data-bytes n b h (suc (suc (suc (suc i)))) = same-bytes n b i h
 typed-kind : (d : Device) (k : ℕ) (e : List ℕ) → Bytes e → TypedAll d e (callByKind k e)
 unfolding callByKind callsOf AllTyped
 typed-kind d k e w =
-    by-test (TypedAll d e) (eqb k 0x01) _ _ (λ h. (tt, tt))
-    (λ h. by-test (TypedAll d e) (eqb k 0x02) _ _ (λ h. (tt, tt))
-    (λ h. by-test (TypedAll d e) (eqb k 0x03) _ _ (λ h. (le-lt e w 1 4, tt))
-    (λ h. by-test (TypedAll d e) (eqb k 0x04) _ _ (λ h. (w 2, tt))
-    (λ h. by-test (TypedAll d e) (eqb k 0x05) _ _ (λ h. (tt, tt))
-    (λ h. by-test (TypedAll d e) (eqb k 0x06) _ _ (λ h. (tt, tt))
-    (λ h. by-test (TypedAll d e) (eqb k 0x07) _ _ (λ h. (data-bytes (dataDue d) (getD e 1 0) (w 1), tt))
-    (λ h. by-test (TypedAll d e) (eqb k 0x27) _ _ (λ h. (w, tt))
-    (λ h. by-test (TypedAll d e) (eqb k 0x58) _ _ (λ h. (w, tt)) (λ h. tt)))))))))
+    by-test (TypedAll d e) (eqb k 0x01) _ _ (λ h. (none-typed, tt))
+    (λ h. by-test (TypedAll d e) (eqb k 0x02) _ _ (λ h. (none-typed, tt))
+    (λ h. by-test (TypedAll d e) (eqb k 0x03) _ _ (λ h. (set-typed _ (le-lt e w 1 4), tt))
+    (λ h. by-test (TypedAll d e) (eqb k 0x04) _ _ (λ h. (error-typed _ (w 2), tt))
+    (λ h. by-test (TypedAll d e) (eqb k 0x05) _ _ (λ h. (none-typed, tt))
+    (λ h. by-test (TypedAll d e) (eqb k 0x06) _ _ (λ h. (none-typed, tt))
+    (λ h. by-test (TypedAll d e) (eqb k 0x07) _ _ (λ h. (frame-typed _ (data-bytes (dataDue d) (getD e 1 0) (w 1)), tt))
+    (λ h. by-test (TypedAll d e) (eqb k 0x27) _ _ (λ h. (frame-typed _ w, tt))
+    (λ h. by-test (TypedAll d e) (eqb k 0x58) _ _ (λ h. (frame-typed _ w, tt)) (λ h. tt)))))))))
 
 typed-event : (d : Device) (e : List ℕ) → Bytes e → TypedAll d e (requestOf e)
 unfolding requestOf callsOf AllTyped

@@ -1,5 +1,5 @@
 -- From an act that is done to the contract: its replies are all sent, its number is given, its state is handed back. Assumes nothing.
-use mathlib.Core.Path.{_≡_, refl, sym, ap, subst, _∙_}
+use mathlib.Core.Path.{_≡_, refl, sym, ap, _∙_}
 use mathlib.Core.Bool.{Bool, true, false}
 use mathlib.Core.List.{List, []}
 use Prim.Native.Nat.{ℕ, zero, suc, _+_, _-_, _≤_}
@@ -13,24 +13,26 @@ use Rattle.bits.proofs.Picks.{by-test, pick-yes}
 use Rattle.frames.specs.Write.{FrameValue}
 use Rattle.frames.specs.Read.{readFrame}
 use Rattle.frames.specs.declared.shapes.Frame.{Frame}
-use Rattle.rules.specs.Call.{Call, hostFrame, openPhase, sendData, finishTags, mediaError, linkEvent, comReset}
-use Rattle.rules.specs.Tests.{tests, someUnready}
+use Rattle.device_state.proofs.TableLaws.{some-never}
+use Rattle.rules.specs.Call.{Call, hostFrame, sendData, handed}
+use Rattle.rules.specs.Tests.{tests, unreadyAt, someUnready}
 use Rattle.rules.specs.Act.{does, act, heardAct}
 use Rattle.rules.specs.Medium.{numberOf, Touch, leaves, sends, stores, touchOf, spanOf, partOf, stored, keptBy, mediumAfter}
 use Rattle.rules.specs.declared.medium.Span.{Span}
 use Rattle.rules.specs.declared.facts.Facts.{Facts}
 use Rattle.rules.specs.declared.acts.Act.{Act}
 use Rattle.rules.proofs.Cases.{act-cases}
+use Rattle.rules.proofs.Rows.{row}
 use Rattle.rules.proofs.Ruled as by
 use Rattle.replies.specs.Replies.{repliesOf, sentAll, RepliesGiven}
-use Rattle.replies.proofs.Sending.{sends-none}
 use Rattle.device.specs.Lent.{Lent, lent, gave, frameIn}
-use Rattle.device.specs.FactsOf.{openTag, mediumWrong, factsWith, factsOf}
+use Rattle.device.specs.FactsOf.{openTag, mediumWrong, factsWith, tagMeant, unreadyIn, factsOf}
 use Rattle.device.specs.After.{afterOf}
 use Rattle.device.specs.Step.{shown, actOf, Given}
 use Rattle.device.specs.declared.state.Device.{Device}
 use Rattle.device.specs.declared.state.Outcome.{Outcome}
-use Rattle.device.proofs.Rooms.{Replying, roomy, span-within}
+use Rattle.device.proofs.Never.{no-bit}
+use Rattle.device.proofs.Rooms.{roomy, span-within}
 
 -- a refusal has no replies, and any other act has the room for its own
 pub room-replies : (d : Device) (part : List ℕ) (n : ℕ) (a : Act) → (numberOf a ≡ 0 → leb 8196 n ≡ true) → pick (leb 8196 n) (repliesOf (shown d) part a) [] ≡ repliesOf (shown d) part a
@@ -85,21 +87,7 @@ given-without d c b a b′ r f e s n w = given-by d (lent c [] b) a [] [] b′ r
 
 -- a host frame sends nothing of the medium
 pub heard-unsent : (v : Facts) (m : List ℕ) {f : Frame} {a : Act} → by.Heard v f a → [] ≡ partOf (spanOf a) m
-unfolding touchOf
-heard-unsent v m (by.srst h c s) = refl
-heard-unsent v m (by.release h c s x) = refl
-heard-unsent v m (by.nothing h c s x) = refl
-heard-unsent v m (by.rule1 h c x) = refl
-heard-unsent v m (by.rule2 h c x u) = refl
-heard-unsent v m (by.rule3 h c x u y) = refl
-heard-unsent v m (by.rule4 h c x u y) = refl
-heard-unsent v m (by.other-halted h c x) = refl
-heard-unsent v m (by.other-busy h c x) = refl
-heard-unsent v m (by.page10 h c e p) = refl
-heard-unsent v m (by.page11 h c x e p) = refl
-heard-unsent v m (by.other-bad h c x e) = refl
-heard-unsent v m (by.due n p w s) = refl
-heard-unsent v m (by.bist b) = refl
+heard-unsent v m h = ap (λ (s : Span). partOf s m) (sym (by.unsent v h))
 
 ruled-unsent : (v : Facts) (m : List ℕ) {f : List ℕ} {a : Act} → by.Ruled v (hostFrame f) a → [] ≡ partOf (spanOf a) m
 unfolding touchOf
@@ -120,55 +108,41 @@ pub send-left : (d : Device) (m b : List ℕ) → m ≡ mediumAfter (actOf d (le
 unfolding actOf
 send-left d m b = ruled-left (factsOf d (lent sendData m b)) m (by.ruled (factsOf d (lent sendData m b)) sendData)
 
--- a link event replies nothing
-ruled-silent : (d : Device) (v : Facts) {r : ℕ} {a : Act} → by.Ruled v (linkEvent r) a → RepliesGiven (repliesOf (shown d) [] a) [] 0 []
-unfolding repliesOf
-ruled-silent d v (by.refused c n h e) = sends-none []
-ruled-silent d v (by.own (by.linked r g x)) = sends-none []
-
-pub link-silent : (d : Device) (r : ℕ) (a : Act) → a ≡ actOf d (lent (linkEvent r) [] []) → RepliesGiven (repliesOf (shown d) [] a) [] 0 []
-unfolding actOf
-link-silent d r a e = subst (λ (x : Act). RepliesGiven (repliesOf (shown d) [] x) [] 0 []) (sym e) (ruled-silent d (factsOf d (lent (linkEvent r) [] [])) (by.ruled (factsOf d (lent (linkEvent r) [] [])) (linkEvent r)))
-
 -- ---- the act of each call reads no more than it is handed
+
+-- an empty set has no unready tag
+pub none-unready : (d : Device) → someUnready (d .entries) (d .status .outstanding) 0 ≡ false
+unfolding someUnready
+none-unready d = some-never (unreadyAt (d .entries) (d .status .outstanding) 0) 32 (λ t l. rw (no-bit t))
 
 module _ (d : Device) where
   -- a host frame's act, and a send's, from what the code works out one by one
   pub host-act : (f m b : List ℕ) (tag : ℕ) (wrong : Bool) (v : Facts) (g : Frame) (a : Act) → tag ≡ openTag (d .status .phase) → wrong ≡ mediumWrong (d .settings .capacity) (length m)
       → v ≡ factsWith d tag wrong false (length b) → g ≡ readFrame f → a ≡ heardAct v g → a ≡ actOf d (lent (hostFrame f) m b)
   unfolding actOf act tests does
-  host-act f m b tag wrong v g a p q r s e = e ∙ rw (r, p, q, s)
-
-  pub open-act : (t : ℕ) (b : List ℕ) (v : Facts) (a : Act) → v ≡ factsWith d t false false (length b) → a ≡ act v (openPhase t) → a ≡ actOf d (lent (openPhase t) [] b)
-  unfolding actOf act tests does
-  open-act t b v a r e = e ∙ rw r
+  host-act f m b tag wrong v g a p q r s e = e ∙ rw (r, p, q, s, none-unready d)
 
   pub send-act : (m b : List ℕ) (tag : ℕ) (wrong : Bool) (v : Facts) (a : Act) → tag ≡ openTag (d .status .phase) → wrong ≡ mediumWrong (d .settings .capacity) (length m)
       → v ≡ factsWith d tag wrong false (length b) → a ≡ act v sendData → a ≡ actOf d (lent sendData m b)
-  unfolding actOf
+  unfolding actOf act tests does
   send-act m b tag wrong v a p q r e = e ∙ rw (r, p, q)
 
-  pub finish-act : (s : ℕ) (b : List ℕ) (some : Bool) (v : Facts) (a : Act) → some ≡ someUnready (d .entries) (d .status .outstanding) s → v ≡ factsWith d 32 false some (length b)
-      → a ≡ act v (finishTags s) → a ≡ actOf d (lent (finishTags s) [] b)
-  unfolding actOf act tests does
-  finish-act s b some v a q r e = e ∙ rw (r, q)
+  -- the act of a call that is lent no medium
+  pub lent-act : (c : Call) (b : List ℕ) (some : Bool) (v : Facts) (a : Act) → handed c .medium ≡ false → some ≡ unreadyIn d c
+      → v ≡ factsWith d (tagMeant (d .status .phase) c) false some (length b) → a ≡ act v c → a ≡ actOf d (lent c [] b)
+  unfolding actOf
+  lent-act c b some v a u q r e =
+      e ∙ ap (λ (x : Facts). act x c) (r ∙ ap (λ (s : Bool). factsWith d (tagMeant (d .status .phase) c) false s (length b)) q) ∙ row (factsOf d (lent c [] b)) c .unlent u false
 
-  pub media-act : (t e s : ℕ) (b : List ℕ) (v : Facts) (a : Act) → v ≡ factsWith d t false false (length b) → a ≡ act v (mediaError t e s) → a ≡ actOf d (lent (mediaError t e s) [] b)
-  unfolding actOf act tests does
-  media-act t e s b v a r q = q ∙ rw r
-
-  pub link-act : (k : ℕ) (v : Facts) (a : Act) → v ≡ factsWith d 32 false false 0 → a ≡ act v (linkEvent k) → a ≡ actOf d (lent (linkEvent k) [] [])
-  unfolding actOf act tests does
-  link-act k v a r e = e ∙ rw r
-
-  pub comreset-act : (b : List ℕ) (v : Facts) (a : Act) → v ≡ factsWith d 32 false false (length b) → a ≡ act v comReset → a ≡ actOf d (lent comReset [] b)
-  unfolding actOf act tests does
-  comreset-act b v a r e = e ∙ rw r
+  -- and names no set of tags
+  pub plain-act : (c : Call) (b : List ℕ) (v : Facts) (a : Act) → handed c .medium ≡ false → handed c .set ≡ 0
+      → v ≡ factsWith d (tagMeant (d .status .phase) c) false false (length b) → a ≡ act v c → a ≡ actOf d (lent c [] b)
+  plain-act c b v a u z r e = lent-act c b false v a u (sym (ap (someUnready (d .entries) (d .status .outstanding)) z ∙ none-unready d)) r e
 
 -- ---- what a call needs before its act is done
 
 -- room, where the act is the call's
-pub has-room : (d : Device) (l : Lent) (a : Act) → Replying (l .call) → a ≡ actOf d l → numberOf a ≡ 0 → leb 8196 (length (l .buffer)) ≡ true
+pub has-room : (d : Device) (l : Lent) (a : Act) → handed (l .call) .buffer ≡ true → a ≡ actOf d l → numberOf a ≡ 0 → leb 8196 (length (l .buffer)) ≡ true
 has-room d l a p e z = roomy d l p (sym (ap numberOf e) ∙ z)
 
 -- a place in the medium

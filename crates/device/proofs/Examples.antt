@@ -34,7 +34,7 @@ use Rattle.device.specs.After.{withValue, haltWith, acceptedBy, unhalted
 use Rattle.device.specs.Lent.{lent}
 use Rattle.device.specs.FactsOf.{openTag, mediumWrong, factsWith}
 use Rattle.device.specs.declared.state.Device.{Device}
-use Rattle.device.proofs.Doing.{part-none, host-unsent}
+use Rattle.device.proofs.Doing.{part-none, host-unsent, none-unready}
 use Rattle.device.specs.Step.{shown, actOf, step}
 use Rattle.device.specs.Example.{Hold, examples as all, room, replyTo}
 
@@ -50,6 +50,7 @@ same-act d f m h =
     let right : mediumWrong (d .settings .capacity) (length m) ≡ false = rw (eq-eqb (length m) (512 * d .settings .capacity) h) refl in
     ap (λ (n : ℕ). act (factsWith d t false false n) (hostFrame f)) (sym (length-replicate {A = ℕ} 8196 0))
     ∙ ap (λ (w : Bool). act (factsWith d t w false (length room)) (hostFrame f)) (sym right)
+    ∙ ap (λ (s : Bool). act (factsWith d t (mediumWrong (d .settings .capacity) (length m)) s (length room)) (hostFrame f)) (sym (none-unready d))
 
 -- a host frame of the examples is the machine's own step, whatever the medium of the right length holds
 pub reply-to-is : (d : Device) (f m : List ℕ) → length m ≡ 512 * d .settings .capacity

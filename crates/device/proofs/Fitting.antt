@@ -18,15 +18,11 @@ use Rattle.frames.specs.Read.{hostOf, deviceOf, bitsOf, setupOf, pioOf, frameBy
 use Rattle.frames.specs.declared.shapes.Frame.{Frame}
 use Rattle.frames.specs.declared.shapes.Frame.the-variants as fs
 use Rattle.pages.specs.Page10.{fits10}
-use Rattle.pages.specs.Rows.{keepsBoth}
 use Rattle.pages.specs.declared.page10.ErrorLog.{ErrorLog}
 use Rattle.device_state.specs.State.{placedBytes, taskIn, echoOf}
 use Rattle.device_state.specs.Clauses.{tagTooLarge, tagUnderNq, blankNotZero, recordBad}
-use Rattle.rules.specs.declared.facts.Facts.{Facts}
-use Rattle.rules.specs.declared.acts.Act.{Act}
 use Rattle.rules.proofs.Ruled as by
 use Rattle.replies.specs.Replies.{logOf}
-use Rattle.replies.proofs.Fit.{Fit}
 use Rattle.device.specs.Device.{contradictoryDevice}
 use Rattle.device.specs.Step.{shown}
 use Rattle.device.proofs.Sized.{SizedRecord}
@@ -114,21 +110,3 @@ read-fits l b =
     (λ _. by-test ReadFits (eqb k 0x5F) (fs.Pio (pioOf l)) last (λ _. tt)
     (λ _. by-test ReadFits (eqb k 0x46) (fs.Data (length l - 4)) fs.Refused (λ _. tt) (λ _. tt)))))))))
     (λ _. tt)
-
--- a host frame that is not turned down
-pub heard-fits : (d : Device) (v : Facts) → fits10 (logOf (d .errors)) ≡ true → keepsBoth (d .settings .mask) ≡ true → {f : Frame} {a : Act} → ReadFits f → by.Heard v f a → Fit (shown d) [] a
-unfolding Fit ReadFits
-heard-fits d v ten eleven r (by.srst h c s) = tt
-heard-fits d v ten eleven r (by.release h c s x) = tt
-heard-fits d v ten eleven r (by.nothing h c s x) = tt
-heard-fits d v ten eleven r (by.rule1 h c x) = (omega arith, r)
-heard-fits d v ten eleven r (by.rule2 h c x u) = (omega arith, echo-bytes (h .task) r)
-heard-fits d v ten eleven r (by.rule3 h c x u y) = (omega arith, echo-bytes (h .task) r)
-heard-fits d v ten eleven r (by.rule4 h c x u y) = echo-bytes (h .task) r
-heard-fits d v ten eleven r (by.other-halted h c x) = (omega arith, r)
-heard-fits d v ten eleven r (by.other-busy h c x) = (omega arith, echo-bytes (h .task) r)
-heard-fits d v ten eleven r (by.page10 h c e p) = (r, ten)
-heard-fits d v ten eleven r (by.page11 h c x e p) = (r, eleven)
-heard-fits d v ten eleven r (by.other-bad h c x e) = (omega arith, r)
-heard-fits d v ten eleven r (by.due n p w s) = tt
-heard-fits d v ten eleven r (by.bist b) = tt

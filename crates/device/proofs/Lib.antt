@@ -10,9 +10,13 @@ pub mod Retagging
 pub mod Changes
 pub mod Entering
 pub mod Busy
+pub mod Rooms
+pub mod Fitting
+pub mod Typing
+pub mod Widths
+pub mod Rulings
 pub mod NeverCalls
 pub mod Opens
-pub mod Rooms
 pub mod Doing
 pub mod Lending
 pub mod Exactly
@@ -20,8 +24,6 @@ pub mod Refusals
 pub mod Counting
 pub mod Tied
 pub mod Examples
-pub mod Fitting
-pub mod Widths
 pub mod Widening
 pub mod Sending
 pub mod Storing

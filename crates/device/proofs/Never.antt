@@ -21,7 +21,7 @@ pub and-never : (b : Bool) → b && false ≡ false
 and-never true = refl
 and-never false = refl
 
-no-bit : (t : ℕ) → bitIn 32 0 t ≡ false
+pub no-bit : (t : ℕ) → bitIn 32 0 t ≡ false
 no-bit t = rw (zero-div (2 ^ t)) (and-never (ltb t 32))
 
 -- an idle tag with a zero entry

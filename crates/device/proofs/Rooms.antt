@@ -1,19 +1,18 @@
 -- Every taken call that replies has room for its replies, and its place in the medium. Assumes nothing.
-use mathlib.Core.Path.{_≡_, refl, sym, _∙_}
-use mathlib.Core.Bool.{Bool, true, false, not}
-use mathlib.Core.List.{List, []}
+use mathlib.Core.Path.{_≡_}
+use mathlib.Core.Bool.{true, false}
+use mathlib.Core.List.{List}
 use Prim.Native.Nat.{ℕ, _+_, _-_, _*_, _≤_}
 use native.Mathlib.Omega.{arith}
-use lib.Dec.{ltb, leb, eqb}
+use lib.Dec.{leb, eqb}
 use lib.ListN.{length}
 use borrow.Author.Tests.{ltb-false, le-leb, eqb-true, not-false}
 use Rattle.bits.specs.Bit.{bitIn}
 use Rattle.bits.proofs.Picks.{pick-no}
 use Rattle.device_state.specs.Table.{entryOf}
-use Rattle.rules.specs.Call.{Call, hostFrame, openPhase, sendData, finishTags, mediaError, linkEvent, comReset}
+use Rattle.rules.specs.Call.{sendData, handed}
 use Rattle.rules.specs.Positions.{moveOf}
 use Rattle.rules.specs.Medium.{numberOf, touchOf, spanOf}
-use Rattle.rules.specs.declared.facts.Facts.{Facts}
 use Rattle.rules.specs.declared.acts.Act.{Act}
 use Rattle.rules.proofs.Ruled as by
 use Rattle.device.specs.Device.{contradictoryDevice}
@@ -25,32 +24,10 @@ use Rattle.device.proofs.Busy.{range-within, whole-is, moved-within}
 use Rattle.device.proofs.Parts.{status-good}
 use Rattle.device.proofs.StatusLaws.{phase-busy}
 
--- a call that is lent a reply buffer: every one but a link event
-abbrev pub Replying : Call → Type 0
-Replying (hostFrame f) = Unit
-Replying (openPhase t) = Unit
-Replying sendData = Unit
-Replying (finishTags s) = Unit
-Replying (mediaError t e s) = Unit
-Replying (linkEvent r) = ⊥
-Replying comReset = Unit
-
--- is not refused for its buffer
-ruled-room : (v : Facts) {c : Call} {a : Act} → Replying c → by.Ruled v c a → numberOf a ≡ 0 → v .«reply_short» ≡ false
-unfolding numberOf
-ruled-room v p (by.refused c n h e) z = absurd (h z)
-ruled-room v p (by.host f a g w s h) z = s
-ruled-room v p (by.own (by.opened u g s o q e)) z = s
-ruled-room v p (by.own (by.sent g w s q r)) z = s
-ruled-room v p (by.own (by.finished u g s q e r)) z = s
-ruled-room v p (by.own (by.failed u e x g s o y w)) z = s
-ruled-room v p (by.own (by.linked r g x)) z = absurd p
-ruled-room v p (by.own (by.renewed g s)) z = s
-
--- so it has 8,196 bytes
-pub roomy : (d : Device) (l : Lent) → Replying (l .call) → numberOf (actOf d l) ≡ 0 → leb 8196 (length (l .buffer)) ≡ true
+-- a taken call that is lent a reply buffer is lent 8,196 bytes
+pub roomy : (d : Device) (l : Lent) → handed (l .call) .buffer ≡ true → numberOf (actOf d l) ≡ 0 → leb 8196 (length (l .buffer)) ≡ true
 unfolding actOf
-roomy d l p z = le-leb 8196 (length (l .buffer)) (ltb-false (length (l .buffer)) 8196 (ruled-room (factsOf d l) p (by.ruled (factsOf d l) (l .call)) z))
+roomy d l p z = le-leb 8196 (length (l .buffer)) (ltb-false (length (l .buffer)) 8196 (by.ruled-room (factsOf d l) p (by.ruled (factsOf d l) (l .call)) z))
 
 -- what moves lies within the command's range, and that within the medium
 module _ (d : Device) (h : contradictoryDevice d ≡ false) (p : eqb (d .status .phase) 0 ≡ false) where

@@ -1,11 +1,11 @@
 -- What a decision looks at, of a device and of what is lent to a call. Assumes nothing.
-use mathlib.Core.Bool.{Bool, false, not}
+use mathlib.Core.Bool.{Bool, not}
 use Prim.Native.Nat.{ℕ, _-_, _*_}
 use lib.Dec.{eqb, ltb}
 use lib.ListN.{length}
 use Rattle.bits.specs.Pick.{pick}
 use Rattle.device_state.specs.Table.{entryOf}
-use Rattle.rules.specs.Call.{Call, hostFrame, openPhase, sendData, finishTags, mediaError, linkEvent, comReset}
+use Rattle.rules.specs.Call.{Call, handed}
 use Rattle.rules.specs.Tests.{someUnready}
 use Rattle.rules.specs.declared.facts.Facts.{Facts}
 use Rattle.device.specs.Device.{contradictoryDevice}
@@ -39,23 +39,11 @@ factsWith d tag wrong some room = record {
 
 -- the tag whose entry a call is about: its own, or that of the open phase; 32 for none
 abbrev pub tagMeant : ℕ → Call → ℕ
-tagMeant phase (hostFrame f) = openTag phase
-tagMeant phase (openPhase t) = t
-tagMeant phase sendData = openTag phase
-tagMeant phase (finishTags s) = 32
-tagMeant phase (mediaError t e s) = t
-tagMeant phase (linkEvent r) = 32
-tagMeant phase comReset = 32
+tagMeant phase c = handed c .tag (openTag phase)
 
 -- a call names a set with an unready tag
 abbrev pub unreadyIn : Device → Call → Bool
-unreadyIn d (hostFrame f) = false
-unreadyIn d (openPhase t) = false
-unreadyIn d sendData = false
-unreadyIn d (finishTags s) = someUnready (d .entries) (d .status .outstanding) s
-unreadyIn d (mediaError t e s) = false
-unreadyIn d (linkEvent r) = false
-unreadyIn d comReset = false
+unreadyIn d c = someUnready (d .entries) (d .status .outstanding) (handed c .set)
 
 -- what a call's decision looks at
 abbrev pub factsOf : Device → Lent → Facts

@@ -1,8 +1,8 @@
 -- A call with what is lent to it, and what came back. Assumes nothing.
-use mathlib.Core.List.{List, []}
+use mathlib.Core.List.{List}
 use Prim.Native.Nat.{ℕ, _^_, _<_}
 use Rattle.bits.specs.Little.{Bytes}
-use Rattle.rules.specs.Call.{Call, hostFrame, openPhase, sendData, finishTags, mediaError, linkEvent, comReset}
+use Rattle.rules.specs.Call.{Call, handed}
 use Rattle.device.specs.declared.state.Outcome.{Outcome}
 
 -- a call with a medium and a reply buffer beside it, any of them; what it is not lent it does not look at and leaves as it was (`unlent`), and a method's own contract has no bytes there
@@ -27,20 +27,8 @@ gave r m b = record { outcome = r; medium = m; buffer = b }
 
 -- the bytes of a host frame; of any other call none
 abbrev pub frameIn : Call → List ℕ
-frameIn (hostFrame f) = f
-frameIn (openPhase t) = []
-frameIn sendData = []
-frameIn (finishTags s) = []
-frameIn (mediaError t e s) = []
-frameIn (linkEvent r) = []
-frameIn comReset = []
+frameIn c = handed c .frame
 
--- what the types of the arguments give: a frame is of bytes, an error is a byte, a set has 32 bits
+-- what the types of the arguments give: a frame is of bytes, a set has 32 bits, an error is a byte
 abbrev pub Typed : Call → Type 0
-Typed (hostFrame f) = Bytes f
-Typed (openPhase t) = Unit
-Typed sendData = Unit
-Typed (finishTags s) = s < 2 ^ 32
-Typed (mediaError t e s) = e < 256
-Typed (linkEvent r) = Unit
-Typed comReset = Unit
+Typed c = Bytes (handed c .frame) × (handed c .set < 2 ^ 32) × (handed c .error < 256)

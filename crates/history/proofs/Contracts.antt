@@ -4,9 +4,9 @@ use mathlib.Core.List.{List, [], _∷_, map}
 use Prim.Native.Nat.{ℕ}
 use denote.Ref.{now}
 use Rattle.device_state.specs.declared.shapes.Settings.{Settings}
-use Rattle.rules.specs.Call.{openPhase, finishTags, mediaError, comReset}
+use Rattle.rules.specs.Call.{openPhase, finishTags, mediaError, linkEvent, comReset}
 use Rattle.device.specs.Step.{Given}
-use Rattle.device.proofs.Lending.{unlent, unlent-link}
+use Rattle.device.proofs.Lending.{unlent, unlent-both}
 use Rattle.device.specs.declared.state.Device.{Device}
 use Rattle.device.specs.declared.state.Outcome.{Outcome}
 use Rattle.history.specs.Event.{Event}
@@ -25,12 +25,12 @@ given-only d l g a = same-gave (a .state) (a .refusal) (a .len) (a .medium) (a .
 -- each call's own contract is the one contract; what it is not lent stays as it was
 pub allowed-given : {d : Device} {l : Lent} {g : Gave} → Allowed d l g → Given d l g
 allowed-given {d} (hosted κs f m b r m′ b′ p) = p
-allowed-given {d} (opened κs t b r m b′ p) = unlent d (openPhase t) m (now b) b′ r tt p
+allowed-given {d} (opened κs t b r m b′ p) = unlent d (openPhase t) m (now b) b′ r refl p
 allowed-given {d} (sent κs m b r b′ p) = p
-allowed-given {d} (finished κs s b r m b′ p) = unlent d (finishTags s) m (now b) b′ r tt p
-allowed-given {d} (failed κs t e s b r m b′ p) = unlent d (mediaError t e s) m (now b) b′ r tt p
-allowed-given {d} (linked row r m b p) = unlent-link d row m b r p
-allowed-given {d} (reset κs b r m b′ p) = unlent d comReset m (now b) b′ r tt p
+allowed-given {d} (finished κs s b r m b′ p) = unlent d (finishTags s) m (now b) b′ r refl p
+allowed-given {d} (failed κs t e s b r m b′ p) = unlent d (mediaError t e s) m (now b) b′ r refl p
+allowed-given {d} (linked row r m b p) = unlent-both d (linkEvent row) m b r refl refl p
+allowed-given {d} (reset κs b r m b′ p) = unlent d comReset m (now b) b′ r refl p
 
 -- a contract allows just what the definitions give
 pub only : {d : Device} {l : Lent} {g : Gave} → Allowed d l g → g ≡ result d l

@@ -14,7 +14,7 @@ use Rattle.device.proofs.Sized.{SizedRecord}
 use Rattle.device.specs.Lent.{Lent, Typed}
 use Rattle.device.specs.Step.{step}
 use Rattle.device.specs.declared.state.Device.{Device}
-use Rattle.device.proofs.Sending.{typed-asks, whole}
+use Rattle.device.proofs.Sending.{whole}
 use Rattle.history.specs.Event.{Event}
 use Rattle.history.specs.Asked.{Asked, asks}
 use Rattle.history.specs.Replied.{frames, repliesIn, some, isPio, payloads, page, sent}
@@ -53,4 +53,4 @@ module _ (x : Event) (fs : List FrameValue) (r : Read x fs) where
 
 -- every call: its frames stand whole in the reply buffer
 pub read-step : (d : Device) (l : Lent) → Typed (l .call) → SizedRecord d → Read (event (done l (result d l))) (step d l .frames)
-read-step d l t s = let w = whole d l (typed-asks d (l .call) t s) in record { cuts = w .cut-replies (l .buffer) _ _ (record { len = refl; bytes = refl }); fitting = w .fitting }
+read-step d l t s = let w = whole d l t s in record { cuts = w .cut-replies (l .buffer) _ _ (record { len = refl; bytes = refl }); fitting = w .fitting }

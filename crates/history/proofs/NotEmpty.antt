@@ -8,7 +8,7 @@ use lib.Dec.{ltb}
 use borrow.Author.Tests.{ltb-true}
 use Rattle.bits.specs.Little.{Bytes}
 use Rattle.bits.proofs.Picks.{and-left, and-right}
-use Rattle.rules.specs.Call.{Call, hostFrame, openPhase, sendData, finishTags, mediaError, linkEvent, comReset}
+use Rattle.rules.specs.Call.{Call, Handed, handed}
 use Rattle.bits.specs.First.{firstOf}
 use Rattle.bits.specs.Laid.{over}
 use Rattle.bits.specs.Pick.{pick}
@@ -60,24 +60,18 @@ bytes (x ∷ l) h (suc k) = bytes l (and-right (ltb x 256) (small l) h) k
 
 -- a call's arguments are of their types, as a test
 fine : Call → Bool
-fine (hostFrame f) = small f
-fine (openPhase t) = true
-fine sendData = true
-fine (finishTags s) = ltb s (2 ^ 32)
-fine (mediaError t e s) = ltb e 256
-fine (linkEvent r) = true
-fine comReset = true
+fine c = small (handed c .frame) && (ltb (handed c .set) (2 ^ 32) && ltb (handed c .error) 256)
 
 -- where the test holds, they are
 fine-typed : (c : Call) → fine c ≡ true → Typed c
 unfolding fine
-fine-typed (hostFrame f) h = bytes f h
-fine-typed (openPhase t) h = tt
-fine-typed sendData h = tt
-fine-typed (finishTags s) h = ltb-true s (2 ^ 32) h
-fine-typed (mediaError t e s) h = ltb-true e 256 h
-fine-typed (linkEvent r) h = tt
-fine-typed comReset h = tt
+fine-typed c h =
+    let k : Handed = handed c in
+    let r = and-right (small (k .frame)) (ltb (k .set) (2 ^ 32) && ltb (k .error) 256) h in (
+      bytes (k .frame) (and-left (small (k .frame)) (ltb (k .set) (2 ^ 32) && ltb (k .error) 256) h),
+      ltb-true (k .set) (2 ^ 32) (and-left (ltb (k .set) (2 ^ 32)) (ltb (k .error) 256) r),
+      ltb-true (k .error) 256 (and-right (ltb (k .set) (2 ^ 32)) (ltb (k .error) 256) r),
+    )
 
 -- the same test of every call of a list
 allFine : List Lent → Bool

@@ -13,7 +13,7 @@ use Rattle.device.specs.Device.{contradictoryDevice, powerOn, freshDevice, zero
 use Rattle.device.specs.Step.{actOf, step}
 use Rattle.device.specs.declared.state.Device.{Device}
 use Rattle.device.proofs.Never.{never-contradicts-power}
-use Rattle.device.proofs.NeverCalls.{typed-set, never-contradicts-call}
+use Rattle.device.proofs.NeverCalls.{never-contradicts-call}
 use Rattle.device.proofs.Refusals.{refused-keeps, refused-zeros}
 use Rattle.device.proofs.Zeros.{zeros}
 use Rattle.device.specs.Lent.{Lent, Typed}
@@ -33,7 +33,7 @@ sound-power s = record { good = never-contradicts-power s; settings = λ z. rw z
 -- every call
 good-call : (d : Device) (l : Lent) → Typed (l .call) → contradictoryDevice d ≡ false → contradictoryDevice (step d l .state) ≡ false
 good-call d l t g =
-    ⊎-elim (λ (y : eqb (step d l .refusal) 0 ≡ true). never-contradicts-call d l (typed-set (l .call) t) (eqb-true (step d l .refusal) 0 y))
+    ⊎-elim (λ (y : eqb (step d l .refusal) 0 ≡ true). never-contradicts-call d l (t .1) (eqb-true (step d l .refusal) 0 y))
     (λ (n : eqb (step d l .refusal) 0 ≡ false). ap contradictoryDevice (refused-keeps d l (eqb-false (step d l .refusal) 0 n) .state) ∙ g) (tested (eqb (step d l .refusal) 0))
 
 one-not : (n : ℕ) → n ≡ 1 → n ≡ 0 → ⊥

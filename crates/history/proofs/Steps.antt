@@ -16,7 +16,7 @@ use Rattle.rules.specs.Medium.{numberOf, spanOf, partOf}
 use Rattle.rules.specs.declared.acts.Act.{Act}
 use Rattle.rules.proofs.Ruled as by
 use Rattle.device.specs.Lent.{Lent, lent, Typed}
-use Rattle.device.specs.FactsOf.{mediumWrong, factsOf}
+use Rattle.device.specs.FactsOf.{mediumWrong, unreadyIn, factsOf}
 use Rattle.device.specs.Step.{actOf, step}
 use Rattle.device.specs.declared.state.Device.{Device}
 use Rattle.device.proofs.Sized.{SizedRecord}
@@ -69,10 +69,10 @@ unfolding numberOf
 ruled-comes d m b t (by.refused c n h e) z = absurd (h z)
 ruled-comes d m b t (by.host f a g w s h) z =
     subst (λ (p : List ℕ). Comes d p (frameAsks (readFrame f)) a) (heard-unsent (factsOf d (lent (hostFrame f) m b)) m h)
-    (heard-comes d g (mediumWrong (d .settings .capacity) (length m)) false (length b) _ f (read-data f) h)
+    (heard-comes d g (mediumWrong (d .settings .capacity) (length m)) (unreadyIn d (hostFrame f)) (length b) _ f (read-data f) h)
 ruled-comes d m b t (by.own (by.opened u g s o p e)) z = opened-comes d _ u g o (eqb-true (d .status .phase) 0 (not-false (eqb (d .status .phase) 0) p)) e
 ruled-comes d m b t (by.own (by.sent g w s p r)) z = send-comes d m g w p r
-ruled-comes d m b t (by.own (by.finished u g s p e r)) z = finished-comes d _ u g t (eqb-true (d .status .phase) 0 (not-false (eqb (d .status .phase) 0) p)) e r
+ruled-comes d m b t (by.own (by.finished u g s p e r)) z = finished-comes d _ u g (t .1) (eqb-true (d .status .phase) 0 (not-false (eqb (d .status .phase) 0) p)) e r
 ruled-comes d m b t (by.own (by.failed u e y g s o x w)) z = failed-comes d _ _ (busy-calm d g u o)
 ruled-comes d m b t (by.own (by.linked r g y)) z = counted-comes d _ r
 ruled-comes d m b t (by.own (by.renewed g s)) z = renewed-comes d _

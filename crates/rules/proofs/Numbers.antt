@@ -1,31 +1,29 @@
 -- The number of a call is that of the first of its tests that holds. Assumes nothing.
 use mathlib.Core.Path.{_≡_, refl, sym, ap, subst, _∙_}
 use mathlib.Core.Bool.{Bool, true, false, not, _&&_, _||_}
-use mathlib.Core.List.{List, [], _∷_}
+use mathlib.Core.List.{[], _∷_}
 use Prim.Native.Nat.{ℕ, _+_, _-_, _≤_}
 use native.Mathlib.Omega.{arith}
-use lib.Dec.{ltb, leb, eqb}
+use lib.Dec.{ltb, eqb}
 use mathlib.Core.Logic.{⊎-elim}
 use borrow.Author.Tests.{eqb-true, not-false, ltb-true, ltb-false, lt-ltb, le-ltb}
 use Rattle.bits.specs.Pick.{pick}
-use Rattle.bits.specs.Bit.{bitIn}
-use Rattle.bits.specs.First.{Rung, firstOf, FirstExactly, rung}
+use Rattle.bits.specs.First.{firstOf, FirstExactly, rung}
 use Rattle.bits.proofs.Picks.{by-test, tested, pick-yes, pick-no}
 use Rattle.bits.proofs.Firsts as firsts
-use Rattle.frame_parts.specs.Shared.{srstOf}
-use Rattle.frames.specs.Read.{readFrame}
 use Rattle.frames.specs.declared.shapes.HostReg.{HostReg}
 use Rattle.frames.specs.declared.shapes.Frame.{Frame}
-use Rattle.frames.specs.declared.shapes.Frame.the-variants.{Host, Device, Bits, Setup, Activate, Data, Bist, Pio, Refused}
+use Rattle.frames.specs.declared.shapes.Frame.the-variants.{Host}
 use Rattle.refusals.specs.Ladders.{hostLadder, lentLadder}
-use Rattle.rules.specs.Call.{Call, hostFrame, openPhase, sendData, finishTags, mediaError, linkEvent, comReset}
-use Rattle.rules.specs.Tests.{wrongKind, wrongTime, wrongSize, kindTests, frameTests, tests}
-use Rattle.rules.specs.Decide.{bad, fault, tagAsked, countAsked, entryFor, pageAsked, isQueued, queuedAct, otherAct, controlAct, registerAct, frameAct}
+use Rattle.rules.specs.Call.{Call}
+use Rattle.rules.specs.Tests.{wrongKind, wrongTime, wrongSize, tests}
+use Rattle.rules.specs.Decide.{isQueued, queuedAct, otherAct, controlAct, registerAct, frameAct}
 use Rattle.rules.specs.Act.{does, decided, act, heardAct, kindAct}
 use Rattle.rules.specs.Medium.{numberOf}
 use Rattle.rules.specs.declared.facts.Facts.{Facts}
 use Rattle.rules.specs.declared.acts.Act.{Act}
-use Rattle.rules.specs.declared.acts.Act.the-variants.{Refuse, Nothing, Accept, Log10, Log11, Reset, Release}
+use Rattle.rules.specs.declared.acts.Act.the-variants.{Refuse}
+use Rattle.rules.proofs.Rows.{rises, row}
 
 -- an act that is done, or refused
 pub decided-number : (n : ℕ) (a : Act) → numberOf a ≡ 0 → numberOf (decided n a) ≡ n
@@ -105,84 +103,16 @@ module _ (v : Facts) (h : HostReg) where
   unfolding pick
   other-kind r c t q e = e ∙ sym (register-kind ∙ rw (c, t, q))
 
--- ---- what a call that is not refused does is no refusal
-
--- each number of a list is below the next
-abbrev pub rises : List Rung → Bool
-rises [] = true
-rises (r ∷ []) = true
-rises (r ∷ x ∷ rs) = ltb (r .number) (x .number) && rises (x ∷ rs)
-
-abbrev Done : Act → Type 0
-Done a = numberOf a ≡ 0
-
-module _ (v : Facts) where
-  control-done : (h : HostReg) → Done (controlAct v h)
-  unfolding controlAct numberOf
-  control-done h = by-test Done (srstOf (h .control)) Reset _ (λ _. refl) (λ _. by-test Done (v .status .held) Release Nothing (λ _. refl) (λ _. refl))
-
-  queued-done : (h : HostReg) → Done (queuedAct v h)
-  unfolding queuedAct numberOf
-  queued-done h =
-      by-test Done (v .status .halted) (bad h 0x04) _ (λ _. refl)
-      (λ _. by-test Done (leb (v .settings .depth) (tagAsked h) || bitIn 32 (v .status .outstanding) (tagAsked h)) (fault h false (tagAsked h) 0x04) _ (λ _. refl)
-      (λ _. by-test Done (ltb (v .settings .capacity) (h .task .lba + countAsked h)) (fault h false (tagAsked h) 0x10) (Accept (record { tag = tagAsked h; entry = entryFor h })) (λ _. refl) (λ _. refl)))
-
-  other-done : (h : HostReg) → Done (otherAct v h)
-  unfolding otherAct numberOf
-  other-done h =
-      by-test Done (v .status .halted && not (eqb (pageAsked h) 0x10)) (bad h 0x04) _ (λ _. refl)
-      (λ _. by-test Done (not (eqb (v .status .outstanding) 0)) (fault h true 0 0x04) _ (λ _. refl)
-      (λ _. by-test Done (eqb (pageAsked h) 0x10) (Log10 (h .task)) _ (λ _. refl)
-      (λ _. by-test Done (eqb (pageAsked h) 0x11) (Log11 (record { zero = bitIn 8 (h .features) 0; task = h .task })) (bad h 0x04) (λ _. refl) (λ _. refl))))
-
-  frame-done : (f : Frame) → Done (frameAct v f)
-  unfolding frameAct registerAct numberOf
-  frame-done (Host h) =
-      by-test Done (not (h .«command_bit»)) (controlAct v h) _ (λ _. control-done h) (λ _. by-test Done (isQueued h) (queuedAct v h) (otherAct v h) (λ _. queued-done h) (λ _. other-done h))
-  frame-done (Device f) = refl
-  frame-done (Bits f) = refl
-  frame-done (Setup f) = refl
-  frame-done Activate = refl
-  frame-done (Data n) = refl
-  frame-done Bist = refl
-  frame-done (Pio f) = refl
-  frame-done Refused = refl
-
-  -- a call's act, refused by none of its tests
-  pub does-done : (c : Call) → numberOf (does v c) ≡ 0
-  unfolding does numberOf
-  does-done (hostFrame f) = frame-done (readFrame f)
-  does-done (openPhase t) = refl
-  does-done sendData = refl
-  does-done (finishTags s) = refl
-  does-done (mediaError t e s) = refl
-  does-done (linkEvent r) = refl
-  does-done comReset = refl
-
+module _ (v : Facts) (c : Call) where
   -- the number of a call
-  pub act-number : (c : Call) → numberOf (act v c) ≡ firstOf (tests v c)
+  pub act-number : numberOf (act v c) ≡ firstOf (tests v c)
   unfolding act
-  act-number c = decided-number (firstOf (tests v c)) (does v c) (does-done c)
+  act-number = decided-number (firstOf (tests v c)) (does v c) (row v c .done)
 
   -- each call gives each number of its row exactly when that test holds and none before it does, 0 exactly when none holds, and no other number
-  pub act-exactly : (c : Call) → FirstExactly (tests v c) (numberOf (act v c))
-  unfolding tests
-  act-exactly (hostFrame f) = subst (FirstExactly _) (sym (act-number (hostFrame f))) (firsts.first-exactly (tests v (hostFrame f)) tt)
-  act-exactly (openPhase t) = subst (FirstExactly _) (sym (act-number (openPhase t))) (firsts.first-exactly (tests v (openPhase t)) tt)
-  act-exactly sendData = subst (FirstExactly _) (sym (act-number sendData)) (firsts.first-exactly (tests v sendData) tt)
-  act-exactly (finishTags s) = subst (FirstExactly _) (sym (act-number (finishTags s))) (firsts.first-exactly (tests v (finishTags s)) tt)
-  act-exactly (mediaError t e s) = subst (FirstExactly _) (sym (act-number (mediaError t e s))) (firsts.first-exactly (tests v (mediaError t e s)) tt)
-  act-exactly (linkEvent r) = subst (FirstExactly _) (sym (act-number (linkEvent r))) (firsts.first-exactly (tests v (linkEvent r)) tt)
-  act-exactly comReset = subst (FirstExactly _) (sym (act-number comReset)) (firsts.first-exactly (tests v comReset) tt)
+  pub act-exactly : FirstExactly (tests v c) (numberOf (act v c))
+  act-exactly = subst (FirstExactly _) (sym act-number) (firsts.first-exactly (tests v c) (row v c .once))
 
   -- the numbers of a call's row rise
-  pub tests-rise : (c : Call) → rises (tests v c) ≡ true
-  unfolding tests
-  tests-rise (hostFrame f) = refl
-  tests-rise (openPhase t) = refl
-  tests-rise sendData = refl
-  tests-rise (finishTags s) = refl
-  tests-rise (mediaError t e s) = refl
-  tests-rise (linkEvent r) = refl
-  tests-rise comReset = refl
+  pub tests-rise : rises (tests v c) ≡ true
+  tests-rise = row v c .rising

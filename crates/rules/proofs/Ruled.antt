@@ -1,6 +1,6 @@
 -- How a call is decided: the rule that holds, with what it found. A proof about calls goes by these cases. Assumes nothing.
-use mathlib.Core.Path.{_≡_, refl, sym, subst}
-use mathlib.Core.Bool.{Bool, true, false, not, _&&_, _||_, true≢false}
+use mathlib.Core.Path.{_≡_, refl}
+use mathlib.Core.Bool.{Bool, true, false, not, _&&_, _||_, true≢false, false≢true}
 use mathlib.Core.List.{List}
 use Prim.Native.Nat.{ℕ, _+_}
 use lib.Dec.{eqb, ltb, leb, lit<}
@@ -16,11 +16,12 @@ use Rattle.frames.specs.declared.shapes.HostReg.{HostReg}
 use Rattle.frames.specs.declared.shapes.Frame.{Frame}
 use Rattle.frames.specs.declared.shapes.Frame.the-variants.{Host, Device, Bits, Setup, Activate, Data, Bist, Pio, Refused}
 use Rattle.device_state.specs.Clauses.{rowRefused}
-use Rattle.rules.specs.Call.{Call, hostFrame, openPhase, sendData, finishTags, mediaError, linkEvent, comReset}
+use Rattle.rules.specs.Call.{Call, hostFrame, openPhase, sendData, finishTags, mediaError, linkEvent, comReset, handed}
 use Rattle.rules.specs.Positions.{leftOf, moveOf}
-use Rattle.rules.specs.Tests.{wrongKind, wrongTime, wrongSize, idleTag, allMoved, noReadPhase, outside, tests}
+use Rattle.rules.specs.Tests.{wrongKind, wrongTime, wrongSize, allMoved, outside, tests}
 use Rattle.rules.specs.Decide.{bad, fault, tagAsked, countAsked, entryFor, pageAsked, isQueued, queuedAct, otherAct, controlAct, registerAct, frameAct}
 use Rattle.rules.specs.Act.{failing, does, decided, act}
+use Rattle.rules.specs.Medium.{numberOf, leaves, touchOf, nowhere, spanOf}
 use Rattle.rules.specs.declared.facts.Facts.{Facts}
 use Rattle.rules.specs.declared.acts.Act.{Act}
 use Rattle.rules.specs.declared.acts.Act.the-variants.{Refuse, Nothing, Accept, Log10, Log11, Reset, Release, ZeroCounters, Store, Open, Send, Finish, Media, Count, Renew}
@@ -73,6 +74,53 @@ pub data Ruled (v : Facts) : Call → Act → Type 0 where
   refused : (c : Call) (n : ℕ) → (n ≡ 0 → ⊥) → firstOf (tests v c) ≡ n → Ruled v c (Refuse n)
   host : (f : List ℕ) (a : Act) → v .contradicts ≡ false → v .«medium_wrong» ≡ false → v .«reply_short» ≡ false → Heard v (readFrame f) a → Ruled v (hostFrame f) a
   own : {c : Call} {a : Act} → Own v c a → Ruled v c a
+
+-- nothing of the medium is sent to a host frame
+pub unsent : (v : Facts) {f : Frame} {a : Act} → Heard v f a → spanOf a ≡ nowhere
+unfolding touchOf
+unsent v (srst h c s) = refl
+unsent v (release h c s x) = refl
+unsent v (nothing h c s x) = refl
+unsent v (rule1 h c x) = refl
+unsent v (rule2 h c x u) = refl
+unsent v (rule3 h c x u y) = refl
+unsent v (rule4 h c x u y) = refl
+unsent v (other-halted h c x) = refl
+unsent v (other-busy h c x) = refl
+unsent v (page10 h c e p) = refl
+unsent v (page11 h c x e p) = refl
+unsent v (other-bad h c x e) = refl
+unsent v (due n p w s) = refl
+unsent v (bist b) = refl
+
+-- what all device events share: the state does not contradict itself; where a reply buffer is lent it is not short; and where no medium is lent the act leaves it
+pub record Owned (v : Facts) (c : Call) (a : Act) : Type 0 where
+  pub sound : v .contradicts ≡ false
+  pub room : handed c .buffer ≡ true → v .«reply_short» ≡ false
+  pub leaving : handed c .medium ≡ false → touchOf a ≡ leaves
+
+pub owned : (v : Facts) {c : Call} {a : Act} → Own v c a → Owned v c a
+unfolding touchOf
+owned v (opened t g s o q e) = record { sound = g; room = λ _. s; leaving = λ _. refl }
+owned v (sent g w s p r) = record { sound = g; room = λ _. s; leaving = λ h. absurd (true≢false h) }
+owned v (finished t g s q e r) = record { sound = g; room = λ _. s; leaving = λ _. refl }
+owned v (failed t e x g s o y w) = record { sound = g; room = λ _. s; leaving = λ _. refl }
+owned v (linked r g x) = record { sound = g; room = λ h. absurd (false≢true h); leaving = λ _. refl }
+owned v (renewed g s) = record { sound = g; room = λ _. s; leaving = λ _. refl }
+
+-- a taken call is not refused for its reply buffer, where it is lent one
+pub ruled-room : (v : Facts) {c : Call} {a : Act} → handed c .buffer ≡ true → Ruled v c a → numberOf a ≡ 0 → v .«reply_short» ≡ false
+unfolding numberOf
+ruled-room v p (refused c n h e) z = absurd (h z)
+ruled-room v p (host f a g w s h) z = s
+ruled-room v p (own o) z = owned v o .room p
+
+-- a call that is lent no medium leaves it
+pub ruled-leaves : (v : Facts) {c : Call} {a : Act} → handed c .medium ≡ false → Ruled v c a → touchOf a ≡ leaves
+unfolding touchOf
+ruled-leaves v u (refused c n h e) = refl
+ruled-leaves v u (host f a g w s h) = absurd (true≢false u)
+ruled-leaves v u (own o) = owned v o .leaving u
 
 -- of one that does not hold beside one that does
 and-other : (a b : Bool) → a && not b ≡ false → b ≡ false → a ≡ false

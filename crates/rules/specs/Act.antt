@@ -1,6 +1,5 @@
 -- What a call makes the device do: refused by the first of its tests that holds, and otherwise done. Assumes nothing.
 use mathlib.Core.Bool.{false, not}
-use mathlib.Core.List.{List}
 use Prim.Native.Nat.{ℕ}
 use lib.Dec.{eqb}
 use Rattle.bits.specs.Pick.{pick}

@@ -1,5 +1,6 @@
--- The calls of the device: what is asked of it. Assumes nothing.
-use mathlib.Core.List.{List}
+-- The calls of the device: what is asked of it, and what it is handed. Assumes nothing.
+use mathlib.Core.Bool.{Bool, true, false}
+use mathlib.Core.List.{List, []}
 use Prim.Native.Nat.{ℕ}
 
 -- a host frame as its bytes, or a device event
@@ -15,3 +16,26 @@ pub data Call : Type 0 where
   -- row
   linkEvent : ℕ → Call
   comReset : Call
+
+-- the bytes of a host frame, a set of tags, an error byte (none, 0, 0 where there is no such argument); the tag whose entry the call is about, from that of the open phase (32 has no entry); whether it is lent the medium, and a reply buffer
+pub record Handed : Type 0 where
+  pub frame : List ℕ
+  pub set : ℕ
+  pub error : ℕ
+  pub tag : ℕ → ℕ
+  pub medium : Bool
+  pub buffer : Bool
+
+-- a device event
+abbrev pub event : ℕ → ℕ → (ℕ → ℕ) → Bool → Bool → Handed
+event s e t m b = record { frame = []; set = s; error = e; tag = t; medium = m; buffer = b }
+
+-- what each call is handed: a host frame and a send are about the open phase, an open and a media error about their tag; every call but a link event is lent a reply buffer
+abbrev pub handed : Call → Handed
+handed (hostFrame f) = record { frame = f; set = 0; error = 0; tag = λ t. t; medium = true; buffer = true }
+handed (openPhase t) = event 0 0 (λ _. t) false true
+handed sendData = event 0 0 (λ t. t) true true
+handed (finishTags s) = event s 0 (λ _. 32) false true
+handed (mediaError t e s) = event 0 e (λ _. t) false true
+handed (linkEvent r) = event 0 0 (λ _. 32) false false
+handed comReset = event 0 0 (λ _. 32) false true

@@ -1,4 +1,5 @@
 use Rattle.history.specs.Allowed.{opened}
+use Rattle.device.proofs.Typing.{none-typed}
 use Rattle.caller.proofs.Continuing.{continues}
 use borrow.Author.Needs.{needs}
 use Rattle.caller.proofs.calling.open.Statement.{statement}
@@ -14,7 +15,7 @@ same-length : tie.Need-same-length
 same-length c = search needs
 
 returns : tie.Need-returns
-returns c = λ m. continues _ _ _ tt (opened (c .before .before .before .before .before .κs) _ (c .before .before .before .before .before .args .reply) _ m _ (c .before .before .open .ensures))
+returns c = λ m. continues _ _ _ none-typed (opened (c .before .before .before .before .before .κs) _ (c .before .before .before .before .before .args .reply) _ m _ (c .before .before .open .ensures))
 
 pub open-spec : {M : Type 1} → statement M
 open-spec = tie.close (tie.spec open-requires same-length returns)

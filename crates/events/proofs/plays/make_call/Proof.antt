@@ -1,8 +1,8 @@
 use mathlib.Core.Path.{refl}
 use Rattle.frame_parts.specs.Cut.{joined}
-use Rattle.rules.specs.Call.{openPhase, finishTags, mediaError, comReset}
+use Rattle.rules.specs.Call.{openPhase, finishTags, mediaError, comReset, linkEvent}
 use Rattle.replies.specs.Replies.{sentAll}
-use Rattle.device.proofs.Lending.{unlent, unlent-link}
+use Rattle.device.proofs.Lending.{unlent, unlent-both}
 use Rattle.events.specs.Calls.{callsOf}
 use Rattle.events.specs.Played.{stepFor}
 use borrow.Author.Needs.{needs}
@@ -75,7 +75,7 @@ same-length c = search needs
 
 returns : tie.Need-returns
 unfolding callsOf stepFor
-returns c = rw (c .before .before .before .before .before .event .given .1) (unlent _ (openPhase _) _ _ _ _ tt (c .before .before .open .ensures))
+returns c = rw (c .before .before .before .before .before .event .given .1) (unlent _ (openPhase _) _ _ _ _ refl (c .before .before .open .ensures))
 
 same-length-2 : tie.Need-same-length-2
 same-length-2 c = search needs
@@ -92,25 +92,25 @@ same-length-4 c = search needs
 
 returns-3 : tie.Need-returns-3
 unfolding callsOf stepFor
-returns-3 c = rw (c .before .before .before .before .before .event2 .given .1) (unlent _ (finishTags _) _ _ _ _ tt (c .before .before .finish .ensures))
+returns-3 c = rw (c .before .before .before .before .before .event2 .given .1) (unlent _ (finishTags _) _ _ _ _ refl (c .before .before .finish .ensures))
 
 same-length-5 : tie.Need-same-length-5
 same-length-5 c = search needs
 
 returns-4 : tie.Need-returns-4
 unfolding callsOf stepFor
-returns-4 c = rw (c .before .before .before .before .before .event3 .given .1) (unlent _ (mediaError _ _ _) _ _ _ _ tt (c .before .before .media-error .ensures))
+returns-4 c = rw (c .before .before .before .before .before .event3 .given .1) (unlent _ (mediaError _ _ _) _ _ _ _ refl (c .before .before .media-error .ensures))
 
 returns-5 : tie.Need-returns-5
 unfolding callsOf stepFor
-returns-5 c = rw (c .before .before .event4 .given .1) (unlent-link _ _ _ _ _ (c .link-event .ensures))
+returns-5 c = rw (c .before .before .event4 .given .1) (unlent-both _ (linkEvent _) _ _ _ refl refl (c .link-event .ensures))
 
 same-length-6 : tie.Need-same-length-6
 same-length-6 c = search needs
 
 returns-6 : tie.Need-returns-6
 unfolding callsOf stepFor
-returns-6 c = rw (c .before .before .before .before .enum-told2 .given .1) (unlent _ comReset _ _ _ _ tt (c .before .before .comreset .ensures))
+returns-6 c = rw (c .before .before .before .before .enum-told2 .given .1) (unlent _ comReset _ _ _ _ refl (c .before .before .comreset .ensures))
 
 same-length-7 : tie.Need-same-length-7
 same-length-7 c = search needs

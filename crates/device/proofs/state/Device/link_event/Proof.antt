@@ -2,7 +2,8 @@ use mathlib.Core.Path.{refl, ap, _∙_}
 use mathlib.Core.List.{[]}
 use Rattle.rules.specs.Call.{linkEvent}
 use Rattle.rules.specs.Act.{act}
-use Rattle.device.proofs.Doing.{given-without, link-act, link-silent}
+use Rattle.device.proofs.Doing.{given-without, plain-act}
+use Rattle.device.proofs.Lending.{silent-given}
 use borrow.Author.Needs.{needs}
 use Rattle.device.proofs.state.Device.link_event.Statement.{statement}
 use Rattle.device.proofs.state.Device.link_event.Tie as tie
@@ -28,8 +29,8 @@ after-requires c κs = search needs
 returns : tie.Need-returns
 returns c =
     let a = c .before .before .before .before .args in
-    let e = link-act (a .self) (a .row) (c .before .before .before .facts .result) (c .before .before .link-act .result) (c .before .before .before .facts .ensures) (c .before .before .link-act .ensures) in
-    given-without (a .self) (linkEvent (a .row)) [] (c .before .before .link-act .result) [] _ refl e (c .after .ensures) (c .before .number-of .ensures) (link-silent (a .self) (a .row) (c .before .before .link-act .result) e)
+    let e = plain-act (a .self) (linkEvent (a .row)) [] (c .before .before .before .facts .result) (c .before .before .link-act .result) refl refl (c .before .before .before .facts .ensures) (c .before .before .link-act .ensures) in
+    given-without (a .self) (linkEvent (a .row)) [] (c .before .before .link-act .result) [] _ refl e (c .after .ensures) (c .before .number-of .ensures) (silent-given (a .self) (linkEvent (a .row)) (c .before .before .link-act .result) refl e)
 
 pub link-event-spec : {M : Type 1} → statement M
 link-event-spec =

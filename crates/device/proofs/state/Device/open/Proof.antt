@@ -3,7 +3,7 @@ use mathlib.Core.Path.{refl}
 use mathlib.Core.List.{[]}
 use Rattle.rules.specs.Call.{openPhase}
 use Rattle.device.specs.Lent.{lent}
-use Rattle.device.proofs.Doing.{has-room, given-without, open-act}
+use Rattle.device.proofs.Doing.{has-room, given-without, plain-act}
 use borrow.Author.Needs.{needs}
 use Rattle.device.proofs.state.Device.open.Statement.{statement}
 use Rattle.device.proofs.state.Device.open.Tie as tie
@@ -25,8 +25,8 @@ slice-aggregate-done c = search needs
 done-requires : tie.Need-done-requires
 done-requires c κs =
     let a = c .before .before .before .before .before .args in
-    let e = open-act (a .self) (a .tag) (now (a .reply)) (c .before .before .before .facts .result) (c .before .before .open-act .result) (c .before .before .before .facts .ensures) (c .before .before .open-act .ensures) in
-    has-room (a .self) (lent (openPhase (a .tag)) [] (now (a .reply))) (c .before .before .open-act .result) tt e
+    let e = plain-act (a .self) (openPhase (a .tag)) (now (a .reply)) (c .before .before .before .facts .result) (c .before .before .open-act .result) refl refl (c .before .before .before .facts .ensures) (c .before .before .open-act .ensures) in
+    has-room (a .self) (lent (openPhase (a .tag)) [] (now (a .reply))) (c .before .before .open-act .result) refl e
 
 same-length : tie.Need-same-length
 same-length c = search needs
@@ -34,7 +34,7 @@ same-length c = search needs
 returns : tie.Need-returns
 returns c =
     let a = c .before .before .before .before .before .before .before .before .args in
-    let e = open-act (a .self) (a .tag) (now (a .reply)) (c .before .before .before .before .before .before .facts .result) (c .before .before .before .before .before .open-act .result) (c .before .before .before .before .before .before .facts .ensures) (c .before .before .before .before .before .open-act .ensures) in
+    let e = plain-act (a .self) (openPhase (a .tag)) (now (a .reply)) (c .before .before .before .before .before .before .facts .result) (c .before .before .before .before .before .open-act .result) refl refl (c .before .before .before .before .before .before .facts .ensures) (c .before .before .before .before .before .open-act .ensures) in
     let w = c .before .before .done .ensures in
     given-without (a .self) (openPhase (a .tag)) (now (a .reply)) (c .before .before .before .before .before .open-act .result) (c .before .before .done .last .1 .0) (c .before .before .done .result) refl e (w .0) (w .1 .0) (w .1 .1)
 

@@ -1,5 +1,5 @@
 use denote.Ref.{now}
-use mathlib.Core.Path.{sym, ap, _∙_}
+use mathlib.Core.Path.{sym, ap, _∙_, refl}
 use mathlib.Core.List.{[]}
 use Rattle.rules.specs.Call.{sendData}
 use Rattle.rules.specs.Medium.{spanOf, partOf, mediumAfter}
@@ -57,7 +57,7 @@ done-requires : tie.Need-done-requires
 done-requires c κs =
     let a = c .before .before .before .before .before .before .before .before .before .before .args in
     let e = send-act (a .self) (now (a .medium)) (now (a .reply)) (c .before .before .before .before .before .before .before .open-tag .result) (c .before .before .before .before .before .before .medium-wrong .result) (c .before .before .before .before .before .facts .result) (c .before .before .before .before .send-act .result) (c .before .before .before .before .before .before .before .open-tag .ensures) (c .before .before .before .before .before .before .medium-wrong .ensures) (c .before .before .before .before .before .facts .ensures) (c .before .before .before .before .send-act .ensures) in
-    has-room (a .self) (lent sendData (now (a .medium)) (now (a .reply))) (c .before .before .before .before .send-act .result) tt e
+    has-room (a .self) (lent sendData (now (a .medium)) (now (a .reply))) (c .before .before .before .before .send-act .result) refl e
 
 same-length : tie.Need-same-length
 same-length c = search needs
