@@ -166,9 +166,9 @@ typed-kind d k e w =
     (λ h. by-test (TypedAll d e) (eqb k 0x04) _ _ (λ h. (error-typed _ (w 2), tt))
     (λ h. by-test (TypedAll d e) (eqb k 0x05) _ _ (λ h. (none-typed, tt))
     (λ h. by-test (TypedAll d e) (eqb k 0x06) _ _ (λ h. (none-typed, tt))
-    (λ h. by-test (TypedAll d e) (eqb k 0x07) _ _ (λ h. (frame-typed _ (data-bytes (dataDue d) (getD e 1 0) (w 1)), tt))
-    (λ h. by-test (TypedAll d e) (eqb k 0x27) _ _ (λ h. (frame-typed _ w, tt))
-    (λ h. by-test (TypedAll d e) (eqb k 0x58) _ _ (λ h. (frame-typed _ w, tt)) (λ h. tt)))))))))
+    (λ h. by-test (TypedAll d e) (eqb k 0x07) _ _ (λ h. (frame-typed (dataFrame (dataDue d) (getD e 1 0)) (data-bytes (dataDue d) (getD e 1 0) (w 1)), tt))
+    (λ h. by-test (TypedAll d e) (eqb k 0x27) _ _ (λ h. (frame-typed e w, tt))
+    (λ h. by-test (TypedAll d e) (eqb k 0x58) _ _ (λ h. (frame-typed e w, tt)) (λ h. tt)))))))))
 
 typed-event : (d : Device) (e : List ℕ) → Bytes e → TypedAll d e (requestOf e)
 unfolding requestOf callsOf AllTyped
