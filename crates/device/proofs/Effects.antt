@@ -1,18 +1,22 @@
 -- What each change of the state does, said of its parts; and how long the record stays. Assumes nothing.
-use mathlib.Core.Path.{_≡_, refl}
+use mathlib.Core.Path.{_≡_, refl, sym, subst}
 use mathlib.Core.Bool.{Bool, true, false, true≢false}
-use Prim.Native.Nat.{ℕ}
-use lib.Dec.{leb, eqb}
+use Prim.Native.Nat.{ℕ, _<_}
+use lib.Dec.{leb, eqb, lit<}
 use lib.ListN.{replicate}
 use Rattle.bits.specs.Pick.{pick}
 use Rattle.bits.specs.Bit.{bitIn}
 use Rattle.bits.proofs.Picks.{by-test}
-use Rattle.device_state.specs.State.{blankRecord}
+use Rattle.device_state.specs.State.{blankRecord, zeroEcho}
+use Rattle.device_state.specs.declared.shapes.Echo.{Echo}
+use Rattle.device_state.specs.declared.shapes.Entry.{Entry}
+use Rattle.device_state.specs.declared.shapes.ErrorRecord.{ErrorRecord}
 use Rattle.rules.specs.declared.acts.Fault.{Fault}
 use Rattle.rules.specs.declared.acts.Act.{Act}
 use Rattle.rules.specs.declared.acts.Act.the-variants.{Refuse, Nothing, Bad, BadAndHalt, Accept, Log10, Log11, Reset, Release, ZeroCounters, Store, Open, Send, Finish, Media, Count, Renew}
 use Rattle.device.specs.After.{withValue, haltWith, unhalted, zeroedIf, resetHeld, released, acceptedBy, movedBy, openedFor, finishedBy, failedBy, renewed, afterOf}
 use Rattle.device.specs.declared.state.Device.{Device}
+use Rattle.device.proofs.Widths.{Small, SmallAll, Wide, zero-small, placed-small, cleared-small, idle-small}
 
 -- halt: every outstanding command is given up, an open phase closes, the error record is set
 pub halt-effect : (d : Device) (f : Fault) → (haltWith d f .status ≡ record { outstanding = 0; phase = 0; halted = true; held = false }) × (haltWith d f .errors .set ≡ true) × (haltWith d f .values ≡ d .values)
@@ -39,46 +43,65 @@ pub released-effect : (d : Device) → (released d .status .held ≡ false) × (
 unfolding released
 released-effect d = (refl, refl)
 
--- an act that sets or clears the record
-unfoldable pub newRecord : Act → Bool
-newRecord (Refuse n) = false
-newRecord Nothing = false
-newRecord (Bad x) = false
-newRecord (BadAndHalt x) = true
-newRecord (Accept x) = false
-newRecord (Log10 x) = false
-newRecord (Log11 x) = false
-newRecord Reset = true
-newRecord Release = false
-newRecord ZeroCounters = false
-newRecord (Store x) = false
-newRecord (Open x) = false
-newRecord (Send x) = false
-newRecord (Finish x) = false
-newRecord (Media x) = true
-newRecord (Count x) = false
-newRecord Renew = true
+-- ---- every act
 
--- the record stays until the next halt or reset
-pub record-stays : (d : Device) (a : Act) → newRecord a ≡ false → afterOf d a .errors ≡ d .errors
-unfolding newRecord afterOf withValue unhalted zeroedIf released acceptedBy movedBy openedFor finishedBy
-record-stays d (Refuse n) h = refl
-record-stays d Nothing h = refl
-record-stays d (Bad x) h = refl
-record-stays d (BadAndHalt x) h = absurd (true≢false h)
-record-stays d (Accept x) h = refl
-record-stays d (Log10 x) h = refl
-record-stays d (Log11 x) h = refl
-record-stays d Reset h = absurd (true≢false h)
-record-stays d Release h = refl
-record-stays d ZeroCounters h = refl
-record-stays d (Store x) h = refl
-record-stays d (Open x) h = refl
-record-stays d (Send x) h = refl
-record-stays d (Finish x) h = refl
-record-stays d (Media x) h = absurd (true≢false h)
-record-stays d (Count x) h = by-test (λ (y : Device). y .errors ≡ d .errors) (leb 16 x) d _ (λ _. refl) (λ _. refl)
-record-stays d Renew h = absurd (true≢false h)
+-- what an act has to do with record, phase and table: it sets or clears the record; it opens a phase; the error byte and the command's bytes that it puts there, zeros for none
+pub record Traits : Type 0 where
+  pub anew : Bool
+  pub opens : Bool
+  pub error : ℕ
+  pub echo : Echo
+
+-- nothing
+abbrev none : Traits
+none = record { anew = false; opens = false; error = 0; echo = zeroEcho }
+
+-- a halt sets the record
+abbrev halting : Fault → Traits
+halting f = record { anew = true; opens = false; error = f .error; echo = f .echo }
+
+-- a reset clears it
+abbrev clearing : Traits
+clearing = record { anew = true; opens = false; error = 0; echo = zeroEcho }
+
+-- an entry goes into the table
+abbrev entering : Entry → Traits
+entering e = record { anew = false; opens = false; error = 0; echo = e .echo }
+
+-- a phase opens
+abbrev opening : Traits
+opening = record { anew = false; opens = true; error = 0; echo = zeroEcho }
+
+-- an act's
+unfoldable pub traits : Act → Traits
+traits (Refuse n) = none
+traits Nothing = none
+traits (Bad b) = none
+traits (BadAndHalt f) = halting f
+traits (Accept q) = entering (q .entry)
+traits (Log10 l) = none
+traits (Log11 l) = none
+traits Reset = clearing
+traits Release = none
+traits ZeroCounters = none
+traits (Store m) = entering (m .entry)
+traits (Open q) = opening
+traits (Send m) = entering (m .entry)
+traits (Finish set) = none
+traits (Media f) = halting f
+traits (Count row) = none
+traits Renew = clearing
+
+-- what an act puts into the record or the table is of bytes
+abbrev pub Puts : Act → Type 0
+Puts a = (traits a .error < 256) × Small (traits a .echo)
+
+-- no act changes a setting; the record stays until the next halt or reset; a phase is open after an act only if one was open before it, or the act is an open; record and table stay bytes
+pub record ActKeeps (d : Device) (a : Act) : Type 0 where
+  pub settings : afterOf d a .settings ≡ d .settings
+  pub stays : traits a .anew ≡ false → afterOf d a .errors ≡ d .errors
+  pub opens : eqb (afterOf d a .status .phase) 0 ≡ false → traits a .opens ≡ false → eqb (d .status .phase) 0 ≡ false
+  pub wide : Wide d → Puts a → Wide (afterOf d a)
 
 -- one more event at a row changes no setting
 raised-settings : (d : Device) (row : ℕ) → withValue d row .settings ≡ d .settings
@@ -91,70 +114,75 @@ unfolding haltWith pick
 failed-settings d f true = raised-settings d 0
 failed-settings d f false = refl
 
--- no act changes a setting
-pub act-settings : (d : Device) (a : Act) → afterOf d a .settings ≡ d .settings
-unfolding afterOf haltWith acceptedBy unhalted resetHeld released movedBy openedFor finishedBy failedBy zeroedIf renewed
-act-settings d (Refuse n) = refl
-act-settings d Nothing = refl
-act-settings d (Bad b) = refl
-act-settings d (BadAndHalt f) = refl
-act-settings d (Accept q) = refl
-act-settings d (Log10 l) = refl
-act-settings d (Log11 l) = refl
-act-settings d Reset = refl
-act-settings d Release = refl
-act-settings d ZeroCounters = refl
-act-settings d (Store m) = refl
-act-settings d (Open q) = refl
-act-settings d (Send m) = refl
-act-settings d (Finish set) = refl
-act-settings d (Media f) = failed-settings d f (bitIn 8 (f .error) 7)
-act-settings d (Count row) = raised-settings d row
-act-settings d Renew = raised-settings (released (resetHeld d)) 9
-
--- an act is an open
-unfoldable pub isOpen : Act → Bool
-isOpen (Refuse n) = false
-isOpen Nothing = false
-isOpen (Bad b) = false
-isOpen (BadAndHalt f) = false
-isOpen (Accept q) = false
-isOpen (Log10 l) = false
-isOpen (Log11 l) = false
-isOpen Reset = false
-isOpen Release = false
-isOpen ZeroCounters = false
-isOpen (Store m) = false
-isOpen (Open q) = true
-isOpen (Send m) = false
-isOpen (Finish set) = false
-isOpen (Media f) = false
-isOpen (Count row) = false
-isOpen Renew = false
-
 -- what moves closes a phase, or leaves it
 still : (last : Bool) (phase : ℕ) → eqb (pick last 0 phase) 0 ≡ false → eqb phase 0 ≡ false
 unfolding pick
 still true phase e = absurd (true≢false e)
 still false phase e = e
 
--- a phase is open after an act only if one was open before it, or the act is an open
-pub opens-only : (d : Device) (a : Act) → eqb (afterOf d a .status .phase) 0 ≡ false → isOpen a ≡ false → eqb (d .status .phase) 0 ≡ false
-unfolding afterOf haltWith acceptedBy unhalted resetHeld released movedBy openedFor finishedBy failedBy zeroedIf renewed isOpen withValue pick
-opens-only d (Refuse n) p e = p
-opens-only d Nothing p e = p
-opens-only d (Bad b) p e = p
-opens-only d (BadAndHalt f) p e = absurd (true≢false p)
-opens-only d (Accept q) p e = p
-opens-only d (Log10 l) p e = p
-opens-only d (Log11 l) p e = p
-opens-only d Reset p e = absurd (true≢false p)
-opens-only d Release p e = p
-opens-only d ZeroCounters p e = p
-opens-only d (Store m) p e = still (m .last) (d .status .phase) p
-opens-only d (Open q) p e = absurd (true≢false e)
-opens-only d (Send m) p e = still (m .last) (d .status .phase) p
-opens-only d (Finish set) p e = p
-opens-only d (Media f) p e = absurd (true≢false p)
-opens-only d (Count row) p e = by-test (λ (x : Device). eqb (x .status .phase) 0 ≡ false → eqb (d .status .phase) 0 ≡ false) (leb 16 row) d _ (λ _ q. q) (λ _ q. q) p
-opens-only d Renew p e = absurd (true≢false p)
+-- one more event at a row leaves record and table
+raised-wide : (d : Device) (row : ℕ) → Wide d → Wide (withValue d row)
+unfolding withValue
+raised-wide d row w = by-test Wide (leb 16 row) d _ (λ _. w) (λ _. record { sized = record { error = w .sized .error; echo = w .sized .echo }; entries = w .entries })
+
+-- another state with this record, and a table of bytes
+same-record : {d e : Device} → e .errors ≡ d .errors → Wide d → SmallAll (e .entries) → Wide e
+same-record q w s = record { sized = record { error = subst (λ (r : ErrorRecord). r .error < 256) (sym q) (w .sized .error); echo = subst (λ (r : ErrorRecord). Small (r .echo)) (sym q) (w .sized .echo) }; entries = s }
+
+pub act-keeps : (d : Device) (a : Act) → ActKeeps d a
+unfolding traits afterOf haltWith acceptedBy unhalted zeroedIf resetHeld released movedBy openedFor finishedBy failedBy renewed withValue pick
+act-keeps d (Refuse n) = record { settings = refl; stays = λ _. refl; opens = λ p _. p; wide = λ w _. w }
+act-keeps d Nothing = record { settings = refl; stays = λ _. refl; opens = λ p _. p; wide = λ w _. w }
+act-keeps d (Bad b) = record { settings = refl; stays = λ _. refl; opens = λ p _. p; wide = λ w _. w }
+act-keeps d (BadAndHalt f) = record {
+  settings = refl;
+  stays = λ h. absurd (true≢false h);
+  opens = λ p _. absurd (true≢false p);
+  wide = λ _ p. record { sized = record { error = p .0; echo = p .1 }; entries = idle-small };
+}
+act-keeps d (Accept q) = record { settings = refl; stays = λ _. refl; opens = λ p _. p; wide = λ w p. same-record refl w (placed-small (d .entries) (q .tag) (q .entry) (w .entries) (p .1)) }
+act-keeps d (Log10 l) = record { settings = refl; stays = λ _. refl; opens = λ p _. p; wide = λ w _. same-record refl w (w .entries) }
+act-keeps d (Log11 l) = record { settings = refl; stays = λ _. refl; opens = λ p _. p; wide = λ w _. same-record refl w (w .entries) }
+act-keeps d Reset = record {
+  settings = refl;
+  stays = λ h. absurd (true≢false h);
+  opens = λ p _. absurd (true≢false p);
+  wide = λ _ _. record { sized = record { error = lit< tt; echo = zero-small }; entries = idle-small };
+}
+act-keeps d Release = record { settings = refl; stays = λ _. refl; opens = λ p _. p; wide = λ w _. same-record refl w (w .entries) }
+act-keeps d ZeroCounters = record { settings = refl; stays = λ _. refl; opens = λ p _. p; wide = λ w _. same-record refl w (w .entries) }
+act-keeps d (Store m) = record { settings = refl; stays = λ _. refl; opens = λ p _. still (m .last) (d .status .phase) p; wide = λ w p. same-record refl w (placed-small (d .entries) (m .tag) (m .entry) (w .entries) (p .1)) }
+act-keeps d (Open q) = record { settings = refl; stays = λ _. refl; opens = λ _ e. absurd (true≢false e); wide = λ w _. same-record refl w (w .entries) }
+act-keeps d (Send m) = record { settings = refl; stays = λ _. refl; opens = λ p _. still (m .last) (d .status .phase) p; wide = λ w p. same-record refl w (placed-small (d .entries) (m .tag) (m .entry) (w .entries) (p .1)) }
+act-keeps d (Finish set) = record { settings = refl; stays = λ _. refl; opens = λ p _. p; wide = λ w _. same-record refl w (cleared-small (d .entries) set (w .entries)) }
+act-keeps d (Media f) = record {
+  settings = failed-settings d f (bitIn 8 (f .error) 7);
+  stays = λ h. absurd (true≢false h);
+  opens = λ p _. absurd (true≢false p);
+  wide = λ _ p. record { sized = record { error = p .0; echo = p .1 }; entries = idle-small };
+}
+act-keeps d (Count row) = record {
+  settings = raised-settings d row;
+  stays = λ _. by-test (λ (y : Device). y .errors ≡ d .errors) (leb 16 row) d _ (λ _. refl) (λ _. refl);
+  opens = λ p _. by-test (λ (x : Device). eqb (x .status .phase) 0 ≡ false → eqb (d .status .phase) 0 ≡ false) (leb 16 row) d _ (λ _ q. q) (λ _ q. q) p;
+  wide = λ w _. raised-wide d row w;
+}
+act-keeps d Renew = record {
+  settings = raised-settings (released (resetHeld d)) 9;
+  stays = λ h. absurd (true≢false h);
+  opens = λ p _. absurd (true≢false p);
+  wide = λ _ _. raised-wide (released (resetHeld d)) 9 (record { sized = record { error = lit< tt; echo = zero-small }; entries = idle-small });
+}
+
+-- each by its name
+pub act-settings : (d : Device) (a : Act) → afterOf d a .settings ≡ d .settings
+act-settings d a = act-keeps d a .settings
+
+pub record-stays : (d : Device) (a : Act) → traits a .anew ≡ false → afterOf d a .errors ≡ d .errors
+record-stays d a = act-keeps d a .stays
+
+pub opens-only : (d : Device) (a : Act) → eqb (afterOf d a .status .phase) 0 ≡ false → traits a .opens ≡ false → eqb (d .status .phase) 0 ≡ false
+opens-only d a = act-keeps d a .opens
+
+pub act-wide : (d : Device) (a : Act) → Wide d → Puts a → Wide (afterOf d a)
+act-wide d a = act-keeps d a .wide

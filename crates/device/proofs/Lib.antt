@@ -14,6 +14,7 @@ pub mod Rooms
 pub mod Fitting
 pub mod Typing
 pub mod Widths
+pub mod Effects
 pub mod Rulings
 pub mod NeverCalls
 pub mod Opens
@@ -29,5 +30,4 @@ pub mod Sending
 pub mod Storing
 pub mod Moves
 pub mod Due
-pub mod Effects
 pub mod Zeros

@@ -4,7 +4,7 @@ use mathlib.Core.Bool.{true≢false, Bool, _&&_, _||_, false, not, true}
 use mathlib.Core.List.{List, []}
 use Prim.Native.Nat.{_%_, _*_, _+_, _-_, _<_, _^_, _≤_, min, ℕ}
 use native.Mathlib.Omega.{arith}
-use lib.Dec.{eqb, leb, ltb}
+use lib.Dec.{eqb, leb, ltb, lit<}
 use lib.ListN.{length, length-drop, length-take}
 use borrow.Author.Tests.{eq-eqb, eqb-true, le-leb, le-ltb, not-false}
 use Rattle.bits.specs.Bit.{bitIn}
@@ -15,7 +15,7 @@ use Rattle.frames.specs.declared.shapes.Frame.{Frame}
 use Rattle.frames.proofs.ReadLaws.{DataRead}
 use Rattle.frames.specs.declared.shapes.Frame.the-variants as fs
 use Rattle.pages.specs.Rows.{kept}
-use Rattle.device_state.specs.State.{echoOf}
+use Rattle.device_state.specs.State.{echoOf, zeroEcho}
 use Rattle.device_state.specs.Table.{entryOf}
 use Rattle.rules.specs.Call.{handed, Call}
 use Rattle.rules.specs.Positions.{advancedBy, leftOf, moveOf}
@@ -23,7 +23,6 @@ use Rattle.rules.specs.Decide.{entryFor, fault, tagAsked}
 use Rattle.rules.specs.Medium.{partOf, spanOf, touchOf}
 use Rattle.rules.specs.declared.acts.Act.{Act}
 use Rattle.rules.proofs.Ruled as by
-use Rattle.rules.specs.declared.acts.Act.the-variants.{Accept, Bad, BadAndHalt, Count, Finish, Log10, Log11, Media, Nothing, Open, Refuse, Release, Renew, Reset, Send, Store, ZeroCounters}
 use Rattle.replies.specs.Replies.{repliesOf}
 use Rattle.replies.proofs.Fit.{Fit}
 use Rattle.device.specs.Device.{contradictoryDevice}
@@ -32,6 +31,7 @@ use Rattle.device.specs.FactsOf.{factsOf, factsWith, mediumWrong, openTa
 use Rattle.device.specs.After.{afterOf, movedBy, renewed}
 use Rattle.device.specs.Step.{shown}
 use Rattle.device.specs.declared.state.Device.{Device}
+use Rattle.device.proofs.Effects.{traits, Puts}
 use Rattle.device.proofs.Keeping.{both-kept, counted-good, settings-good}
 use Rattle.device.proofs.Acts.{failed-good, halt-good, released-good, renewed-good, reset-held-good, unhalted-good, zeroed-good}
 use Rattle.device.proofs.Changes.{accepted-good, finished-good, moved-good, opened-good}
@@ -39,31 +39,15 @@ use Rattle.device.proofs.Entering.{entry-good, tag-small}
 use Rattle.device.proofs.Busy.{moves-on, part-fours}
 use Rattle.device.proofs.Tags.{busy-below}
 use Rattle.device.proofs.Fitting.{ReadFits, echo-bytes, record-fits}
-use Rattle.device.proofs.Widths.{Small, SmallAll, failing-small}
+use Rattle.device.proofs.Widths.{Small, SmallAll, failing-small, Small, zero-small}
 use Rattle.device.proofs.Sized.{SizedRecord}
 use Rattle.device.proofs.Rooms.{move-within, open-tag-is}
 
 -- ---- what must be kept
 
--- what an act puts into the record or the table is small
-unfoldable pub Puts : Act → Type 0
-Puts (Refuse n) = Unit
-Puts Nothing = Unit
-Puts (Bad b) = Unit
-Puts (BadAndHalt f) = (f .error < 256) × Small (f .echo)
-Puts (Accept q) = Small (q .entry .echo)
-Puts (Log10 l) = Unit
-Puts (Log11 l) = Unit
-Puts Reset = Unit
-Puts Release = Unit
-Puts ZeroCounters = Unit
-Puts (Store m) = Small (m .entry .echo)
-Puts (Open q) = Unit
-Puts (Send m) = Small (m .entry .echo)
-Puts (Finish set) = Unit
-Puts (Media f) = (f .error < 256) × Small (f .echo)
-Puts (Count r) = Unit
-Puts Renew = Unit
+-- an act that puts nothing
+pub none-puts : (0 < 256) × Small zeroEcho
+none-puts = (lit< tt, zero-small)
 
 -- the state after an act does not contradict itself
 abbrev pub Good : Device → Act → Type 0
@@ -101,25 +85,25 @@ move-small d t n h = h t
 
 module _ (d : Device) (wrong some : Bool) (room : ℕ) (g : contradictoryDevice d ≡ false) where
   pub heard-keeps : {f : Frame} {a : Act} → (k : ℕ) (l : List ℕ) → DataRead k l f → by.Heard (factsWith d (openTag (d .status .phase)) wrong some room) f a → Keeps d [] (ReadFits f) Unit a
-  unfolding afterOf Fit Puts ReadFits
-  heard-keeps k l r (by.srst h c s) = record { fits = λ _ _. tt; puts = λ _ _. tt; good = λ _. reset-held-good d g }
-  heard-keeps k l r (by.release h c s x) = record { fits = λ _ _. tt; puts = λ _ _. tt; good = λ _. released-good d g }
-  heard-keeps k l r (by.nothing h c s x) = record { fits = λ _ _. tt; puts = λ _ _. tt; good = λ _. g }
-  heard-keeps k l r (by.rule1 h c x) = record { fits = λ t _. (omega arith, t); puts = λ _ _. tt; good = λ _. g }
+  unfolding afterOf Fit traits ReadFits
+  heard-keeps k l r (by.srst h c s) = record { fits = λ _ _. tt; puts = λ _ _. none-puts; good = λ _. reset-held-good d g }
+  heard-keeps k l r (by.release h c s x) = record { fits = λ _ _. tt; puts = λ _ _. none-puts; good = λ _. released-good d g }
+  heard-keeps k l r (by.nothing h c s x) = record { fits = λ _ _. tt; puts = λ _ _. none-puts; good = λ _. g }
+  heard-keeps k l r (by.rule1 h c x) = record { fits = λ t _. (omega arith, t); puts = λ _ _. none-puts; good = λ _. g }
   heard-keeps k l r (by.rule2 h c x u) = record { fits = λ t _. (omega arith, echo-bytes (h .task) t); puts = λ t _. (omega arith, echo-bytes (h .task) t); good = λ _. fault-good d h false (tagAsked h) 0x04 g (asked-small h) refl }
   heard-keeps k l r (by.rule3 h c x u y) = record { fits = λ t _. (omega arith, echo-bytes (h .task) t); puts = λ t _. (omega arith, echo-bytes (h .task) t); good = λ _. fault-good d h false (tagAsked h) 0x10 g (asked-small h) refl }
   heard-keeps k l r (by.rule4 h c x u y) = record {
     fits = λ t _. echo-bytes (h .task) t;
-    puts = λ t _. echo-bytes (h .task) t;
+    puts = λ t _. (lit< tt, echo-bytes (h .task) t);
     good = λ _. accepted-good d (record { tag = tagAsked h; entry = entryFor h }) g x (c .free) (not-false (eqb (d .status .phase) 0) (c .calm)) (tag-small (h .task .count)) (entry-good (d .settings) h (settings-good d g) (or-left (leb (d .settings .depth) (tagAsked h)) (bitIn 32 (d .status .outstanding) (tagAsked h)) u) y);
   }
-  heard-keeps k l r (by.other-halted h c x) = record { fits = λ t _. (omega arith, t); puts = λ _ _. tt; good = λ _. g }
+  heard-keeps k l r (by.other-halted h c x) = record { fits = λ t _. (omega arith, t); puts = λ _ _. none-puts; good = λ _. g }
   heard-keeps k l r (by.other-busy h c x) = record { fits = λ t _. (omega arith, echo-bytes (h .task) t); puts = λ t _. (omega arith, echo-bytes (h .task) t); good = λ _. fault-good d h true 0 0x04 g refl refl }
-  heard-keeps k l r (by.page10 h c e p) = record { fits = λ t z. (t, record-fits d z g); puts = λ _ _. tt; good = λ _. unhalted-good d g }
-  heard-keeps k l r (by.page11 h c x e p) = record { fits = λ t _. (t, both-kept d g); puts = λ _ _. tt; good = λ _. zeroed-good d (bitIn 8 (h .features) 0) g }
-  heard-keeps k l r (by.other-bad h c x e) = record { fits = λ t _. (omega arith, t); puts = λ _ _. tt; good = λ _. g }
-  heard-keeps k l r (by.due n p w s) = record { fits = λ _ _. tt; puts = λ _ es. move-small d (openTag (d .status .phase)) n es; good = λ _. moving-good d n g p (eqb-true (n % 4) 0 (and-right (leb 4 n && leb n 8192) (eqb (n % 4) 0) (r .1 .1))) }
-  heard-keeps k l r (by.bist b) = record { fits = λ _ _. tt; puts = λ _ _. tt; good = λ _. zeroed-good d true g }
+  heard-keeps k l r (by.page10 h c e p) = record { fits = λ t z. (t, record-fits d z g); puts = λ _ _. none-puts; good = λ _. unhalted-good d g }
+  heard-keeps k l r (by.page11 h c x e p) = record { fits = λ t _. (t, both-kept d g); puts = λ _ _. none-puts; good = λ _. zeroed-good d (bitIn 8 (h .features) 0) g }
+  heard-keeps k l r (by.other-bad h c x e) = record { fits = λ t _. (omega arith, t); puts = λ _ _. none-puts; good = λ _. g }
+  heard-keeps k l r (by.due n p w s) = record { fits = λ _ _. tt; puts = λ _ es. (lit< tt, move-small d (openTag (d .status .phase)) n es); good = λ _. moving-good d n g p (eqb-true (n % 4) 0 (and-right (leb 4 n && leb n 8192) (eqb (n % 4) 0) (r .1 .1))) }
+  heard-keeps k l r (by.bist b) = record { fits = λ _ _. tt; puts = λ _ _. none-puts; good = λ _. zeroed-good d true g }
 
 -- ---- a device event that is taken
 
@@ -146,21 +130,21 @@ pub record OwnKeeps (d : Device) (part : List ℕ) (c : Call) (a : Act) : Type 0
   pub silent : handed c .buffer ≡ false → (sent : List ℕ) → repliesOf (shown d) sent a ≡ []
 
 pub own-keeps : (d : Device) (m b : List ℕ) {c : Call} {a : Act} → by.Own (factsOf d (lent c m b)) c a → OwnKeeps d (partOf (spanOf a) m) c a
-unfolding afterOf Fit Puts touchOf repliesOf
+unfolding afterOf Fit traits touchOf repliesOf
 own-keeps d m b (by.opened u g s o p e) = record {
   keeps = record {
     fits = λ _ _. let small = busy-below (d .status .outstanding) u o in omega arith;
-    puts = λ _ _. tt;
+    puts = λ _ _. none-puts;
     good = λ _. opened-good d u g (not-false (eqb (d .status .phase) 0) p) o e;
   };
   silent = λ h. absurd (true≢false h);
 }
 own-keeps d m b (by.sent g w s p r) = record {
-  keeps = record { fits = λ _ _. part-sized d m g w p; puts = λ _ es. move-small d (openTag (d .status .phase)) 8192 es; good = λ _. moving-good d 8192 g p refl };
+  keeps = record { fits = λ _ _. part-sized d m g w p; puts = λ _ es. (lit< tt, move-small d (openTag (d .status .phase)) 8192 es); good = λ _. moving-good d 8192 g p refl };
   silent = λ h. absurd (true≢false h);
 }
 own-keeps d m b (by.finished u g s p e r) = record {
-  keeps = record { fits = λ t _. t .1; puts = λ _ _. tt; good = λ small. finished-good d u g small (not-false (eqb (d .status .phase) 0) p) };
+  keeps = record { fits = λ t _. t .1; puts = λ _ _. none-puts; good = λ small. finished-good d u g small (not-false (eqb (d .status .phase) 0) p) };
   silent = λ h. absurd (true≢false h);
 }
 own-keeps d m b (by.failed u e x g s o y w) = record {
@@ -174,10 +158,10 @@ own-keeps d m b (by.failed u e x g s o y w) = record {
 own-keeps d m b (by.linked r g x) = record {
   keeps = record {
     fits = λ _ _. tt;
-    puts = λ _ _. tt;
+    puts = λ _ _. none-puts;
     good = λ _. counted-good d r g
         (not-false (kept (d .settings .mask) r) (or-right (ltb 15 r) (not (kept (d .settings .mask) r)) (or-right (eqb r 0 || eqb r 9) (ltb 15 r || not (kept (d .settings .mask) r)) x)));
   };
   silent = λ h sent. refl;
 }
-own-keeps d m b (by.renewed g s) = record { keeps = record { fits = λ _ _. tt; puts = λ _ _. tt; good = λ _. renewed-good d g }; silent = λ h. absurd (true≢false h) }
+own-keeps d m b (by.renewed g s) = record { keeps = record { fits = λ _ _. tt; puts = λ _ _. none-puts; good = λ _. renewed-good d g }; silent = λ h. absurd (true≢false h) }

@@ -1,6 +1,6 @@
 pub mod Elses
-pub mod ActElses
 pub mod Cases
+pub mod ActElses
 pub mod StoreLaws
 pub mod Rows
 pub mod Numbers
