@@ -32,32 +32,27 @@ pub fn counter(c: Counter) {
     }
 }
 
-// The lowest digit of n; `ten` is the one that stands for ten.
-fn digit(n: u8, ten: u8) -> u8
-    requires { ⌜ ten ≤ 97 ⌝ }
-{
-    let x = n % 16;
-    if x < 10 { x + 48 } else { x - 10 + ten }
+// The text in front of a sheet, up to its end; one that was cut is not printed.
+fn sheet_to(sheet: &[u8], end: usize) {
+    if end <= sheet.len() {
+        io::write_all(STDOUT_FILENO, &sheet[0..end]);
+    }
 }
 
-// The first bytes of s, at most 64, with no blank before them.
-fn digits(s: &[u8], most: usize, ten: u8)
-    requires { ⌜ ten ≤ 97 ⌝ }
+// The lower of two.
+fn lower(a: usize, b: usize) -> usize
+    ensures { λ r. ⌜ (r ≤ a) × (r ≤ b) ⌝ }
 {
-    let mut text = [0u8; 128];
-    let mut i: usize = 0;
-    while i < 64 && i < most && i < s.len() {
-        let b = s[i];
-        text[2 * i] = digit(b >> 4, ten);
-        text[2 * i + 1] = digit(b, ten);
-        i += 1;
-    }
-    io::write_all(STDOUT_FILENO, &text[0..2 * i]);
+    if a < b { a } else { b }
 }
 
 // The first bytes of s, at most `most` and 64, in lower-case hex.
 pub fn bytes(s: &[u8], most: usize) {
-    digits(s, most, b'a');
+    let mut sheet = [0u8; 128];
+    let few = lower(most, 64);
+    let n = lower(few, s.len());
+    let end = text::put_hex(&mut sheet, 0, &s[0..n], false);
+    sheet_to(&sheet, end);
 }
 
 // The same behind a blank; of no bytes, nothing at all.
@@ -71,13 +66,8 @@ pub fn hex(s: &[u8], most: usize) {
 
 // A blank, and the eight upper-case hex digits of n.
 pub fn upper(n: u32) {
-    let x = n as u64;
-    let b = [
-        bits::byte(x, 3),
-        bits::byte(x, 2),
-        bits::byte(x, 1),
-        bits::byte(x, 0),
-    ];
-    word(b" ");
-    digits(&b, 4, b'A');
+    let mut sheet = [0u8; 9];
+    let mid = text::put_byte(&mut sheet, 0, b' ');
+    let end = text::put_upper8(&mut sheet, mid, n);
+    sheet_to(&sheet, end);
 }
