@@ -87,7 +87,7 @@ given-without d c b a b′ r f e s n w = given-by d (lent c [] b) a [] [] b′ r
 
 -- a host frame sends nothing of the medium
 pub heard-unsent : (v : Facts) (m : List ℕ) {f : Frame} {a : Act} → by.Heard v f a → [] ≡ partOf (spanOf a) m
-heard-unsent v m h = ap (λ (s : Span). partOf s m) (sym (by.unsent v h))
+heard-unsent v m h = ap (λ (s : Span). partOf s m) (sym (by.unsent v h .nothing-sent))
 
 ruled-unsent : (v : Facts) (m : List ℕ) {f : List ℕ} {a : Act} → by.Ruled v (hostFrame f) a → [] ≡ partOf (spanOf a) m
 unfolding touchOf

@@ -3,6 +3,6 @@ pub mod Cases
 pub mod ActElses
 pub mod StoreLaws
 pub mod Rows
-pub mod Numbers
 pub mod Ruled
+pub mod Numbers
 pub mod Tied

@@ -24,14 +24,14 @@ use Rattle.rules.specs.declared.facts.Facts.{Facts}
 use Rattle.rules.specs.declared.acts.Act.{Act}
 use Rattle.rules.specs.declared.acts.Act.the-variants.{Refuse}
 use Rattle.rules.proofs.Rows.{rises, row}
+use Rattle.rules.proofs.Ruled.{act-done}
 
--- an act that is done, or refused
-pub decided-number : (n : ℕ) (a : Act) → numberOf a ≡ 0 → numberOf (decided n a) ≡ n
-unfolding decided numberOf
-decided-number n a e =
-    by-test (λ (x : Act). numberOf x ≡ n) (not (eqb n 0)) (Refuse n) a (λ _. refl) (λ f. rw (eqb-true n 0 (not-false (eqb n 0) f)) e)
+-- an act that is refused
+decided-refused : (n : ℕ) (a : Act) → eqb n 0 ≡ false → numberOf (decided n a) ≡ n
+unfolding decided numberOf pick
+decided-refused n a f = rw f
 
--- and then no rung held, and it is the act itself
+-- where it is not, no rung held, and it is the act itself
 pub not-refused : (n : ℕ) (a : Act) → numberOf (decided n a) ≡ 0 → n ≡ 0
 unfolding decided numberOf
 not-refused n a =
@@ -107,7 +107,9 @@ module _ (v : Facts) (c : Call) where
   -- the number of a call
   pub act-number : numberOf (act v c) ≡ firstOf (tests v c)
   unfolding act
-  act-number = decided-number (firstOf (tests v c)) (does v c) (row v c .done)
+  act-number =
+      ⊎-elim (λ (t : eqb (firstOf (tests v c)) 0 ≡ true). let z = eqb-true (firstOf (tests v c)) 0 t in act-done v c z ∙ sym z)
+      (λ (f : eqb (firstOf (tests v c)) 0 ≡ false). decided-refused (firstOf (tests v c)) (does v c) f) (tested (eqb (firstOf (tests v c)) 0))
 
   -- each call gives each number of its row exactly when that test holds and none before it does, 0 exactly when none holds, and no other number
   pub act-exactly : FirstExactly (tests v c) (numberOf (act v c))

@@ -1,5 +1,5 @@
 -- How a call is decided: the rule that holds, with what it found. A proof about calls goes by these cases. Assumes nothing.
-use mathlib.Core.Path.{_≡_, refl}
+use mathlib.Core.Path.{_≡_, refl, sym, _∙_}
 use mathlib.Core.Bool.{Bool, true, false, not, _&&_, _||_, true≢false, false≢true}
 use mathlib.Core.List.{List}
 use Prim.Native.Nat.{ℕ, _+_}
@@ -75,38 +75,43 @@ pub data Ruled (v : Facts) : Call → Act → Type 0 where
   host : (f : List ℕ) (a : Act) → v .contradicts ≡ false → v .«medium_wrong» ≡ false → v .«reply_short» ≡ false → Heard v (readFrame f) a → Ruled v (hostFrame f) a
   own : {c : Call} {a : Act} → Own v c a → Ruled v c a
 
--- nothing of the medium is sent to a host frame
-pub unsent : (v : Facts) {f : Frame} {a : Act} → Heard v f a → spanOf a ≡ nowhere
-unfolding touchOf
-unsent v (srst h c s) = refl
-unsent v (release h c s x) = refl
-unsent v (nothing h c s x) = refl
-unsent v (rule1 h c x) = refl
-unsent v (rule2 h c x u) = refl
-unsent v (rule3 h c x u y) = refl
-unsent v (rule4 h c x u y) = refl
-unsent v (other-halted h c x) = refl
-unsent v (other-busy h c x) = refl
-unsent v (page10 h c e p) = refl
-unsent v (page11 h c x e p) = refl
-unsent v (other-bad h c x e) = refl
-unsent v (due n p w s) = refl
-unsent v (bist b) = refl
+-- what a host frame that is not turned down makes the device do is done, and sends nothing of the medium
+pub record Unsent (a : Act) : Type 0 where
+  pub done : numberOf a ≡ 0
+  pub nothing-sent : spanOf a ≡ nowhere
 
--- what all device events share: the state does not contradict itself; where a reply buffer is lent it is not short; and where no medium is lent the act leaves it
+pub unsent : (v : Facts) {f : Frame} {a : Act} → Heard v f a → Unsent a
+unfolding numberOf touchOf
+unsent v (srst h c s) = record { done = refl; nothing-sent = refl }
+unsent v (release h c s x) = record { done = refl; nothing-sent = refl }
+unsent v (nothing h c s x) = record { done = refl; nothing-sent = refl }
+unsent v (rule1 h c x) = record { done = refl; nothing-sent = refl }
+unsent v (rule2 h c x u) = record { done = refl; nothing-sent = refl }
+unsent v (rule3 h c x u y) = record { done = refl; nothing-sent = refl }
+unsent v (rule4 h c x u y) = record { done = refl; nothing-sent = refl }
+unsent v (other-halted h c x) = record { done = refl; nothing-sent = refl }
+unsent v (other-busy h c x) = record { done = refl; nothing-sent = refl }
+unsent v (page10 h c e p) = record { done = refl; nothing-sent = refl }
+unsent v (page11 h c x e p) = record { done = refl; nothing-sent = refl }
+unsent v (other-bad h c x e) = record { done = refl; nothing-sent = refl }
+unsent v (due n p w s) = record { done = refl; nothing-sent = refl }
+unsent v (bist b) = record { done = refl; nothing-sent = refl }
+
+-- what all device events share: they are done; the state does not contradict itself; where a reply buffer is lent it is not short; and where no medium is lent the act leaves it
 pub record Owned (v : Facts) (c : Call) (a : Act) : Type 0 where
+  pub done : numberOf a ≡ 0
   pub sound : v .contradicts ≡ false
   pub room : handed c .buffer ≡ true → v .«reply_short» ≡ false
   pub leaving : handed c .medium ≡ false → touchOf a ≡ leaves
 
 pub owned : (v : Facts) {c : Call} {a : Act} → Own v c a → Owned v c a
-unfolding touchOf
-owned v (opened t g s o q e) = record { sound = g; room = λ _. s; leaving = λ _. refl }
-owned v (sent g w s p r) = record { sound = g; room = λ _. s; leaving = λ h. absurd (true≢false h) }
-owned v (finished t g s q e r) = record { sound = g; room = λ _. s; leaving = λ _. refl }
-owned v (failed t e x g s o y w) = record { sound = g; room = λ _. s; leaving = λ _. refl }
-owned v (linked r g x) = record { sound = g; room = λ h. absurd (false≢true h); leaving = λ _. refl }
-owned v (renewed g s) = record { sound = g; room = λ _. s; leaving = λ _. refl }
+unfolding numberOf touchOf
+owned v (opened t g s o q e) = record { done = refl; sound = g; room = λ _. s; leaving = λ _. refl }
+owned v (sent g w s p r) = record { done = refl; sound = g; room = λ _. s; leaving = λ h. absurd (true≢false h) }
+owned v (finished t g s q e r) = record { done = refl; sound = g; room = λ _. s; leaving = λ _. refl }
+owned v (failed t e x g s o y w) = record { done = refl; sound = g; room = λ _. s; leaving = λ _. refl }
+owned v (linked r g x) = record { done = refl; sound = g; room = λ h. absurd (false≢true h); leaving = λ _. refl }
+owned v (renewed g s) = record { done = refl; sound = g; room = λ _. s; leaving = λ _. refl }
 
 -- a taken call is not refused for its reply buffer, where it is lent one
 pub ruled-room : (v : Facts) {c : Call} {a : Act} → handed c .buffer ≡ true → Ruled v c a → numberOf a ≡ 0 → v .«reply_short» ≡ false
@@ -221,3 +226,13 @@ module _ (v : Facts) where
   ruled c =
       let n = firstOf (tests v c) in
       by-test (Ruled v c) (not (eqb n 0)) (Refuse n) (does v c) (λ t. refused c n (eqb-false n 0 (not-true (eqb n 0) t)) refl) (λ f. taken c (eqb-true n 0 (not-false (eqb n 0) f)))
+
+  -- a call that none of its tests turns down is done
+  ruled-done : {c : Call} {a : Act} → Ruled v c a → firstOf (tests v c) ≡ 0 → numberOf a ≡ 0
+  unfolding numberOf
+  ruled-done (refused c n h e) z = sym e ∙ z
+  ruled-done (host f a g w s h) z = unsent v h .done
+  ruled-done (own o) z = owned v o .done
+
+  pub act-done : (c : Call) → firstOf (tests v c) ≡ 0 → numberOf (act v c) ≡ 0
+  act-done c = ruled-done (ruled c)
