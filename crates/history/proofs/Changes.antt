@@ -26,7 +26,7 @@ use Rattle.device.proofs.StatusLaws.{phase-busy}
 use Rattle.device.proofs.Busy.{phaseOf, busy-good, phase-more, whole-is}
 use Rattle.device.proofs.Tags.{busy-below}
 use Rattle.device.proofs.Entering.{tag-small}
-use Rattle.history.specs.Asked.{registerAsks}
+use Rattle.history.specs.FrameAsks.{registerAsks}
 use Rattle.history.specs.Seen.{Seen}
 use Rattle.history.proofs.Class.{Same, Took, Carried}
 use Rattle.history.proofs.Sets.{no-busy}

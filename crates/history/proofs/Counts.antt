@@ -26,7 +26,7 @@ use Rattle.device.specs.declared.state.Device.{Device}
 use Rattle.device.proofs.Doing.{heard-unsent}
 use Rattle.device.proofs.Never.{and-never}
 use Rattle.history.specs.Event.{Event}
-use Rattle.history.specs.Counted.{rowRaised, frameZeroes, callZeroes}
+use Rattle.history.specs.Reading.{rowRaised, callZeroes}
 use Rattle.history.specs.Replied.{some, isPio}
 use Rattle.history.specs.Run.{result, done, event}
 use Rattle.history.proofs.Frames.{Read, read-frames}

@@ -32,7 +32,7 @@ use Rattle.device.specs.Step.{shown}
 use Rattle.device.specs.declared.state.Device.{Device}
 use Rattle.device.proofs.Rooms.{move-within}
 use Rattle.device.proofs.Busy.{whole-is}
-use Rattle.history.specs.Asked.{quiet, resetAsks}
+use Rattle.history.specs.FrameAsks.{quiet, resetAsks}
 use Rattle.history.specs.Seen.{underWay}
 use Rattle.history.proofs.Class.{none, Class, Same, plain, halts, resets, opens, carries, ends}
 use Rattle.history.proofs.Sets.{no-busy, no-bits}

@@ -29,8 +29,7 @@ use Rattle.replies.specs.Replies.{repliesOf}
 use Rattle.replies.specs.declared.shown.Shown.{Shown}
 use Rattle.device.proofs.Never.{and-never}
 use Rattle.history.specs.Replied.{some, isPio}
-use Rattle.history.specs.Logs.{readsLog, frameReads}
-use Rattle.history.specs.Counted.{frameZeroes}
+use Rattle.history.specs.Logs.{readsLog, frameReads, frameZeroes}
 use Rattle.history.proofs.Tally.{stay, wipe, wipes, raisesAt}
 use Rattle.history.proofs.Impact.{effectOf, OnRow}
 

@@ -29,7 +29,7 @@ use Rattle.device.specs.FactsOf.{openTag, factsWith}
 use Rattle.device.specs.After.{afterOf, haltWith, unhalted, zeroedIf, resetHeld, released}
 use Rattle.device.specs.Step.{shown}
 use Rattle.device.specs.declared.state.Device.{Device}
-use Rattle.history.specs.Asked.{Asked, registerAsks, dataAsks, frameAsks}
+use Rattle.history.specs.FrameAsks.{Asked, registerAsks, dataAsks, frameAsks}
 use Rattle.history.specs.Seen.{Seen}
 use Rattle.history.proofs.Class.{none, Is, Class, plain, again, freely, halts, resets, sweeps, takes, carries}
 use Rattle.history.proofs.Views.{view, is-silent, is-bad, is-good, is-page, is-swept, is-brought, silent-unbegun, answer-unbegun, page-unbegun, swept-unbegun, active-unbegun}

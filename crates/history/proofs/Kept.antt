@@ -28,7 +28,7 @@ use Rattle.device.proofs.Refusals.{refused-keeps}
 use Rattle.device.proofs.Rooms.{move-within}
 use Rattle.device.proofs.Storing.{Taken46, taken-46, data-kept-whole}
 use Rattle.history.specs.Replied.{dataIn}
-use Rattle.history.specs.Asked.{callBrings}
+use Rattle.history.specs.Reading.{callBrings}
 use Rattle.history.proofs.Placed.{LeftAt, EndsIn, left-none, ends-none}
 
 -- the bytes l stand in what is left of the medium m at a place, and end within it

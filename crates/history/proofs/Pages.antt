@@ -32,7 +32,7 @@ use Rattle.device.proofs.Keeping.{settings-good, both-kept}
 use Rattle.rules.specs.Call.{Call, hostFrame}
 use Rattle.history.specs.Event.{Event, taken}
 use Rattle.history.specs.Replied.{repliesIn, frames, some, isPio, payloads, page}
-use Rattle.history.specs.Logs.{callReads}
+use Rattle.history.specs.Reading.{callReads}
 use Rattle.history.specs.Replied.{paged}
 use Rattle.history.specs.Counted.{sends11, toldAt, toldFor}
 use Rattle.device.specs.Lent.{Lent, lent}

@@ -27,9 +27,10 @@ use Rattle.device.specs.Step.{shown}
 use Rattle.device.proofs.Doing.{heard-unsent}
 use Rattle.device.specs.declared.state.Device.{Device}
 use Rattle.rules.specs.Call.{Call, hostFrame, openPhase}
-use Rattle.history.specs.Asked.{Asked, dataAsks, frameAsks, callAsks}
+use Rattle.history.specs.FrameAsks.{Asked, dataAsks, frameAsks}
+use Rattle.history.specs.Reading.{callAsks, callReplies}
 use Rattle.history.specs.Replied.{some, errIn, registerIn, collect, faultyIn}
-use Rattle.history.specs.Shapes.{kindOf, OneOf, commandReplies, frameReplies, callReplies}
+use Rattle.history.specs.Shapes.{kindOf, OneOf, commandReplies, frameReplies}
 
 -- the kinds of what is sent
 abbrev pub kindsOf : List FrameValue → List ℕ

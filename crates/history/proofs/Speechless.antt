@@ -28,8 +28,9 @@ use Rattle.device.specs.Step.{shown}
 use Rattle.device.specs.declared.state.Device.{Device}
 use Rattle.device.proofs.Doing.{heard-unsent}
 use Rattle.device.proofs.Never.{and-never}
-use Rattle.history.specs.Asked.{Asked, frameAsks, callAsks}
-use Rattle.history.specs.Logs.{frameReads, callReads}
+use Rattle.history.specs.FrameAsks.{Asked, frameAsks}
+use Rattle.history.specs.Logs.{frameReads}
+use Rattle.history.specs.Reading.{Says, saysNone, saysSet, saysErr, callAsks, callReads, callSays}
 use Rattle.history.specs.Replied.{some, collect}
 use Rattle.history.specs.Seen.{Seen}
 use Rattle.history.specs.ReplyRules.{TellsError}
@@ -44,15 +45,11 @@ pub none-finished : (k : Asked) (rs : List FrameValue) → bitsIn rs ≡ [] → 
 unfolding view some
 none-finished k rs e t = rw e (and-never (not (k .command)))
 
--- what a taken call may finish: finish just its set, without ERR; a media error nothing, with ERR; any other call nothing
-abbrev pub SpokenBy : Call → Seen → Type 0
-SpokenBy (hostFrame f) e = (t : ℕ) → e .finishes t ≡ false
-SpokenBy (openPhase t) e = (t : ℕ) → e .finishes t ≡ false
-SpokenBy sendData e = (t : ℕ) → e .finishes t ≡ false
-SpokenBy (finishTags s) e = (e .fails ≡ false) × ((t : ℕ) → e .finishes t ≡ bitIn 32 s t)
-SpokenBy (mediaError t x s) e = (e .fails ≡ true) × ((t : ℕ) → e .finishes t ≡ false)
-SpokenBy (linkEvent r) e = (t : ℕ) → e .finishes t ≡ false
-SpokenBy comReset e = (t : ℕ) → e .finishes t ≡ false
+-- what is seen of a taken call, by what it may say: just a set finished, without ERR; ERR, and nothing finished; nothing finished
+abbrev pub SpokenBy : Says → Seen → Type 0
+SpokenBy saysNone e = (t : ℕ) → e .finishes t ≡ false
+SpokenBy (saysSet s) e = (e .fails ≡ false) × ((t : ℕ) → e .finishes t ≡ bitIn 32 s t)
+SpokenBy saysErr e = (e .fails ≡ true) × ((t : ℕ) → e .finishes t ≡ false)
 
 -- ---- the sweep
 
@@ -89,7 +86,7 @@ host-finishes f rs y t =
 pub record Utters (c : Call) (rs : List FrameValue) : Type 0 where
   pub swept : callAsks c .command && someBits rs ≡ true → (callReads 0x10 c && pioIn rs ≡ true) × TellsError (readLog (pageIn rs))
   pub paged : pioIn rs ≡ true → callReads 0x10 c || callReads 0x11 c ≡ true
-  pub spoken : SpokenBy c (view (callAsks c) rs)
+  pub spoken : SpokenBy (callSays c) (view (callAsks c) rs)
 
 -- of a host frame
 host-utters : (f : List ℕ) (rs : List FrameValue) → FrameSays (readFrame f) rs → Utters (hostFrame f) rs
@@ -100,7 +97,7 @@ host-utters f rs y = record {
 }
 
 -- of a device event, which is no command and sends no page
-event-utters : (c : Call) (rs : List FrameValue) → callAsks c .command ≡ false → pioIn rs ≡ false → SpokenBy c (view (callAsks c) rs) → Utters c rs
+event-utters : (c : Call) (rs : List FrameValue) → callAsks c .command ≡ false → pioIn rs ≡ false → SpokenBy (callSays c) (view (callAsks c) rs) → Utters c rs
 event-utters c rs k p s = record { swept = λ x. absurd (false≢true (ap (λ (b : Bool). b && someBits rs) (sym k) ∙ x)); paged = λ x. absurd (false≢true (sym p ∙ x)); spoken = s }
 
 -- a DMA Setup, and an Activate or none

@@ -23,7 +23,9 @@ use Rattle.device.proofs.Sized.{SizedRecord}
 use Rattle.device.proofs.Doing.{heard-unsent}
 use Rattle.device.proofs.Refusals.{refused-keeps}
 use Rattle.history.specs.Event.{Event}
-use Rattle.history.specs.Asked.{quiet, callAsks, frameAsks, asks}
+use Rattle.history.specs.FrameAsks.{quiet, frameAsks}
+use Rattle.history.specs.Reading.{callAsks}
+use Rattle.history.specs.Asked.{asks}
 use Rattle.history.specs.Seen.{Seen, seen}
 use Rattle.history.specs.Run.{result, done, event}
 use Rattle.history.proofs.Class.{Class, plain}
