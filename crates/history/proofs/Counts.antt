@@ -31,8 +31,9 @@ use Rattle.history.specs.Replied.{some, isPio}
 use Rattle.history.specs.Run.{result, done, event}
 use Rattle.history.proofs.Frames.{Read, read-frames}
 use Rattle.history.proofs.Tally.{Effect, stay, raise, wipe, counted, wipes, raisesAt, RowWithin, Reads, Counting, tells}
-use Rattle.history.proofs.Impact.{effectOf, OnRow, act-values}
+use Rattle.history.proofs.Impact.{effectOf, OnRow, act-values, Reckons, none-raised}
 use Rattle.history.proofs.Hearing.{pioIn, Hears, heard-heard}
+use Rattle.history.proofs.Own.{own-goes}
 
 -- what the outside sees of a call of the definitions
 abbrev pub eventOf : Device → Lent → Event
@@ -73,34 +74,6 @@ act-within (Media f) o = pick-within (bitIn 8 (f .error) 7) (raise 0) (lit< tt)
 act-within (Count row) o = o
 act-within Renew o = lit< tt
 
--- 16 is no row
-none-raised : (r : ℕ) → r < 16 → eqb 16 r ≡ false
-none-raised r l = ne-eqb 16 r (λ e. omega arith)
-
--- bit 7 of the error byte alone
-bit-wipeless : (b : Bool) → wipes (pick b (raise 0) stay) ≡ false
-unfolding pick
-bit-wipeless true = refl
-bit-wipeless false = refl
-
-bit-raised : (b : Bool) (r : ℕ) → r < 16 → eqb (pick b 0 16) r ≡ raisesAt r (pick b (raise 0) stay)
-unfolding pick
-bit-raised true r l = refl
-bit-raised false r l = none-raised r l
-
--- a row that a link event may name is one of the sixteen
-link-row : (mask row : ℕ) → rowRefused mask row ≡ false → row < 16
-link-row mask row n =
-    let far = or-left (ltb 15 row) (not (kept mask row)) (or-right (eqb row 0 || eqb row 9) (ltb 15 row || not (kept mask row)) n) in
-    let most : row ≤ 15 = ltb-false 15 row far in
-    omega arith
-
--- of a call, a page in its replies or not, and its act: what the history reads of it is what the act does to the counters
-record Reckons (c : Call) (paged : Bool) (a : Act) : Type 0 where
-  zeroed : eqb (numberOf a) 0 && callZeroes paged c ≡ wipes (effectOf a)
-  raised : (r : ℕ) → r < 16 → eqb (numberOf a) 0 && eqb (rowRaised c) r ≡ raisesAt r (effectOf a)
-  on : OnRow a
-
 -- a call that was decided
 ruled-reckons : (d : Device) (m b : List ℕ) {c : Call} {a : Act} → by.Ruled (factsOf d (lent c m b)) c a → Reckons c (pioIn (repliesOf (shown d) (partOf (spanOf a) m) a)) a
 unfolding numberOf touchOf OnRow
@@ -110,12 +83,7 @@ ruled-reckons d m b (by.host f a g w s h) =
     let y : Hears (readFrame f) (pioIn (repliesOf (shown d) (partOf (spanOf a) m) a)) a =
     subst (λ (p : List ℕ). Hears (readFrame f) (pioIn (repliesOf (shown d) p a)) a) (heard-unsent v m h) (heard-heard (shown d) v h) in
     record { zeroed = y .zeroed; raised = λ r l. rw (none-raised r l) (and-never (eqb (numberOf a) 0) ∙ sym (y .rowless r)); on = y .on }
-ruled-reckons d m b (by.own (by.opened u g s o p e)) = record { zeroed = refl; raised = none-raised; on = tt }
-ruled-reckons d m b (by.own (by.sent g w s p r)) = record { zeroed = refl; raised = none-raised; on = tt }
-ruled-reckons d m b (by.own (by.finished u g s p e r)) = record { zeroed = refl; raised = none-raised; on = tt }
-ruled-reckons d m b (by.own (by.failed u e x g s o y w)) = record { zeroed = sym (bit-wipeless (bitIn 8 e 7)); raised = bit-raised (bitIn 8 e 7); on = tt }
-ruled-reckons d m b (by.own (by.linked r g x)) = record { zeroed = refl; raised = λ k l. refl; on = link-row (d .settings .mask) r x }
-ruled-reckons d m b (by.own (by.renewed g s)) = record { zeroed = refl; raised = λ k l. refl; on = tt }
+ruled-reckons d m b (by.own o) = own-goes d m b o .reckons
 
 -- every call, refused or taken: the counters go on telling the history
 pub counting-step : (d : Device) (l : Lent) (h : List Event) → Replies d l → Counting d h → Counting (step d l .state) (eventOf d l ∷ h)

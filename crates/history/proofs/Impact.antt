@@ -1,18 +1,21 @@
--- What each act does to the counters. Assumes nothing.
+-- What each act does to the counters, and that this is what the history reads of its call. Assumes nothing.
 use mathlib.Core.Path.{_≡_, refl}
-use mathlib.Core.Bool.{Bool, true, false}
-use mathlib.Core.List.{List}
+use mathlib.Core.Bool.{Bool, true, false, _&&_}
 use Prim.Native.Nat.{ℕ, _<_}
-use lib.Dec.{lit<}
-use borrow.Author.Tests.{lt-leb}
+use native.Mathlib.Omega.{arith}
+use lib.Dec.{eqb, lit<}
+use borrow.Author.Tests.{ne-eqb, lt-leb}
 use Rattle.bits.specs.Pick.{pick}
 use Rattle.bits.specs.Bit.{bitIn}
+use Rattle.rules.specs.Call.{Call}
+use Rattle.rules.specs.Medium.{numberOf}
 use Rattle.rules.specs.declared.acts.Fault.{Fault}
 use Rattle.rules.specs.declared.acts.Act.{Act}
 use Rattle.rules.specs.declared.acts.Act.the-variants.{Refuse, Nothing, Bad, BadAndHalt, Accept, Log10, Log11, Reset, Release, ZeroCounters, Store, Open, Send, Finish, Media, Count, Renew}
 use Rattle.device.specs.After.{withValue, renewed, haltWith, acceptedBy, unhalted, zeroedIf, resetHeld, released, movedBy, openedFor, finishedBy, failedBy, afterOf}
 use Rattle.device.specs.declared.state.Device.{Device}
-use Rattle.history.proofs.Tally.{Effect, stay, raise, wipe, counted}
+use Rattle.history.specs.Reading.{rowRaised, callZeroes}
+use Rattle.history.proofs.Tally.{Effect, stay, raise, wipe, counted, wipes, raisesAt}
 
 -- the effect of an act: a media error whose byte has bit 7 raises row 0; BIST, and page 11h read with features bit 0, zero all
 abbrev pub effectOf : Act → Effect
@@ -91,3 +94,13 @@ act-values d (Finish set) o = refl
 act-values d (Media f) o = failed-values d f (bitIn 8 (f .error) 7)
 act-values d (Count row) o = raised-values d row o
 act-values d Renew o = raised-values (released (resetHeld d)) 9 (lit< tt)
+
+-- of a call, a page in its replies or not, and its act: what the history reads of it is what the act does to the counters
+pub record Reckons (c : Call) (paged : Bool) (a : Act) : Type 0 where
+  pub zeroed : eqb (numberOf a) 0 && callZeroes paged c ≡ wipes (effectOf a)
+  pub raised : (r : ℕ) → r < 16 → eqb (numberOf a) 0 && eqb (rowRaised c) r ≡ raisesAt r (effectOf a)
+  pub on : OnRow a
+
+-- 16 is no row
+pub none-raised : (r : ℕ) → r < 16 → eqb 16 r ≡ false
+none-raised r l = ne-eqb 16 r (λ e. omega arith)

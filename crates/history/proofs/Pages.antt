@@ -41,6 +41,7 @@ use Rattle.device.specs.Step.{shown, actOf, step}
 use Rattle.device.proofs.Doing.{heard-unsent}
 use Rattle.history.proofs.Tally.{ValuesTell, Counting, tells-small}
 use Rattle.history.proofs.Hearing.{pioIn, Logs, heard-heard}
+use Rattle.history.proofs.Own.{own-goes}
 use Rattle.history.proofs.Counts.{eventOf, Replies}
 use Rattle.history.proofs.Frames.{Read, read-frames}
 
@@ -123,12 +124,7 @@ ruled-logs d m b (by.refused c n h e) z p q = absurd (h z)
 ruled-logs d m b (by.host f a g w s h) z p q =
     let v = factsOf d (lent (hostFrame f) m b) in
     (g, heard-heard (shown d) v h .shown (ap (λ (x : List ℕ). pioIn (repliesOf (shown d) x a)) (heard-unsent v m h) ∙ p) q)
-ruled-logs d m b (by.own (by.opened u g s o x e)) z p q = absurd (false≢true q)
-ruled-logs d m b (by.own (by.sent g w s x r)) z p q = absurd (false≢true q)
-ruled-logs d m b (by.own (by.finished u g s x e r)) z p q = absurd (false≢true q)
-ruled-logs d m b (by.own (by.failed u e x g s o y w)) z p q = absurd (false≢true q)
-ruled-logs d m b (by.own (by.linked r g x)) z p q = absurd (false≢true q)
-ruled-logs d m b (by.own (by.renewed g s)) z p q = absurd (false≢true q)
+ruled-logs d m b (by.own o) z p q = absurd (false≢true (sym (own-goes d m b o .replies .pageless) ∙ p))
 
 -- every call: a page 11h in its replies shows what the history before it tells
 pub counters-step : (mask : ℕ) (d : Device) (l : Lent) (h : List Event) → Masked mask d → Counting d h → Replies d l → PageShows mask (eventOf d l) h

@@ -42,6 +42,11 @@ LeftAt at m left l = left ≡ take at m ++ (l ++ drop (at + length l) m)
 abbrev pub EndsIn : ℕ → List ℕ → List ℕ → Type 0
 EndsIn at m l = 0 < length l → at + length l ≤ length m
 
+-- the bytes l stand in what is left of the medium m at a place, and end within it
+pub record DataStands (at : ℕ) (m left l : List ℕ) : Type 0 where
+  pub left-at : LeftAt at m left l
+  pub ends-in : EndsIn at m l
+
 -- an event's data, sent and brought, stand at a place, and those brought end within the medium
 pub record Placed (x : Event) (at : ℕ) : Type 0 where
   pub sends : SentFrom at (x .medium) (sent x)
@@ -70,48 +75,13 @@ left-same at m left l k e = k ∙ sym (left-none at m m l e refl)
 pub still-placed : (x : Event) (at : ℕ) → sent x ≡ [] → brought x ≡ [] → x .left ≡ x .medium → Placed x at
 still-placed x at s b k = record { sends = sent-none at (x .medium) (sent x) s; keeps = left-none at (x .medium) (x .left) (brought x) b k; within = ends-none at (x .medium) (brought x) b }
 
+-- no bytes, and the medium as it was
+pub nowhere-lies : (at : ℕ) (m : List ℕ) → DataStands at m m []
+nowhere-lies at m = record { left-at = left-none at m m [] refl refl; ends-in = ends-none at m [] refl }
+
 -- nothing either way
 pub pick-none : (b : Bool) → _≡_ {A = List ℕ} (pick b [] []) []
 pick-none b = by-test (λ (l : List ℕ). l ≡ []) b [] [] (λ _. refl) (λ _. refl)
-
--- a page is no command's data, with a sweep before it or without
-log-none : (on : Bool) (task : Task) (page : List ℕ) → sentIn (logReplies on task page) ≡ []
-unfolding some pick
-log-none true task page = refl
-log-none false task page = refl
-
--- nor is an Activate
-active-none : (on : Bool) → sentIn (activateIf on) ≡ []
-unfolding some pick
-active-none true = refl
-active-none false = refl
-
--- nor a DMA Setup
-setup-none : (q : Queued) (on : Bool) → sentIn (setupReply q ∷ activateIf on) ≡ []
-unfolding some pick
-setup-none q true = refl
-setup-none q false = refl
-
--- an act that is given no part of the medium sends none
-pub no-part : (s : Shown) (a : Act) → sentIn (repliesOf s [] a) ≡ []
-unfolding repliesOf some pick
-no-part s (Refuse n) = refl
-no-part s Nothing = refl
-no-part s (Bad b) = refl
-no-part s (BadAndHalt f) = refl
-no-part s (Accept q) = refl
-no-part s (Log10 task) = log-none (s .halted) task (page10Of (s .errors))
-no-part s (Log11 l) = log-none false (l .task) (page11Of (s .settings .mask) (s .values))
-no-part s Reset = refl
-no-part s Release = refl
-no-part s ZeroCounters = refl
-no-part s (Store m) = active-none (not (m .last))
-no-part s (Open q) = setup-none q (q .entry .write)
-no-part s (Send m) = refl
-no-part s (Finish set) = refl
-no-part s (Media f) = refl
-no-part s (Count r) = refl
-no-part s Renew = refl
 
 -- ---- data to the host
 
@@ -121,25 +91,42 @@ take-short zero l = refl
 take-short (suc n) [] = refl
 take-short (suc n) (x ∷ l) = ap (λ (y : List ℕ). x ∷ y) (take-short n l)
 
--- a part of the medium, sent as a data frame
-part-sent : (s : Shown) (m : List ℕ) (k : Move) → SentFrom (k .at) m (sentIn (repliesOf s (partOf (spanOf (Send k)) m) (Send k)))
-unfolding repliesOf touchOf some pick
-part-sent s m k = rw (append-nil (take (k .size) (drop (k .at) m))) (take-short (k .size) (drop (k .at) m))
+module _ (at n : ℕ) (m : List ℕ) where
+  -- a page is no command's data, with a sweep before it or without
+  log-none : (on : Bool) (task : Task) (page : List ℕ) → SentFrom at m (sentIn (logReplies on task page))
+  unfolding some pick
+  log-none true task page = refl
+  log-none false task page = refl
 
--- a call that was decided: what it sends of the medium stood at the next byte of the open phase's command
-ruled-sent : (d : Device) (m b : List ℕ) {c : Call} {a : Act} → by.Ruled (factsOf d (lent c m b)) c a → SentFrom (placeOf (phaseEntry d)) m (sentIn (repliesOf (shown d) (partOf (spanOf a) m) a))
-unfolding touchOf moveOf
-ruled-sent d m b (by.refused c n h e) = sent-none (placeOf (phaseEntry d)) m _ (no-part (shown d) _)
-ruled-sent d m b (by.host f a g w s h) =
-    sent-none (placeOf (phaseEntry d)) m _ (ap (λ (p : List ℕ). sentIn (repliesOf (shown d) p a)) (sym (heard-unsent (factsOf d (lent (hostFrame f) m b)) m h)) ∙ no-part (shown d) a)
-ruled-sent d m b (by.own (by.opened u g s o p e)) = sent-none (placeOf (phaseEntry d)) m _ (no-part (shown d) _)
-ruled-sent d m b (by.own (by.sent g w s p r)) = part-sent (shown d) m (moveOf (d .status) (phaseEntry d) 8192)
-ruled-sent d m b (by.own (by.finished u g s p e r)) = sent-none (placeOf (phaseEntry d)) m _ (no-part (shown d) _)
-ruled-sent d m b (by.own (by.failed u e x g s o y w)) = sent-none (placeOf (phaseEntry d)) m _ (no-part (shown d) _)
-ruled-sent d m b (by.own (by.linked r g x)) = sent-none (placeOf (phaseEntry d)) m _ (no-part (shown d) _)
-ruled-sent d m b (by.own (by.renewed g s)) = sent-none (placeOf (phaseEntry d)) m _ (no-part (shown d) _)
+  -- nor is an Activate
+  active-none : (on : Bool) → SentFrom at m (sentIn (activateIf on))
+  unfolding some pick
+  active-none true = refl
+  active-none false = refl
 
--- every call
-pub call-sent : (d : Device) (l : Lent) → SentFrom (placeOf (phaseEntry d)) (l .medium) (sentIn (step d l .frames))
-unfolding actOf
-call-sent d l = ruled-sent d (l .medium) (l .buffer) (by.ruled (factsOf d l) (l .call))
+  -- nor a DMA Setup
+  setup-none : (q : Queued) (on : Bool) → SentFrom at m (sentIn (setupReply q ∷ activateIf on))
+  unfolding some pick
+  setup-none q true = refl
+  setup-none q false = refl
+
+  -- an act that is given a part of the medium sends that part or none
+  pub part-sent : (s : Shown) (a : Act) → SentFrom at m (sentIn (repliesOf s (take n (drop at m)) a))
+  unfolding repliesOf some pick
+  part-sent s (Refuse r) = refl
+  part-sent s Nothing = refl
+  part-sent s (Bad b) = refl
+  part-sent s (BadAndHalt f) = refl
+  part-sent s (Accept q) = refl
+  part-sent s (Log10 task) = log-none (s .halted) task (page10Of (s .errors))
+  part-sent s (Log11 l) = log-none false (l .task) (page11Of (s .settings .mask) (s .values))
+  part-sent s Reset = refl
+  part-sent s Release = refl
+  part-sent s ZeroCounters = refl
+  part-sent s (Store k) = active-none (not (k .last))
+  part-sent s (Open q) = setup-none q (q .entry .write)
+  part-sent s (Send k) = rw (append-nil (take n (drop at m))) (take-short n (drop at m))
+  part-sent s (Finish set) = refl
+  part-sent s (Media f) = refl
+  part-sent s (Count r) = refl
+  part-sent s Renew = refl

@@ -1,6 +1,6 @@
 -- Every call says no more than it may, and what it must: as an event of the history. Assumes nothing.
-use mathlib.Core.Path.{_≡_, refl, sym, ap, subst⁻¹, _∙_}
-use mathlib.Core.Bool.{Bool, true, false, _&&_, _||_, false≢true}
+use mathlib.Core.Path.{_≡_, refl, sym, ap, subst, subst⁻¹, _∙_}
+use mathlib.Core.Bool.{Bool, true, false, _&&_, false≢true}
 use mathlib.Core.List.{List, [], map}
 use mathlib.Core.Logic.{⊎-elim}
 use Prim.Native.Nat.{ℕ}
@@ -16,13 +16,18 @@ use Rattle.frames.specs.Write.{FrameValue}
 use Rattle.frames.specs.RoundTrip as trip
 use Rattle.frames.specs.declared.shapes.Frame.{Frame}
 use Rattle.pages.specs.Page10.{readLog}
+use Rattle.rules.specs.Call.{Call, hostFrame}
+use Rattle.rules.specs.Medium.{numberOf, spanOf, partOf}
+use Rattle.rules.specs.declared.acts.Act.{Act}
 use Rattle.rules.proofs.Ruled as by
-use Rattle.replies.specs.Replies.{sentAll}
-use Rattle.device.specs.Lent.{Lent, Typed}
+use Rattle.replies.specs.Replies.{repliesOf, sentAll}
+use Rattle.device.specs.Device.{contradictoryDevice}
+use Rattle.device.specs.Lent.{Lent, lent, Typed}
 use Rattle.device.specs.FactsOf.{factsOf}
-use Rattle.device.specs.Step.{actOf, step}
+use Rattle.device.specs.Step.{shown, actOf, step}
 use Rattle.device.specs.declared.state.Device.{Device}
 use Rattle.device.proofs.Sized.{SizedRecord}
+use Rattle.device.proofs.Doing.{heard-unsent}
 use Rattle.device.proofs.Refusals.{refused-keeps}
 use Rattle.history.specs.Event.{Event, taken}
 use Rattle.history.specs.FrameAsks.{Asked, quiet}
@@ -34,15 +39,39 @@ use Rattle.history.specs.Shapes.{kindOf, OneOf}
 use Rattle.history.specs.ReplyRules.{TellsError, ReplyRules, Spoken}
 use Rattle.history.specs.Run.{result, done, event}
 use Rattle.history.proofs.Core.{Inv}
-use Rattle.history.proofs.Views.{pageIn, view, is-silent}
+use Rattle.history.proofs.Views.{view, is-silent}
 use Rattle.history.proofs.Frames.{Read, read-frames, read-page, read-step}
 use Rattle.history.proofs.Steps.{by-view, comes}
 use Rattle.history.proofs.Hearing.{pioIn}
-use Rattle.history.proofs.Said.{bitsIn, someBits}
-use Rattle.history.proofs.Shaped.{erringIn, erring, grantingIn, granting, sendsFaulty, CallShaped, ruled-shaped}
+use Rattle.history.proofs.Said.{someBits, Telling, heard-said}
+use Rattle.history.proofs.Shaped.{erringIn, erring, grantingIn, granting, sendsFaulty, CallShaped, heard-shaped}
 use Rattle.history.proofs.Marked.{Marked, halted-tells}
 use Rattle.history.proofs.SeenRules.{SeenRules, seen-rules}
-use Rattle.history.proofs.Speechless.{SpokenBy, Utters, ruled-utters}
+use Rattle.history.proofs.Speechless.{SpokenBy, Utters, host-utters}
+use Rattle.history.proofs.Own.{own-goes}
+
+-- ---- the replies of a call that was decided, and is taken
+
+-- are of a shape that they may have
+pub ruled-shaped : (d : Device) (m b : List ℕ) {c : Call} {a : Act} → by.Ruled (factsOf d (lent c m b)) c a → numberOf a ≡ 0 → CallShaped c (repliesOf (shown d) (partOf (spanOf a) m) a)
+unfolding numberOf
+ruled-shaped d m b (by.refused c n h e) z = absurd (h z)
+ruled-shaped d m b (by.host f a g w s h) z =
+    let v = factsOf d (lent (hostFrame f) m b) in
+    subst (λ (p : List ℕ). CallShaped (hostFrame f) (repliesOf (shown d) p a)) (heard-unsent v m h) (heard-shaped (shown d) v h)
+ruled-shaped d m b (by.own o) z = own-goes d m b o .replies .shaped
+
+-- say no more than they may, if page 10h tells an error while the device is halted
+ruled-utters : (d : Device) (m b : List ℕ) → (contradictoryDevice d ≡ false → d .status .halted ≡ true → Telling (shown d)) → {c : Call} {a : Act} → by.Ruled (factsOf d (lent c m b)) c a → numberOf a ≡ 0
+    → Utters c (repliesOf (shown d) (partOf (spanOf a) m) a)
+unfolding numberOf
+ruled-utters d m b k (by.refused c n h e) z = absurd (h z)
+ruled-utters d m b k (by.host f a g w s h) z =
+    let v = factsOf d (lent (hostFrame f) m b) in
+    subst (λ (p : List ℕ). Utters (hostFrame f) (repliesOf (shown d) p a)) (heard-unsent v m h) (host-utters f _ (heard-said (shown d) v (k g) h))
+ruled-utters d m b k (by.own o) z = own-goes d m b o .replies .utters
+
+-- ---- as an event of the history
 
 -- a refused call finishes nothing
 quiet-finishes : (t : ℕ) → view quiet [] .finishes t ≡ false

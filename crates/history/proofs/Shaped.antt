@@ -68,7 +68,7 @@ abbrev pub CallShaped : Call → List FrameValue → Type 0
 CallShaped c rs = Shaped (callReplies c) (callAsks c) rs
 
 -- to what is no command: without a 34h with ERR, and without a 5Fh with ERR
-unblamed : {may : List (List ℕ)} {k : Asked} (rs : List FrameValue) → k .command ≡ false → OneOf (kindsOf rs) may → erring rs ≡ false → sendsFaulty rs ≡ false → Shaped may k rs
+pub unblamed : {may : List (List ℕ)} {k : Asked} (rs : List FrameValue) → k .command ≡ false → OneOf (kindsOf rs) may → erring rs ≡ false → sendsFaulty rs ≡ false → Shaped may k rs
 unblamed rs c o e f = record { shape = o; blames = λ y. absurd (false≢true (sym e ∙ y)); ungranted = λ y _. absurd (false≢true (sym c ∙ y)); faultless = f }
 
 -- ---- a host frame
@@ -98,7 +98,7 @@ to-data n true = unblamed _ refl (inr (inl refl)) refl refl
 to-data n false = unblamed [] refl (inl refl) refl refl
 
 -- that is not turned down
-heard-shaped : (s : Shown) (v : Facts) {f : Frame} {a : Act} → by.Heard v f a → Shaped (frameReplies f) (frameAsks f) (repliesOf s [] a)
+pub heard-shaped : (s : Shown) (v : Facts) {f : Frame} {a : Act} → by.Heard v f a → Shaped (frameReplies f) (frameAsks f) (repliesOf s [] a)
 unfolding repliesOf some collect pick
 heard-shaped s v (by.srst h c x) = unblamed [] c (rw (c, x) (inl refl)) refl refl
 heard-shaped s v (by.release h c x y) = unblamed (signature ∷ []) c (rw (c, x) (inr (inl refl))) refl refl
@@ -114,25 +114,3 @@ heard-shaped s v (by.page11 h c x e p) = to-log h (c .command) false _ _
 heard-shaped s v (by.other-bad h c x e) = to-other h (c .command) _ (inl refl) refl refl
 heard-shaped s v (by.due n p w y) = to-data n (not (moveOf (v .status) (v .entry) n .last))
 heard-shaped s v (by.bist x) = unblamed [] refl (inl refl) refl refl
-
--- ---- every call
-
--- DMA Setup, and for a write an Activate
-setup-shaped : (tag : ℕ) (q : Queued) (on : Bool) → CallShaped (openPhase tag) (setupReply q ∷ activateIf on)
-unfolding pick some collect
-setup-shaped tag q true = unblamed _ refl (inr (inl refl)) refl refl
-setup-shaped tag q false = unblamed _ refl (inl refl) refl refl
-
--- a taken call
-pub ruled-shaped : (d : Device) (m b : List ℕ) {c : Call} {a : Act} → by.Ruled (factsOf d (lent c m b)) c a → numberOf a ≡ 0 → CallShaped c (repliesOf (shown d) (partOf (spanOf a) m) a)
-unfolding numberOf repliesOf some collect
-ruled-shaped d m b (by.refused c n h e) z = absurd (h z)
-ruled-shaped d m b (by.host f a g w s h) z =
-    let v = factsOf d (lent (hostFrame f) m b) in
-    subst (λ (p : List ℕ). CallShaped (hostFrame f) (repliesOf (shown d) p a)) (heard-unsent v m h) (heard-shaped (shown d) v h)
-ruled-shaped d m b (by.own (by.opened u g s o p e)) z = setup-shaped u (record { tag = u; entry = entryOf (d .entries) u }) (entryOf (d .entries) u .write)
-ruled-shaped d m b (by.own (by.sent g w s p r)) z = unblamed _ refl (inl refl) refl refl
-ruled-shaped d m b (by.own (by.finished u g s p e r)) z = unblamed _ refl (inl refl) refl refl
-ruled-shaped d m b (by.own (by.failed u e x g s o y w)) z = unblamed _ refl (inl refl) refl refl
-ruled-shaped d m b (by.own (by.linked r g x)) z = unblamed [] refl (inl refl) refl refl
-ruled-shaped d m b (by.own (by.renewed g s)) z = unblamed (signature ∷ []) refl (inl refl) refl refl

@@ -89,7 +89,7 @@ pub record Utters (c : Call) (rs : List FrameValue) : Type 0 where
   pub spoken : SpokenBy (callSays c) (view (callAsks c) rs)
 
 -- of a host frame
-host-utters : (f : List ℕ) (rs : List FrameValue) → FrameSays (readFrame f) rs → Utters (hostFrame f) rs
+pub host-utters : (f : List ℕ) (rs : List FrameValue) → FrameSays (readFrame f) rs → Utters (hostFrame f) rs
 host-utters f rs y = record {
   swept = λ x. let a = and-right (frameAsks (readFrame f) .command) (someBits rs) x in (y .swept a, y .tells a);
   paged = y .paged;
@@ -97,26 +97,5 @@ host-utters f rs y = record {
 }
 
 -- of a device event, which is no command and sends no page
-event-utters : (c : Call) (rs : List FrameValue) → callAsks c .command ≡ false → pioIn rs ≡ false → SpokenBy (callSays c) (view (callAsks c) rs) → Utters c rs
+pub event-utters : (c : Call) (rs : List FrameValue) → callAsks c .command ≡ false → pioIn rs ≡ false → SpokenBy (callSays c) (view (callAsks c) rs) → Utters c rs
 event-utters c rs k p s = record { swept = λ x. absurd (false≢true (ap (λ (b : Bool). b && someBits rs) (sym k) ∙ x)); paged = λ x. absurd (false≢true (sym p ∙ x)); spoken = s }
-
--- a DMA Setup, and an Activate or none
-setup-utters : (t : ℕ) (q : Queued) (on : Bool) → Utters (openPhase t) (setupReply q ∷ activateIf on)
-unfolding some collect pick
-setup-utters t q true = event-utters (openPhase t) _ refl refl (none-finished _ _ refl)
-setup-utters t q false = event-utters (openPhase t) _ refl refl (none-finished _ _ refl)
-
--- a call that was decided, and is taken
-pub ruled-utters : (d : Device) (m b : List ℕ) → (contradictoryDevice d ≡ false → d .status .halted ≡ true → Telling (shown d)) → {c : Call} {a : Act} → by.Ruled (factsOf d (lent c m b)) c a → numberOf a ≡ 0
-    → Utters c (repliesOf (shown d) (partOf (spanOf a) m) a)
-unfolding numberOf repliesOf some collect
-ruled-utters d m b k (by.refused c n h e) z = absurd (h z)
-ruled-utters d m b k (by.host f a g w s h) z =
-    let v = factsOf d (lent (hostFrame f) m b) in
-    subst (λ (p : List ℕ). Utters (hostFrame f) (repliesOf (shown d) p a)) (heard-unsent v m h) (host-utters f _ (heard-said (shown d) v (k g) h))
-ruled-utters d m b k (by.own (by.opened u g s o p e)) z = setup-utters u (record { tag = u; entry = entryOf (d .entries) u }) (entryOf (d .entries) u .write)
-ruled-utters d m b k (by.own (by.sent g w s p r)) z = event-utters sendData _ refl refl (none-finished _ _ refl)
-ruled-utters d m b k (by.own (by.finished u g s p e r)) z = event-utters (finishTags u) _ refl refl (is-finish _ refl .fails, is-finish _ refl .finishes)
-ruled-utters d m b k (by.own (by.failed u e x g s o y w)) z = event-utters (mediaError u e x) _ refl refl (is-failed _ refl refl .fails, is-failed _ refl refl .finishes)
-ruled-utters d m b k (by.own (by.linked r g x)) z = event-utters (linkEvent r) _ refl refl (none-finished _ _ refl)
-ruled-utters d m b k (by.own (by.renewed g s)) z = event-utters comReset _ refl refl (none-finished _ _ refl)

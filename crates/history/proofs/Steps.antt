@@ -11,7 +11,7 @@ use Rattle.bits.specs.Pick.{pick}
 use Rattle.bits.proofs.Picks.{tested}
 use Rattle.frames.specs.Read.{readFrame}
 use Rattle.frames.proofs.ReadLaws.{read-data}
-use Rattle.rules.specs.Call.{Call, hostFrame, openPhase, sendData, finishTags, mediaError, linkEvent, comReset}
+use Rattle.rules.specs.Call.{Call, hostFrame}
 use Rattle.rules.specs.Medium.{numberOf, spanOf, partOf}
 use Rattle.rules.specs.declared.acts.Act.{Act}
 use Rattle.rules.proofs.Ruled as by
@@ -31,9 +31,9 @@ use Rattle.history.specs.Run.{result, done, event}
 use Rattle.history.proofs.Class.{Class, plain}
 use Rattle.history.proofs.Views.{view, is-silent, silent-unbegun}
 use Rattle.history.proofs.Frames.{Read, read-seen, read-step}
-use Rattle.history.proofs.Changes.{same, busy-calm}
+use Rattle.history.proofs.Changes.{same}
 use Rattle.history.proofs.Hosts.{Comes, heard-comes}
-use Rattle.history.proofs.Events.{opened-comes, send-comes, finished-comes, failed-comes, counted-comes, renewed-comes}
+use Rattle.history.proofs.Own.{own-goes}
 
 -- what is asked, taken and refused
 asks-taken : (x : Event) → x .refusal ≡ 0 → asks x ≡ callAsks (x .call)
@@ -72,12 +72,7 @@ ruled-comes d m b t (by.refused c n h e) z = absurd (h z)
 ruled-comes d m b t (by.host f a g w s h) z =
     subst (λ (p : List ℕ). Comes d p (frameAsks (readFrame f)) a) (heard-unsent (factsOf d (lent (hostFrame f) m b)) m h)
     (heard-comes d g (mediumWrong (d .settings .capacity) (length m)) false (length b) _ f (read-data f) h)
-ruled-comes d m b t (by.own (by.opened u g s o p e)) z = opened-comes d _ u g o (eqb-true (d .status .phase) 0 (not-false (eqb (d .status .phase) 0) p)) e
-ruled-comes d m b t (by.own (by.sent g w s p r)) z = send-comes d m g w p r
-ruled-comes d m b t (by.own (by.finished u g s p e r)) z = finished-comes d _ u g t (eqb-true (d .status .phase) 0 (not-false (eqb (d .status .phase) 0) p)) e r
-ruled-comes d m b t (by.own (by.failed u e y g s o x w)) z = failed-comes d _ _ (busy-calm d g u o)
-ruled-comes d m b t (by.own (by.linked r g y)) z = counted-comes d _ r
-ruled-comes d m b t (by.own (by.renewed g s)) z = renewed-comes d _
+ruled-comes d m b t (by.own o) z = own-goes d m b o .comes t
 
 -- every call
 pub comes : (d : Device) (l : Lent) → Typed (l .call) → SizedRecord d → Class d (seen (event (done l (result d l)))) (step d l .state)
