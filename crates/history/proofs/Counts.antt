@@ -1,17 +1,13 @@
 -- Over every call the counters go on telling the events since their zeroing. Assumes nothing.
-use mathlib.Core.Path.{_≡_, refl, sym, ap, subst, _∙_}
-use mathlib.Core.Bool.{Bool, true, false, not, _&&_, _||_}
-use mathlib.Core.List.{List, [], _∷_}
-use Prim.Native.Nat.{ℕ, _≤_, _<_}
-use native.Mathlib.Omega.{arith}
-use lib.Dec.{eqb, ltb, lit<}
-use borrow.Author.Tests.{ne-eqb, ltb-false}
+use mathlib.Core.Path.{_≡_, sym, ap, subst, _∙_}
+use mathlib.Core.Bool.{Bool, true, false, _&&_}
+use mathlib.Core.List.{List, _∷_}
+use Prim.Native.Nat.{ℕ, _<_}
+use lib.Dec.{eqb, lit<}
+use borrow.Author.Tests.{ne-eqb}
 use Rattle.bits.specs.Pick.{pick}
 use Rattle.bits.specs.Bit.{bitIn}
-use Rattle.bits.proofs.Picks.{or-left, or-right}
 use Rattle.frames.specs.Read.{readFrame}
-use Rattle.pages.specs.Rows.{kept}
-use Rattle.device_state.specs.Clauses.{rowRefused}
 use Rattle.rules.specs.Call.{Call, hostFrame}
 use Rattle.rules.specs.Medium.{numberOf, touchOf, spanOf, partOf}
 use Rattle.rules.specs.declared.acts.Act.{Act}
@@ -26,11 +22,11 @@ use Rattle.device.specs.declared.state.Device.{Device}
 use Rattle.device.proofs.Doing.{heard-unsent}
 use Rattle.device.proofs.Never.{and-never}
 use Rattle.history.specs.Event.{Event}
-use Rattle.history.specs.Reading.{rowRaised, callZeroes}
+use Rattle.history.specs.Reading.{callZeroes}
 use Rattle.history.specs.Replied.{some, isPio}
 use Rattle.history.specs.Run.{result, done, event}
 use Rattle.history.proofs.Frames.{Read, read-frames}
-use Rattle.history.proofs.Tally.{Effect, stay, raise, wipe, counted, wipes, raisesAt, RowWithin, Reads, Counting, tells}
+use Rattle.history.proofs.Tally.{Effect, stay, raise, wipe, counted, RowWithin, Reads, Counting, tells}
 use Rattle.history.proofs.Impact.{effectOf, OnRow, act-values, Reckons, none-raised}
 use Rattle.history.proofs.Hearing.{pioIn, Hears, heard-heard}
 use Rattle.history.proofs.Own.{own-goes}

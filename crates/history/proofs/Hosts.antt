@@ -2,7 +2,7 @@
 use mathlib.Core.Path.{_≡_, refl, sym, ap, subst, _∙_}
 use mathlib.Core.Bool.{Bool, true, false, not, _&&_, _||_}
 use mathlib.Core.List.{List, []}
-use Prim.Native.Nat.{ℕ, _+_, _-_, _/_, _%_, _^_, _<_, min}
+use Prim.Native.Nat.{ℕ, _-_, _/_, _%_, _^_, _<_, min}
 use native.Mathlib.Nat.{zero-div}
 use native.Mathlib.Omega.{arith}
 use lib.Dec.{eqb, ltb, leb, lit<}
@@ -21,7 +21,7 @@ use Rattle.device_state.specs.Table.{entryOf}
 use Rattle.rules.specs.Positions.{leftOf, moveOf}
 use Rattle.rules.specs.Decide.{bad, fault, tagAsked, entryFor, isQueued}
 use Rattle.rules.specs.declared.acts.Act.{Act}
-use Rattle.rules.specs.declared.acts.Act.the-variants.{Nothing, Accept, Log10, Log11, Reset, Release, ZeroCounters, Store}
+use Rattle.rules.specs.declared.acts.Act.the-variants.{Nothing, Accept, Log11, Reset, Release, ZeroCounters, Store}
 use Rattle.rules.proofs.Ruled as by
 use Rattle.replies.specs.Replies.{logReplies, page10Of, repliesOf}
 use Rattle.device.specs.Device.{contradictoryDevice}

@@ -1,18 +1,15 @@
 -- What a call leaves in the medium, host data at the place of the open phase, whole, and every other byte as it was; and what it sends of it. Assumes nothing.
 use mathlib.Core.Path.{_≡_, refl, sym, ap, subst, _∙_}
-use mathlib.Core.Bool.{Bool, true, false}
 use mathlib.Core.List.{List, []}
-use Prim.Native.Nat.{ℕ, _+_, _-_}
+use Prim.Native.Nat.{ℕ, _-_}
 use native.Mathlib.Omega.{arith}
 use lib.Dec.{eqb}
 use lib.ListN.{length, getD, drop, length-drop}
 use borrow.Author.Tests.{eqb-true, eqb-false}
 use Rattle.bits.specs.Pick.{pick}
 use Rattle.bits.proofs.Picks.{by-test}
-use Rattle.frames.specs.Read.{readFrame}
 use Rattle.frames.proofs.ReadLaws.{DataRead, read-data}
 use Rattle.frames.specs.declared.shapes.Frame.{Frame}
-use Rattle.frames.specs.declared.shapes.Frame.the-variants as fs
 use Rattle.rules.specs.Call.{Call, hostFrame}
 use Rattle.rules.specs.Positions.{placeOf, moveOf}
 use Rattle.rules.specs.Medium.{numberOf, touchOf, spanOf, partOf, mediumAfter}

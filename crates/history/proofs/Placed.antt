@@ -7,24 +7,12 @@ use native.Mathlib.Nat.{add-zero}
 use native.Mathlib.Omega.{arith}
 use lib.ListN.{length, take, drop, take-append-drop}
 use Rattle.bits.specs.Pick.{pick}
-use Rattle.bits.proofs.Picks.{by-test}
 use Rattle.frame_parts.specs.declared.shared.Task.{Task}
 use Rattle.replies.specs.declared.shown.Shown.{Shown}
-use Rattle.rules.specs.Positions.{placeOf, moveOf}
-use Rattle.rules.specs.Call.{Call, hostFrame}
-use Rattle.rules.specs.Medium.{touchOf, spanOf, partOf}
-use Rattle.rules.proofs.Ruled as by
 use Rattle.rules.specs.declared.acts.Queued.{Queued}
-use Rattle.rules.specs.declared.acts.Move.{Move}
 use Rattle.rules.specs.declared.acts.Act.{Act}
 use Rattle.rules.specs.declared.acts.Act.the-variants.{Refuse, Nothing, Bad, BadAndHalt, Accept, Log10, Log11, Reset, Release, ZeroCounters, Store, Open, Send, Finish, Media, Count, Renew}
 use Rattle.replies.specs.Replies.{repliesOf, setupReply, logReplies, activateIf, page10Of, page11Of}
-use Rattle.device.specs.Lent.{Lent, lent}
-use Rattle.device.specs.FactsOf.{factsOf}
-use Rattle.device.specs.DataDue.{phaseEntry}
-use Rattle.device.specs.Step.{shown, actOf, step}
-use Rattle.device.proofs.Doing.{heard-unsent}
-use Rattle.device.specs.declared.state.Device.{Device}
 use Rattle.history.specs.Event.{Event}
 use Rattle.history.specs.Asked.{brought}
 use Rattle.history.specs.Replied.{some, sent}
@@ -55,33 +43,21 @@ pub record Placed (x : Event) (at : ℕ) : Type 0 where
 
 -- ---- no data
 
--- nothing is sent
-pub sent-none : (at : ℕ) (m l : List ℕ) → l ≡ [] → SentFrom at m l
-sent-none at m l e = rw e
-
 -- the medium as it was
-pub left-none : (at : ℕ) (m left l : List ℕ) → l ≡ [] → left ≡ m → LeftAt at m left l
+left-none : (at : ℕ) (m left l : List ℕ) → l ≡ [] → left ≡ m → LeftAt at m left l
 left-none at m left l e k = k ∙ sym (ap (λ (y : List ℕ). take at m ++ (y ++ drop (at + length y) m)) e ∙ ap (λ (n : ℕ). take at m ++ drop n m) (add-zero at) ∙ take-append-drop at m)
 
 -- no data end nowhere
-pub ends-none : (at : ℕ) (m l : List ℕ) → l ≡ [] → EndsIn at m l
+ends-none : (at : ℕ) (m l : List ℕ) → l ≡ [] → EndsIn at m l
 ends-none at m l e p = absurd (omega (arith, p, ap length e))
 
 -- where no data came, the medium is as it was
 pub left-same : (at : ℕ) (m left l : List ℕ) → LeftAt at m left l → l ≡ [] → left ≡ m
 left-same at m left l k e = k ∙ sym (left-none at m m l e refl)
 
--- an event without data, that leaves the medium
-pub still-placed : (x : Event) (at : ℕ) → sent x ≡ [] → brought x ≡ [] → x .left ≡ x .medium → Placed x at
-still-placed x at s b k = record { sends = sent-none at (x .medium) (sent x) s; keeps = left-none at (x .medium) (x .left) (brought x) b k; within = ends-none at (x .medium) (brought x) b }
-
 -- no bytes, and the medium as it was
 pub nowhere-lies : (at : ℕ) (m : List ℕ) → DataStands at m m []
 nowhere-lies at m = record { left-at = left-none at m m [] refl refl; ends-in = ends-none at m [] refl }
-
--- nothing either way
-pub pick-none : (b : Bool) → _≡_ {A = List ℕ} (pick b [] []) []
-pick-none b = by-test (λ (l : List ℕ). l ≡ []) b [] [] (λ _. refl) (λ _. refl)
 
 -- ---- data to the host
 

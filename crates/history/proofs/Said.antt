@@ -1,7 +1,7 @@
 -- What the replies of each act may hold: an A1h answers a host frame only with page 10h, which tells an error, and a page only a read of 10h or 11h. Assumes nothing.
 use mathlib.Core.Path.{_≡_, refl, sym, subst⁻¹, _∙_}
-use mathlib.Core.Bool.{Bool, true, false, not, _&&_, _||_, false≢true}
-use mathlib.Core.List.{List, [], _∷_, map, append-nil}
+use mathlib.Core.Bool.{Bool, true, false, _&&_, _||_, false≢true}
+use mathlib.Core.List.{List, [], map, append-nil}
 use Prim.Native.Nat.{ℕ}
 use Rattle.bits.specs.Pick.{pick}
 use Rattle.frame_parts.specs.declared.shared.Task.{Task}

@@ -1,6 +1,6 @@
 -- The replies of each taken call are one of those that it may have; a 34h with ERR answers a command, one without it none but a queued one, and a 5Fh has no ERR. Assumes nothing.
-use mathlib.Core.Path.{_≡_, refl, sym, subst, _∙_}
-use mathlib.Core.Bool.{Bool, true, false, not, _||_, false≢true, true≢false}
+use mathlib.Core.Path.{_≡_, refl, sym, _∙_}
+use mathlib.Core.Bool.{Bool, true, false, not, false≢true, true≢false}
 use mathlib.Core.List.{List, [], _∷_, map}
 use mathlib.Core.Logic.{inl, inr}
 use Prim.Native.Nat.{ℕ}
@@ -11,22 +11,14 @@ use Rattle.frames.specs.RoundTrip as trip
 use Rattle.frames.specs.declared.shapes.HostReg.{HostReg}
 use Rattle.frames.specs.declared.shapes.Frame.{Frame}
 use Rattle.frames.specs.declared.shapes.Frame.the-variants as fs
-use Rattle.device_state.specs.Table.{entryOf}
 use Rattle.rules.specs.Positions.{moveOf}
 use Rattle.rules.specs.Decide.{isQueued}
-use Rattle.rules.specs.Medium.{numberOf, spanOf, partOf}
 use Rattle.rules.specs.declared.facts.Facts.{Facts}
-use Rattle.rules.specs.declared.acts.Queued.{Queued}
 use Rattle.rules.specs.declared.acts.Act.{Act}
 use Rattle.rules.proofs.Ruled as by
-use Rattle.replies.specs.Replies.{repliesOf, setupReply, signature, activateIf, logReplies}
+use Rattle.replies.specs.Replies.{repliesOf, signature, activateIf, logReplies}
 use Rattle.replies.specs.declared.shown.Shown.{Shown}
-use Rattle.device.specs.Lent.{lent}
-use Rattle.device.specs.FactsOf.{factsOf}
-use Rattle.device.specs.Step.{shown}
-use Rattle.device.proofs.Doing.{heard-unsent}
-use Rattle.device.specs.declared.state.Device.{Device}
-use Rattle.rules.specs.Call.{Call, hostFrame, openPhase}
+use Rattle.rules.specs.Call.{Call}
 use Rattle.history.specs.FrameAsks.{Asked, dataAsks, frameAsks}
 use Rattle.history.specs.Reading.{callAsks, callReplies}
 use Rattle.history.specs.Replied.{some, errIn, registerIn, collect, faultyIn}

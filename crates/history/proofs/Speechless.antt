@@ -1,11 +1,10 @@
 -- Every call says no more than it may, and what it must: by its replies. Assumes nothing.
-use mathlib.Core.Path.{_≡_, refl, sym, ap, subst, _∙_}
+use mathlib.Core.Path.{_≡_, refl, sym, ap, _∙_}
 use mathlib.Core.Bool.{Bool, true, false, not, _&&_, _||_, true≢false, false≢true}
-use mathlib.Core.List.{List, [], _∷_, map}
+use mathlib.Core.List.{List, [], _∷_}
 use mathlib.Core.Logic.{⊎-elim}
 use Prim.Native.Nat.{ℕ, _%_}
 use lib.Dec.{eqb}
-use Rattle.bits.specs.Pick.{pick}
 use Rattle.bits.specs.Bit.{bitIn}
 use Rattle.bits.proofs.Picks.{tested, and-left, and-right}
 use Rattle.frames.specs.Read.{readFrame}
@@ -14,29 +13,18 @@ use Rattle.frames.specs.declared.shapes.SetBits.{SetBits}
 use Rattle.frames.specs.declared.shapes.Frame.{Frame}
 use Rattle.frames.specs.declared.shapes.Frame.the-variants as fs
 use Rattle.pages.specs.Page10.{readLog}
-use Rattle.device_state.specs.Table.{entryOf}
-use Rattle.rules.specs.Call.{Call, hostFrame, openPhase, sendData, finishTags, mediaError, linkEvent, comReset}
-use Rattle.rules.specs.Medium.{numberOf, spanOf, partOf}
-use Rattle.rules.specs.declared.acts.Queued.{Queued}
-use Rattle.rules.specs.declared.acts.Act.{Act}
-use Rattle.rules.proofs.Ruled as by
-use Rattle.replies.specs.Replies.{repliesOf, setupReply, activateIf}
-use Rattle.device.specs.Device.{contradictoryDevice}
-use Rattle.device.specs.Lent.{lent}
-use Rattle.device.specs.FactsOf.{factsOf}
-use Rattle.device.specs.Step.{shown}
+use Rattle.rules.specs.Call.{Call, hostFrame}
 use Rattle.device.specs.declared.state.Device.{Device}
-use Rattle.device.proofs.Doing.{heard-unsent}
 use Rattle.device.proofs.Never.{and-never}
 use Rattle.history.specs.FrameAsks.{Asked, frameAsks}
 use Rattle.history.specs.Logs.{frameReads}
 use Rattle.history.specs.Reading.{Says, saysNone, saysSet, saysErr, callAsks, callReads, callSays}
-use Rattle.history.specs.Replied.{some, collect}
+use Rattle.history.specs.Replied.{some}
 use Rattle.history.specs.Seen.{Seen}
 use Rattle.history.specs.ReplyRules.{TellsError}
-use Rattle.history.proofs.Views.{pageIn, view, is-finish, is-failed}
+use Rattle.history.proofs.Views.{pageIn, view}
 use Rattle.history.proofs.Hearing.{pioIn}
-use Rattle.history.proofs.Said.{bitsIn, someBits, FrameSays, Telling, heard-said}
+use Rattle.history.proofs.Said.{bitsIn, someBits, FrameSays}
 
 -- ---- replies without an A1h and without a page
 
