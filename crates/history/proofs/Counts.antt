@@ -28,7 +28,8 @@ use Rattle.history.specs.Run.{result, done, event}
 use Rattle.history.proofs.Frames.{Read, read-frames}
 use Rattle.history.proofs.Tally.{Effect, stay, raise, wipe, counted, RowWithin, Reads, Counting, tells}
 use Rattle.history.proofs.Impact.{effectOf, OnRow, act-values, Reckons, none-raised}
-use Rattle.history.proofs.Hearing.{pioIn, Hears, heard-heard}
+use Rattle.history.proofs.Hearing.{pioIn, Hears}
+use Rattle.history.proofs.Hosted.{hosted}
 use Rattle.history.proofs.Own.{own-goes}
 
 -- what the outside sees of a call of the definitions
@@ -77,7 +78,7 @@ ruled-reckons d m b (by.refused c n h e) = let z = ne-eqb n 0 h in record { zero
 ruled-reckons d m b (by.host f a g w s h) =
     let v = factsOf d (lent (hostFrame f) m b) in
     let y : Hears (readFrame f) (pioIn (repliesOf (shown d) (partOf (spanOf a) m) a)) a =
-    subst (λ (p : List ℕ). Hears (readFrame f) (pioIn (repliesOf (shown d) p a)) a) (heard-unsent v m h) (heard-heard (shown d) v h) in
+    subst (λ (p : List ℕ). Hears (readFrame f) (pioIn (repliesOf (shown d) p a)) a) (heard-unsent v m h) (hosted d f m b g h .heard) in
     record { zeroed = y .zeroed; raised = λ r l. rw (none-raised r l) (and-never (eqb (numberOf a) 0) ∙ sym (y .rowless r)); on = y .on }
 ruled-reckons d m b (by.own o) = own-goes d m b o .reckons
 

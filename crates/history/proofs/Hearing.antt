@@ -19,12 +19,10 @@ use Rattle.device_state.specs.State.{echoOf}
 use Rattle.device_state.specs.declared.shapes.Echo.{Echo}
 use Rattle.rules.specs.Decide.{logPage, pageAsked}
 use Rattle.rules.specs.Medium.{numberOf}
-use Rattle.rules.specs.declared.facts.Facts.{Facts}
 use Rattle.rules.specs.declared.acts.CountersRead.{CountersRead}
 use Rattle.rules.specs.declared.acts.Move.{Move}
 use Rattle.rules.specs.declared.acts.Act.{Act}
 use Rattle.rules.specs.declared.acts.Act.the-variants.{Log10, Log11, Store}
-use Rattle.rules.proofs.Ruled as by
 use Rattle.replies.specs.Replies.{repliesOf}
 use Rattle.replies.specs.declared.shown.Shown.{Shown}
 use Rattle.device.proofs.Never.{and-never}
@@ -111,7 +109,7 @@ wipe-rowless k false = refl
 -- ---- each rule
 
 -- a frame that is answered with no page, and zeroes nothing
-none-heard : (f : Frame) (a : Act) → frameZeroes false f ≡ false → wipes (effectOf a) ≡ false → ((k : ℕ) → raisesAt k (effectOf a) ≡ false) → OnRow a → numberOf a ≡ 0 → Hears f false a
+pub none-heard : (f : Frame) (a : Act) → frameZeroes false f ≡ false → wipes (effectOf a) ≡ false → ((k : ℕ) → raisesAt k (effectOf a) ≡ false) → OnRow a → numberOf a ≡ 0 → Hears f false a
 none-heard f a z w r o n = record { zeroed = rw n (z ∙ sym w); rowless = r; on = o; shown = λ p _. absurd (false≢true p) }
 
 module _ (s : Shown) where
@@ -120,12 +118,12 @@ module _ (s : Shown) where
   HeardBy f a = Hears f (pioIn (repliesOf s [] a)) a
 
   -- host data, whatever follows it
-  data-heard : (n : ℕ) (m : Move) → HeardBy (fs.Data n) (Store m)
+  pub data-heard : (n : ℕ) (m : Move) → HeardBy (fs.Data n) (Store m)
   unfolding numberOf OnRow
   data-heard n m = record { zeroed = refl; rowless = λ k. refl; on = tt; shown = λ _ q. absurd (false≢true q) }
 
   -- page 10h
-  ten-heard : (h : HostReg) → eqb (pageAsked h) 0x10 ≡ true → HeardBy (fs.Host h) (Log10 (h .task))
+  pub ten-heard : (h : HostReg) → eqb (pageAsked h) 0x10 ≡ true → HeardBy (fs.Host h) (Log10 (h .task))
   unfolding numberOf OnRow
   ten-heard h t = record {
     zeroed = ten-zeroes (pioIn (repliesOf s [] (Log10 (h .task)))) (readsLog 0x11 h) (bitIn 8 (h .features) 0) (reads-ten h t);
@@ -135,7 +133,7 @@ module _ (s : Shown) where
   }
 
   -- page 11h
-  eleven-heard : (h : HostReg) → h .«command_bit» ≡ true → eqb (pageAsked h) 0x11 ≡ true → HeardBy (fs.Host h) (Log11 (record { zero = bitIn 8 (h .features) 0; task = h .task }))
+  pub eleven-heard : (h : HostReg) → h .«command_bit» ≡ true → eqb (pageAsked h) 0x11 ≡ true → HeardBy (fs.Host h) (Log11 (record { zero = bitIn 8 (h .features) 0; task = h .task }))
   unfolding numberOf OnRow repliesOf some pick
   eleven-heard h c t = record {
     zeroed = eleven-zeroes (readsLog 0x11 h) (bitIn 8 (h .features) 0) (reads-page 0x11 h refl c t);
@@ -143,21 +141,3 @@ module _ (s : Shown) where
     on = tt;
     shown = λ _ _. record { log = record { zero = bitIn 8 (h .features) 0; task = h .task }; is = refl };
   }
-
-  -- a host frame that is not turned down
-  pub heard-heard : (v : Facts) {f : Frame} {a : Act} → by.Heard v f a → HeardBy f a
-  unfolding numberOf OnRow repliesOf some
-  heard-heard v (by.srst h c x) = none-heard _ _ refl refl (λ k. refl) tt refl
-  heard-heard v (by.release h c x y) = none-heard _ _ refl refl (λ k. refl) tt refl
-  heard-heard v (by.nothing h c x y) = none-heard _ _ refl refl (λ k. refl) tt refl
-  heard-heard v (by.rule1 h c x) = none-heard _ _ refl refl (λ k. refl) tt refl
-  heard-heard v (by.rule2 h c x u) = none-heard _ _ refl refl (λ k. refl) tt refl
-  heard-heard v (by.rule3 h c x u y) = none-heard _ _ refl refl (λ k. refl) tt refl
-  heard-heard v (by.rule4 h c x u y) = none-heard _ _ refl refl (λ k. refl) tt refl
-  heard-heard v (by.other-halted h c x) = none-heard _ _ refl refl (λ k. refl) tt refl
-  heard-heard v (by.other-busy h c x) = none-heard _ _ refl refl (λ k. refl) tt refl
-  heard-heard v (by.page10 h c e p) = ten-heard h p
-  heard-heard v (by.page11 h c x e p) = eleven-heard h (c .command) p
-  heard-heard v (by.other-bad h c x e) = none-heard _ _ refl refl (λ k. refl) tt refl
-  heard-heard v (by.due n p w y) = data-heard n _
-  heard-heard v (by.bist x) = record { zeroed = refl; rowless = λ k. refl; on = tt; shown = λ _ q. absurd (false≢true q) }

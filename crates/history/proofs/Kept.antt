@@ -13,7 +13,6 @@ use Rattle.frames.specs.declared.shapes.Frame.{Frame}
 use Rattle.rules.specs.Call.{Call, hostFrame}
 use Rattle.rules.specs.Positions.{placeOf, moveOf}
 use Rattle.rules.specs.Medium.{numberOf, touchOf, spanOf, partOf, mediumAfter}
-use Rattle.rules.specs.declared.facts.Facts.{Facts}
 use Rattle.rules.specs.declared.acts.Act.{Act}
 use Rattle.rules.proofs.Ruled as by
 use Rattle.replies.specs.Replies.{repliesOf}
@@ -30,6 +29,7 @@ use Rattle.history.specs.Replied.{dataIn}
 use Rattle.history.specs.Reading.{callBrings}
 use Rattle.history.proofs.Views.{sentIn}
 use Rattle.history.proofs.Placed.{SentFrom, DataStands, part-sent, nowhere-lies}
+use Rattle.history.proofs.Hosted.{OnMedium, untouched, hostData, hosted}
 use Rattle.history.proofs.Own.{own-goes}
 
 -- host data that was taken
@@ -42,30 +42,17 @@ data-lies d f m b t =
     record { left-at = data-kept-whole d f m b t .1; ends-in = λ _. omega (arith, size, ends, long) }
 
 -- a host frame that is not turned down, as it was read
-heard-lies : (d : Device) (f m b : List ℕ) (v : Facts) {r : Frame} {a : Act} → DataRead (getD f 0 0) f r → actOf d (lent (hostFrame f) m b) ≡ a → numberOf (actOf d (lent (hostFrame f) m b)) ≡ 0 → by.Heard v r a
+frame-lies : (d : Device) (f m b : List ℕ) {r : Frame} {a : Act} → DataRead (getD f 0 0) f r → actOf d (lent (hostFrame f) m b) ≡ a → numberOf (actOf d (lent (hostFrame f) m b)) ≡ 0 → OnMedium r a
     → DataStands (placeOf (phaseEntry d)) m (mediumAfter a f m) (dataIn f r)
-unfolding touchOf
-heard-lies d f m b v k q z (by.srst h c s) = nowhere-lies _ m
-heard-lies d f m b v k q z (by.release h c s x) = nowhere-lies _ m
-heard-lies d f m b v k q z (by.nothing h c s x) = nowhere-lies _ m
-heard-lies d f m b v k q z (by.rule1 h c x) = nowhere-lies _ m
-heard-lies d f m b v k q z (by.rule2 h c x u) = nowhere-lies _ m
-heard-lies d f m b v k q z (by.rule3 h c x u y) = nowhere-lies _ m
-heard-lies d f m b v k q z (by.rule4 h c x u y) = nowhere-lies _ m
-heard-lies d f m b v k q z (by.other-halted h c x) = nowhere-lies _ m
-heard-lies d f m b v k q z (by.other-busy h c x) = nowhere-lies _ m
-heard-lies d f m b v k q z (by.page10 h c e p) = nowhere-lies _ m
-heard-lies d f m b v k q z (by.page11 h c x e p) = nowhere-lies _ m
-heard-lies d f m b v k q z (by.other-bad h c x e) = nowhere-lies _ m
-heard-lies d f m b v k q z (by.due n p w s) = subst (λ (a : Act). DataStands (placeOf (phaseEntry d)) m (mediumAfter a f m) (drop 4 f)) q (data-lies d f m b (taken-46 d f m b (k .0) z))
-heard-lies d f m b v k q z (by.bist x) = nowhere-lies _ m
+frame-lies d f m b k q z (untouched r a t e) = rw (t, e f) (nowhere-lies _ m)
+frame-lies d f m b k q z (hostData n a) = subst (λ (x : Act). DataStands (placeOf (phaseEntry d)) m (mediumAfter x f m) (drop 4 f)) q (data-lies d f m b (taken-46 d f m b (k .0) z))
 
 -- a call that was decided
 ruled-lies : (d : Device) (m b : List ℕ) {c : Call} {a : Act} → actOf d (lent c m b) ≡ a → numberOf (actOf d (lent c m b)) ≡ 0 → by.Ruled (factsOf d (lent c m b)) c a
     → DataStands (placeOf (phaseEntry d)) m (mediumAfter a (frameIn c) m) (callBrings c)
 unfolding numberOf
 ruled-lies d m b q z (by.refused c n h e) = absurd (h (sym (ap numberOf q) ∙ z))
-ruled-lies d m b q z (by.host f a g w s h) = heard-lies d f m b (factsOf d (lent (hostFrame f) m b)) (read-data f) q z h
+ruled-lies d m b q z (by.host f a g w s h) = frame-lies d f m b (read-data f) q z (hosted d f m b g h .medium)
 ruled-lies d m b q z (by.own o) = own-goes d m b o .lies
 
 -- a taken call

@@ -14,6 +14,7 @@ pub mod Hearing
 pub mod Said
 pub mod Shaped
 pub mod Speechless
+pub mod Hosted
 pub mod Own
 pub mod Steps
 -- commands: fates, SActive, and an error that waits

@@ -43,8 +43,9 @@ use Rattle.history.proofs.Views.{view, is-silent}
 use Rattle.history.proofs.Frames.{Read, read-frames, read-page, read-step}
 use Rattle.history.proofs.Steps.{by-view, comes}
 use Rattle.history.proofs.Hearing.{pioIn}
-use Rattle.history.proofs.Said.{someBits, Telling, heard-said}
-use Rattle.history.proofs.Shaped.{erringIn, erring, grantingIn, granting, sendsFaulty, CallShaped, heard-shaped}
+use Rattle.history.proofs.Said.{someBits, Telling}
+use Rattle.history.proofs.Hosted.{hosted}
+use Rattle.history.proofs.Shaped.{erringIn, erring, grantingIn, granting, sendsFaulty, CallShaped}
 use Rattle.history.proofs.Marked.{Marked, halted-tells}
 use Rattle.history.proofs.SeenRules.{SeenRules, seen-rules}
 use Rattle.history.proofs.Speechless.{SpokenBy, Utters, host-utters}
@@ -58,7 +59,7 @@ unfolding numberOf
 ruled-shaped d m b (by.refused c n h e) z = absurd (h z)
 ruled-shaped d m b (by.host f a g w s h) z =
     let v = factsOf d (lent (hostFrame f) m b) in
-    subst (λ (p : List ℕ). CallShaped (hostFrame f) (repliesOf (shown d) p a)) (heard-unsent v m h) (heard-shaped (shown d) v h)
+    subst (λ (p : List ℕ). CallShaped (hostFrame f) (repliesOf (shown d) p a)) (heard-unsent v m h) (hosted d f m b g h .shaped)
 ruled-shaped d m b (by.own o) z = own-goes d m b o .replies .shaped
 
 -- say no more than they may, if page 10h tells an error while the device is halted
@@ -68,7 +69,7 @@ unfolding numberOf
 ruled-utters d m b k (by.refused c n h e) z = absurd (h z)
 ruled-utters d m b k (by.host f a g w s h) z =
     let v = factsOf d (lent (hostFrame f) m b) in
-    subst (λ (p : List ℕ). Utters (hostFrame f) (repliesOf (shown d) p a)) (heard-unsent v m h) (host-utters f _ (heard-said (shown d) v (k g) h))
+    subst (λ (p : List ℕ). Utters (hostFrame f) (repliesOf (shown d) p a)) (heard-unsent v m h) (host-utters f _ (hosted d f m b g h .said (k g)))
 ruled-utters d m b k (by.own o) z = own-goes d m b o .replies .utters
 
 -- ---- as an event of the history

@@ -11,13 +11,8 @@ use Rattle.frames.specs.RoundTrip as trip
 use Rattle.frames.specs.declared.shapes.HostReg.{HostReg}
 use Rattle.frames.specs.declared.shapes.Frame.{Frame}
 use Rattle.frames.specs.declared.shapes.Frame.the-variants as fs
-use Rattle.rules.specs.Positions.{moveOf}
 use Rattle.rules.specs.Decide.{isQueued}
-use Rattle.rules.specs.declared.facts.Facts.{Facts}
-use Rattle.rules.specs.declared.acts.Act.{Act}
-use Rattle.rules.proofs.Ruled as by
-use Rattle.replies.specs.Replies.{repliesOf, signature, activateIf, logReplies}
-use Rattle.replies.specs.declared.shown.Shown.{Shown}
+use Rattle.replies.specs.Replies.{activateIf, logReplies}
 use Rattle.rules.specs.Call.{Call}
 use Rattle.history.specs.FrameAsks.{Asked, dataAsks, frameAsks}
 use Rattle.history.specs.Reading.{callAsks, callReplies}
@@ -68,41 +63,23 @@ unblamed rs c o e f = record { shape = o; blames = λ y. absurd (false≢true (s
 -- a command
 module _ (h : HostReg) (c : h .«command_bit» ≡ true) where
   -- that is queued: one 34h
-  to-queued : isQueued h ≡ true → (rs : List FrameValue) → kindsOf rs ≡ 0x34 ∷ [] → sendsFaulty rs ≡ false → Shaped (frameReplies (fs.Host h)) (frameAsks (fs.Host h)) rs
+  pub to-queued : isQueued h ≡ true → (rs : List FrameValue) → kindsOf rs ≡ 0x34 ∷ [] → sendsFaulty rs ≡ false → Shaped (frameReplies (fs.Host h)) (frameAsks (fs.Host h)) rs
   unfolding pick
   to-queued q rs o f = record { shape = rw c (inl o); blames = λ _. c; ungranted = λ _ n. absurd (true≢false (sym (rw (c, q)) ∙ n)); faultless = f }
 
   -- that is not
-  to-other : (rs : List FrameValue) → OneOf (kindsOf rs) commandReplies → granting rs ≡ false → sendsFaulty rs ≡ false → Shaped (frameReplies (fs.Host h)) (frameAsks (fs.Host h)) rs
+  pub to-other : (rs : List FrameValue) → OneOf (kindsOf rs) commandReplies → granting rs ≡ false → sendsFaulty rs ≡ false → Shaped (frameReplies (fs.Host h)) (frameAsks (fs.Host h)) rs
   unfolding pick
   to-other rs o g f = record { shape = rw c o; blames = λ _. c; ungranted = λ _ _. g; faultless = f }
 
   -- by a page, behind the sweep or not
-  to-log : (on : Bool) (task : Task) (page : List ℕ) → Shaped (frameReplies (fs.Host h)) (frameAsks (fs.Host h)) (logReplies on task page)
+  pub to-log : (on : Bool) (task : Task) (page : List ℕ) → Shaped (frameReplies (fs.Host h)) (frameAsks (fs.Host h)) (logReplies on task page)
   unfolding pick some collect
   to-log true task page = to-other _ (inr (inr (inl refl))) refl refl
   to-log false task page = to-other _ (inr (inl refl)) refl refl
 
 -- host data: an Activate if more is left
-to-data : (n : ℕ) (on : Bool) → Shaped (frameReplies (fs.Data n)) (dataAsks n) (activateIf on)
+pub to-data : (n : ℕ) (on : Bool) → Shaped (frameReplies (fs.Data n)) (dataAsks n) (activateIf on)
 unfolding pick some collect
 to-data n true = unblamed _ refl (inr (inl refl)) refl refl
 to-data n false = unblamed [] refl (inl refl) refl refl
-
--- that is not turned down
-pub heard-shaped : (s : Shown) (v : Facts) {f : Frame} {a : Act} → by.Heard v f a → Shaped (frameReplies f) (frameAsks f) (repliesOf s [] a)
-unfolding repliesOf some collect pick
-heard-shaped s v (by.srst h c x) = unblamed [] c (rw (c, x) (inl refl)) refl refl
-heard-shaped s v (by.release h c x y) = unblamed (signature ∷ []) c (rw (c, x) (inr (inl refl))) refl refl
-heard-shaped s v (by.nothing h c x y) = unblamed [] c (rw (c, x) (inl refl)) refl refl
-heard-shaped s v (by.rule1 h c x) = to-queued h (c .command) (c .kind) _ refl refl
-heard-shaped s v (by.rule2 h c x u) = to-queued h (c .command) (c .kind) _ refl refl
-heard-shaped s v (by.rule3 h c x u y) = to-queued h (c .command) (c .kind) _ refl refl
-heard-shaped s v (by.rule4 h c x u y) = to-queued h (c .command) (c .kind) _ refl refl
-heard-shaped s v (by.other-halted h c x) = to-other h (c .command) _ (inl refl) refl refl
-heard-shaped s v (by.other-busy h c x) = to-other h (c .command) _ (inl refl) refl refl
-heard-shaped s v (by.page10 h c e p) = to-log h (c .command) (s .halted) _ _
-heard-shaped s v (by.page11 h c x e p) = to-log h (c .command) false _ _
-heard-shaped s v (by.other-bad h c x e) = to-other h (c .command) _ (inl refl) refl refl
-heard-shaped s v (by.due n p w y) = to-data n (not (moveOf (v .status) (v .entry) n .last))
-heard-shaped s v (by.bist x) = unblamed [] refl (inl refl) refl refl

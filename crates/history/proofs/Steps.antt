@@ -5,18 +5,16 @@ use mathlib.Core.List.{List, []}
 use mathlib.Core.Logic.{⊎-elim}
 use Prim.Native.Nat.{ℕ}
 use lib.Dec.{eqb}
-use lib.ListN.{length}
 use borrow.Author.Tests.{eqb-true, eqb-false, ne-eqb}
 use Rattle.bits.specs.Pick.{pick}
 use Rattle.bits.proofs.Picks.{tested}
 use Rattle.frames.specs.Read.{readFrame}
-use Rattle.frames.proofs.ReadLaws.{read-data}
 use Rattle.rules.specs.Call.{Call, hostFrame}
 use Rattle.rules.specs.Medium.{numberOf, spanOf, partOf}
 use Rattle.rules.specs.declared.acts.Act.{Act}
 use Rattle.rules.proofs.Ruled as by
 use Rattle.device.specs.Lent.{Lent, lent, Typed}
-use Rattle.device.specs.FactsOf.{mediumWrong, factsOf}
+use Rattle.device.specs.FactsOf.{factsOf}
 use Rattle.device.specs.Step.{actOf, step}
 use Rattle.device.specs.declared.state.Device.{Device}
 use Rattle.device.proofs.Sized.{SizedRecord}
@@ -32,7 +30,8 @@ use Rattle.history.proofs.Class.{Class, plain}
 use Rattle.history.proofs.Views.{view, is-silent, silent-unbegun}
 use Rattle.history.proofs.Frames.{Read, read-seen, read-step}
 use Rattle.history.proofs.Changes.{same}
-use Rattle.history.proofs.Hosts.{Comes, heard-comes}
+use Rattle.history.proofs.Hosts.{Comes}
+use Rattle.history.proofs.Hosted.{hosted}
 use Rattle.history.proofs.Own.{own-goes}
 
 -- what is asked, taken and refused
@@ -71,7 +70,7 @@ unfolding numberOf
 ruled-comes d m b t (by.refused c n h e) z = absurd (h z)
 ruled-comes d m b t (by.host f a g w s h) z =
     subst (λ (p : List ℕ). Comes d p (frameAsks (readFrame f)) a) (heard-unsent (factsOf d (lent (hostFrame f) m b)) m h)
-    (heard-comes d g (mediumWrong (d .settings .capacity) (length m)) false (length b) _ f (read-data f) h)
+    (hosted d f m b g h .comes)
 ruled-comes d m b t (by.own o) z = own-goes d m b o .comes t
 
 -- every call
