@@ -1,6 +1,6 @@
 -- All that is proved of a host frame that is not turned down: one row a rule. Assumes nothing.
-use mathlib.Core.Path.{_≡_, refl, sym, ap, subst}
-use mathlib.Core.Bool.{Bool, true, false, not, false≢true}
+use mathlib.Core.Path.{_≡_, refl, sym, subst}
+use mathlib.Core.Bool.{Bool, true, false, not}
 use mathlib.Core.List.{List, []}
 use mathlib.Core.Logic.{inl, inr}
 use Prim.Native.Nat.{ℕ}
@@ -18,7 +18,7 @@ use Rattle.frames.specs.declared.shapes.Frame.the-variants as fs
 use Rattle.rules.specs.Call.{hostFrame}
 use Rattle.rules.specs.Decide.{bad, fault, tagAsked}
 use Rattle.rules.specs.Positions.{moveOf}
-use Rattle.rules.specs.Medium.{numberOf, leaves, touchOf}
+use Rattle.rules.specs.Medium.{leaves, touchOf}
 use Rattle.rules.specs.declared.acts.Act.{Act}
 use Rattle.rules.proofs.Ruled as by
 use Rattle.replies.specs.Replies.{repliesOf, page10Of}
@@ -26,17 +26,15 @@ use Rattle.device.specs.Device.{contradictoryDevice}
 use Rattle.device.specs.Lent.{lent}
 use Rattle.device.specs.FactsOf.{factsOf}
 use Rattle.device.specs.DataDue.{phaseEntry}
-use Rattle.device.specs.After.{afterOf}
+use Rattle.device.specs.After.{afterOf, haltWith, resetHeld, released, acceptedBy}
 use Rattle.device.specs.Step.{shown}
 use Rattle.device.specs.declared.state.Device.{Device}
 use Rattle.history.specs.FrameAsks.{registerAsks, frameAsks}
 use Rattle.history.specs.Replied.{some, collect, dataIn}
 use Rattle.history.specs.Shapes.{frameReplies}
-use Rattle.history.proofs.Tally.{stay, wipes, raisesAt}
-use Rattle.history.proofs.Impact.{effectOf, OnRow}
 use Rattle.history.proofs.Hosts.{Comes}
 use Rattle.history.proofs.Hosts as hosts
-use Rattle.history.proofs.Hearing.{pioIn, Hears, none-heard, data-heard, ten-heard, eleven-heard, reads-page}
+use Rattle.history.proofs.Hearing.{pioIn, Hears, none-heard, data-heard, ten-heard, eleven-heard, bist-heard, reads-page}
 use Rattle.history.proofs.Said.{someBits, FrameSays, Telling, mild, ten-said, eleven-said, kept-said}
 use Rattle.history.proofs.Shaped.{Shaped, unblamed, to-queued, to-other, to-log, to-data}
 
@@ -50,72 +48,72 @@ pub record HostGoes (d : Device) (f : Frame) (a : Act) : Type 0 where
   pub medium : OnMedium f a
   pub shaped : Shaped (frameReplies f) (frameAsks f) (repliesOf (shown d) [] a)
   pub said : (d .status .halted ≡ true → Telling (shown d)) → FrameSays f (repliesOf (shown d) [] a)
-  pub heard : Hears f (pioIn (repliesOf (shown d) [] a)) a
+  pub heard : Hears d f (pioIn (repliesOf (shown d) [] a)) a
   pub comes : Comes d [] (frameAsks f) a
 
 module _ (d : Device) (g : contradictoryDevice d ≡ false) where
   module _ (h : HostReg) where
     -- a register frame whose act leaves the medium and the counters, and whose replies hold no A1h and no page
-    mildly : (a : Act) → touchOf a ≡ leaves → numberOf a ≡ 0 → effectOf a ≡ stay → OnRow a → someBits (repliesOf (shown d) [] a) ≡ false → pioIn (repliesOf (shown d) [] a) ≡ false
+    mildly : (a : Act) → touchOf a ≡ leaves → afterOf d a .values ≡ d .values → someBits (repliesOf (shown d) [] a) ≡ false → pioIn (repliesOf (shown d) [] a) ≡ false
         → Shaped (frameReplies (fs.Host h)) (registerAsks h) (repliesOf (shown d) [] a) → Comes d [] (registerAsks h) a → HostGoes d (fs.Host h) a
-    mildly a t n e o b p s c = record {
+    mildly a t v b p s c = record {
       medium = untouched _ a t (λ _. refl);
       shaped = s;
       said = λ _. mild (fs.Host h) (repliesOf (shown d) [] a) b p;
-      heard = subst (λ (x : Bool). Hears (fs.Host h) x a) (sym p) (none-heard (fs.Host h) a refl (ap wipes e) (λ k. ap (raisesAt k) e) o n);
+      heard = subst (λ (x : Bool). Hears d (fs.Host h) x a) (sym p) (none-heard d (fs.Host h) a refl v);
       comes = c;
     }
 
     -- a command answered bad
     badly : (e : ℕ) → h .«command_bit» ≡ true → Comes d [] (registerAsks h) (bad h e) → HostGoes d (fs.Host h) (bad h e)
-    unfolding repliesOf some collect numberOf OnRow touchOf
-    badly e c = mildly (bad h e) refl refl refl tt refl refl (to-other h c _ (inl refl) refl refl)
+    unfolding repliesOf afterOf some collect touchOf
+    badly e c = mildly (bad h e) refl refl refl refl (to-other h c _ (inl refl) refl refl)
 
     -- a command answered bad that halts the device
     faultily : (nq : Bool) (t e : ℕ) → h .«command_bit» ≡ true → Comes d [] (registerAsks h) (fault h nq t e) → HostGoes d (fs.Host h) (fault h nq t e)
-    unfolding repliesOf some collect numberOf OnRow touchOf
-    faultily nq t e c = mildly (fault h nq t e) refl refl refl tt refl refl (to-other h c _ (inl refl) refl refl)
+    unfolding repliesOf afterOf haltWith some collect touchOf
+    faultily nq t e c = mildly (fault h nq t e) refl refl refl refl (to-other h c _ (inl refl) refl refl)
 
   -- by the rule that holds
-  host-goes : (x m b : List ℕ) {f : Frame} {a : Act} → DataRead (getD x 0 0) x f → by.Heard (factsOf d (lent (hostFrame x) m b)) f a → HostGoes d f a
-  unfolding repliesOf afterOf some collect pick numberOf OnRow touchOf
-  host-goes x m b r (by.srst h c s) = mildly h _ refl refl refl tt refl refl (unblamed [] c (rw (c, s) (inl refl)) refl refl) (hosts.reset d g h c s)
-  host-goes x m b r (by.release h c s y) = mildly h _ refl refl refl tt refl refl (unblamed _ c (rw (c, s) (inr (inl refl))) refl refl) (hosts.freed d g h c s)
-  host-goes x m b r (by.nothing h c s y) = mildly h _ refl refl refl tt refl refl (unblamed [] c (rw (c, s) (inl refl)) refl refl) (hosts.idle d g h c s)
-  host-goes x m b r (by.rule1 h c y) = badly h 0x04 (c .command) (hosts.answered-again d g h 0x04 (c .command) y)
-  host-goes x m b r (by.rule2 h c y u) = faultily h false (tagAsked h) 0x04 (c .command) (hosts.queued-faulted d g h (tagAsked h) 0x04 (c .command) (c .kind) y)
-  host-goes x m b r (by.rule3 h c y u z) = faultily h false (tagAsked h) 0x10 (c .command) (hosts.queued-faulted d g h (tagAsked h) 0x10 (c .command) (c .kind) y)
-  host-goes x m b r (by.rule4 h c y u z) =
-      mildly h _ refl refl refl tt refl refl (to-queued h (c .command) (c .kind) _ refl refl)
+  heard-goes : (x m b : List ℕ) {f : Frame} {a : Act} → DataRead (getD x 0 0) x f → by.Heard (factsOf d (lent (hostFrame x) m b)) f a → HostGoes d f a
+  unfolding repliesOf afterOf resetHeld released acceptedBy some collect pick touchOf
+  heard-goes x m b r (by.srst h c s) = mildly h _ refl refl refl refl (unblamed [] c (rw (c, s) (inl refl)) refl refl) (hosts.reset d g h c s)
+  heard-goes x m b r (by.release h c s y) = mildly h _ refl refl refl refl (unblamed _ c (rw (c, s) (inr (inl refl))) refl refl) (hosts.freed d g h c s)
+  heard-goes x m b r (by.nothing h c s y) = mildly h _ refl refl refl refl (unblamed [] c (rw (c, s) (inl refl)) refl refl) (hosts.idle d g h c s)
+  heard-goes x m b r (by.rule1 h c y) = badly h 0x04 (c .command) (hosts.answered-again d g h 0x04 (c .command) y)
+  heard-goes x m b r (by.rule2 h c y u) = faultily h false (tagAsked h) 0x04 (c .command) (hosts.queued-faulted d g h (tagAsked h) 0x04 (c .command) (c .kind) y)
+  heard-goes x m b r (by.rule3 h c y u z) = faultily h false (tagAsked h) 0x10 (c .command) (hosts.queued-faulted d g h (tagAsked h) 0x10 (c .command) (c .kind) y)
+  heard-goes x m b r (by.rule4 h c y u z) =
+      mildly h _ refl refl refl refl (to-queued h (c .command) (c .kind) _ refl refl)
       (hosts.accepted d g h (c .command) (c .kind) y (eqb-true (d .status .phase) 0 (not-false (eqb (d .status .phase) 0) (c .calm))) (or-right (leb (d .settings .depth) (tagAsked h)) (bitIn 32 (d .status .outstanding) (tagAsked h)) u))
-  host-goes x m b r (by.other-halted h c y) = badly h 0x04 (c .command) (hosts.answered-again d g h 0x04 (c .command) y)
-  host-goes x m b r (by.other-busy h c y) = faultily h true 0 0x04 (c .command) (hosts.busy-faulted d g h (c .command) (c .kind) y)
-  host-goes x m b r (by.page10 h c e p) = record {
+  heard-goes x m b r (by.other-halted h c y) = badly h 0x04 (c .command) (hosts.answered-again d g h 0x04 (c .command) y)
+  heard-goes x m b r (by.other-busy h c y) = faultily h true 0 0x04 (c .command) (hosts.busy-faulted d g h (c .command) (c .kind) y)
+  heard-goes x m b r (by.page10 h c e p) = record {
     medium = untouched _ _ refl (λ _. refl);
     shaped = to-log h (c .command) (d .status .halted) (h .task) (page10Of (d .errors));
     said = ten-said h (h .task) (page10Of (d .errors)) (reads-page 0x10 h refl (c .command) p) (d .status .halted);
-    heard = ten-heard (shown d) h p;
+    heard = ten-heard d h p;
     comes = hosts.paged-ten d g h (d .status .halted) refl (h .task) (page10Of (d .errors)) (c .command) (hosts.other d g h (c .command) (c .kind)) (not-false (eqb (d .status .phase) 0) (c .calm));
   }
-  host-goes x m b r (by.page11 h c y e p) = record {
+  heard-goes x m b r (by.page11 h c y e p) = record {
     medium = untouched _ _ refl (λ _. refl);
     shaped = to-log h (c .command) false (h .task) _;
     said = λ _. eleven-said h (h .task) _ (reads-page 0x11 h refl (c .command) p);
-    heard = eleven-heard (shown d) h (c .command) p;
+    heard = eleven-heard d h (c .command) p;
     comes = hosts.paged-eleven d g h (c .command) (hosts.other d g h (c .command) (c .kind)) (bitIn 8 (h .features) 0);
   }
-  host-goes x m b r (by.other-bad h c y e) = badly h 0x04 (c .command) (hosts.answered-free d g h 0x04 (c .command) (hosts.other d g h (c .command) (c .kind)) y (eqb-true (d .status .outstanding) 0 e))
-  host-goes x m b r (by.due n p w y) =
+  heard-goes x m b r (by.other-bad h c y e) = badly h 0x04 (c .command) (hosts.answered-free d g h 0x04 (c .command) (hosts.other d g h (c .command) (c .kind)) y (eqb-true (d .status .outstanding) 0 e))
+  heard-goes x m b r (by.due n p w y) =
       let last = moveOf (d .status) (phaseEntry d) n .last in
-      record { medium = hostData n _; shaped = to-data n (not last); said = λ _. kept-said (fs.Data n) (not last); heard = data-heard (shown d) n _; comes = hosts.data-comes d g n (r .1 .1) p w y }
-  host-goes x m b r (by.bist y) = record {
+      record { medium = hostData n _; shaped = to-data n (not last); said = λ _. kept-said (fs.Data n) (not last); heard = data-heard d n _; comes = hosts.data-comes d g n (r .1 .1) p w y }
+  heard-goes x m b r (by.bist y) = record {
     medium = untouched _ _ refl (λ _. refl);
     shaped = unblamed [] refl (inl refl) refl refl;
     said = λ _. mild fs.Bist [] refl refl;
-    heard = record { zeroed = refl; rowless = λ k. refl; on = tt; shown = λ _ q. absurd (false≢true q) };
+    heard = bist-heard d;
     comes = hosts.bist-comes d g _ refl refl refl;
   }
 
 -- of a frame as its bytes
-pub hosted : (d : Device) (f m b : List ℕ) {a : Act} → contradictoryDevice d ≡ false → by.Heard (factsOf d (lent (hostFrame f) m b)) (readFrame f) a → HostGoes d (readFrame f) a
-hosted d f m b g h = host-goes d g f m b (read-data f) h
+pub host-goes : (d : Device) (f m b : List ℕ) {a : Act} → contradictoryDevice d ≡ false → by.Heard (factsOf d (lent (hostFrame f) m b)) (readFrame f) a → HostGoes d (readFrame f) a
+host-goes d f m b g h = heard-goes d g f m b (read-data f) h

@@ -29,7 +29,7 @@ use Rattle.history.specs.Replied.{dataIn}
 use Rattle.history.specs.Reading.{callBrings}
 use Rattle.history.proofs.Views.{sentIn}
 use Rattle.history.proofs.Placed.{SentFrom, DataStands, part-sent, nowhere-lies}
-use Rattle.history.proofs.Hosted.{OnMedium, untouched, hostData, hosted}
+use Rattle.history.proofs.Hosted.{OnMedium, untouched, hostData, host-goes}
 use Rattle.history.proofs.Own.{own-goes}
 
 -- host data that was taken
@@ -52,7 +52,7 @@ ruled-lies : (d : Device) (m b : List ℕ) {c : Call} {a : Act} → actOf d (len
     → DataStands (placeOf (phaseEntry d)) m (mediumAfter a (frameIn c) m) (callBrings c)
 unfolding numberOf
 ruled-lies d m b q z (by.refused c n h e) = absurd (h (sym (ap numberOf q) ∙ z))
-ruled-lies d m b q z (by.host f a g w s h) = frame-lies d f m b (read-data f) q z (hosted d f m b g h .medium)
+ruled-lies d m b q z (by.host f a g w s h) = frame-lies d f m b (read-data f) q z (host-goes d f m b g h .medium)
 ruled-lies d m b q z (by.own o) = own-goes d m b o .lies
 
 -- a taken call

@@ -1,29 +1,26 @@
 -- All that is proved of a device event that is taken: one row an event. Assumes nothing.
-use mathlib.Core.Path.{_≡_, refl, sym}
-use mathlib.Core.Bool.{Bool, true, false, not, _||_}
+use mathlib.Core.Path.{_≡_, refl}
+use mathlib.Core.Bool.{Bool, true, false, not}
 use mathlib.Core.List.{List, [], _∷_}
 use mathlib.Core.Logic.{inl, inr}
-use Prim.Native.Nat.{ℕ, _≤_, _<_}
-use native.Mathlib.Omega.{arith}
-use lib.Dec.{eqb, ltb}
+use Prim.Native.Nat.{ℕ}
+use lib.Dec.{eqb}
 use lib.ListN.{take, drop}
-use borrow.Author.Tests.{eqb-true, not-false, ltb-false}
+use borrow.Author.Tests.{eqb-true, not-false}
 use Rattle.bits.specs.Pick.{pick}
 use Rattle.bits.specs.Bit.{bitIn}
-use Rattle.bits.proofs.Picks.{or-left, or-right}
 use Rattle.frames.specs.Write.{FrameValue}
-use Rattle.pages.specs.Rows.{kept}
-use Rattle.device_state.specs.Clauses.{rowRefused}
 use Rattle.device_state.specs.Table.{entryOf}
 use Rattle.rules.specs.Call.{Call, openPhase}
 use Rattle.rules.specs.Positions.{placeOf, moveOf}
-use Rattle.rules.specs.Medium.{numberOf, touchOf, spanOf, partOf, mediumAfter}
+use Rattle.rules.specs.Medium.{touchOf, spanOf, partOf, mediumAfter}
 use Rattle.rules.specs.declared.acts.Queued.{Queued}
 use Rattle.rules.specs.declared.acts.Act.{Act}
 use Rattle.rules.proofs.Ruled as by
 use Rattle.replies.specs.Replies.{repliesOf, setupReply, activateIf}
 use Rattle.device.specs.Lent.{lent, frameIn, Typed}
 use Rattle.device.specs.FactsOf.{factsOf}
+use Rattle.device.specs.After.{afterOf, openedFor, movedBy, finishedBy, failedBy, renewed, resetHeld, released}
 use Rattle.device.specs.DataDue.{phaseEntry}
 use Rattle.device.specs.Step.{shown}
 use Rattle.device.specs.declared.state.Device.{Device}
@@ -35,8 +32,7 @@ use Rattle.history.proofs.Changes.{busy-calm}
 use Rattle.history.proofs.Hosts.{Comes}
 use Rattle.history.proofs.Events.{opened-comes, send-comes, finished-comes, failed-comes, counted-comes, renewed-comes}
 use Rattle.history.proofs.Placed.{DataStands, nowhere-lies}
-use Rattle.history.proofs.Tally.{raise, stay, wipes, raisesAt}
-use Rattle.history.proofs.Impact.{OnRow, Reckons, none-raised}
+use Rattle.history.proofs.Impact.{Reckons, raised-values, failed-values}
 use Rattle.history.proofs.Hearing.{pioIn}
 use Rattle.history.proofs.Shaped.{kindsOf, erring, sendsFaulty, CallShaped, unblamed}
 use Rattle.history.proofs.Speechless.{SpokenBy, Utters, none-finished, event-utters}
@@ -52,7 +48,7 @@ pub record OwnGoes (d : Device) (m : List ℕ) (c : Call) (a : Act) : Type 0 whe
   pub lies : DataStands (placeOf (phaseEntry d)) m (mediumAfter a (frameIn c) m) (callBrings c)
   pub sends : partOf (spanOf a) m ≡ take (spanOf a .size) (drop (placeOf (phaseEntry d)) m)
   pub replies : OwnReplies c (repliesOf (shown d) (partOf (spanOf a) m) a)
-  pub reckons : Reckons c (pioIn (repliesOf (shown d) (partOf (spanOf a) m) a)) a
+  pub reckons : Reckons d c (pioIn (repliesOf (shown d) (partOf (spanOf a) m) a)) a
   pub comes : Typed c → Comes d (partOf (spanOf a) m) (callAsks c) a
 
 -- ---- replies
@@ -68,26 +64,6 @@ unfolding some collect pick
 setup-replies tag q true = own-replies _ _ refl (inr (inl refl)) refl refl refl (none-finished _ _ refl)
 setup-replies tag q false = own-replies _ _ refl (inl refl) refl refl refl (none-finished _ _ refl)
 
--- ---- counters
-
--- bit 7 of the error byte alone
-bit-wipeless : (b : Bool) → wipes (pick b (raise 0) stay) ≡ false
-unfolding pick
-bit-wipeless true = refl
-bit-wipeless false = refl
-
-bit-raised : (b : Bool) (r : ℕ) → r < 16 → eqb (pick b 0 16) r ≡ raisesAt r (pick b (raise 0) stay)
-unfolding pick
-bit-raised true r l = refl
-bit-raised false r l = none-raised r l
-
--- a row that a link event may name is one of the sixteen
-link-row : (mask row : ℕ) → rowRefused mask row ≡ false → row < 16
-link-row mask row n =
-    let far = or-left (ltb 15 row) (not (kept mask row)) (or-right (eqb row 0 || eqb row 9) (ltb 15 row || not (kept mask row)) n) in
-    let most : row ≤ 15 = ltb-false 15 row far in
-    omega arith
-
 -- ---- each event
 
 -- no phase is open
@@ -96,46 +72,46 @@ shut d p = eqb-true (d .status .phase) 0 (not-false (eqb (d .status .phase) 0) p
 
 -- by the rule that holds
 pub own-goes : (d : Device) (m b : List ℕ) {c : Call} {a : Act} → by.Own (factsOf d (lent c m b)) c a → OwnGoes d m c a
-unfolding numberOf touchOf moveOf repliesOf some collect OnRow
+unfolding touchOf moveOf repliesOf some collect pick afterOf openedFor movedBy finishedBy failedBy renewed resetHeld released
 own-goes d m b (by.opened t g s o p e) = record {
   lies = nowhere-lies _ m;
   sends = refl;
   replies = setup-replies t (record { tag = t; entry = entryOf (d .entries) t }) (entryOf (d .entries) t .write);
-  reckons = record { zeroed = refl; raised = none-raised; on = tt };
+  reckons = refl;
   comes = λ _. opened-comes d [] t g o (shut d p) e;
 }
 own-goes d m b (by.sent g w s p r) = record {
   lies = nowhere-lies _ m;
   sends = refl;
   replies = own-replies _ _ refl (inl refl) refl refl refl (none-finished _ _ refl);
-  reckons = record { zeroed = refl; raised = none-raised; on = tt };
+  reckons = refl;
   comes = λ _. send-comes d m g w p r;
 }
 own-goes d m b (by.finished set g s p e r) = record {
   lies = nowhere-lies _ m;
   sends = refl;
   replies = own-replies _ _ refl (inl refl) refl refl refl (is-finish _ refl .fails, is-finish _ refl .finishes);
-  reckons = record { zeroed = refl; raised = none-raised; on = tt };
+  reckons = refl;
   comes = λ l. finished-comes d [] set g l (shut d p) e r;
 }
 own-goes d m b (by.failed t e x g s o y w) = record {
   lies = nowhere-lies _ m;
   sends = refl;
   replies = own-replies _ _ refl (inl refl) refl refl refl (is-failed _ refl refl .fails, is-failed _ refl refl .finishes);
-  reckons = record { zeroed = sym (bit-wipeless (bitIn 8 e 7)); raised = bit-raised (bitIn 8 e 7); on = tt };
+  reckons = failed-values d _ (bitIn 8 e 7);
   comes = λ _. failed-comes d [] _ (busy-calm d g t o);
 }
 own-goes d m b (by.linked r g x) = record {
   lies = nowhere-lies _ m;
   sends = refl;
   replies = own-replies _ [] refl (inl refl) refl refl refl (none-finished _ _ refl);
-  reckons = record { zeroed = refl; raised = λ k l. refl; on = link-row (d .settings .mask) r x };
+  reckons = raised-values d r;
   comes = λ _. counted-comes d [] r;
 }
 own-goes d m b (by.renewed g s) = record {
   lies = nowhere-lies _ m;
   sends = refl;
   replies = own-replies _ _ refl (inl refl) refl refl refl (none-finished _ _ refl);
-  reckons = record { zeroed = refl; raised = λ k l. refl; on = tt };
+  reckons = raised-values (released (resetHeld d)) 9;
   comes = λ _. renewed-comes d [];
 }

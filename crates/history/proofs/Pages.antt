@@ -41,7 +41,7 @@ use Rattle.device.specs.Step.{shown, actOf, step}
 use Rattle.device.proofs.Doing.{heard-unsent}
 use Rattle.history.proofs.Tally.{ValuesTell, Counting, tells-small}
 use Rattle.history.proofs.Hearing.{pioIn, Logs}
-use Rattle.history.proofs.Hosted.{hosted}
+use Rattle.history.proofs.Hosted.{host-goes}
 use Rattle.history.proofs.Own.{own-goes}
 use Rattle.history.proofs.Counts.{eventOf, Replies}
 use Rattle.history.proofs.Frames.{Read, read-frames}
@@ -124,7 +124,7 @@ unfolding numberOf
 ruled-logs d m b (by.refused c n h e) z p q = absurd (h z)
 ruled-logs d m b (by.host f a g w s h) z p q =
     let v = factsOf d (lent (hostFrame f) m b) in
-    (g, hosted d f m b g h .heard .shown (ap (λ (x : List ℕ). pioIn (repliesOf (shown d) x a)) (heard-unsent v m h) ∙ p) q)
+    (g, host-goes d f m b g h .heard .shown (ap (λ (x : List ℕ). pioIn (repliesOf (shown d) x a)) (heard-unsent v m h) ∙ p) q)
 ruled-logs d m b (by.own o) z p q = absurd (false≢true (sym (own-goes d m b o .replies .pageless) ∙ p))
 
 -- every call: a page 11h in its replies shows what the history before it tells

@@ -31,7 +31,7 @@ use Rattle.history.proofs.Views.{view, is-silent, silent-unbegun}
 use Rattle.history.proofs.Frames.{Read, read-seen, read-step}
 use Rattle.history.proofs.Changes.{same}
 use Rattle.history.proofs.Hosts.{Comes}
-use Rattle.history.proofs.Hosted.{hosted}
+use Rattle.history.proofs.Hosted.{host-goes}
 use Rattle.history.proofs.Own.{own-goes}
 
 -- what is asked, taken and refused
@@ -70,7 +70,7 @@ unfolding numberOf
 ruled-comes d m b t (by.refused c n h e) z = absurd (h z)
 ruled-comes d m b t (by.host f a g w s h) z =
     subst (λ (p : List ℕ). Comes d p (frameAsks (readFrame f)) a) (heard-unsent (factsOf d (lent (hostFrame f) m b)) m h)
-    (hosted d f m b g h .comes)
+    (host-goes d f m b g h .comes)
 ruled-comes d m b t (by.own o) z = own-goes d m b o .comes t
 
 -- every call
