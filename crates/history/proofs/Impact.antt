@@ -8,9 +8,8 @@ use borrow.Author.Tests.{lt-leb, le-leb, ltb-true, ltb-false}
 use Rattle.bits.specs.Pick.{pick}
 use Rattle.bits.proofs.Picks.{tested}
 use Rattle.rules.specs.Call.{Call}
-use Rattle.rules.specs.declared.acts.Fault.{Fault}
 use Rattle.rules.specs.declared.acts.Act.{Act}
-use Rattle.device.specs.After.{withValue, haltWith, zeroedIf, afterOf}
+use Rattle.device.specs.After.{withValue, zeroedIf, afterOf}
 use Rattle.device.specs.declared.state.Device.{Device}
 use Rattle.history.specs.Reading.{rowRaised, callZeroes}
 use Rattle.history.proofs.Tally.{counted}
@@ -26,10 +25,10 @@ raised-values d row =
     ⊎-elim (λ (t : ltb row 16 ≡ true). rw (t, lt-leb 16 row (ltb-true row 16 t))) (λ (f : ltb row 16 ≡ false). rw (f, le-leb 16 row (ltb-false row 16 f))) (tested (ltb row 16))
 
 -- a media error: row 0, if its byte has bit 7
-pub failed-values : (d : Device) (f : Fault) → (b : Bool) → haltWith (pick b (withValue d 0) d) f .values ≡ counted false (pick b 0 16) (d .values)
-unfolding haltWith pick
-failed-values d f true = raised-values d 0
-failed-values d f false = refl
+pub failed-values : (d : Device) (b : Bool) → pick b (withValue d 0) d .values ≡ counted false (pick b 0 16) (d .values)
+unfolding pick
+failed-values d true = raised-values d 0
+failed-values d false = refl
 
 -- zeroed, or not
 pub zeroed-values : (d : Device) (b : Bool) → zeroedIf d b .values ≡ counted b 16 (d .values)

@@ -12,7 +12,7 @@ use Rattle.frames.proofs.ReadLaws.{DataRead, read-data}
 use Rattle.frames.specs.declared.shapes.Frame.{Frame}
 use Rattle.rules.specs.Call.{Call, hostFrame}
 use Rattle.rules.specs.Positions.{placeOf, moveOf}
-use Rattle.rules.specs.Medium.{numberOf, touchOf, spanOf, partOf, mediumAfter}
+use Rattle.rules.specs.Medium.{numberOf, spanOf, partOf, mediumAfter}
 use Rattle.rules.specs.declared.acts.Act.{Act}
 use Rattle.rules.proofs.Ruled as by
 use Rattle.replies.specs.Replies.{repliesOf}
@@ -25,10 +25,10 @@ use Rattle.device.proofs.Doing.{heard-unsent}
 use Rattle.device.proofs.Refusals.{refused-keeps}
 use Rattle.device.proofs.Rooms.{move-within}
 use Rattle.device.proofs.Storing.{Taken46, taken-46, data-kept-whole}
-use Rattle.history.specs.Replied.{dataIn}
+use Rattle.history.specs.Replied.{some, dataIn}
 use Rattle.history.specs.Reading.{callBrings}
 use Rattle.history.proofs.Views.{sentIn}
-use Rattle.history.proofs.Placed.{SentFrom, DataStands, part-sent, nowhere-lies}
+use Rattle.history.proofs.Placed.{SentFrom, DataStands, sent-none, nowhere-lies}
 use Rattle.history.proofs.Hosted.{OnMedium, untouched, hostData, host-goes}
 use Rattle.history.proofs.Own.{own-goes}
 
@@ -71,12 +71,11 @@ call-lies d l =
 
 -- a call that was decided: what it sends stood at the next byte of the open phase's command
 ruled-sent : (d : Device) (m b : List ℕ) {c : Call} {a : Act} → by.Ruled (factsOf d (lent c m b)) c a → SentFrom (placeOf (phaseEntry d)) m (sentIn (repliesOf (shown d) (partOf (spanOf a) m) a))
-unfolding touchOf
-ruled-sent d m b (by.refused c n h e) = part-sent (placeOf (phaseEntry d)) 0 m (shown d) _
+unfolding repliesOf some pick
+ruled-sent d m b (by.refused c n h e) = sent-none (placeOf (phaseEntry d)) m [] refl
 ruled-sent d m b (by.host f a g w s h) =
-    subst (λ (p : List ℕ). SentFrom (placeOf (phaseEntry d)) m (sentIn (repliesOf (shown d) p a))) (heard-unsent (factsOf d (lent (hostFrame f) m b)) m h) (part-sent (placeOf (phaseEntry d)) 0 m (shown d) a)
-ruled-sent d m b (by.own {a = a} o) =
-    subst (λ (p : List ℕ). SentFrom (placeOf (phaseEntry d)) m (sentIn (repliesOf (shown d) p a))) (sym (own-goes d m b o .sends)) (part-sent (placeOf (phaseEntry d)) (spanOf a .size) m (shown d) a)
+    subst (λ (p : List ℕ). SentFrom (placeOf (phaseEntry d)) m (sentIn (repliesOf (shown d) p a))) (heard-unsent (factsOf d (lent (hostFrame f) m b)) m h) (sent-none (placeOf (phaseEntry d)) m _ (host-goes d f m b g h .unsent))
+ruled-sent d m b (by.own o) = own-goes d m b o .sends
 
 -- every call
 pub call-sent : (d : Device) (l : Lent) → SentFrom (placeOf (phaseEntry d)) (l .medium) (sentIn (step d l .frames))

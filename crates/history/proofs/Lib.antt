@@ -8,6 +8,7 @@ pub mod Hosts
 pub mod Events
 -- each call, as it was decided: what it sends, counts and says
 pub mod Placed
+pub mod Marked
 pub mod Tally
 pub mod Impact
 pub mod Hearing
@@ -33,8 +34,6 @@ pub mod Strays
 pub mod Owners
 pub mod Kept
 pub mod Contents
--- what every call keeps of the state: a halt has its record
-pub mod Marked
 -- counters
 pub mod Counts
 pub mod Pages

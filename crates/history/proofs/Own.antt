@@ -1,11 +1,10 @@
 -- All that is proved of a device event that is taken: one row an event. Assumes nothing.
 use mathlib.Core.Path.{_≡_, refl}
-use mathlib.Core.Bool.{Bool, true, false, not}
+use mathlib.Core.Bool.{Bool, true, false, not, false≢true}
 use mathlib.Core.List.{List, [], _∷_}
 use mathlib.Core.Logic.{inl, inr}
 use Prim.Native.Nat.{ℕ}
 use lib.Dec.{eqb}
-use lib.ListN.{take, drop}
 use borrow.Author.Tests.{eqb-true, not-false}
 use Rattle.bits.specs.Pick.{pick}
 use Rattle.bits.specs.Bit.{bitIn}
@@ -20,18 +19,19 @@ use Rattle.rules.proofs.Ruled as by
 use Rattle.replies.specs.Replies.{repliesOf, setupReply, activateIf}
 use Rattle.device.specs.Lent.{lent, frameIn, Typed}
 use Rattle.device.specs.FactsOf.{factsOf}
-use Rattle.device.specs.After.{afterOf, openedFor, movedBy, finishedBy, failedBy, renewed, resetHeld, released}
+use Rattle.device.specs.After.{afterOf, openedFor, movedBy, finishedBy, failedBy, haltWith, renewed, resetHeld, released}
 use Rattle.device.specs.DataDue.{phaseEntry}
 use Rattle.device.specs.Step.{shown}
 use Rattle.device.specs.declared.state.Device.{Device}
 use Rattle.history.specs.Replied.{some, collect}
 use Rattle.history.specs.Shapes.{OneOf}
 use Rattle.history.specs.Reading.{callAsks, callBrings, callSays, callReplies}
-use Rattle.history.proofs.Views.{view, is-finish, is-failed}
+use Rattle.history.proofs.Views.{sentIn, view, is-finish, is-failed}
 use Rattle.history.proofs.Changes.{busy-calm}
 use Rattle.history.proofs.Hosts.{Comes}
 use Rattle.history.proofs.Events.{opened-comes, send-comes, finished-comes, failed-comes, counted-comes, renewed-comes}
-use Rattle.history.proofs.Placed.{DataStands, nowhere-lies}
+use Rattle.history.proofs.Placed.{SentFrom, DataStands, sent-none, payload-sent, setup-none, nowhere-lies}
+use Rattle.history.proofs.Marked.{Marked, raised-marked}
 use Rattle.history.proofs.Impact.{Reckons, raised-values, failed-values}
 use Rattle.history.proofs.Hearing.{pioIn}
 use Rattle.history.proofs.Shaped.{kindsOf, erring, sendsFaulty, CallShaped, unblamed}
@@ -43,12 +43,13 @@ pub record OwnReplies (c : Call) (rs : List FrameValue) : Type 0 where
   pub shaped : CallShaped c rs
   pub utters : Utters c rs
 
--- an event with its act: it brings nothing and leaves the medium; what of it is sent stands at the next byte of the open phase's command; its replies; what it counts; the kind to which it comes
+-- an event with its act: it brings nothing and leaves the medium; what of it is sent stands at the next byte of the open phase's command; its replies; what it counts; a halt keeps its record; the kind to which it comes
 pub record OwnGoes (d : Device) (m : List ℕ) (c : Call) (a : Act) : Type 0 where
   pub lies : DataStands (placeOf (phaseEntry d)) m (mediumAfter a (frameIn c) m) (callBrings c)
-  pub sends : partOf (spanOf a) m ≡ take (spanOf a .size) (drop (placeOf (phaseEntry d)) m)
+  pub sends : SentFrom (placeOf (phaseEntry d)) m (sentIn (repliesOf (shown d) (partOf (spanOf a) m) a))
   pub replies : OwnReplies c (repliesOf (shown d) (partOf (spanOf a) m) a)
   pub reckons : Reckons d c (pioIn (repliesOf (shown d) (partOf (spanOf a) m) a)) a
+  pub marked : Marked d → Marked (afterOf d a)
   pub comes : Typed c → Comes d (partOf (spanOf a) m) (callAsks c) a
 
 -- ---- replies
@@ -72,19 +73,21 @@ shut d p = eqb-true (d .status .phase) 0 (not-false (eqb (d .status .phase) 0) p
 
 -- by the rule that holds
 pub own-goes : (d : Device) (m b : List ℕ) {c : Call} {a : Act} → by.Own (factsOf d (lent c m b)) c a → OwnGoes d m c a
-unfolding touchOf moveOf repliesOf some collect pick afterOf openedFor movedBy finishedBy failedBy renewed resetHeld released
+unfolding touchOf moveOf repliesOf some collect pick afterOf openedFor movedBy finishedBy failedBy haltWith renewed resetHeld released
 own-goes d m b (by.opened t g s o p e) = record {
   lies = nowhere-lies _ m;
-  sends = refl;
+  sends = sent-none (placeOf (phaseEntry d)) m _ (setup-none (record { tag = t; entry = entryOf (d .entries) t }) (entryOf (d .entries) t .write));
   replies = setup-replies t (record { tag = t; entry = entryOf (d .entries) t }) (entryOf (d .entries) t .write);
   reckons = refl;
+  marked = λ k. k;
   comes = λ _. opened-comes d [] t g o (shut d p) e;
 }
 own-goes d m b (by.sent g w s p r) = record {
   lies = nowhere-lies _ m;
-  sends = refl;
+  sends = payload-sent (placeOf (phaseEntry d)) (moveOf (d .status) (phaseEntry d) 8192 .size) m;
   replies = own-replies _ _ refl (inl refl) refl refl refl (none-finished _ _ refl);
   reckons = refl;
+  marked = λ k. k;
   comes = λ _. send-comes d m g w p r;
 }
 own-goes d m b (by.finished set g s p e r) = record {
@@ -92,13 +95,15 @@ own-goes d m b (by.finished set g s p e r) = record {
   sends = refl;
   replies = own-replies _ _ refl (inl refl) refl refl refl (is-finish _ refl .fails, is-finish _ refl .finishes);
   reckons = refl;
+  marked = λ k. k;
   comes = λ l. finished-comes d [] set g l (shut d p) e r;
 }
 own-goes d m b (by.failed t e x g s o y w) = record {
   lies = nowhere-lies _ m;
   sends = refl;
   replies = own-replies _ _ refl (inl refl) refl refl refl (is-failed _ refl refl .fails, is-failed _ refl refl .finishes);
-  reckons = failed-values d _ (bitIn 8 e 7);
+  reckons = failed-values d (bitIn 8 e 7);
+  marked = λ _ _. refl;
   comes = λ _. failed-comes d [] _ (busy-calm d g t o);
 }
 own-goes d m b (by.linked r g x) = record {
@@ -106,6 +111,7 @@ own-goes d m b (by.linked r g x) = record {
   sends = refl;
   replies = own-replies _ [] refl (inl refl) refl refl refl (none-finished _ _ refl);
   reckons = raised-values d r;
+  marked = raised-marked d r;
   comes = λ _. counted-comes d [] r;
 }
 own-goes d m b (by.renewed g s) = record {
@@ -113,5 +119,6 @@ own-goes d m b (by.renewed g s) = record {
   sends = refl;
   replies = own-replies _ _ refl (inl refl) refl refl refl (none-finished _ _ refl);
   reckons = raised-values (released (resetHeld d)) 9;
+  marked = λ _. raised-marked (released (resetHeld d)) 9 (λ h. absurd (false≢true h));
   comes = λ _. renewed-comes d [];
 }

@@ -1,6 +1,6 @@
 -- Data at a place: sent, they are what the medium held there; brought, the medium holds them there and is otherwise as it was. What each reply sends. Assumes nothing.
 use mathlib.Core.Path.{_≡_, refl, sym, ap, _∙_}
-use mathlib.Core.Bool.{Bool, true, false, not}
+use mathlib.Core.Bool.{Bool, true, false}
 use mathlib.Core.List.{List, [], _∷_, _++_, append-nil}
 use Prim.Native.Nat.{ℕ, zero, suc, _+_, _≤_, _<_}
 use native.Mathlib.Nat.{add-zero}
@@ -8,11 +8,9 @@ use native.Mathlib.Omega.{arith}
 use lib.ListN.{length, take, drop, take-append-drop}
 use Rattle.bits.specs.Pick.{pick}
 use Rattle.frame_parts.specs.declared.shared.Task.{Task}
-use Rattle.replies.specs.declared.shown.Shown.{Shown}
+use Rattle.frames.specs.Write.{payload}
 use Rattle.rules.specs.declared.acts.Queued.{Queued}
-use Rattle.rules.specs.declared.acts.Act.{Act}
-use Rattle.rules.specs.declared.acts.Act.the-variants.{Refuse, Nothing, Bad, BadAndHalt, Accept, Log10, Log11, Reset, Release, ZeroCounters, Store, Open, Send, Finish, Media, Count, Renew}
-use Rattle.replies.specs.Replies.{repliesOf, setupReply, logReplies, activateIf, page10Of, page11Of}
+use Rattle.replies.specs.Replies.{setupReply, logReplies, activateIf}
 use Rattle.history.specs.Event.{Event}
 use Rattle.history.specs.Asked.{brought}
 use Rattle.history.specs.Replied.{some, sent}
@@ -43,6 +41,10 @@ pub record Placed (x : Event) (at : ℕ) : Type 0 where
 
 -- ---- no data
 
+-- nothing is sent
+pub sent-none : (at : ℕ) (m l : List ℕ) → l ≡ [] → SentFrom at m l
+sent-none at m l e = rw e
+
 -- the medium as it was
 left-none : (at : ℕ) (m left l : List ℕ) → l ≡ [] → left ≡ m → LeftAt at m left l
 left-none at m left l e k = k ∙ sym (ap (λ (y : List ℕ). take at m ++ (y ++ drop (at + length y) m)) e ∙ ap (λ (n : ℕ). take at m ++ drop n m) (add-zero at) ∙ take-append-drop at m)
@@ -67,42 +69,25 @@ take-short zero l = refl
 take-short (suc n) [] = refl
 take-short (suc n) (x ∷ l) = ap (λ (y : List ℕ). x ∷ y) (take-short n l)
 
-module _ (at n : ℕ) (m : List ℕ) where
-  -- a page is no command's data, with a sweep before it or without
-  log-none : (on : Bool) (task : Task) (page : List ℕ) → SentFrom at m (sentIn (logReplies on task page))
-  unfolding some pick
-  log-none true task page = refl
-  log-none false task page = refl
+-- a part of the medium as a data frame
+pub payload-sent : (at n : ℕ) (m : List ℕ) → SentFrom at m (sentIn (payload (take n (drop at m)) ∷ []))
+unfolding some pick
+payload-sent at n m = rw (append-nil (take n (drop at m))) (take-short n (drop at m))
 
-  -- nor is an Activate
-  active-none : (on : Bool) → SentFrom at m (sentIn (activateIf on))
-  unfolding some pick
-  active-none true = refl
-  active-none false = refl
+-- a page is no command's data, with a sweep before it or without
+pub log-none : (on : Bool) (task : Task) (page : List ℕ) → sentIn (logReplies on task page) ≡ []
+unfolding some pick
+log-none true task page = refl
+log-none false task page = refl
 
-  -- nor a DMA Setup
-  setup-none : (q : Queued) (on : Bool) → SentFrom at m (sentIn (setupReply q ∷ activateIf on))
-  unfolding some pick
-  setup-none q true = refl
-  setup-none q false = refl
+-- nor is an Activate
+pub active-none : (on : Bool) → sentIn (activateIf on) ≡ []
+unfolding some pick
+active-none true = refl
+active-none false = refl
 
-  -- an act that is given a part of the medium sends that part or none
-  pub part-sent : (s : Shown) (a : Act) → SentFrom at m (sentIn (repliesOf s (take n (drop at m)) a))
-  unfolding repliesOf some pick
-  part-sent s (Refuse r) = refl
-  part-sent s Nothing = refl
-  part-sent s (Bad b) = refl
-  part-sent s (BadAndHalt f) = refl
-  part-sent s (Accept q) = refl
-  part-sent s (Log10 task) = log-none (s .halted) task (page10Of (s .errors))
-  part-sent s (Log11 l) = log-none false (l .task) (page11Of (s .settings .mask) (s .values))
-  part-sent s Reset = refl
-  part-sent s Release = refl
-  part-sent s ZeroCounters = refl
-  part-sent s (Store k) = active-none (not (k .last))
-  part-sent s (Open q) = setup-none q (q .entry .write)
-  part-sent s (Send k) = rw (append-nil (take n (drop at m))) (take-short n (drop at m))
-  part-sent s (Finish set) = refl
-  part-sent s (Media f) = refl
-  part-sent s (Count r) = refl
-  part-sent s Renew = refl
+-- nor a DMA Setup
+pub setup-none : (q : Queued) (on : Bool) → sentIn (setupReply q ∷ activateIf on) ≡ []
+unfolding some pick
+setup-none q true = refl
+setup-none q false = refl

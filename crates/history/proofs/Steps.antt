@@ -1,4 +1,4 @@
--- Every call, taken or refused, comes to one of the ten kinds, seen from its call and its reply bytes. Assumes nothing.
+-- Every call, taken or refused, comes to one of the ten kinds, seen from its call and its reply bytes; and a halt keeps its record. Assumes nothing.
 use mathlib.Core.Path.{_≡_, refl, sym, ap, subst, _∙_}
 use mathlib.Core.Bool.{true, false}
 use mathlib.Core.List.{List, []}
@@ -14,6 +14,7 @@ use Rattle.rules.specs.Medium.{numberOf, spanOf, partOf}
 use Rattle.rules.specs.declared.acts.Act.{Act}
 use Rattle.rules.proofs.Ruled as by
 use Rattle.device.specs.Lent.{Lent, lent, Typed}
+use Rattle.device.specs.After.{afterOf}
 use Rattle.device.specs.FactsOf.{factsOf}
 use Rattle.device.specs.Step.{actOf, step}
 use Rattle.device.specs.declared.state.Device.{Device}
@@ -30,6 +31,7 @@ use Rattle.history.proofs.Class.{Class, plain}
 use Rattle.history.proofs.Views.{view, is-silent, silent-unbegun}
 use Rattle.history.proofs.Frames.{Read, read-seen, read-step}
 use Rattle.history.proofs.Changes.{same}
+use Rattle.history.proofs.Marked.{Marked}
 use Rattle.history.proofs.Hosts.{Comes}
 use Rattle.history.proofs.Hosted.{host-goes}
 use Rattle.history.proofs.Own.{own-goes}
@@ -78,3 +80,15 @@ pub comes : (d : Device) (l : Lent) → Typed (l .call) → SizedRecord d → Cl
 unfolding actOf
 comes d l t s =
     by-view d l t s (λ (e : Seen). Class d e (step d l .state)) (ruled-comes d (l .medium) (l .buffer) t (by.ruled (factsOf d l) (l .call))) (λ n. nothing-seen d (step d l .state) (refused-keeps d l n .state))
+
+-- a call that was decided: a halt keeps its record
+ruled-marked : (d : Device) (m b : List ℕ) {c : Call} {a : Act} → by.Ruled (factsOf d (lent c m b)) c a → Marked d → Marked (afterOf d a)
+unfolding afterOf
+ruled-marked d m b (by.refused c n h e) k = k
+ruled-marked d m b (by.host f a g w s h) k = host-goes d f m b g h .marked k
+ruled-marked d m b (by.own o) k = own-goes d m b o .marked k
+
+-- every call
+pub marked-step : (d : Device) (l : Lent) → Marked d → Marked (step d l .state)
+unfolding actOf
+marked-step d l = ruled-marked d (l .medium) (l .buffer) (by.ruled (factsOf d l) (l .call))
