@@ -9,7 +9,7 @@ use lib.Dec.{eqb}
 use borrow.Author.Tests.{eqb-true, eqb-false, ne-eqb}
 use Rattle.bits.specs.Pick.{pick}
 use Rattle.bits.proofs.Picks.{tested}
-use Rattle.rules.specs.Call.{Call, hostFrame}
+use Rattle.rules.specs.Call.{Call}
 use Rattle.rules.specs.Medium.{numberOf, spanOf, partOf}
 use Rattle.rules.specs.declared.acts.Act.{Act}
 use Rattle.rules.proofs.Ruled as by
@@ -18,7 +18,6 @@ use Rattle.device.specs.Lent.{Lent, lent}
 use Rattle.device.specs.FactsOf.{factsOf}
 use Rattle.device.specs.Step.{shown, actOf, step}
 use Rattle.device.specs.declared.state.Device.{Device}
-use Rattle.device.proofs.Doing.{heard-unsent}
 use Rattle.device.proofs.Refusals.{refused-keeps}
 use Rattle.history.specs.Event.{Event}
 use Rattle.history.specs.Reading.{rowRaised, callZeroes}
@@ -43,8 +42,7 @@ Replies d l = Read (eventOf d l) (step d l .frames)
 ruled-reckons : (d : Device) (m b : List ℕ) {c : Call} {a : Act} → by.Ruled (factsOf d (lent c m b)) c a → numberOf a ≡ 0 → Reckons d c (pioIn (repliesOf (shown d) (partOf (spanOf a) m) a)) a
 unfolding numberOf
 ruled-reckons d m b (by.refused c n h e) z = absurd (h z)
-ruled-reckons d m b (by.host f a g w s h) z =
-    subst (λ (p : List ℕ). Reckons d (hostFrame f) (pioIn (repliesOf (shown d) p a)) a) (heard-unsent (factsOf d (lent (hostFrame f) m b)) m h) (host-goes d f m b g h .heard .values)
+ruled-reckons d m b (by.host f a g w s h) z = host-goes d f m b g h .heard .values
 ruled-reckons d m b (by.own o) z = own-goes d m b o .reckons
 
 -- every call, refused or taken: the counters go on telling the history

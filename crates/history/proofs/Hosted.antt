@@ -18,7 +18,7 @@ use Rattle.frames.specs.declared.shapes.Frame.the-variants as fs
 use Rattle.rules.specs.Call.{hostFrame}
 use Rattle.rules.specs.Decide.{bad, fault, tagAsked}
 use Rattle.rules.specs.Positions.{moveOf}
-use Rattle.rules.specs.Medium.{leaves, touchOf}
+use Rattle.rules.specs.Medium.{leaves, touchOf, spanOf, partOf}
 use Rattle.rules.specs.declared.acts.Act.{Act}
 use Rattle.rules.proofs.Ruled as by
 use Rattle.replies.specs.Replies.{repliesOf, page10Of}
@@ -29,6 +29,7 @@ use Rattle.device.specs.DataDue.{phaseEntry}
 use Rattle.device.specs.After.{afterOf, haltWith, resetHeld, released, acceptedBy, unhalted, zeroedIf, movedBy}
 use Rattle.device.specs.Step.{shown}
 use Rattle.device.specs.declared.state.Device.{Device}
+use Rattle.device.proofs.Doing.{heard-unsent}
 use Rattle.history.specs.FrameAsks.{registerAsks, frameAsks}
 use Rattle.history.specs.Replied.{some, collect, dataIn}
 use Rattle.history.specs.Shapes.{frameReplies}
@@ -46,21 +47,21 @@ pub data OnMedium : Frame → Act → Type 0 where
   untouched : (f : Frame) (a : Act) → touchOf a ≡ leaves → ((p : List ℕ) → dataIn p f ≡ []) → OnMedium f a
   hostData : (n : ℕ) (a : Act) → OnMedium (fs.Data n) a
 
--- a frame with its act: what it does to the medium; its replies, of a shape that they may have, that say no more than they may and send nothing of the medium; what it counts; a halt keeps its record; the kind to which it comes
-pub record HostGoes (d : Device) (f : Frame) (a : Act) : Type 0 where
+-- a frame with its act, which is given a part of the medium: what it does to the medium; its replies, of a shape that they may have, that say no more than they may and send nothing of the medium; what it counts; a halt keeps its record; the kind to which it comes
+pub record HostGoes (d : Device) (part : List ℕ) (f : Frame) (a : Act) : Type 0 where
   pub medium : OnMedium f a
-  pub shaped : Shaped (frameReplies f) (frameAsks f) (repliesOf (shown d) [] a)
-  pub said : (d .status .halted ≡ true → Telling (shown d)) → FrameSays f (repliesOf (shown d) [] a)
-  pub unsent : sentIn (repliesOf (shown d) [] a) ≡ []
-  pub heard : Hears d f (pioIn (repliesOf (shown d) [] a)) a
+  pub shaped : Shaped (frameReplies f) (frameAsks f) (repliesOf (shown d) part a)
+  pub said : (d .status .halted ≡ true → Telling (shown d)) → FrameSays f (repliesOf (shown d) part a)
+  pub unsent : sentIn (repliesOf (shown d) part a) ≡ []
+  pub heard : Hears d f (pioIn (repliesOf (shown d) part a)) a
   pub marked : Marked d → Marked (afterOf d a)
-  pub comes : Comes d [] (frameAsks f) a
+  pub comes : Comes d part (frameAsks f) a
 
 module _ (d : Device) (g : contradictoryDevice d ≡ false) where
   module _ (h : HostReg) where
     -- a register frame whose act leaves the medium and the counters, and whose replies hold no A1h, no page and no data
     mildly : (a : Act) → touchOf a ≡ leaves → afterOf d a .values ≡ d .values → someBits (repliesOf (shown d) [] a) ≡ false → pioIn (repliesOf (shown d) [] a) ≡ false → sentIn (repliesOf (shown d) [] a) ≡ []
-        → (Marked d → Marked (afterOf d a)) → Shaped (frameReplies (fs.Host h)) (registerAsks h) (repliesOf (shown d) [] a) → Comes d [] (registerAsks h) a → HostGoes d (fs.Host h) a
+        → (Marked d → Marked (afterOf d a)) → Shaped (frameReplies (fs.Host h)) (registerAsks h) (repliesOf (shown d) [] a) → Comes d [] (registerAsks h) a → HostGoes d [] (fs.Host h) a
     mildly a t v b p u k s c = record {
       medium = untouched _ a t (λ _. refl);
       shaped = s;
@@ -72,17 +73,17 @@ module _ (d : Device) (g : contradictoryDevice d ≡ false) where
     }
 
     -- a command answered bad
-    badly : (e : ℕ) → h .«command_bit» ≡ true → Comes d [] (registerAsks h) (bad h e) → HostGoes d (fs.Host h) (bad h e)
+    badly : (e : ℕ) → h .«command_bit» ≡ true → Comes d [] (registerAsks h) (bad h e) → HostGoes d [] (fs.Host h) (bad h e)
     unfolding repliesOf afterOf some collect pick touchOf
     badly e c = mildly (bad h e) refl refl refl refl refl (λ k. k) (to-other h c _ (inl refl) refl refl)
 
     -- a command answered bad that halts the device
-    faultily : (nq : Bool) (t e : ℕ) → h .«command_bit» ≡ true → Comes d [] (registerAsks h) (fault h nq t e) → HostGoes d (fs.Host h) (fault h nq t e)
+    faultily : (nq : Bool) (t e : ℕ) → h .«command_bit» ≡ true → Comes d [] (registerAsks h) (fault h nq t e) → HostGoes d [] (fs.Host h) (fault h nq t e)
     unfolding repliesOf afterOf haltWith some collect pick touchOf
     faultily nq t e c = mildly (fault h nq t e) refl refl refl refl refl (λ _ _. refl) (to-other h c _ (inl refl) refl refl)
 
   -- by the rule that holds
-  heard-goes : (x m b : List ℕ) {f : Frame} {a : Act} → DataRead (getD x 0 0) x f → by.Heard (factsOf d (lent (hostFrame x) m b)) f a → HostGoes d f a
+  heard-goes : (x m b : List ℕ) {f : Frame} {a : Act} → DataRead (getD x 0 0) x f → by.Heard (factsOf d (lent (hostFrame x) m b)) f a → HostGoes d [] f a
   unfolding repliesOf afterOf resetHeld released acceptedBy unhalted zeroedIf movedBy some collect pick touchOf
   heard-goes x m b r (by.srst h c s) = mildly h _ refl refl refl refl refl (λ _ e. absurd (false≢true e)) (unblamed [] c (rw (c, s) (inl refl)) refl refl) (hosts.reset d g h c s)
   heard-goes x m b r (by.release h c s y) = mildly h _ refl refl refl refl refl (λ k. k) (unblamed _ c (rw (c, s) (inr (inl refl))) refl refl) (hosts.freed d g h c s)
@@ -127,6 +128,6 @@ module _ (d : Device) (g : contradictoryDevice d ≡ false) where
     comes = hosts.bist-comes d g _ refl refl refl;
   }
 
--- of a frame as its bytes
-pub host-goes : (d : Device) (f m b : List ℕ) {a : Act} → contradictoryDevice d ≡ false → by.Heard (factsOf d (lent (hostFrame f) m b)) (readFrame f) a → HostGoes d (readFrame f) a
-host-goes d f m b g h = heard-goes d g f m b (read-data f) h
+-- of a frame as its bytes; it is given no part of the medium
+pub host-goes : (d : Device) (f m b : List ℕ) {a : Act} → contradictoryDevice d ≡ false → by.Heard (factsOf d (lent (hostFrame f) m b)) (readFrame f) a → HostGoes d (partOf (spanOf a) m) (readFrame f) a
+host-goes d f m b {a} g h = subst (λ (p : List ℕ). HostGoes d p (readFrame f) a) (heard-unsent (factsOf d (lent (hostFrame f) m b)) m h) (heard-goes d g f m b (read-data f) h)

@@ -21,7 +21,6 @@ use Rattle.device.specs.FactsOf.{factsOf}
 use Rattle.device.specs.DataDue.{phaseEntry}
 use Rattle.device.specs.Step.{shown, actOf, step}
 use Rattle.device.specs.declared.state.Device.{Device}
-use Rattle.device.proofs.Doing.{heard-unsent}
 use Rattle.device.proofs.Refusals.{refused-keeps}
 use Rattle.device.proofs.Rooms.{move-within}
 use Rattle.device.proofs.Storing.{Taken46, taken-46, data-kept-whole}
@@ -73,8 +72,7 @@ call-lies d l =
 ruled-sent : (d : Device) (m b : List ℕ) {c : Call} {a : Act} → by.Ruled (factsOf d (lent c m b)) c a → SentFrom (placeOf (phaseEntry d)) m (sentIn (repliesOf (shown d) (partOf (spanOf a) m) a))
 unfolding repliesOf some pick
 ruled-sent d m b (by.refused c n h e) = sent-none (placeOf (phaseEntry d)) m [] refl
-ruled-sent d m b (by.host f a g w s h) =
-    subst (λ (p : List ℕ). SentFrom (placeOf (phaseEntry d)) m (sentIn (repliesOf (shown d) p a))) (heard-unsent (factsOf d (lent (hostFrame f) m b)) m h) (sent-none (placeOf (phaseEntry d)) m _ (host-goes d f m b g h .unsent))
+ruled-sent d m b (by.host f a g w s h) = sent-none (placeOf (phaseEntry d)) m _ (host-goes d f m b g h .unsent)
 ruled-sent d m b (by.own o) = own-goes d m b o .sends
 
 -- every call

@@ -29,7 +29,7 @@ use Rattle.device.specs.Device.{contradictoryDevice}
 use Rattle.device.specs.declared.state.Device.{Device}
 use Rattle.device_state.specs.Clauses.{settingsOut}
 use Rattle.device.proofs.Keeping.{settings-good, both-kept}
-use Rattle.rules.specs.Call.{Call, hostFrame}
+use Rattle.rules.specs.Call.{Call}
 use Rattle.history.specs.Event.{Event, taken}
 use Rattle.history.specs.Replied.{repliesIn, frames, some, isPio, payloads, page}
 use Rattle.history.specs.Reading.{callReads}
@@ -38,7 +38,6 @@ use Rattle.history.specs.Counted.{sends11, toldAt, toldFor}
 use Rattle.device.specs.Lent.{Lent, lent}
 use Rattle.device.specs.FactsOf.{factsOf}
 use Rattle.device.specs.Step.{shown, actOf, step}
-use Rattle.device.proofs.Doing.{heard-unsent}
 use Rattle.history.proofs.Tally.{ValuesTell, Counting, tells-small}
 use Rattle.history.proofs.Hearing.{pioIn, Logs}
 use Rattle.history.proofs.Hosted.{host-goes}
@@ -122,9 +121,7 @@ ruled-logs : (d : Device) (m b : List ℕ) {c : Call} {a : Act} → by.Ruled (fa
     → (contradictoryDevice d ≡ false) × Logs a
 unfolding numberOf
 ruled-logs d m b (by.refused c n h e) z p q = absurd (h z)
-ruled-logs d m b (by.host f a g w s h) z p q =
-    let v = factsOf d (lent (hostFrame f) m b) in
-    (g, host-goes d f m b g h .heard .shown (ap (λ (x : List ℕ). pioIn (repliesOf (shown d) x a)) (heard-unsent v m h) ∙ p) q)
+ruled-logs d m b (by.host f a g w s h) z p q = (g, host-goes d f m b g h .heard .shown p q)
 ruled-logs d m b (by.own o) z p q = absurd (false≢true (sym (own-goes d m b o .replies .pageless) ∙ p))
 
 -- every call: a page 11h in its replies shows what the history before it tells

@@ -16,7 +16,7 @@ use Rattle.frames.specs.Write.{FrameValue}
 use Rattle.frames.specs.RoundTrip as trip
 use Rattle.frames.specs.declared.shapes.Frame.{Frame}
 use Rattle.pages.specs.Page10.{readLog}
-use Rattle.rules.specs.Call.{Call, hostFrame}
+use Rattle.rules.specs.Call.{Call}
 use Rattle.rules.specs.Medium.{numberOf, spanOf, partOf}
 use Rattle.rules.specs.declared.acts.Act.{Act}
 use Rattle.rules.proofs.Ruled as by
@@ -27,7 +27,6 @@ use Rattle.device.specs.FactsOf.{factsOf}
 use Rattle.device.specs.Step.{shown, actOf, step}
 use Rattle.device.specs.declared.state.Device.{Device}
 use Rattle.device.proofs.Sized.{SizedRecord}
-use Rattle.device.proofs.Doing.{heard-unsent}
 use Rattle.device.proofs.Refusals.{refused-keeps}
 use Rattle.history.specs.Event.{Event, taken}
 use Rattle.history.specs.FrameAsks.{Asked, quiet}
@@ -57,9 +56,7 @@ use Rattle.history.proofs.Own.{own-goes}
 pub ruled-shaped : (d : Device) (m b : List ℕ) {c : Call} {a : Act} → by.Ruled (factsOf d (lent c m b)) c a → numberOf a ≡ 0 → CallShaped c (repliesOf (shown d) (partOf (spanOf a) m) a)
 unfolding numberOf
 ruled-shaped d m b (by.refused c n h e) z = absurd (h z)
-ruled-shaped d m b (by.host f a g w s h) z =
-    let v = factsOf d (lent (hostFrame f) m b) in
-    subst (λ (p : List ℕ). CallShaped (hostFrame f) (repliesOf (shown d) p a)) (heard-unsent v m h) (host-goes d f m b g h .shaped)
+ruled-shaped d m b (by.host f a g w s h) z = host-goes d f m b g h .shaped
 ruled-shaped d m b (by.own o) z = own-goes d m b o .replies .shaped
 
 -- say no more than they may, if page 10h tells an error while the device is halted
@@ -67,9 +64,7 @@ ruled-utters : (d : Device) (m b : List ℕ) → (contradictoryDevice d ≡ fals
     → Utters c (repliesOf (shown d) (partOf (spanOf a) m) a)
 unfolding numberOf
 ruled-utters d m b k (by.refused c n h e) z = absurd (h z)
-ruled-utters d m b k (by.host f a g w s h) z =
-    let v = factsOf d (lent (hostFrame f) m b) in
-    subst (λ (p : List ℕ). Utters (hostFrame f) (repliesOf (shown d) p a)) (heard-unsent v m h) (host-utters f _ (host-goes d f m b g h .said (k g)))
+ruled-utters d m b k (by.host f a g w s h) z = host-utters f _ (host-goes d f m b g h .said (k g))
 ruled-utters d m b k (by.own o) z = own-goes d m b o .replies .utters
 
 -- ---- as an event of the history

@@ -1,4 +1,4 @@
--- The replies of each taken call are one of those that it may have; a 34h with ERR answers a command, one without it none but a queued one, and a 5Fh has no ERR. Assumes nothing.
+-- When replies are of a shape that they may have: one of those that the call may have; a 34h with ERR answers a command, one without it none but a queued one, and a 5Fh has no ERR. Assumes nothing.
 use mathlib.Core.Path.{_≡_, refl, sym, _∙_}
 use mathlib.Core.Bool.{Bool, true, false, not, false≢true, true≢false}
 use mathlib.Core.List.{List, [], _∷_, map}

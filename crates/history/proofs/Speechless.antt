@@ -1,4 +1,4 @@
--- Every call says no more than it may, and what it must: by its replies. Assumes nothing.
+-- When a call says no more than it may, and what it must: by its replies. Assumes nothing.
 use mathlib.Core.Path.{_≡_, refl, sym, ap, _∙_}
 use mathlib.Core.Bool.{Bool, true, false, not, _&&_, _||_, true≢false, false≢true}
 use mathlib.Core.List.{List, [], _∷_}

@@ -8,8 +8,7 @@ use lib.Dec.{eqb}
 use borrow.Author.Tests.{eqb-true, eqb-false, ne-eqb}
 use Rattle.bits.specs.Pick.{pick}
 use Rattle.bits.proofs.Picks.{tested}
-use Rattle.frames.specs.Read.{readFrame}
-use Rattle.rules.specs.Call.{Call, hostFrame}
+use Rattle.rules.specs.Call.{Call}
 use Rattle.rules.specs.Medium.{numberOf, spanOf, partOf}
 use Rattle.rules.specs.declared.acts.Act.{Act}
 use Rattle.rules.proofs.Ruled as by
@@ -19,10 +18,9 @@ use Rattle.device.specs.FactsOf.{factsOf}
 use Rattle.device.specs.Step.{actOf, step}
 use Rattle.device.specs.declared.state.Device.{Device}
 use Rattle.device.proofs.Sized.{SizedRecord}
-use Rattle.device.proofs.Doing.{heard-unsent}
 use Rattle.device.proofs.Refusals.{refused-keeps}
 use Rattle.history.specs.Event.{Event}
-use Rattle.history.specs.FrameAsks.{quiet, frameAsks}
+use Rattle.history.specs.FrameAsks.{quiet}
 use Rattle.history.specs.Reading.{callAsks}
 use Rattle.history.specs.Asked.{asks}
 use Rattle.history.specs.Seen.{Seen, seen}
@@ -70,9 +68,7 @@ module _ (d : Device) (l : Lent) (t : Typed (l .call)) (s : SizedRecord d) where
 ruled-comes : (d : Device) (m b : List ℕ) {c : Call} {a : Act} → Typed c → by.Ruled (factsOf d (lent c m b)) c a → numberOf a ≡ 0 → Comes d (partOf (spanOf a) m) (callAsks c) a
 unfolding numberOf
 ruled-comes d m b t (by.refused c n h e) z = absurd (h z)
-ruled-comes d m b t (by.host f a g w s h) z =
-    subst (λ (p : List ℕ). Comes d p (frameAsks (readFrame f)) a) (heard-unsent (factsOf d (lent (hostFrame f) m b)) m h)
-    (host-goes d f m b g h .comes)
+ruled-comes d m b t (by.host f a g w s h) z = host-goes d f m b g h .comes
 ruled-comes d m b t (by.own o) z = own-goes d m b o .comes t
 
 -- every call
