@@ -103,7 +103,7 @@ module _ (d : Device) (g : contradictoryDevice d ≡ false) where
     unsent = log-none (d .status .halted) (h .task) (page10Of (d .errors));
     heard = ten-heard d h p;
     marked = λ _ e. absurd (false≢true e);
-    comes = hosts.paged-ten d g h (d .status .halted) refl (h .task) (page10Of (d .errors)) (c .command) (hosts.other d g h (c .command) (c .kind)) (not-false (eqb (d .status .phase) 0) (c .calm));
+    comes = hosts.ten-comes d g h (c .command) (hosts.other d g h (c .command) (c .kind)) (not-false (eqb (d .status .phase) 0) (c .calm));
   }
   heard-goes x m b r (by.page11 h c y e p) = record {
     medium = untouched _ _ refl (λ _. refl);

@@ -19,8 +19,8 @@ use Rattle.device_state.specs.Table.{entryOf}
 use Rattle.rules.specs.Positions.{leftOf, moveOf}
 use Rattle.rules.specs.Decide.{bad, fault, tagAsked, entryFor, isQueued}
 use Rattle.rules.specs.declared.acts.Act.{Act}
-use Rattle.rules.specs.declared.acts.Act.the-variants.{Nothing, Accept, Log11, Reset, Release, ZeroCounters, Store}
-use Rattle.replies.specs.Replies.{logReplies, repliesOf}
+use Rattle.rules.specs.declared.acts.Act.the-variants.{Nothing, Accept, Log10, Log11, Reset, Release, ZeroCounters, Store}
+use Rattle.replies.specs.Replies.{logReplies, page10Of, repliesOf}
 use Rattle.device.specs.Device.{contradictoryDevice}
 use Rattle.device.specs.FactsOf.{openTag}
 use Rattle.device.specs.After.{afterOf, haltWith, unhalted, zeroedIf, resetHeld, released}
@@ -102,7 +102,7 @@ module _ (d : Device) (g : contradictoryDevice d ≡ false) where
         freely (subst (λ (b : Bool). Is (actSeen d [] k (bad h e)) b false true false false false none none 0 0) q (is-bad k _ refl c (no-reset c) refl)) (answer-unbegun k _) x z (same d)
 
     -- page 10h: by whether the device was halted
-    pub paged-ten : (b : Bool) → d .status .halted ≡ b → (task : Task) (page : List ℕ) → h .«command_bit» ≡ true → k .queued ≡ false → eqb (d .status .phase) 0 ≡ true
+    paged-ten : (b : Bool) → d .status .halted ≡ b → (task : Task) (page : List ℕ) → h .«command_bit» ≡ true → k .queued ≡ false → eqb (d .status .phase) 0 ≡ true
         → Class d (view k (logReplies b task page)) (unhalted d)
     unfolding unhalted pick
     paged-ten true x task page c q p =
@@ -110,6 +110,10 @@ module _ (d : Device) (g : contradictoryDevice d ≡ false) where
         (record { settings = refl; outstanding = halted-empty d g x; phase = eqb-true (d .status .phase) 0 p; halted = refl })
     paged-ten false x task page c q p =
         plain (is-page k _ _ q (no-reset c) refl) (page-unbegun k _ _) (record { settings = refl; outstanding = refl; phase = refl; halted = sym x; entries = refl })
+
+    pub ten-comes : h .«command_bit» ≡ true → k .queued ≡ false → eqb (d .status .phase) 0 ≡ true → Comes d [] k (Log10 (h .task))
+    unfolding repliesOf afterOf
+    ten-comes = paged-ten (d .status .halted) refl (h .task) (page10Of (d .errors))
 
     -- page 11h
     pub paged-eleven : h .«command_bit» ≡ true → k .queued ≡ false → (b : Bool) → Comes d [] k (Log11 (record { zero = b; task = h .task }))

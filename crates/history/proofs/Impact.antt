@@ -9,7 +9,7 @@ use Rattle.bits.specs.Pick.{pick}
 use Rattle.bits.proofs.Picks.{tested}
 use Rattle.rules.specs.Call.{Call}
 use Rattle.rules.specs.declared.acts.Act.{Act}
-use Rattle.device.specs.After.{withValue, zeroedIf, afterOf}
+use Rattle.device.specs.After.{withValue, renewed, resetHeld, released, zeroedIf, afterOf}
 use Rattle.device.specs.declared.state.Device.{Device}
 use Rattle.history.specs.Reading.{rowRaised, callZeroes}
 use Rattle.history.proofs.Tally.{counted}
@@ -23,6 +23,11 @@ pub raised-values : (d : Device) (row : ℕ) → withValue d row .values ≡ cou
 unfolding withValue pick
 raised-values d row =
     ⊎-elim (λ (t : ltb row 16 ≡ true). rw (t, lt-leb 16 row (ltb-true row 16 t))) (λ (f : ltb row 16 ≡ false). rw (f, le-leb 16 row (ltb-false row 16 f))) (tested (ltb row 16))
+
+-- COMRESET: row 9
+pub renewed-values : (d : Device) → renewed d .values ≡ counted false 9 (d .values)
+unfolding renewed resetHeld released
+renewed-values d = raised-values (released (resetHeld d)) 9
 
 -- a media error: row 0, if its byte has bit 7
 pub failed-values : (d : Device) (b : Bool) → pick b (withValue d 0) d .values ≡ counted false (pick b 0 16) (d .values)

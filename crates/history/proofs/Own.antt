@@ -32,7 +32,7 @@ use Rattle.history.proofs.Hosts.{Comes}
 use Rattle.history.proofs.Events.{opened-comes, send-comes, finished-comes, failed-comes, counted-comes, renewed-comes}
 use Rattle.history.proofs.Placed.{SentFrom, DataStands, sent-none, payload-sent, setup-none, nowhere-lies}
 use Rattle.history.proofs.Marked.{Marked, raised-marked}
-use Rattle.history.proofs.Impact.{Reckons, raised-values, failed-values}
+use Rattle.history.proofs.Impact.{Reckons, raised-values, renewed-values, failed-values}
 use Rattle.history.proofs.Hearing.{pioIn}
 use Rattle.history.proofs.Shaped.{kindsOf, erring, sendsFaulty, CallShaped, unblamed}
 use Rattle.history.proofs.Speechless.{SpokenBy, Utters, none-finished, event-utters}
@@ -118,7 +118,7 @@ own-goes d m b (by.renewed g s) = record {
   lies = nowhere-lies _ m;
   sends = refl;
   replies = own-replies _ _ refl (inl refl) refl refl refl (none-finished _ _ refl);
-  reckons = raised-values (released (resetHeld d)) 9;
+  reckons = renewed-values d;
   marked = λ _. raised-marked (released (resetHeld d)) 9 (λ h. absurd (false≢true h));
   comes = λ _. renewed-comes d [];
 }
