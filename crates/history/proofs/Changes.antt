@@ -2,7 +2,7 @@
 use mathlib.Core.Path.{_≡_, refl, sym, ap, _∙_}
 use mathlib.Core.Bool.{Bool, true, false, not, _&&_, _||_}
 use mathlib.Core.List.{List}
-use Prim.Native.Nat.{ℕ, _+_, _-_, _*_, _≤_, _<_, min}
+use Prim.Native.Nat.{ℕ, _+_, _-_, _*_, _<_, min}
 use native.Mathlib.Omega.{arith}
 use lib.Dec.{eqb, leb}
 use mathlib.Core.Logic.{⊎-elim}
@@ -26,7 +26,7 @@ use Rattle.device.proofs.StatusLaws.{phase-busy}
 use Rattle.device.proofs.Busy.{phaseOf, busy-good, phase-more, whole-is}
 use Rattle.device.proofs.Tags.{busy-below}
 use Rattle.device.proofs.Entering.{tag-small}
-use Rattle.history.specs.Asked.{registerAsks}
+use Rattle.history.specs.FrameAsks.{registerAsks}
 use Rattle.history.specs.Seen.{Seen}
 use Rattle.history.proofs.Class.{Same, Took, Carried}
 use Rattle.history.proofs.Sets.{no-busy}

@@ -32,8 +32,8 @@ use Rattle.history.proofs.Moving.{deviceEntry}
 use Rattle.history.proofs.Table.{Standing, Following, Tracked}
 use Rattle.history.proofs.Strays.{due, transfer-since}
 use Rattle.history.proofs.Owners.{owned}
-use Rattle.history.proofs.Placed.{SentFrom, Placed, left-same, call-sent}
-use Rattle.history.proofs.Kept.{call-lies}
+use Rattle.history.proofs.Placed.{SentFrom, Placed, left-same}
+use Rattle.history.proofs.Kept.{call-lies, call-sent}
 
 -- the place of the open phase: that of its tag's entry
 phase-place : (d : Device) (t : ℕ) → d .status .phase ≡ t + 1 → placeOf (phaseEntry d) ≡ placeOf (deviceEntry d t)

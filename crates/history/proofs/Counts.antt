@@ -1,38 +1,34 @@
 -- Over every call the counters go on telling the events since their zeroing. Assumes nothing.
-use mathlib.Core.Path.{_≡_, refl, sym, ap, subst, _∙_}
-use mathlib.Core.Bool.{Bool, true, false, not, _&&_, _||_}
-use mathlib.Core.List.{List, [], _∷_}
-use Prim.Native.Nat.{ℕ, _≤_, _<_}
+use mathlib.Core.Path.{_≡_, ap, subst, subst⁻¹}
+use mathlib.Core.Bool.{Bool, true, false}
+use mathlib.Core.List.{List, _∷_}
+use mathlib.Core.Logic.{⊎-elim}
+use Prim.Native.Nat.{ℕ}
 use native.Mathlib.Omega.{arith}
-use lib.Dec.{eqb, ltb, lit<}
-use borrow.Author.Tests.{ne-eqb, ltb-false}
+use lib.Dec.{eqb}
+use borrow.Author.Tests.{eqb-true, eqb-false, ne-eqb}
 use Rattle.bits.specs.Pick.{pick}
-use Rattle.bits.specs.Bit.{bitIn}
-use Rattle.bits.proofs.Picks.{or-left, or-right}
-use Rattle.frames.specs.Read.{readFrame}
-use Rattle.pages.specs.Rows.{kept}
-use Rattle.device_state.specs.Clauses.{rowRefused}
-use Rattle.rules.specs.Call.{Call, hostFrame}
-use Rattle.rules.specs.Medium.{numberOf, touchOf, spanOf, partOf}
+use Rattle.bits.proofs.Picks.{tested}
+use Rattle.rules.specs.Call.{Call}
+use Rattle.rules.specs.Medium.{numberOf, spanOf, partOf}
 use Rattle.rules.specs.declared.acts.Act.{Act}
-use Rattle.rules.specs.declared.acts.Act.the-variants.{Refuse, Nothing, Bad, BadAndHalt, Accept, Log10, Log11, Reset, Release, ZeroCounters, Store, Open, Send, Finish, Media, Count, Renew}
 use Rattle.rules.proofs.Ruled as by
 use Rattle.replies.specs.Replies.{repliesOf}
 use Rattle.device.specs.Lent.{Lent, lent}
 use Rattle.device.specs.FactsOf.{factsOf}
-use Rattle.device.specs.After.{afterOf}
 use Rattle.device.specs.Step.{shown, actOf, step}
 use Rattle.device.specs.declared.state.Device.{Device}
-use Rattle.device.proofs.Doing.{heard-unsent}
-use Rattle.device.proofs.Never.{and-never}
+use Rattle.device.proofs.Refusals.{refused-keeps}
 use Rattle.history.specs.Event.{Event}
-use Rattle.history.specs.Counted.{rowRaised, frameZeroes, callZeroes}
-use Rattle.history.specs.Replied.{some, isPio}
+use Rattle.history.specs.Reading.{rowRaised, callZeroes}
+use Rattle.history.specs.Replied.{some, isPio, paged}
 use Rattle.history.specs.Run.{result, done, event}
 use Rattle.history.proofs.Frames.{Read, read-frames}
-use Rattle.history.proofs.Tally.{Effect, stay, raise, wipe, counted, wipes, raisesAt, RowWithin, Reads, Counting, tells}
-use Rattle.history.proofs.Impact.{effectOf, OnRow, act-values}
-use Rattle.history.proofs.Hearing.{pioIn, Hears, heard-heard}
+use Rattle.history.proofs.Tally.{ValuesTell, Counting, tells}
+use Rattle.history.proofs.Impact.{Reckons}
+use Rattle.history.proofs.Hearing.{pioIn}
+use Rattle.history.proofs.Hosted.{host-goes}
+use Rattle.history.proofs.Own.{own-goes}
 
 -- what the outside sees of a call of the definitions
 abbrev pub eventOf : Device → Lent → Event
@@ -42,86 +38,27 @@ eventOf d l = event (done l (result d l))
 abbrev pub Replies : Device → Lent → Type 0
 Replies d l = Read (eventOf d l) (step d l .frames)
 
--- values that changed as the history reads the event
-counting-by : (d d′ : Device) (e : Event) (h : List Event) (x : Effect) → d′ .values ≡ counted x (d .values) → RowWithin x → Reads e x → Counting d h → Counting d′ (e ∷ h)
-counting-by d d′ e h x v w s i = rw v (tells x (d .values) e h w s i)
-
--- a picked effect is within the rows if the first is
-pick-within : (b : Bool) (x : Effect) → RowWithin x → RowWithin (pick b x stay)
-unfolding pick
-pick-within true x w = w
-pick-within false x w = tt
-
--- the effect of an act of such a row is
-act-within : (a : Act) → OnRow a → RowWithin (effectOf a)
-unfolding OnRow
-act-within (Refuse n) o = tt
-act-within Nothing o = tt
-act-within (Bad b) o = tt
-act-within (BadAndHalt f) o = tt
-act-within (Accept q) o = tt
-act-within (Log10 l) o = tt
-act-within (Log11 l) o = pick-within (l .zero) wipe tt
-act-within Reset o = tt
-act-within Release o = tt
-act-within ZeroCounters o = tt
-act-within (Store m) o = tt
-act-within (Open q) o = tt
-act-within (Send m) o = tt
-act-within (Finish set) o = tt
-act-within (Media f) o = pick-within (bitIn 8 (f .error) 7) (raise 0) (lit< tt)
-act-within (Count row) o = o
-act-within Renew o = lit< tt
-
--- 16 is no row
-none-raised : (r : ℕ) → r < 16 → eqb 16 r ≡ false
-none-raised r l = ne-eqb 16 r (λ e. omega arith)
-
--- bit 7 of the error byte alone
-bit-wipeless : (b : Bool) → wipes (pick b (raise 0) stay) ≡ false
-unfolding pick
-bit-wipeless true = refl
-bit-wipeless false = refl
-
-bit-raised : (b : Bool) (r : ℕ) → r < 16 → eqb (pick b 0 16) r ≡ raisesAt r (pick b (raise 0) stay)
-unfolding pick
-bit-raised true r l = refl
-bit-raised false r l = none-raised r l
-
--- a row that a link event may name is one of the sixteen
-link-row : (mask row : ℕ) → rowRefused mask row ≡ false → row < 16
-link-row mask row n =
-    let far = or-left (ltb 15 row) (not (kept mask row)) (or-right (eqb row 0 || eqb row 9) (ltb 15 row || not (kept mask row)) n) in
-    let most : row ≤ 15 = ltb-false 15 row far in
-    omega arith
-
--- of a call, a page in its replies or not, and its act: what the history reads of it is what the act does to the counters
-record Reckons (c : Call) (paged : Bool) (a : Act) : Type 0 where
-  zeroed : eqb (numberOf a) 0 && callZeroes paged c ≡ wipes (effectOf a)
-  raised : (r : ℕ) → r < 16 → eqb (numberOf a) 0 && eqb (rowRaised c) r ≡ raisesAt r (effectOf a)
-  on : OnRow a
-
--- a call that was decided
-ruled-reckons : (d : Device) (m b : List ℕ) {c : Call} {a : Act} → by.Ruled (factsOf d (lent c m b)) c a → Reckons c (pioIn (repliesOf (shown d) (partOf (spanOf a) m) a)) a
-unfolding numberOf touchOf OnRow
-ruled-reckons d m b (by.refused c n h e) = let z = ne-eqb n 0 h in record { zeroed = rw z; raised = λ r l. rw z; on = tt }
-ruled-reckons d m b (by.host f a g w s h) =
-    let v = factsOf d (lent (hostFrame f) m b) in
-    let y : Hears (readFrame f) (pioIn (repliesOf (shown d) (partOf (spanOf a) m) a)) a =
-    subst (λ (p : List ℕ). Hears (readFrame f) (pioIn (repliesOf (shown d) p a)) a) (heard-unsent v m h) (heard-heard (shown d) v h) in
-    record { zeroed = y .zeroed; raised = λ r l. rw (none-raised r l) (and-never (eqb (numberOf a) 0) ∙ sym (y .rowless r)); on = y .on }
-ruled-reckons d m b (by.own (by.opened u g s o p e)) = record { zeroed = refl; raised = none-raised; on = tt }
-ruled-reckons d m b (by.own (by.sent g w s p r)) = record { zeroed = refl; raised = none-raised; on = tt }
-ruled-reckons d m b (by.own (by.finished u g s p e r)) = record { zeroed = refl; raised = none-raised; on = tt }
-ruled-reckons d m b (by.own (by.failed u e x g s o y w)) = record { zeroed = sym (bit-wipeless (bitIn 8 e 7)); raised = bit-raised (bitIn 8 e 7); on = tt }
-ruled-reckons d m b (by.own (by.linked r g x)) = record { zeroed = refl; raised = λ k l. refl; on = link-row (d .settings .mask) r x }
-ruled-reckons d m b (by.own (by.renewed g s)) = record { zeroed = refl; raised = λ k l. refl; on = tt }
+-- a taken call
+ruled-reckons : (d : Device) (m b : List ℕ) {c : Call} {a : Act} → by.Ruled (factsOf d (lent c m b)) c a → numberOf a ≡ 0 → Reckons d c (pioIn (repliesOf (shown d) (partOf (spanOf a) m) a)) a
+unfolding numberOf
+ruled-reckons d m b (by.refused c n h e) z = absurd (h z)
+ruled-reckons d m b (by.host f a g w s h) z = host-goes d f m b g h .heard .values
+ruled-reckons d m b (by.own o) z = own-goes d m b o .reckons
 
 -- every call, refused or taken: the counters go on telling the history
 pub counting-step : (d : Device) (l : Lent) (h : List Event) → Replies d l → Counting d h → Counting (step d l .state) (eventOf d l ∷ h)
-unfolding actOf
+unfolding actOf pick
 counting-step d l h q i =
-    let a : Act = actOf d l in
-    let k : Reckons (l .call) (pioIn (step d l .frames)) a = ruled-reckons d (l .medium) (l .buffer) (by.ruled (factsOf d l) (l .call)) in
-    counting-by d (afterOf d a) (eventOf d l) h (effectOf a) (act-values d a (k .on)) (act-within a (k .on))
-    (record { zeroed = ap (λ x. eqb (numberOf a) 0 && callZeroes (some isPio x) (l .call)) (read-frames (eventOf d l) (step d l .frames) q) ∙ k .zeroed; raised = k .raised }) i
+    let e : Event = eventOf d l in
+    let c : Call = l .call in
+    let sends : Bool = pioIn (step d l .frames) in
+    let same : paged e ≡ sends = ap (some isPio) (read-frames e (step d l .frames) q) in
+    ⊎-elim
+    (λ (y : eqb (step d l .refusal) 0 ≡ true).
+    let k : Reckons d c sends (actOf d l) = ruled-reckons d (l .medium) (l .buffer) (by.ruled (factsOf d l) c) (eqb-true (step d l .refusal) 0 y) in
+    subst⁻¹ (λ (v : List ℕ). ValuesTell v (e ∷ h)) k
+    (tells (d .values) e h i (callZeroes sends c) (rowRaised c) (record { zeroed = rw y (ap (λ (b : Bool). callZeroes b c) same); raised = λ r u. rw y })))
+    (λ (y : eqb (step d l .refusal) 0 ≡ false).
+    subst⁻¹ (λ (x : Device). ValuesTell (x .values) (e ∷ h)) (refused-keeps d l (eqb-false (step d l .refusal) 0 y) .state)
+    (tells (d .values) e h i false 16 (record { zeroed = rw y; raised = λ r u. rw (y, ne-eqb 16 r (λ z. omega (arith, u, z))) })))
+    (tested (eqb (step d l .refusal) 0))

@@ -1,7 +1,7 @@
 -- Every taken device event comes to one of the ten kinds. Assumes nothing.
 use mathlib.Core.Path.{_≡_, refl, sym, ap, subst, _∙_}
 use mathlib.Core.Bool.{Bool, true, false, not, _||_, true≢false}
-use mathlib.Core.List.{List, []}
+use mathlib.Core.List.{List}
 use Prim.Native.Nat.{ℕ, _+_, _-_, _*_, _^_, _≤_, _<_, min}
 use native.Mathlib.Omega.{arith}
 use native.Mathlib.Nat.{zero-add}
@@ -17,13 +17,11 @@ use Rattle.device_state.specs.Table.{entryOf}
 use Rattle.device_state.specs.declared.shapes.Entry.{Entry}
 use Rattle.device_state.proofs.TableLaws.{some-absent}
 use Rattle.rules.specs.Positions.{leftOf, moveOf}
-use Rattle.rules.specs.Call.{Call, hostFrame, openPhase, sendData, finishTags, mediaError, linkEvent, comReset}
 use Rattle.rules.specs.Tests.{someUnready, unreadyAt, allMoved}
-use Rattle.rules.specs.Medium.{numberOf, touchOf, spanOf, partOf}
+use Rattle.rules.specs.Medium.{touchOf, spanOf, partOf}
 use Rattle.rules.specs.declared.acts.Fault.{Fault}
 use Rattle.rules.specs.declared.acts.Act.{Act}
 use Rattle.rules.specs.declared.acts.Act.the-variants.{Open, Send, Finish, Media, Count, Renew}
-use Rattle.rules.proofs.Ruled as by
 use Rattle.replies.specs.Replies.{repliesOf}
 use Rattle.device.specs.Device.{contradictoryDevice}
 use Rattle.device.specs.After.{withValue, renewed, afterOf, haltWith, failedBy, openedFor, finishedBy, resetHeld, released}
@@ -32,12 +30,12 @@ use Rattle.device.specs.Step.{shown}
 use Rattle.device.specs.declared.state.Device.{Device}
 use Rattle.device.proofs.Rooms.{move-within}
 use Rattle.device.proofs.Busy.{whole-is}
-use Rattle.history.specs.Asked.{quiet, resetAsks}
+use Rattle.history.specs.FrameAsks.{quiet, resetAsks}
 use Rattle.history.specs.Seen.{underWay}
 use Rattle.history.proofs.Class.{none, Class, Same, plain, halts, resets, opens, carries, ends}
 use Rattle.history.proofs.Sets.{no-busy, no-bits}
 use Rattle.history.proofs.Views.{view, is-silent, is-finish, is-failed, is-reset, is-setup, setup-begins, is-sent, silent-unbegun, answer-unbegun, bits-unbegun, sent-unbegun}
-use Rattle.history.proofs.Changes.{same, halted-empty, busy-calm, carried-by, unmoved, cleared-other}
+use Rattle.history.proofs.Changes.{same, halted-empty, carried-by, unmoved, cleared-other}
 
 -- an act's part of the medium, and what is seen of it
 abbrev pub Happens : Device → List ℕ → Act → Type 0

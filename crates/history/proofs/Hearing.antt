@@ -1,11 +1,11 @@
 -- What the history reads of a host frame is what its act does to the counters; and only page 11h is read as such. Assumes nothing.
 use mathlib.Core.Path.{_≡_, refl, sym, ap, _∙_}
-use mathlib.Core.Bool.{Bool, true, false, not, _&&_, _||_, false≢true, true≢false}
+use mathlib.Core.Bool.{Bool, true, false, _&&_, _||_, false≢true, true≢false}
 use mathlib.Core.List.{List, [], map}
 use Prim.Native.Nat.{ℕ, _%_}
 use native.Mathlib.Omega.{arith}
-use lib.Dec.{ltb, eqb}
-use borrow.Author.Tests.{eqb-true, not-false, not-true}
+use lib.Dec.{eqb}
+use borrow.Author.Tests.{eqb-true}
 use Rattle.bits.specs.Pick.{pick}
 use Rattle.bits.specs.Bit.{bitIn}
 use Rattle.bits.proofs.Picks.{by-test, and-left}
@@ -18,21 +18,19 @@ use Rattle.frames.specs.declared.shapes.Frame.the-variants as fs
 use Rattle.device_state.specs.State.{echoOf}
 use Rattle.device_state.specs.declared.shapes.Echo.{Echo}
 use Rattle.rules.specs.Decide.{logPage, pageAsked}
-use Rattle.rules.specs.Medium.{numberOf}
-use Rattle.rules.specs.declared.facts.Facts.{Facts}
 use Rattle.rules.specs.declared.acts.CountersRead.{CountersRead}
 use Rattle.rules.specs.declared.acts.Move.{Move}
 use Rattle.rules.specs.declared.acts.Act.{Act}
-use Rattle.rules.specs.declared.acts.Act.the-variants.{Log10, Log11, Store}
-use Rattle.rules.proofs.Ruled as by
+use Rattle.rules.specs.declared.acts.Act.the-variants.{Log10, Log11, Store, ZeroCounters}
 use Rattle.replies.specs.Replies.{repliesOf}
-use Rattle.replies.specs.declared.shown.Shown.{Shown}
+use Rattle.device.specs.After.{afterOf, movedBy, unhalted, zeroedIf}
+use Rattle.device.specs.Step.{shown}
+use Rattle.device.specs.declared.state.Device.{Device}
 use Rattle.device.proofs.Never.{and-never}
 use Rattle.history.specs.Replied.{some, isPio}
-use Rattle.history.specs.Logs.{readsLog, frameReads}
-use Rattle.history.specs.Counted.{frameZeroes}
-use Rattle.history.proofs.Tally.{stay, wipe, wipes, raisesAt}
-use Rattle.history.proofs.Impact.{effectOf, OnRow}
+use Rattle.history.specs.Logs.{readsLog, frameReads, frameZeroes}
+use Rattle.history.proofs.Tally.{counted}
+use Rattle.history.proofs.Impact.{zeroed-values}
 
 -- some frame of these is a 5Fh
 abbrev pub pioIn : List FrameValue → Bool
@@ -43,11 +41,9 @@ pub record Logs (a : Act) : Type 0 where
   pub log : CountersRead
   pub is : a ≡ Log11 log
 
--- of a frame that is read as f: it zeroes exactly if its act does, raises no row, and a page that answers a read of 11h is page 11h
-pub record Hears (f : Frame) (paged : Bool) (a : Act) : Type 0 where
-  pub zeroed : eqb (numberOf a) 0 && frameZeroes paged f ≡ wipes (effectOf a)
-  pub rowless : (k : ℕ) → raisesAt k (effectOf a) ≡ false
-  pub on : OnRow a
+-- of a frame that is read as f: the counters after its act are zero if it zeroes them, and else as they were; and a page that answers a read of 11h is page 11h
+pub record Hears (d : Device) (f : Frame) (paged : Bool) (a : Act) : Type 0 where
+  pub values : afterOf d a .values ≡ counted (frameZeroes paged f) 16 (d .values)
   pub shown : paged ≡ true → frameReads 0x11 f ≡ true → Logs a
 
 -- ---- the page that a command names
@@ -97,68 +93,40 @@ reads-ten h p =
 ten-zeroes : (p r x : Bool) → r ≡ false → p && (r && x) ≡ false
 ten-zeroes p r x e = rw e (and-never p)
 
--- a good read of 11h zeroes by its bit alone
-eleven-zeroes : (r x : Bool) → r ≡ true → r && x ≡ wipes (pick x wipe stay)
-unfolding pick
-eleven-zeroes r true e = rw e
-eleven-zeroes r false e = rw e
-
--- and raises no row
-wipe-rowless : (k : ℕ) (x : Bool) → raisesAt k (pick x wipe stay) ≡ false
-unfolding pick
-wipe-rowless k true = refl
-wipe-rowless k false = refl
-
 -- ---- each rule
 
--- a frame that is answered with no page, and zeroes nothing
-none-heard : (f : Frame) (a : Act) → frameZeroes false f ≡ false → wipes (effectOf a) ≡ false → ((k : ℕ) → raisesAt k (effectOf a) ≡ false) → OnRow a → numberOf a ≡ 0 → Hears f false a
-none-heard f a z w r o n = record { zeroed = rw n (z ∙ sym w); rowless = r; on = o; shown = λ p _. absurd (false≢true p) }
+module _ (d : Device) where
+  -- a frame that is answered with no page, and zeroes nothing
+  pub none-heard : (f : Frame) (a : Act) → frameZeroes false f ≡ false → afterOf d a .values ≡ d .values → Hears d f false a
+  unfolding pick
+  none-heard f a z v = record { values = v ∙ ap (λ (b : Bool). counted b 16 (d .values)) (sym z); shown = λ p _. absurd (false≢true p) }
 
-module _ (s : Shown) where
   -- of an act, with the replies that it sends
   abbrev pub HeardBy : Frame → Act → Type 0
-  HeardBy f a = Hears f (pioIn (repliesOf s [] a)) a
+  HeardBy f a = Hears d f (pioIn (repliesOf (shown d) [] a)) a
 
   -- host data, whatever follows it
-  data-heard : (n : ℕ) (m : Move) → HeardBy (fs.Data n) (Store m)
-  unfolding numberOf OnRow
-  data-heard n m = record { zeroed = refl; rowless = λ k. refl; on = tt; shown = λ _ q. absurd (false≢true q) }
+  pub data-heard : (n : ℕ) (m : Move) → HeardBy (fs.Data n) (Store m)
+  unfolding afterOf movedBy pick
+  data-heard n m = record { values = refl; shown = λ _ q. absurd (false≢true q) }
 
   -- page 10h
-  ten-heard : (h : HostReg) → eqb (pageAsked h) 0x10 ≡ true → HeardBy (fs.Host h) (Log10 (h .task))
-  unfolding numberOf OnRow
+  pub ten-heard : (h : HostReg) → eqb (pageAsked h) 0x10 ≡ true → HeardBy (fs.Host h) (Log10 (h .task))
+  unfolding afterOf unhalted pick
   ten-heard h t = record {
-    zeroed = ten-zeroes (pioIn (repliesOf s [] (Log10 (h .task)))) (readsLog 0x11 h) (bitIn 8 (h .features) 0) (reads-ten h t);
-    rowless = λ k. refl;
-    on = tt;
+    values = ap (λ (b : Bool). counted b 16 (d .values)) (sym (ten-zeroes (pioIn (repliesOf (shown d) [] (Log10 (h .task)))) (readsLog 0x11 h) (bitIn 8 (h .features) 0) (reads-ten h t)));
     shown = λ _ q. absurd (false≢true (sym (reads-ten h t) ∙ q));
   }
 
-  -- page 11h
-  eleven-heard : (h : HostReg) → h .«command_bit» ≡ true → eqb (pageAsked h) 0x11 ≡ true → HeardBy (fs.Host h) (Log11 (record { zero = bitIn 8 (h .features) 0; task = h .task }))
-  unfolding numberOf OnRow repliesOf some pick
+  -- page 11h: it zeroes by its bit alone
+  pub eleven-heard : (h : HostReg) → h .«command_bit» ≡ true → eqb (pageAsked h) 0x11 ≡ true → HeardBy (fs.Host h) (Log11 (record { zero = bitIn 8 (h .features) 0; task = h .task }))
+  unfolding afterOf repliesOf some pick
   eleven-heard h c t = record {
-    zeroed = eleven-zeroes (readsLog 0x11 h) (bitIn 8 (h .features) 0) (reads-page 0x11 h refl c t);
-    rowless = λ k. wipe-rowless k (bitIn 8 (h .features) 0);
-    on = tt;
+    values = zeroed-values d (bitIn 8 (h .features) 0) ∙ ap (λ (b : Bool). counted (b && bitIn 8 (h .features) 0) 16 (d .values)) (sym (reads-page 0x11 h refl c t));
     shown = λ _ _. record { log = record { zero = bitIn 8 (h .features) 0; task = h .task }; is = refl };
   }
 
-  -- a host frame that is not turned down
-  pub heard-heard : (v : Facts) {f : Frame} {a : Act} → by.Heard v f a → HeardBy f a
-  unfolding numberOf OnRow repliesOf some
-  heard-heard v (by.srst h c x) = none-heard _ _ refl refl (λ k. refl) tt refl
-  heard-heard v (by.release h c x y) = none-heard _ _ refl refl (λ k. refl) tt refl
-  heard-heard v (by.nothing h c x y) = none-heard _ _ refl refl (λ k. refl) tt refl
-  heard-heard v (by.rule1 h c x) = none-heard _ _ refl refl (λ k. refl) tt refl
-  heard-heard v (by.rule2 h c x u) = none-heard _ _ refl refl (λ k. refl) tt refl
-  heard-heard v (by.rule3 h c x u y) = none-heard _ _ refl refl (λ k. refl) tt refl
-  heard-heard v (by.rule4 h c x u y) = none-heard _ _ refl refl (λ k. refl) tt refl
-  heard-heard v (by.other-halted h c x) = none-heard _ _ refl refl (λ k. refl) tt refl
-  heard-heard v (by.other-busy h c x) = none-heard _ _ refl refl (λ k. refl) tt refl
-  heard-heard v (by.page10 h c e p) = ten-heard h p
-  heard-heard v (by.page11 h c x e p) = eleven-heard h (c .command) p
-  heard-heard v (by.other-bad h c x e) = none-heard _ _ refl refl (λ k. refl) tt refl
-  heard-heard v (by.due n p w y) = data-heard n _
-  heard-heard v (by.bist x) = record { zeroed = refl; rowless = λ k. refl; on = tt; shown = λ _ q. absurd (false≢true q) }
+  -- BIST
+  pub bist-heard : HeardBy fs.Bist ZeroCounters
+  unfolding afterOf zeroedIf pick
+  bist-heard = record { values = refl; shown = λ _ q. absurd (false≢true q) }

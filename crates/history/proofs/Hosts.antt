@@ -1,35 +1,32 @@
--- Every host frame that is not turned down comes to one of the ten kinds. Assumes nothing.
+-- What a host frame asks for and its act, where it is not turned down, come to one of the ten kinds. Assumes nothing.
 use mathlib.Core.Path.{_≡_, refl, sym, ap, subst, _∙_}
 use mathlib.Core.Bool.{Bool, true, false, not, _&&_, _||_}
 use mathlib.Core.List.{List, []}
-use Prim.Native.Nat.{ℕ, _+_, _-_, _/_, _%_, _^_, _<_, min}
+use Prim.Native.Nat.{ℕ, _-_, _/_, _%_, _^_, _<_, min}
 use native.Mathlib.Nat.{zero-div}
 use native.Mathlib.Omega.{arith}
 use lib.Dec.{eqb, ltb, leb, lit<}
-use borrow.Author.Tests.{eqb-true, eqb-false, not-false, lt-ltb, ltb-false, leb-true}
+use borrow.Author.Tests.{eqb-true, eqb-false, lt-ltb, ltb-false, leb-true}
 use Rattle.bits.specs.Pick.{pick}
 use Rattle.bits.specs.Bit.{bitIn}
 use Rattle.bits.proofs.Masks.{bit-not}
-use Rattle.bits.proofs.Picks.{pick-no, and-left, or-right}
+use Rattle.bits.proofs.Picks.{pick-no, and-left}
 use Rattle.frame_parts.specs.Shared.{srstOf}
 use Rattle.frame_parts.specs.Size.{payloadSize}
 use Rattle.frame_parts.specs.declared.shared.Task.{Task}
-use Rattle.frames.proofs.ReadLaws.{DataRead}
 use Rattle.frames.specs.declared.shapes.HostReg.{HostReg}
-use Rattle.frames.specs.declared.shapes.Frame.{Frame}
 use Rattle.device_state.specs.Table.{entryOf}
 use Rattle.rules.specs.Positions.{leftOf, moveOf}
 use Rattle.rules.specs.Decide.{bad, fault, tagAsked, entryFor, isQueued}
 use Rattle.rules.specs.declared.acts.Act.{Act}
 use Rattle.rules.specs.declared.acts.Act.the-variants.{Nothing, Accept, Log10, Log11, Reset, Release, ZeroCounters, Store}
-use Rattle.rules.proofs.Ruled as by
 use Rattle.replies.specs.Replies.{logReplies, page10Of, repliesOf}
 use Rattle.device.specs.Device.{contradictoryDevice}
-use Rattle.device.specs.FactsOf.{openTag, factsWith}
+use Rattle.device.specs.FactsOf.{openTag}
 use Rattle.device.specs.After.{afterOf, haltWith, unhalted, zeroedIf, resetHeld, released}
 use Rattle.device.specs.Step.{shown}
 use Rattle.device.specs.declared.state.Device.{Device}
-use Rattle.history.specs.Asked.{Asked, registerAsks, dataAsks, frameAsks}
+use Rattle.history.specs.FrameAsks.{Asked, registerAsks, dataAsks}
 use Rattle.history.specs.Seen.{Seen}
 use Rattle.history.proofs.Class.{none, Is, Class, plain, again, freely, halts, resets, sweeps, takes, carries}
 use Rattle.history.proofs.Views.{view, is-silent, is-bad, is-good, is-page, is-swept, is-brought, silent-unbegun, answer-unbegun, page-unbegun, swept-unbegun, active-unbegun}
@@ -59,7 +56,7 @@ module _ (d : Device) (g : contradictoryDevice d ≡ false) where
     no-reset c = rw c
 
     -- bad while halted
-    answered-again : (e : ℕ) → h .«command_bit» ≡ true → d .status .halted ≡ true → Comes d [] k (bad h e)
+    pub answered-again : (e : ℕ) → h .«command_bit» ≡ true → d .status .halted ≡ true → Comes d [] k (bad h e)
     unfolding repliesOf afterOf
     answered-again e c x = again (k .queued) (is-bad k _ refl c (no-reset c) refl) (answer-unbegun k _) x (halted-empty d g x) (same d)
 
@@ -70,11 +67,11 @@ module _ (d : Device) (g : contradictoryDevice d ≡ false) where
         halts (k .queued) true false (is-bad k _ refl c (no-reset c) refl) (answer-unbegun k _) (λ _. refl) x (rw r) (record { settings = refl; outstanding = refl; phase = refl; halted = refl })
 
     -- a queued command raises one
-    queued-faulted : (t e : ℕ) → h .«command_bit» ≡ true → isQueued h ≡ true → d .status .halted ≡ false → Comes d [] k (fault h false t e)
+    pub queued-faulted : (t e : ℕ) → h .«command_bit» ≡ true → isQueued h ≡ true → d .status .halted ≡ false → Comes d [] k (fault h false t e)
     queued-faulted t e c q x = faulted false t e c x (let u : k .queued ≡ true = rw (c, q) in rw u)
 
     -- rule 4
-    accepted : h .«command_bit» ≡ true → isQueued h ≡ true → d .status .halted ≡ false → d .status .phase ≡ 0 → bitIn 32 (d .status .outstanding) (tagAsked h) ≡ false
+    pub accepted : h .«command_bit» ≡ true → isQueued h ≡ true → d .status .halted ≡ false → d .status .phase ≡ 0 → bitIn 32 (d .status .outstanding) (tagAsked h) ≡ false
         → Comes d [] k (Accept (record { tag = tagAsked h; entry = entryFor h }))
     unfolding repliesOf afterOf view
     accepted c y x p f =
@@ -83,7 +80,7 @@ module _ (d : Device) (g : contradictoryDevice d ≡ false) where
         takes (subst (λ (b : Bool). Is e b b false false false false none none 0 0) q (is-good k _ refl (no-reset c) refl)) (answer-unbegun k _) (took-by d g h e refl x p f)
 
     -- not queued
-    other : h .«command_bit» ≡ true → isQueued h ≡ false → k .queued ≡ false
+    pub other : h .«command_bit» ≡ true → isQueued h ≡ false → k .queued ≡ false
     other c q = rw (c, q)
 
     -- with something outstanding the device is not halted
@@ -94,8 +91,12 @@ module _ (d : Device) (g : contradictoryDevice d ≡ false) where
         go true e = absurd (eqb-false (d .status .outstanding) 0 n (halted-empty d g e))
         go false e = e
 
+    -- and a command that is not queued raises a halt
+    pub busy-faulted : h .«command_bit» ≡ true → isQueued h ≡ false → eqb (d .status .outstanding) 0 ≡ false → Comes d [] k (fault h true 0 0x04)
+    busy-faulted c q n = faulted true 0 0x04 c (calm n) (rw (other c q, n))
+
     -- bad, and nothing is outstanding
-    answered-free : (e : ℕ) → h .«command_bit» ≡ true → k .queued ≡ false → d .status .halted ≡ false → d .status .outstanding ≡ 0 → Comes d [] k (bad h e)
+    pub answered-free : (e : ℕ) → h .«command_bit» ≡ true → k .queued ≡ false → d .status .halted ≡ false → d .status .outstanding ≡ 0 → Comes d [] k (bad h e)
     unfolding repliesOf afterOf
     answered-free e c q x z =
         freely (subst (λ (b : Bool). Is (actSeen d [] k (bad h e)) b false true false false false none none 0 0) q (is-bad k _ refl c (no-reset c) refl)) (answer-unbegun k _) x z (same d)
@@ -110,29 +111,33 @@ module _ (d : Device) (g : contradictoryDevice d ≡ false) where
     paged-ten false x task page c q p =
         plain (is-page k _ _ q (no-reset c) refl) (page-unbegun k _ _) (record { settings = refl; outstanding = refl; phase = refl; halted = sym x; entries = refl })
 
+    pub ten-comes : h .«command_bit» ≡ true → k .queued ≡ false → eqb (d .status .phase) 0 ≡ true → Comes d [] k (Log10 (h .task))
+    unfolding repliesOf afterOf
+    ten-comes = paged-ten (d .status .halted) refl (h .task) (page10Of (d .errors))
+
     -- page 11h
-    paged-eleven : h .«command_bit» ≡ true → k .queued ≡ false → (b : Bool) → Comes d [] k (Log11 (record { zero = b; task = h .task }))
+    pub paged-eleven : h .«command_bit» ≡ true → k .queued ≡ false → (b : Bool) → Comes d [] k (Log11 (record { zero = b; task = h .task }))
     unfolding repliesOf afterOf zeroedIf pick
     paged-eleven c q b =
         plain (is-page k _ _ q (no-reset c) refl) (page-unbegun k _ _)
         (record { settings = refl; outstanding = refl; phase = refl; halted = refl; entries = refl })
 
     -- SRST
-    reset : h .«command_bit» ≡ false → srstOf (h .control) ≡ true → Comes d [] k Reset
+    pub reset : h .«command_bit» ≡ false → srstOf (h .control) ≡ true → Comes d [] k Reset
     unfolding repliesOf afterOf resetHeld
     reset c s =
         resets (subst (λ (b : Bool). Is (actSeen d [] k Reset) false false false false b false none none 0 0) (let r : k .resets ≡ true = rw (c, s) in r) (is-silent k (rw c))) (silent-unbegun k)
         (record { settings = refl; outstanding = refl; phase = refl; halted = refl })
 
     -- release
-    freed : h .«command_bit» ≡ false → srstOf (h .control) ≡ false → Comes d [] k Release
+    pub freed : h .«command_bit» ≡ false → srstOf (h .control) ≡ false → Comes d [] k Release
     unfolding repliesOf afterOf released
     freed c s =
         plain (subst (λ (b : Bool). Is (actSeen d [] k Release) b b false false false false none none 0 0) (let q : k .queued ≡ false = rw c in q) (is-good k _ refl (rw (c, s)) refl)) (answer-unbegun k _)
         (record { settings = refl; outstanding = refl; phase = refl; halted = refl; entries = refl })
 
     -- nothing
-    idle : h .«command_bit» ≡ false → srstOf (h .control) ≡ false → Comes d [] k Nothing
+    pub idle : h .«command_bit» ≡ false → srstOf (h .control) ≡ false → Comes d [] k Nothing
     unfolding repliesOf afterOf
     idle c s = plain (subst (λ (b : Bool). Is (actSeen d [] k Nothing) false false false false b false none none 0 0) (let r : k .resets ≡ false = rw (c, s) in r) (is-silent k (rw c))) (silent-unbegun k) (same d)
 
@@ -147,7 +152,7 @@ module _ (d : Device) (g : contradictoryDevice d ≡ false) where
       let i = is-brought n (not (moveOf (d .status) (entryOf (d .entries) t) n .last)) in
       carries t (min n (leftOf (entryOf (d .entries) t))) (rw (w, ← e) i) (active-unbegun (dataAsks n) (not (moveOf (d .status) (entryOf (d .entries) t) n .last))) (carried-by d g p n pos)
 
-  data-comes : (n : ℕ) → payloadSize n ≡ true → eqb (d .status .phase) 0 ≡ false → let e = entryOf (d .entries) (openTag (d .status .phase)) in e .write ≡ true → ltb (leftOf e) n ≡ false
+  pub data-comes : (n : ℕ) → payloadSize n ≡ true → eqb (d .status .phase) 0 ≡ false → let e = entryOf (d .entries) (openTag (d .status .phase)) in e .write ≡ true → ltb (leftOf e) n ≡ false
       → Comes d [] (dataAsks n) (Store (moveOf (d .status) e n))
   unfolding openTag
   data-comes n size p w y =
@@ -159,27 +164,8 @@ module _ (d : Device) (g : contradictoryDevice d ≡ false) where
       subst (λ (u : ℕ). Comes d [] (dataAsks n) (Store (moveOf (d .status) (entryOf (d .entries) u) n))) (sym q)
       (kept-comes n p (subst (λ (u : ℕ). entryOf (d .entries) u .write ≡ true) q w) (omega arith) (subst (λ (u : ℕ). n ≡ min n (leftOf (entryOf (d .entries) u))) q s))
 
-  bist-comes : (k : Asked) → k .queued ≡ false → k .resets ≡ false → k .brings ≡ 0 → Comes d [] k ZeroCounters
+  pub bist-comes : (k : Asked) → k .queued ≡ false → k .resets ≡ false → k .brings ≡ 0 → Comes d [] k ZeroCounters
   unfolding repliesOf afterOf zeroedIf pick
   bist-comes k q r b =
       plain (subst (λ (n : ℕ). Is (actSeen d [] k ZeroCounters) false false false false false false none none 0 n) b (subst (λ (x : Bool). Is (actSeen d [] k ZeroCounters) false false false false x false none none 0 (k .brings)) r (is-silent k q)))
       (silent-unbegun k) (record { settings = refl; outstanding = refl; phase = refl; halted = refl; entries = refl })
-
-  -- by the rule that holds
-  pub heard-comes : (wrong some : Bool) (room : ℕ) {f : Frame} {a : Act} (j : ℕ) (l : List ℕ) → DataRead j l f → by.Heard (factsWith d (openTag (d .status .phase)) wrong some room) f a → Comes d [] (frameAsks f) a
-  unfolding repliesOf afterOf
-  heard-comes w s room j l r (by.srst h c x) = reset h c x
-  heard-comes w s room j l r (by.release h c x y) = freed h c x
-  heard-comes w s room j l r (by.nothing h c x y) = idle h c x
-  heard-comes w s room j l r (by.rule1 h c x) = answered-again h 0x04 (c .command) x
-  heard-comes w s room j l r (by.rule2 h c x u) = queued-faulted h (tagAsked h) 0x04 (c .command) (c .kind) x
-  heard-comes w s room j l r (by.rule3 h c x u y) = queued-faulted h (tagAsked h) 0x10 (c .command) (c .kind) x
-  heard-comes w s room j l r (by.rule4 h c x u y) =
-      accepted h (c .command) (c .kind) x (eqb-true (d .status .phase) 0 (not-false (eqb (d .status .phase) 0) (c .calm))) (or-right (leb (d .settings .depth) (tagAsked h)) (bitIn 32 (d .status .outstanding) (tagAsked h)) u)
-  heard-comes w s room j l r (by.other-halted h c x) = answered-again h 0x04 (c .command) x
-  heard-comes w s room j l r (by.other-busy h c x) = faulted h true 0 0x04 (c .command) (calm h x) (rw (other h (c .command) (c .kind), x))
-  heard-comes w s room j l r (by.page10 h c e p) = paged-ten h (d .status .halted) refl (h .task) (page10Of (d .errors)) (c .command) (other h (c .command) (c .kind)) (not-false (eqb (d .status .phase) 0) (c .calm))
-  heard-comes w s room j l r (by.page11 h c x e p) = paged-eleven h (c .command) (other h (c .command) (c .kind)) (bitIn 8 (h .features) 0)
-  heard-comes w s room j l r (by.other-bad h c x e) = answered-free h 0x04 (c .command) (other h (c .command) (c .kind)) x (eqb-true (d .status .outstanding) 0 e)
-  heard-comes w s room j l r (by.due n p x y) = data-comes n (r .1 .1) p x y
-  heard-comes w s room j l r (by.bist x) = bist-comes _ refl refl refl

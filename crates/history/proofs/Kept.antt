@@ -1,44 +1,35 @@
--- What a call leaves in the medium: host data at the place of the open phase, whole, and every other byte as it was. Assumes nothing.
+-- What a call leaves in the medium, host data at the place of the open phase, whole, and every other byte as it was; and what it sends of it. Assumes nothing.
 use mathlib.Core.Path.{_≡_, refl, sym, ap, subst, _∙_}
-use mathlib.Core.Bool.{Bool, true, false}
 use mathlib.Core.List.{List, []}
-use Prim.Native.Nat.{ℕ, _+_, _-_}
+use Prim.Native.Nat.{ℕ, _-_}
 use native.Mathlib.Omega.{arith}
 use lib.Dec.{eqb}
 use lib.ListN.{length, getD, drop, length-drop}
 use borrow.Author.Tests.{eqb-true, eqb-false}
 use Rattle.bits.specs.Pick.{pick}
 use Rattle.bits.proofs.Picks.{by-test}
-use Rattle.frames.specs.Read.{readFrame}
 use Rattle.frames.proofs.ReadLaws.{DataRead, read-data}
 use Rattle.frames.specs.declared.shapes.Frame.{Frame}
-use Rattle.frames.specs.declared.shapes.Frame.the-variants as fs
-use Rattle.rules.specs.Call.{Call, hostFrame, openPhase, sendData, finishTags, mediaError, linkEvent, comReset}
+use Rattle.rules.specs.Call.{Call, hostFrame}
 use Rattle.rules.specs.Positions.{placeOf, moveOf}
-use Rattle.rules.specs.Medium.{numberOf, touchOf, mediumAfter}
-use Rattle.rules.specs.declared.facts.Facts.{Facts}
+use Rattle.rules.specs.Medium.{numberOf, spanOf, partOf, mediumAfter}
 use Rattle.rules.specs.declared.acts.Act.{Act}
 use Rattle.rules.proofs.Ruled as by
+use Rattle.replies.specs.Replies.{repliesOf}
 use Rattle.device.specs.Lent.{Lent, lent, frameIn}
 use Rattle.device.specs.FactsOf.{factsOf}
 use Rattle.device.specs.DataDue.{phaseEntry}
-use Rattle.device.specs.Step.{actOf, step}
+use Rattle.device.specs.Step.{shown, actOf, step}
 use Rattle.device.specs.declared.state.Device.{Device}
 use Rattle.device.proofs.Refusals.{refused-keeps}
 use Rattle.device.proofs.Rooms.{move-within}
 use Rattle.device.proofs.Storing.{Taken46, taken-46, data-kept-whole}
-use Rattle.history.specs.Replied.{dataIn}
-use Rattle.history.specs.Asked.{callBrings}
-use Rattle.history.proofs.Placed.{LeftAt, EndsIn, left-none, ends-none}
-
--- the bytes l stand in what is left of the medium m at a place, and end within it
-pub record DataStands (at : ℕ) (m left l : List ℕ) : Type 0 where
-  pub left-at : LeftAt at m left l
-  pub ends-in : EndsIn at m l
-
--- no bytes, and the medium as it was
-nowhere-lies : (at : ℕ) (m : List ℕ) → DataStands at m m []
-nowhere-lies at m = record { left-at = left-none at m m [] refl refl; ends-in = ends-none at m [] refl }
+use Rattle.history.specs.Replied.{some, dataIn}
+use Rattle.history.specs.Reading.{callBrings}
+use Rattle.history.proofs.Views.{sentIn}
+use Rattle.history.proofs.Placed.{SentFrom, DataStands, sent-none, nowhere-lies}
+use Rattle.history.proofs.Hosted.{OnMedium, untouched, hostData, host-goes}
+use Rattle.history.proofs.Own.{own-goes}
 
 -- host data that was taken
 data-lies : (d : Device) (f m b : List ℕ) → Taken46 d f m b → DataStands (placeOf (phaseEntry d)) m (mediumAfter (actOf d (lent (hostFrame f) m b)) f m) (drop 4 f)
@@ -50,36 +41,18 @@ data-lies d f m b t =
     record { left-at = data-kept-whole d f m b t .1; ends-in = λ _. omega (arith, size, ends, long) }
 
 -- a host frame that is not turned down, as it was read
-heard-lies : (d : Device) (f m b : List ℕ) (v : Facts) {r : Frame} {a : Act} → DataRead (getD f 0 0) f r → actOf d (lent (hostFrame f) m b) ≡ a → numberOf (actOf d (lent (hostFrame f) m b)) ≡ 0 → by.Heard v r a
+frame-lies : (d : Device) (f m b : List ℕ) {r : Frame} {a : Act} → DataRead (getD f 0 0) f r → actOf d (lent (hostFrame f) m b) ≡ a → numberOf (actOf d (lent (hostFrame f) m b)) ≡ 0 → OnMedium r a
     → DataStands (placeOf (phaseEntry d)) m (mediumAfter a f m) (dataIn f r)
-unfolding touchOf
-heard-lies d f m b v k q z (by.srst h c s) = nowhere-lies _ m
-heard-lies d f m b v k q z (by.release h c s x) = nowhere-lies _ m
-heard-lies d f m b v k q z (by.nothing h c s x) = nowhere-lies _ m
-heard-lies d f m b v k q z (by.rule1 h c x) = nowhere-lies _ m
-heard-lies d f m b v k q z (by.rule2 h c x u) = nowhere-lies _ m
-heard-lies d f m b v k q z (by.rule3 h c x u y) = nowhere-lies _ m
-heard-lies d f m b v k q z (by.rule4 h c x u y) = nowhere-lies _ m
-heard-lies d f m b v k q z (by.other-halted h c x) = nowhere-lies _ m
-heard-lies d f m b v k q z (by.other-busy h c x) = nowhere-lies _ m
-heard-lies d f m b v k q z (by.page10 h c e p) = nowhere-lies _ m
-heard-lies d f m b v k q z (by.page11 h c x e p) = nowhere-lies _ m
-heard-lies d f m b v k q z (by.other-bad h c x e) = nowhere-lies _ m
-heard-lies d f m b v k q z (by.due n p w s) = subst (λ (a : Act). DataStands (placeOf (phaseEntry d)) m (mediumAfter a f m) (drop 4 f)) q (data-lies d f m b (taken-46 d f m b (k .0) z))
-heard-lies d f m b v k q z (by.bist x) = nowhere-lies _ m
+frame-lies d f m b k q z (untouched r a t e) = rw (t, e f) (nowhere-lies _ m)
+frame-lies d f m b k q z (hostData n a) = subst (λ (x : Act). DataStands (placeOf (phaseEntry d)) m (mediumAfter x f m) (drop 4 f)) q (data-lies d f m b (taken-46 d f m b (k .0) z))
 
 -- a call that was decided
 ruled-lies : (d : Device) (m b : List ℕ) {c : Call} {a : Act} → actOf d (lent c m b) ≡ a → numberOf (actOf d (lent c m b)) ≡ 0 → by.Ruled (factsOf d (lent c m b)) c a
     → DataStands (placeOf (phaseEntry d)) m (mediumAfter a (frameIn c) m) (callBrings c)
-unfolding touchOf numberOf
+unfolding numberOf
 ruled-lies d m b q z (by.refused c n h e) = absurd (h (sym (ap numberOf q) ∙ z))
-ruled-lies d m b q z (by.host f a g w s h) = heard-lies d f m b (factsOf d (lent (hostFrame f) m b)) (read-data f) q z h
-ruled-lies d m b q z (by.own (by.opened u g s o p e)) = nowhere-lies _ m
-ruled-lies d m b q z (by.own (by.sent g w s p r)) = nowhere-lies _ m
-ruled-lies d m b q z (by.own (by.finished u g s p e r)) = nowhere-lies _ m
-ruled-lies d m b q z (by.own (by.failed u e x g s o y w)) = nowhere-lies _ m
-ruled-lies d m b q z (by.own (by.linked r g x)) = nowhere-lies _ m
-ruled-lies d m b q z (by.own (by.renewed g s)) = nowhere-lies _ m
+ruled-lies d m b q z (by.host f a g w s h) = frame-lies d f m b (read-data f) q z (host-goes d f m b g h .medium)
+ruled-lies d m b q z (by.own o) = own-goes d m b o .lies
 
 -- a taken call
 taken-lies : (d : Device) (l : Lent) → step d l .refusal ≡ 0 → DataStands (placeOf (phaseEntry d)) (l .medium) (step d l .medium) (callBrings (l .call))
@@ -92,3 +65,17 @@ call-lies d l =
     by-test (DataStands (placeOf (phaseEntry d)) (l .medium) (step d l .medium)) (eqb (step d l .refusal) 0) (callBrings (l .call)) []
     (λ t. taken-lies d l (eqb-true (step d l .refusal) 0 t))
     (λ n. subst (λ (x : List ℕ). DataStands (placeOf (phaseEntry d)) (l .medium) x []) (sym (refused-keeps d l (eqb-false (step d l .refusal) 0 n) .medium)) (nowhere-lies _ (l .medium)))
+
+-- ---- what it sends of the medium
+
+-- a call that was decided: what it sends stood at the next byte of the open phase's command
+ruled-sent : (d : Device) (m b : List ℕ) {c : Call} {a : Act} → by.Ruled (factsOf d (lent c m b)) c a → SentFrom (placeOf (phaseEntry d)) m (sentIn (repliesOf (shown d) (partOf (spanOf a) m) a))
+unfolding repliesOf some pick
+ruled-sent d m b (by.refused c n h e) = sent-none (placeOf (phaseEntry d)) m [] refl
+ruled-sent d m b (by.host f a g w s h) = sent-none (placeOf (phaseEntry d)) m _ (host-goes d f m b g h .unsent)
+ruled-sent d m b (by.own o) = own-goes d m b o .sends
+
+-- every call
+pub call-sent : (d : Device) (l : Lent) → SentFrom (placeOf (phaseEntry d)) (l .medium) (sentIn (step d l .frames))
+unfolding actOf
+call-sent d l = ruled-sent d (l .medium) (l .buffer) (by.ruled (factsOf d l) (l .call))

@@ -6,6 +6,17 @@ pub mod Frames
 pub mod Changes
 pub mod Hosts
 pub mod Events
+-- each call, as it was decided: what it sends, counts and says
+pub mod Placed
+pub mod Marked
+pub mod Tally
+pub mod Impact
+pub mod Hearing
+pub mod Said
+pub mod Shaped
+pub mod Speechless
+pub mod Hosted
+pub mod Own
 pub mod Steps
 -- commands: fates, SActive, and an error that waits
 pub mod Alls
@@ -21,15 +32,9 @@ pub mod Moving
 pub mod Table
 pub mod Strays
 pub mod Owners
-pub mod Placed
 pub mod Kept
 pub mod Contents
--- what every call keeps of the state: a halt has its record
-pub mod Marked
 -- counters
-pub mod Tally
-pub mod Impact
-pub mod Hearing
 pub mod Counts
 pub mod Pages
 pub mod Shown
@@ -37,9 +42,6 @@ pub mod Counters
 pub mod Asked11
 -- replies: what each call may say, and what it must
 pub mod SeenRules
-pub mod Said
-pub mod Shaped
-pub mod Speechless
 pub mod ReplyRules
 -- demand 3: over every run from power-on, against the state, and of the code
 pub mod Soundness

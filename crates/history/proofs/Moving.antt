@@ -4,7 +4,6 @@ use mathlib.Core.Logic.{⊎-elim}
 use mathlib.Core.Bool.{Bool, true, false, not, _&&_, _||_, true≢false, false≢true}
 use mathlib.Core.List.{List, [], _++_, append-nil}
 use Prim.Native.Nat.{ℕ, _+_, _*_, _≤_}
-use native.Mathlib.Omega.{arith}
 use lib.Dec.{eqb}
 use borrow.Author.Tests.{eqb-true, eqb-false, eq-eqb}
 use Rattle.bits.specs.Bit.{bitIn}
@@ -15,7 +14,7 @@ use Rattle.device_state.specs.declared.shapes.Entry.{Entry}
 use Rattle.device.specs.declared.state.Device.{Device}
 use Rattle.history.specs.Seen.{Seen, errs, accepts}
 use Rattle.history.specs.Fates.{ends}
-use Rattle.history.specs.Carried.{load, transfer, span, belongs, positions}
+use Rattle.history.specs.Carried.{load, span, belongs, positions}
 use Rattle.history.proofs.Class as K
 use Rattle.history.proofs.Class.{Took, Carried, Ended, Class}
 use Rattle.history.proofs.Spans.{Empty, first-length-none, span-add, belongs-own, belongs-other}

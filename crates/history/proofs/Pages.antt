@@ -29,18 +29,19 @@ use Rattle.device.specs.Device.{contradictoryDevice}
 use Rattle.device.specs.declared.state.Device.{Device}
 use Rattle.device_state.specs.Clauses.{settingsOut}
 use Rattle.device.proofs.Keeping.{settings-good, both-kept}
-use Rattle.rules.specs.Call.{Call, hostFrame}
+use Rattle.rules.specs.Call.{Call}
 use Rattle.history.specs.Event.{Event, taken}
 use Rattle.history.specs.Replied.{repliesIn, frames, some, isPio, payloads, page}
-use Rattle.history.specs.Logs.{callReads}
+use Rattle.history.specs.Reading.{callReads}
 use Rattle.history.specs.Replied.{paged}
 use Rattle.history.specs.Counted.{sends11, toldAt, toldFor}
 use Rattle.device.specs.Lent.{Lent, lent}
 use Rattle.device.specs.FactsOf.{factsOf}
 use Rattle.device.specs.Step.{shown, actOf, step}
-use Rattle.device.proofs.Doing.{heard-unsent}
 use Rattle.history.proofs.Tally.{ValuesTell, Counting, tells-small}
-use Rattle.history.proofs.Hearing.{pioIn, Logs, heard-heard}
+use Rattle.history.proofs.Hearing.{pioIn, Logs}
+use Rattle.history.proofs.Hosted.{host-goes}
+use Rattle.history.proofs.Own.{own-goes}
 use Rattle.history.proofs.Counts.{eventOf, Replies}
 use Rattle.history.proofs.Frames.{Read, read-frames}
 
@@ -120,15 +121,8 @@ ruled-logs : (d : Device) (m b : List ℕ) {c : Call} {a : Act} → by.Ruled (fa
     → (contradictoryDevice d ≡ false) × Logs a
 unfolding numberOf
 ruled-logs d m b (by.refused c n h e) z p q = absurd (h z)
-ruled-logs d m b (by.host f a g w s h) z p q =
-    let v = factsOf d (lent (hostFrame f) m b) in
-    (g, heard-heard (shown d) v h .shown (ap (λ (x : List ℕ). pioIn (repliesOf (shown d) x a)) (heard-unsent v m h) ∙ p) q)
-ruled-logs d m b (by.own (by.opened u g s o x e)) z p q = absurd (false≢true q)
-ruled-logs d m b (by.own (by.sent g w s x r)) z p q = absurd (false≢true q)
-ruled-logs d m b (by.own (by.finished u g s x e r)) z p q = absurd (false≢true q)
-ruled-logs d m b (by.own (by.failed u e x g s o y w)) z p q = absurd (false≢true q)
-ruled-logs d m b (by.own (by.linked r g x)) z p q = absurd (false≢true q)
-ruled-logs d m b (by.own (by.renewed g s)) z p q = absurd (false≢true q)
+ruled-logs d m b (by.host f a g w s h) z p q = (g, host-goes d f m b g h .heard .shown p q)
+ruled-logs d m b (by.own o) z p q = absurd (false≢true (sym (own-goes d m b o .replies .pageless) ∙ p))
 
 -- every call: a page 11h in its replies shows what the history before it tells
 pub counters-step : (mask : ℕ) (d : Device) (l : Lent) (h : List Event) → Masked mask d → Counting d h → Replies d l → PageShows mask (eventOf d l) h

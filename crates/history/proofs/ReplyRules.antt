@@ -1,6 +1,6 @@
 -- Every call says no more than it may, and what it must: as an event of the history. Assumes nothing.
-use mathlib.Core.Path.{_≡_, refl, sym, ap, subst⁻¹, _∙_}
-use mathlib.Core.Bool.{Bool, true, false, _&&_, _||_, false≢true}
+use mathlib.Core.Path.{_≡_, refl, sym, ap, subst, subst⁻¹, _∙_}
+use mathlib.Core.Bool.{Bool, true, false, _&&_, false≢true}
 use mathlib.Core.List.{List, [], map}
 use mathlib.Core.Logic.{⊎-elim}
 use Prim.Native.Nat.{ℕ}
@@ -16,33 +16,58 @@ use Rattle.frames.specs.Write.{FrameValue}
 use Rattle.frames.specs.RoundTrip as trip
 use Rattle.frames.specs.declared.shapes.Frame.{Frame}
 use Rattle.pages.specs.Page10.{readLog}
-use Rattle.rules.specs.Call.{Call, hostFrame, openPhase, sendData, finishTags, mediaError, linkEvent, comReset}
+use Rattle.rules.specs.Call.{Call}
+use Rattle.rules.specs.Medium.{numberOf, spanOf, partOf}
+use Rattle.rules.specs.declared.acts.Act.{Act}
 use Rattle.rules.proofs.Ruled as by
-use Rattle.replies.specs.Replies.{sentAll}
+use Rattle.replies.specs.Replies.{repliesOf, sentAll}
+use Rattle.device.specs.Device.{contradictoryDevice}
 use Rattle.device.specs.Lent.{Lent, lent, Typed}
 use Rattle.device.specs.FactsOf.{factsOf}
-use Rattle.device.specs.Step.{actOf, step}
+use Rattle.device.specs.Step.{shown, actOf, step}
 use Rattle.device.specs.declared.state.Device.{Device}
 use Rattle.device.proofs.Sized.{SizedRecord}
 use Rattle.device.proofs.Refusals.{refused-keeps}
 use Rattle.history.specs.Event.{Event, taken}
-use Rattle.history.specs.Asked.{Asked, quiet, callAsks, asks}
-use Rattle.history.specs.Logs.{callReads}
+use Rattle.history.specs.FrameAsks.{Asked, quiet}
+use Rattle.history.specs.Reading.{Says, saysNone, saysSet, saysErr, callAsks, callReads, callSays, callReplies}
+use Rattle.history.specs.Asked.{asks}
 use Rattle.history.specs.Replied.{frames, some, isPio, setBitsIn, collect, faultyIn, paged}
 use Rattle.history.specs.Seen.{Seen, seen}
-use Rattle.history.specs.Shapes.{kindOf, OneOf, callReplies}
+use Rattle.history.specs.Shapes.{kindOf, OneOf}
 use Rattle.history.specs.ReplyRules.{TellsError, ReplyRules, Spoken}
 use Rattle.history.specs.Run.{result, done, event}
 use Rattle.history.proofs.Core.{Inv}
-use Rattle.history.proofs.Views.{pageIn, view, is-silent}
+use Rattle.history.proofs.Views.{view, is-silent}
 use Rattle.history.proofs.Frames.{Read, read-frames, read-page, read-step}
 use Rattle.history.proofs.Steps.{by-view, comes}
 use Rattle.history.proofs.Hearing.{pioIn}
-use Rattle.history.proofs.Said.{bitsIn, someBits}
-use Rattle.history.proofs.Shaped.{erringIn, erring, grantingIn, granting, sendsFaulty, CallShaped, ruled-shaped}
+use Rattle.history.proofs.Said.{someBits, Telling}
+use Rattle.history.proofs.Hosted.{host-goes}
+use Rattle.history.proofs.Shaped.{erringIn, erring, grantingIn, granting, sendsFaulty, CallShaped}
 use Rattle.history.proofs.Marked.{Marked, halted-tells}
 use Rattle.history.proofs.SeenRules.{SeenRules, seen-rules}
-use Rattle.history.proofs.Speechless.{SpokenBy, Utters, ruled-utters}
+use Rattle.history.proofs.Speechless.{SpokenBy, Utters, host-utters}
+use Rattle.history.proofs.Own.{own-goes}
+
+-- ---- the replies of a call that was decided, and is taken
+
+-- are of a shape that they may have
+pub ruled-shaped : (d : Device) (m b : List ℕ) {c : Call} {a : Act} → by.Ruled (factsOf d (lent c m b)) c a → numberOf a ≡ 0 → CallShaped c (repliesOf (shown d) (partOf (spanOf a) m) a)
+unfolding numberOf
+ruled-shaped d m b (by.refused c n h e) z = absurd (h z)
+ruled-shaped d m b (by.host f a g w s h) z = host-goes d f m b g h .shaped
+ruled-shaped d m b (by.own o) z = own-goes d m b o .replies .shaped
+
+-- say no more than they may, if page 10h tells an error while the device is halted
+ruled-utters : (d : Device) (m b : List ℕ) → (contradictoryDevice d ≡ false → d .status .halted ≡ true → Telling (shown d)) → {c : Call} {a : Act} → by.Ruled (factsOf d (lent c m b)) c a → numberOf a ≡ 0
+    → Utters c (repliesOf (shown d) (partOf (spanOf a) m) a)
+unfolding numberOf
+ruled-utters d m b k (by.refused c n h e) z = absurd (h z)
+ruled-utters d m b k (by.host f a g w s h) z = host-utters f _ (host-goes d f m b g h .said (k g))
+ruled-utters d m b k (by.own o) z = own-goes d m b o .replies .utters
+
+-- ---- as an event of the history
 
 -- a refused call finishes nothing
 quiet-finishes : (t : ℕ) → view quiet [] .finishes t ≡ false
@@ -53,22 +78,15 @@ asked-as : (x : Event) → taken x ≡ true → asks x ≡ callAsks (x .call)
 unfolding pick
 asked-as x t = rw t
 
--- what a call finishes, by what its replies finish if it is taken
-spoken-as : (d : Device) (c : Call) (m b : List ℕ) → Typed c → SizedRecord d → (step d (lent c m b) .refusal ≡ 0 → SpokenBy c (view (callAsks c) (step d (lent c m b) .frames)))
-    → Spoken (event (done (lent c m b) (result d (lent c m b)))) c
-spoken-as d (hostFrame f) m b t s go = λ u. by-view d (lent (hostFrame f) m b) t s (λ (e : Seen). e .finishes u ≡ false) (λ z. go z u) (λ _. quiet-finishes u)
-spoken-as d (openPhase x) m b t s go = λ u. by-view d (lent (openPhase x) m b) t s (λ (e : Seen). e .finishes u ≡ false) (λ z. go z u) (λ _. quiet-finishes u)
-spoken-as d sendData m b t s go = λ u. by-view d (lent sendData m b) t s (λ (e : Seen). e .finishes u ≡ false) (λ z. go z u) (λ _. quiet-finishes u)
-spoken-as d (finishTags set) m b t s go =
-    let k = step d (lent (finishTags set) m b) in
-    λ y. by-view d (lent (finishTags set) m b) t s (λ (e : Seen). k .refusal ≡ 0 → (e .fails ≡ false) × ((u : ℕ) → e .finishes u ≡ bitIn 32 set u)) (λ z _. go z) (λ n z. absurd (n z)) (eqb-true (k .refusal) 0 y)
-spoken-as d (mediaError x e o) m b t s go =
-    let l = lent (mediaError x e o) m b in (
-      λ y. by-view d l t s (λ (e : Seen). step d l .refusal ≡ 0 → e .fails ≡ true) (λ z _. go z .0) (λ n z. absurd (n z)) (eqb-true (step d l .refusal) 0 y),
-      λ u. by-view d l t s (λ (e : Seen). e .finishes u ≡ false) (λ z. go z .1 u) (λ _. quiet-finishes u),
-    )
-spoken-as d (linkEvent r) m b t s go = λ u. by-view d (lent (linkEvent r) m b) t s (λ (e : Seen). e .finishes u ≡ false) (λ z. go z u) (λ _. quiet-finishes u)
-spoken-as d comReset m b t s go = λ u. by-view d (lent comReset m b) t s (λ (e : Seen). e .finishes u ≡ false) (λ z. go z u) (λ _. quiet-finishes u)
+-- what a call says, by what its replies say if it is taken
+spoken-as : (d : Device) (l : Lent) → Typed (l .call) → SizedRecord d → (s : Says) → (step d l .refusal ≡ 0 → SpokenBy s (view (callAsks (l .call)) (step d l .frames))) → Spoken (event (done l (result d l))) s
+spoken-as d l t z saysNone go = λ u. by-view d l t z (λ (e : Seen). e .finishes u ≡ false) (λ y. go y u) (λ _. quiet-finishes u)
+spoken-as d l t z (saysSet s) go =
+    λ y. by-view d l t z (λ (e : Seen). step d l .refusal ≡ 0 → (e .fails ≡ false) × ((u : ℕ) → e .finishes u ≡ bitIn 32 s u)) (λ k _. go k) (λ n k. absurd (n k)) (eqb-true (step d l .refusal) 0 y)
+spoken-as d l t z saysErr go = (
+  λ y. by-view d l t z (λ (e : Seen). step d l .refusal ≡ 0 → e .fails ≡ true) (λ k _. go k .0) (λ n k. absurd (n k)) (eqb-true (step d l .refusal) 0 y),
+  λ u. by-view d l t z (λ (e : Seen). e .finishes u ≡ false) (λ k. go k .1 u) (λ _. quiet-finishes u),
+)
 
 module _ (d : Device) (l : Lent) (h : List Seen) (t : Typed (l .call)) (sized : SizedRecord d) where
   abbrev x : Event
@@ -122,7 +140,7 @@ module _ (d : Device) (l : Lent) (h : List Seen) (t : Typed (l .call)) (sized : 
             (tested (eqb (step d l .refusal) 0));
         answered = p .answered;
         named = p .named;
-        spoken = spoken-as d (l .call) (l .medium) (l .buffer) t sized (λ z. utters z .spoken);
+        spoken = spoken-as d l t sized (callSays (l .call)) (λ z. utters z .spoken);
         alone = p .alone;
         shut = p .shut;
         swept = λ y.

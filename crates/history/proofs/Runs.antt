@@ -22,13 +22,13 @@ use Rattle.history.specs.Demand3.{Fates, Ranges, Contents, Sactive, Wait
 use Rattle.device.specs.Lent.{Lent, Typed}
 use Rattle.history.specs.Run.{Done, done, event, result, AllTyped, run, runFrom, history}
 use Rattle.history.proofs.Class.{Class}
-use Rattle.history.proofs.Steps.{comes}
+use Rattle.history.proofs.Steps.{comes, marked-step}
 use Rattle.history.proofs.Fated.{AllLone, lone, lone-step, lone-none, fates}
 use Rattle.history.proofs.Core.{Inv, inv-start, keeps, inv-sactive, inv-waiting, inv-total, inv-number}
 use Rattle.history.proofs.Table.{Tracked, tracked-start, tracked-step, ranges}
 use Rattle.history.proofs.Contents.{moves}
 use Rattle.history.proofs.ReplyRules.{reply-rules}
-use Rattle.history.proofs.Marked.{Marked, marked-step, marked-start}
+use Rattle.history.proofs.Marked.{Marked, marked-start}
 use Rattle.device.proofs.Widths.{Wide}
 use Rattle.device.proofs.Widening.{wide-step, wide-start}
 use Rattle.history.proofs.Soundness.{Sound, sound-power, sound-step}

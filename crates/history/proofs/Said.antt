@@ -1,7 +1,7 @@
 -- What the replies of each act may hold: an A1h answers a host frame only with page 10h, which tells an error, and a page only a read of 10h or 11h. Assumes nothing.
 use mathlib.Core.Path.{_≡_, refl, sym, subst⁻¹, _∙_}
-use mathlib.Core.Bool.{Bool, true, false, not, _&&_, _||_, false≢true}
-use mathlib.Core.List.{List, [], _∷_, map, append-nil}
+use mathlib.Core.Bool.{Bool, true, false, _&&_, _||_, false≢true}
+use mathlib.Core.List.{List, map, append-nil}
 use Prim.Native.Nat.{ℕ}
 use Rattle.bits.specs.Pick.{pick}
 use Rattle.frame_parts.specs.declared.shared.Task.{Task}
@@ -12,16 +12,13 @@ use Rattle.frames.specs.declared.shapes.HostReg.{HostReg}
 use Rattle.frames.specs.declared.shapes.Frame.{Frame}
 use Rattle.frames.specs.declared.shapes.Frame.the-variants as fs
 use Rattle.pages.specs.Page10.{readLog}
-use Rattle.rules.specs.declared.facts.Facts.{Facts}
-use Rattle.rules.specs.declared.acts.Act.{Act}
-use Rattle.rules.proofs.Ruled as by
-use Rattle.replies.specs.Replies.{repliesOf, logReplies, activateIf, page10Of}
+use Rattle.replies.specs.Replies.{logReplies, activateIf, page10Of}
 use Rattle.replies.specs.declared.shown.Shown.{Shown}
 use Rattle.history.specs.Logs.{frameReads}
 use Rattle.history.specs.Replied.{some, setBitsIn, collect}
 use Rattle.history.specs.ReplyRules.{TellsError}
 use Rattle.history.proofs.Views.{pageIn}
-use Rattle.history.proofs.Hearing.{pioIn, reads-page}
+use Rattle.history.proofs.Hearing.{pioIn}
 
 -- the A1h frames of what is sent
 abbrev pub bitsIn : List FrameValue → List SetBits
@@ -38,7 +35,7 @@ pub record FrameSays (f : Frame) (rs : List FrameValue) : Type 0 where
   pub paged : pioIn rs ≡ true → frameReads 0x10 f || frameReads 0x11 f ≡ true
 
 -- no A1h and no page
-mild : (f : Frame) (rs : List FrameValue) → someBits rs ≡ false → pioIn rs ≡ false → FrameSays f rs
+pub mild : (f : Frame) (rs : List FrameValue) → someBits rs ≡ false → pioIn rs ≡ false → FrameSays f rs
 mild f rs a b = record { swept = λ x. absurd (false≢true (sym a ∙ x)); tells = λ x. absurd (false≢true (sym a ∙ x)); paged = λ x. absurd (false≢true (sym b ∙ x)) }
 
 or-true : (a b : Bool) → b ≡ true → a || b ≡ true
@@ -50,37 +47,19 @@ abbrev pub Telling : Shown → Type 0
 Telling s = TellsError (readLog (page10Of (s .errors)))
 
 -- page 10h, with or without the sweep
-ten-said : (h : HostReg) (task : Task) (page : List ℕ) → frameReads 0x10 (fs.Host h) ≡ true → (on : Bool) → (on ≡ true → TellsError (readLog page)) → FrameSays (fs.Host h) (logReplies on task page)
+pub ten-said : (h : HostReg) (task : Task) (page : List ℕ) → frameReads 0x10 (fs.Host h) ≡ true → (on : Bool) → (on ≡ true → TellsError (readLog page)) → FrameSays (fs.Host h) (logReplies on task page)
 unfolding some collect pick
 ten-said h task page t true k = record { swept = λ _. rw t; tells = λ _. subst⁻¹ (λ (l : List ℕ). TellsError (readLog l)) (append-nil page) (k refl); paged = λ _. rw t }
 ten-said h task page t false k = record { swept = λ _. rw t; tells = λ x. absurd (false≢true x); paged = λ _. rw t }
 
 -- page 11h
-eleven-said : (h : HostReg) (task : Task) (page : List ℕ) → frameReads 0x11 (fs.Host h) ≡ true → FrameSays (fs.Host h) (logReplies false task page)
+pub eleven-said : (h : HostReg) (task : Task) (page : List ℕ) → frameReads 0x11 (fs.Host h) ≡ true → FrameSays (fs.Host h) (logReplies false task page)
 unfolding some collect pick
 eleven-said h task page t =
     record { swept = λ x. absurd (false≢true x); tells = λ x. absurd (false≢true x); paged = λ _. or-true (frameReads 0x10 (fs.Host h)) (frameReads 0x11 (fs.Host h)) t }
 
 -- an Activate or none
-kept-said : (f : Frame) (on : Bool) → FrameSays f (activateIf on)
+pub kept-said : (f : Frame) (on : Bool) → FrameSays f (activateIf on)
 unfolding some collect pick
 kept-said f true = mild _ _ refl refl
 kept-said f false = mild _ _ refl refl
-
--- every host frame that is not turned down, if page 10h tells an error while the device is halted
-pub heard-said : (s : Shown) (v : Facts) → (s .halted ≡ true → Telling s) → {f : Frame} {a : Act} → by.Heard v f a → FrameSays f (repliesOf s [] a)
-unfolding repliesOf some collect
-heard-said s v k (by.srst h c x) = mild _ _ refl refl
-heard-said s v k (by.release h c x y) = mild _ _ refl refl
-heard-said s v k (by.nothing h c x y) = mild _ _ refl refl
-heard-said s v k (by.rule1 h c x) = mild _ _ refl refl
-heard-said s v k (by.rule2 h c x u) = mild _ _ refl refl
-heard-said s v k (by.rule3 h c x u y) = mild _ _ refl refl
-heard-said s v k (by.rule4 h c x u y) = mild _ _ refl refl
-heard-said s v k (by.other-halted h c x) = mild _ _ refl refl
-heard-said s v k (by.other-busy h c x) = mild _ _ refl refl
-heard-said s v k (by.page10 h c e p) = ten-said h (h .task) (page10Of (s .errors)) (reads-page 0x10 h refl (c .command) p) (s .halted) k
-heard-said s v k (by.page11 h c x e p) = eleven-said h _ _ (reads-page 0x11 h refl (c .command) p)
-heard-said s v k (by.other-bad h c x e) = mild _ _ refl refl
-heard-said s v k (by.due n p w y) = kept-said _ _
-heard-said s v k (by.bist x) = mild _ _ refl refl

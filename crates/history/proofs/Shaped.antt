@@ -1,6 +1,6 @@
--- The replies of each taken call are one of those that it may have; a 34h with ERR answers a command, one without it none but a queued one, and a 5Fh has no ERR. Assumes nothing.
-use mathlib.Core.Path.{_≡_, refl, sym, subst, _∙_}
-use mathlib.Core.Bool.{Bool, true, false, not, _||_, false≢true, true≢false}
+-- When replies are of a shape that they may have: one of those that the call may have; a 34h with ERR answers a command, one without it none but a queued one, and a 5Fh has no ERR. Assumes nothing.
+use mathlib.Core.Path.{_≡_, refl, sym, _∙_}
+use mathlib.Core.Bool.{Bool, true, false, not, false≢true, true≢false}
 use mathlib.Core.List.{List, [], _∷_, map}
 use mathlib.Core.Logic.{inl, inr}
 use Prim.Native.Nat.{ℕ}
@@ -11,25 +11,13 @@ use Rattle.frames.specs.RoundTrip as trip
 use Rattle.frames.specs.declared.shapes.HostReg.{HostReg}
 use Rattle.frames.specs.declared.shapes.Frame.{Frame}
 use Rattle.frames.specs.declared.shapes.Frame.the-variants as fs
-use Rattle.device_state.specs.Table.{entryOf}
-use Rattle.rules.specs.Positions.{moveOf}
 use Rattle.rules.specs.Decide.{isQueued}
-use Rattle.rules.specs.Medium.{numberOf, spanOf, partOf}
-use Rattle.rules.specs.declared.facts.Facts.{Facts}
-use Rattle.rules.specs.declared.acts.Queued.{Queued}
-use Rattle.rules.specs.declared.acts.Act.{Act}
-use Rattle.rules.proofs.Ruled as by
-use Rattle.replies.specs.Replies.{repliesOf, setupReply, signature, activateIf, logReplies}
-use Rattle.replies.specs.declared.shown.Shown.{Shown}
-use Rattle.device.specs.Lent.{lent}
-use Rattle.device.specs.FactsOf.{factsOf}
-use Rattle.device.specs.Step.{shown}
-use Rattle.device.proofs.Doing.{heard-unsent}
-use Rattle.device.specs.declared.state.Device.{Device}
-use Rattle.rules.specs.Call.{Call, hostFrame, openPhase}
-use Rattle.history.specs.Asked.{Asked, dataAsks, frameAsks, callAsks}
+use Rattle.replies.specs.Replies.{activateIf, logReplies}
+use Rattle.rules.specs.Call.{Call}
+use Rattle.history.specs.FrameAsks.{Asked, dataAsks, frameAsks}
+use Rattle.history.specs.Reading.{callAsks, callReplies}
 use Rattle.history.specs.Replied.{some, errIn, registerIn, collect, faultyIn}
-use Rattle.history.specs.Shapes.{kindOf, OneOf, commandReplies, frameReplies, callReplies}
+use Rattle.history.specs.Shapes.{kindOf, OneOf, commandReplies, frameReplies}
 
 -- the kinds of what is sent
 abbrev pub kindsOf : List FrameValue → List ℕ
@@ -67,7 +55,7 @@ abbrev pub CallShaped : Call → List FrameValue → Type 0
 CallShaped c rs = Shaped (callReplies c) (callAsks c) rs
 
 -- to what is no command: without a 34h with ERR, and without a 5Fh with ERR
-unblamed : {may : List (List ℕ)} {k : Asked} (rs : List FrameValue) → k .command ≡ false → OneOf (kindsOf rs) may → erring rs ≡ false → sendsFaulty rs ≡ false → Shaped may k rs
+pub unblamed : {may : List (List ℕ)} {k : Asked} (rs : List FrameValue) → k .command ≡ false → OneOf (kindsOf rs) may → erring rs ≡ false → sendsFaulty rs ≡ false → Shaped may k rs
 unblamed rs c o e f = record { shape = o; blames = λ y. absurd (false≢true (sym e ∙ y)); ungranted = λ y _. absurd (false≢true (sym c ∙ y)); faultless = f }
 
 -- ---- a host frame
@@ -75,63 +63,23 @@ unblamed rs c o e f = record { shape = o; blames = λ y. absurd (false≢true (s
 -- a command
 module _ (h : HostReg) (c : h .«command_bit» ≡ true) where
   -- that is queued: one 34h
-  to-queued : isQueued h ≡ true → (rs : List FrameValue) → kindsOf rs ≡ 0x34 ∷ [] → sendsFaulty rs ≡ false → Shaped (frameReplies (fs.Host h)) (frameAsks (fs.Host h)) rs
+  pub to-queued : isQueued h ≡ true → (rs : List FrameValue) → kindsOf rs ≡ 0x34 ∷ [] → sendsFaulty rs ≡ false → Shaped (frameReplies (fs.Host h)) (frameAsks (fs.Host h)) rs
   unfolding pick
   to-queued q rs o f = record { shape = rw c (inl o); blames = λ _. c; ungranted = λ _ n. absurd (true≢false (sym (rw (c, q)) ∙ n)); faultless = f }
 
   -- that is not
-  to-other : (rs : List FrameValue) → OneOf (kindsOf rs) commandReplies → granting rs ≡ false → sendsFaulty rs ≡ false → Shaped (frameReplies (fs.Host h)) (frameAsks (fs.Host h)) rs
+  pub to-other : (rs : List FrameValue) → OneOf (kindsOf rs) commandReplies → granting rs ≡ false → sendsFaulty rs ≡ false → Shaped (frameReplies (fs.Host h)) (frameAsks (fs.Host h)) rs
   unfolding pick
   to-other rs o g f = record { shape = rw c o; blames = λ _. c; ungranted = λ _ _. g; faultless = f }
 
   -- by a page, behind the sweep or not
-  to-log : (on : Bool) (task : Task) (page : List ℕ) → Shaped (frameReplies (fs.Host h)) (frameAsks (fs.Host h)) (logReplies on task page)
+  pub to-log : (on : Bool) (task : Task) (page : List ℕ) → Shaped (frameReplies (fs.Host h)) (frameAsks (fs.Host h)) (logReplies on task page)
   unfolding pick some collect
   to-log true task page = to-other _ (inr (inr (inl refl))) refl refl
   to-log false task page = to-other _ (inr (inl refl)) refl refl
 
 -- host data: an Activate if more is left
-to-data : (n : ℕ) (on : Bool) → Shaped (frameReplies (fs.Data n)) (dataAsks n) (activateIf on)
+pub to-data : (n : ℕ) (on : Bool) → Shaped (frameReplies (fs.Data n)) (dataAsks n) (activateIf on)
 unfolding pick some collect
 to-data n true = unblamed _ refl (inr (inl refl)) refl refl
 to-data n false = unblamed [] refl (inl refl) refl refl
-
--- that is not turned down
-heard-shaped : (s : Shown) (v : Facts) {f : Frame} {a : Act} → by.Heard v f a → Shaped (frameReplies f) (frameAsks f) (repliesOf s [] a)
-unfolding repliesOf some collect pick
-heard-shaped s v (by.srst h c x) = unblamed [] c (rw (c, x) (inl refl)) refl refl
-heard-shaped s v (by.release h c x y) = unblamed (signature ∷ []) c (rw (c, x) (inr (inl refl))) refl refl
-heard-shaped s v (by.nothing h c x y) = unblamed [] c (rw (c, x) (inl refl)) refl refl
-heard-shaped s v (by.rule1 h c x) = to-queued h (c .command) (c .kind) _ refl refl
-heard-shaped s v (by.rule2 h c x u) = to-queued h (c .command) (c .kind) _ refl refl
-heard-shaped s v (by.rule3 h c x u y) = to-queued h (c .command) (c .kind) _ refl refl
-heard-shaped s v (by.rule4 h c x u y) = to-queued h (c .command) (c .kind) _ refl refl
-heard-shaped s v (by.other-halted h c x) = to-other h (c .command) _ (inl refl) refl refl
-heard-shaped s v (by.other-busy h c x) = to-other h (c .command) _ (inl refl) refl refl
-heard-shaped s v (by.page10 h c e p) = to-log h (c .command) (s .halted) _ _
-heard-shaped s v (by.page11 h c x e p) = to-log h (c .command) false _ _
-heard-shaped s v (by.other-bad h c x e) = to-other h (c .command) _ (inl refl) refl refl
-heard-shaped s v (by.due n p w y) = to-data n (not (moveOf (v .status) (v .entry) n .last))
-heard-shaped s v (by.bist x) = unblamed [] refl (inl refl) refl refl
-
--- ---- every call
-
--- DMA Setup, and for a write an Activate
-setup-shaped : (tag : ℕ) (q : Queued) (on : Bool) → CallShaped (openPhase tag) (setupReply q ∷ activateIf on)
-unfolding pick some collect
-setup-shaped tag q true = unblamed _ refl (inr (inl refl)) refl refl
-setup-shaped tag q false = unblamed _ refl (inl refl) refl refl
-
--- a taken call
-pub ruled-shaped : (d : Device) (m b : List ℕ) {c : Call} {a : Act} → by.Ruled (factsOf d (lent c m b)) c a → numberOf a ≡ 0 → CallShaped c (repliesOf (shown d) (partOf (spanOf a) m) a)
-unfolding numberOf repliesOf some collect
-ruled-shaped d m b (by.refused c n h e) z = absurd (h z)
-ruled-shaped d m b (by.host f a g w s h) z =
-    let v = factsOf d (lent (hostFrame f) m b) in
-    subst (λ (p : List ℕ). CallShaped (hostFrame f) (repliesOf (shown d) p a)) (heard-unsent v m h) (heard-shaped (shown d) v h)
-ruled-shaped d m b (by.own (by.opened u g s o p e)) z = setup-shaped u (record { tag = u; entry = entryOf (d .entries) u }) (entryOf (d .entries) u .write)
-ruled-shaped d m b (by.own (by.sent g w s p r)) z = unblamed _ refl (inl refl) refl refl
-ruled-shaped d m b (by.own (by.finished u g s p e r)) z = unblamed _ refl (inl refl) refl refl
-ruled-shaped d m b (by.own (by.failed u e x g s o y w)) z = unblamed _ refl (inl refl) refl refl
-ruled-shaped d m b (by.own (by.linked r g x)) z = unblamed [] refl (inl refl) refl refl
-ruled-shaped d m b (by.own (by.renewed g s)) z = unblamed (signature ∷ []) refl (inl refl) refl refl

@@ -1,11 +1,10 @@
--- Every call says no more than it may, and what it must: by its replies. Assumes nothing.
-use mathlib.Core.Path.{_≡_, refl, sym, ap, subst, _∙_}
+-- When a call says no more than it may, and what it must: by its replies. Assumes nothing.
+use mathlib.Core.Path.{_≡_, refl, sym, ap, _∙_}
 use mathlib.Core.Bool.{Bool, true, false, not, _&&_, _||_, true≢false, false≢true}
-use mathlib.Core.List.{List, [], _∷_, map}
+use mathlib.Core.List.{List, [], _∷_}
 use mathlib.Core.Logic.{⊎-elim}
 use Prim.Native.Nat.{ℕ, _%_}
 use lib.Dec.{eqb}
-use Rattle.bits.specs.Pick.{pick}
 use Rattle.bits.specs.Bit.{bitIn}
 use Rattle.bits.proofs.Picks.{tested, and-left, and-right}
 use Rattle.frames.specs.Read.{readFrame}
@@ -14,28 +13,18 @@ use Rattle.frames.specs.declared.shapes.SetBits.{SetBits}
 use Rattle.frames.specs.declared.shapes.Frame.{Frame}
 use Rattle.frames.specs.declared.shapes.Frame.the-variants as fs
 use Rattle.pages.specs.Page10.{readLog}
-use Rattle.device_state.specs.Table.{entryOf}
-use Rattle.rules.specs.Call.{Call, hostFrame, openPhase, sendData, finishTags, mediaError, linkEvent, comReset}
-use Rattle.rules.specs.Medium.{numberOf, spanOf, partOf}
-use Rattle.rules.specs.declared.acts.Queued.{Queued}
-use Rattle.rules.specs.declared.acts.Act.{Act}
-use Rattle.rules.proofs.Ruled as by
-use Rattle.replies.specs.Replies.{repliesOf, setupReply, activateIf}
-use Rattle.device.specs.Device.{contradictoryDevice}
-use Rattle.device.specs.Lent.{lent}
-use Rattle.device.specs.FactsOf.{factsOf}
-use Rattle.device.specs.Step.{shown}
+use Rattle.rules.specs.Call.{Call, hostFrame}
 use Rattle.device.specs.declared.state.Device.{Device}
-use Rattle.device.proofs.Doing.{heard-unsent}
 use Rattle.device.proofs.Never.{and-never}
-use Rattle.history.specs.Asked.{Asked, frameAsks, callAsks}
-use Rattle.history.specs.Logs.{frameReads, callReads}
-use Rattle.history.specs.Replied.{some, collect}
+use Rattle.history.specs.FrameAsks.{Asked, frameAsks}
+use Rattle.history.specs.Logs.{frameReads}
+use Rattle.history.specs.Reading.{Says, saysNone, saysSet, saysErr, callAsks, callReads, callSays}
+use Rattle.history.specs.Replied.{some}
 use Rattle.history.specs.Seen.{Seen}
 use Rattle.history.specs.ReplyRules.{TellsError}
-use Rattle.history.proofs.Views.{pageIn, view, is-finish, is-failed}
+use Rattle.history.proofs.Views.{pageIn, view}
 use Rattle.history.proofs.Hearing.{pioIn}
-use Rattle.history.proofs.Said.{bitsIn, someBits, FrameSays, Telling, heard-said}
+use Rattle.history.proofs.Said.{bitsIn, someBits, FrameSays}
 
 -- ---- replies without an A1h and without a page
 
@@ -44,15 +33,11 @@ pub none-finished : (k : Asked) (rs : List FrameValue) → bitsIn rs ≡ [] → 
 unfolding view some
 none-finished k rs e t = rw e (and-never (not (k .command)))
 
--- what a taken call may finish: finish just its set, without ERR; a media error nothing, with ERR; any other call nothing
-abbrev pub SpokenBy : Call → Seen → Type 0
-SpokenBy (hostFrame f) e = (t : ℕ) → e .finishes t ≡ false
-SpokenBy (openPhase t) e = (t : ℕ) → e .finishes t ≡ false
-SpokenBy sendData e = (t : ℕ) → e .finishes t ≡ false
-SpokenBy (finishTags s) e = (e .fails ≡ false) × ((t : ℕ) → e .finishes t ≡ bitIn 32 s t)
-SpokenBy (mediaError t x s) e = (e .fails ≡ true) × ((t : ℕ) → e .finishes t ≡ false)
-SpokenBy (linkEvent r) e = (t : ℕ) → e .finishes t ≡ false
-SpokenBy comReset e = (t : ℕ) → e .finishes t ≡ false
+-- what is seen of a taken call, by what it may say: just a set finished, without ERR; ERR, and nothing finished; nothing finished
+abbrev pub SpokenBy : Says → Seen → Type 0
+SpokenBy saysNone e = (t : ℕ) → e .finishes t ≡ false
+SpokenBy (saysSet s) e = (e .fails ≡ false) × ((t : ℕ) → e .finishes t ≡ bitIn 32 s t)
+SpokenBy saysErr e = (e .fails ≡ true) × ((t : ℕ) → e .finishes t ≡ false)
 
 -- ---- the sweep
 
@@ -89,10 +74,10 @@ host-finishes f rs y t =
 pub record Utters (c : Call) (rs : List FrameValue) : Type 0 where
   pub swept : callAsks c .command && someBits rs ≡ true → (callReads 0x10 c && pioIn rs ≡ true) × TellsError (readLog (pageIn rs))
   pub paged : pioIn rs ≡ true → callReads 0x10 c || callReads 0x11 c ≡ true
-  pub spoken : SpokenBy c (view (callAsks c) rs)
+  pub spoken : SpokenBy (callSays c) (view (callAsks c) rs)
 
 -- of a host frame
-host-utters : (f : List ℕ) (rs : List FrameValue) → FrameSays (readFrame f) rs → Utters (hostFrame f) rs
+pub host-utters : (f : List ℕ) (rs : List FrameValue) → FrameSays (readFrame f) rs → Utters (hostFrame f) rs
 host-utters f rs y = record {
   swept = λ x. let a = and-right (frameAsks (readFrame f) .command) (someBits rs) x in (y .swept a, y .tells a);
   paged = y .paged;
@@ -100,26 +85,5 @@ host-utters f rs y = record {
 }
 
 -- of a device event, which is no command and sends no page
-event-utters : (c : Call) (rs : List FrameValue) → callAsks c .command ≡ false → pioIn rs ≡ false → SpokenBy c (view (callAsks c) rs) → Utters c rs
+pub event-utters : (c : Call) (rs : List FrameValue) → callAsks c .command ≡ false → pioIn rs ≡ false → SpokenBy (callSays c) (view (callAsks c) rs) → Utters c rs
 event-utters c rs k p s = record { swept = λ x. absurd (false≢true (ap (λ (b : Bool). b && someBits rs) (sym k) ∙ x)); paged = λ x. absurd (false≢true (sym p ∙ x)); spoken = s }
-
--- a DMA Setup, and an Activate or none
-setup-utters : (t : ℕ) (q : Queued) (on : Bool) → Utters (openPhase t) (setupReply q ∷ activateIf on)
-unfolding some collect pick
-setup-utters t q true = event-utters (openPhase t) _ refl refl (none-finished _ _ refl)
-setup-utters t q false = event-utters (openPhase t) _ refl refl (none-finished _ _ refl)
-
--- a call that was decided, and is taken
-pub ruled-utters : (d : Device) (m b : List ℕ) → (contradictoryDevice d ≡ false → d .status .halted ≡ true → Telling (shown d)) → {c : Call} {a : Act} → by.Ruled (factsOf d (lent c m b)) c a → numberOf a ≡ 0
-    → Utters c (repliesOf (shown d) (partOf (spanOf a) m) a)
-unfolding numberOf repliesOf some collect
-ruled-utters d m b k (by.refused c n h e) z = absurd (h z)
-ruled-utters d m b k (by.host f a g w s h) z =
-    let v = factsOf d (lent (hostFrame f) m b) in
-    subst (λ (p : List ℕ). Utters (hostFrame f) (repliesOf (shown d) p a)) (heard-unsent v m h) (host-utters f _ (heard-said (shown d) v (k g) h))
-ruled-utters d m b k (by.own (by.opened u g s o p e)) z = setup-utters u (record { tag = u; entry = entryOf (d .entries) u }) (entryOf (d .entries) u .write)
-ruled-utters d m b k (by.own (by.sent g w s p r)) z = event-utters sendData _ refl refl (none-finished _ _ refl)
-ruled-utters d m b k (by.own (by.finished u g s p e r)) z = event-utters (finishTags u) _ refl refl (is-finish _ refl .fails, is-finish _ refl .finishes)
-ruled-utters d m b k (by.own (by.failed u e x g s o y w)) z = event-utters (mediaError u e x) _ refl refl (is-failed _ refl refl .fails, is-failed _ refl refl .finishes)
-ruled-utters d m b k (by.own (by.linked r g x)) z = event-utters (linkEvent r) _ refl refl (none-finished _ _ refl)
-ruled-utters d m b k (by.own (by.renewed g s)) z = event-utters comReset _ refl refl (none-finished _ _ refl)

@@ -1,37 +1,38 @@
--- Every call, taken or refused, comes to one of the ten kinds, seen from its call and its reply bytes. Assumes nothing.
+-- Every call, taken or refused, comes to one of the ten kinds, seen from its call and its reply bytes; and a halt keeps its record. Assumes nothing.
 use mathlib.Core.Path.{_≡_, refl, sym, ap, subst, _∙_}
-use mathlib.Core.Bool.{Bool, true, false, not}
+use mathlib.Core.Bool.{true, false}
 use mathlib.Core.List.{List, []}
 use mathlib.Core.Logic.{⊎-elim}
 use Prim.Native.Nat.{ℕ}
 use lib.Dec.{eqb}
-use lib.ListN.{length}
-use borrow.Author.Tests.{eqb-true, eqb-false, ne-eqb, not-false}
+use borrow.Author.Tests.{eqb-true, eqb-false, ne-eqb}
 use Rattle.bits.specs.Pick.{pick}
 use Rattle.bits.proofs.Picks.{tested}
-use Rattle.frames.specs.Read.{readFrame}
-use Rattle.frames.proofs.ReadLaws.{read-data}
-use Rattle.rules.specs.Call.{Call, hostFrame, openPhase, sendData, finishTags, mediaError, linkEvent, comReset}
+use Rattle.rules.specs.Call.{Call}
 use Rattle.rules.specs.Medium.{numberOf, spanOf, partOf}
 use Rattle.rules.specs.declared.acts.Act.{Act}
 use Rattle.rules.proofs.Ruled as by
 use Rattle.device.specs.Lent.{Lent, lent, Typed}
-use Rattle.device.specs.FactsOf.{mediumWrong, unreadyIn, factsOf}
+use Rattle.device.specs.After.{afterOf}
+use Rattle.device.specs.FactsOf.{factsOf}
 use Rattle.device.specs.Step.{actOf, step}
 use Rattle.device.specs.declared.state.Device.{Device}
 use Rattle.device.proofs.Sized.{SizedRecord}
-use Rattle.device.proofs.Doing.{heard-unsent}
 use Rattle.device.proofs.Refusals.{refused-keeps}
 use Rattle.history.specs.Event.{Event}
-use Rattle.history.specs.Asked.{quiet, callAsks, frameAsks, asks}
+use Rattle.history.specs.FrameAsks.{quiet}
+use Rattle.history.specs.Reading.{callAsks}
+use Rattle.history.specs.Asked.{asks}
 use Rattle.history.specs.Seen.{Seen, seen}
 use Rattle.history.specs.Run.{result, done, event}
 use Rattle.history.proofs.Class.{Class, plain}
 use Rattle.history.proofs.Views.{view, is-silent, silent-unbegun}
 use Rattle.history.proofs.Frames.{Read, read-seen, read-step}
-use Rattle.history.proofs.Changes.{same, busy-calm}
-use Rattle.history.proofs.Hosts.{Comes, heard-comes}
-use Rattle.history.proofs.Events.{opened-comes, send-comes, finished-comes, failed-comes, counted-comes, renewed-comes}
+use Rattle.history.proofs.Changes.{same}
+use Rattle.history.proofs.Marked.{Marked}
+use Rattle.history.proofs.Hosts.{Comes}
+use Rattle.history.proofs.Hosted.{host-goes}
+use Rattle.history.proofs.Own.{own-goes}
 
 -- what is asked, taken and refused
 asks-taken : (x : Event) → x .refusal ≡ 0 → asks x ≡ callAsks (x .call)
@@ -67,18 +68,23 @@ module _ (d : Device) (l : Lent) (t : Typed (l .call)) (s : SizedRecord d) where
 ruled-comes : (d : Device) (m b : List ℕ) {c : Call} {a : Act} → Typed c → by.Ruled (factsOf d (lent c m b)) c a → numberOf a ≡ 0 → Comes d (partOf (spanOf a) m) (callAsks c) a
 unfolding numberOf
 ruled-comes d m b t (by.refused c n h e) z = absurd (h z)
-ruled-comes d m b t (by.host f a g w s h) z =
-    subst (λ (p : List ℕ). Comes d p (frameAsks (readFrame f)) a) (heard-unsent (factsOf d (lent (hostFrame f) m b)) m h)
-    (heard-comes d g (mediumWrong (d .settings .capacity) (length m)) (unreadyIn d (hostFrame f)) (length b) _ f (read-data f) h)
-ruled-comes d m b t (by.own (by.opened u g s o p e)) z = opened-comes d _ u g o (eqb-true (d .status .phase) 0 (not-false (eqb (d .status .phase) 0) p)) e
-ruled-comes d m b t (by.own (by.sent g w s p r)) z = send-comes d m g w p r
-ruled-comes d m b t (by.own (by.finished u g s p e r)) z = finished-comes d _ u g (t .1) (eqb-true (d .status .phase) 0 (not-false (eqb (d .status .phase) 0) p)) e r
-ruled-comes d m b t (by.own (by.failed u e y g s o x w)) z = failed-comes d _ _ (busy-calm d g u o)
-ruled-comes d m b t (by.own (by.linked r g y)) z = counted-comes d _ r
-ruled-comes d m b t (by.own (by.renewed g s)) z = renewed-comes d _
+ruled-comes d m b t (by.host f a g w s h) z = host-goes d f m b g h .comes
+ruled-comes d m b t (by.own o) z = own-goes d m b o .comes t
 
 -- every call
 pub comes : (d : Device) (l : Lent) → Typed (l .call) → SizedRecord d → Class d (seen (event (done l (result d l)))) (step d l .state)
 unfolding actOf
 comes d l t s =
     by-view d l t s (λ (e : Seen). Class d e (step d l .state)) (ruled-comes d (l .medium) (l .buffer) t (by.ruled (factsOf d l) (l .call))) (λ n. nothing-seen d (step d l .state) (refused-keeps d l n .state))
+
+-- a call that was decided: a halt keeps its record
+ruled-marked : (d : Device) (m b : List ℕ) {c : Call} {a : Act} → by.Ruled (factsOf d (lent c m b)) c a → Marked d → Marked (afterOf d a)
+unfolding afterOf
+ruled-marked d m b (by.refused c n h e) k = k
+ruled-marked d m b (by.host f a g w s h) k = host-goes d f m b g h .marked k
+ruled-marked d m b (by.own o) k = own-goes d m b o .marked k
+
+-- every call
+pub marked-step : (d : Device) (l : Lent) → Marked d → Marked (step d l .state)
+unfolding actOf
+marked-step d l = ruled-marked d (l .medium) (l .buffer) (by.ruled (factsOf d l) (l .call))

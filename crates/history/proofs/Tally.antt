@@ -8,9 +8,9 @@ use native.Mathlib.Omega.{arith}
 use lib.Dec.{eqb, ltb}
 use lib.ListN.{length, getD, set, replicate, length-set, length-replicate, List·getD-eq-default}
 use lib.Seq.{getD-set-same, getD-set-other}
-use borrow.Author.Tests.{eqb-true, eqb-false, ltb-true, ltb-false}
+use borrow.Author.Tests.{eqb-true, eqb-false, ne-eqb, ltb-true, ltb-false}
 use Rattle.bits.specs.Pick.{pick}
-use Rattle.bits.proofs.Picks.{tested, pick-yes}
+use Rattle.bits.proofs.Picks.{by-test, tested, pick-yes}
 use Rattle.device_state.specs.Counts.{bumped}
 use Rattle.device_state.specs.declared.shapes.Settings.{Settings}
 use Rattle.device.specs.Device.{freshDevice, powerOn, powerNumber}
@@ -18,40 +18,14 @@ use Rattle.device.specs.declared.state.Device.{Device}
 use Rattle.history.specs.Event.{Event}
 use Rattle.history.specs.Counted.{zeroes, raisesRow, countedIn, told}
 
--- what a call does to the counters: nothing; one more at a row; all zeroed
-pub data Effect : Type 0 where
-  stay : Effect
-  raise : ℕ → Effect
-  wipe : Effect
+-- the values after an event that zeroes them, or else raises a row, which is one of the sixteen or none
+abbrev pub counted : Bool → ℕ → List ℕ → List ℕ
+counted zeroed row l = pick zeroed (replicate 16 0) (pick (ltb row 16) (set l row (bumped (getD l row 0) 1)) l)
 
--- the values after an effect
-abbrev pub counted : Effect → List ℕ → List ℕ
-counted stay l = l
-counted (raise r) l = set l r (bumped (getD l r 0) 1)
-counted wipe l = replicate 16 0
-
--- an effect zeroes all
-abbrev pub wipes : Effect → Bool
-wipes stay = false
-wipes (raise k) = false
-wipes wipe = true
-
--- an effect raises a row
-abbrev pub raisesAt : ℕ → Effect → Bool
-raisesAt r stay = false
-raisesAt r (raise k) = eqb k r
-raisesAt r wipe = false
-
--- a row that is raised is one of the sixteen
-abbrev pub RowWithin : Effect → Type 0
-RowWithin stay = Unit
-RowWithin (raise k) = k < 16
-RowWithin wipe = Unit
-
--- what the history reads of an event is this effect
-pub record Reads (e : Event) (x : Effect) : Type 0 where
-  pub zeroed : zeroes e ≡ wipes x
-  pub raised : (r : ℕ) → r < 16 → raisesRow r e ≡ raisesAt r x
+-- what the history reads of an event: whether it zeroes, and the row that it raises
+pub record Reads (e : Event) (z : Bool) (row : ℕ) : Type 0 where
+  pub zeroed : zeroes e ≡ z
+  pub raised : (r : ℕ) → r < 16 → raisesRow r e ≡ eqb row r
 
 -- each of sixteen counters is its events since the last zeroing, held at the top
 pub record ValuesTell (values : List ℕ) (h : List Event) : Type 0 where
@@ -87,32 +61,42 @@ counted-none : (e : Event) (h : List Event) (r : ℕ) → zeroes e ≡ true → 
 unfolding countedIn
 counted-none e h r z = pick-yes (zeroes e) 0 (pick (raisesRow r e) 1 0 + countedIn r h) z
 
--- values that changed as the history reads the event still tell it
-pub tells : (x : Effect) (values : List ℕ) (e : Event) (h : List Event) → RowWithin x → Reads e x → ValuesTell values h → ValuesTell (counted x values) (e ∷ h)
-tells stay values e h w s i = record {
-  long = i .long;
-  value = λ r u. i .value r u ∙ ap (min 4294967295) (sym (counted-same e h r (s .zeroed) (s .raised r u)));
-}
-tells (raise k) values e h w s i = record {
-  long = length-set values k (bumped (getD values k 0) 1) ∙ i .long;
-  value = λ r u.
-      ⊎-elim
-      (λ (t : eqb k r ≡ true).
-      let q : k ≡ r = eqb-true k r t in
-      let m : countedIn r (e ∷ h) ≡ 1 + countedIn r h = counted-more e h r (s .zeroed) (s .raised r u ∙ t) in
-      ap (λ (x : ℕ). getD (set values k (bumped (getD values k 0) 1)) x 0) (sym q)
-      ∙ getD-set-same values k (bumped (getD values k 0) 1) 0 (subst⁻¹ (λ (x : ℕ). k < x) (i .long) w)
-      ∙ ap (λ (x : ℕ). bumped (getD values x 0) 1) q ∙ ap (λ (x : ℕ). bumped x 1) (i .value r u) ∙ bumped-told (countedIn r h) ∙ ap (min 4294967295) (sym m))
-      (λ (f : eqb k r ≡ false).
-      let q : k ≡ r → ⊥ = eqb-false k r f in
-      getD-set-other values k r (bumped (getD values k 0) 1) 0 (λ z. q (sym z)) ∙ i .value r u
-      ∙ ap (min 4294967295) (sym (counted-same e h r (s .zeroed) (s .raised r u ∙ f))))
-      (tested (eqb k r));
-}
-tells wipe values e h w s i = record {
-  long = length-replicate {A = ℕ} 16 0;
-  value = λ r u. zeros 16 r ∙ ap (min 4294967295) (sym (counted-none e h r (s .zeroed)));
-}
+module _ (values : List ℕ) (e : Event) (h : List Event) (i : ValuesTell values h) where
+  -- an event of a row
+  row-tells : (k : ℕ) → k < 16 → Reads e false k → ValuesTell (set values k (bumped (getD values k 0) 1)) (e ∷ h)
+  row-tells k w s = record {
+    long = length-set values k (bumped (getD values k 0) 1) ∙ i .long;
+    value = λ r u.
+        ⊎-elim
+        (λ (t : eqb k r ≡ true).
+        let q : k ≡ r = eqb-true k r t in
+        let m : countedIn r (e ∷ h) ≡ 1 + countedIn r h = counted-more e h r (s .zeroed) (s .raised r u ∙ t) in
+        ap (λ (x : ℕ). getD (set values k (bumped (getD values k 0) 1)) x 0) (sym q)
+        ∙ getD-set-same values k (bumped (getD values k 0) 1) 0 (subst⁻¹ (λ (x : ℕ). k < x) (i .long) w)
+        ∙ ap (λ (x : ℕ). bumped (getD values x 0) 1) q ∙ ap (λ (x : ℕ). bumped x 1) (i .value r u) ∙ bumped-told (countedIn r h) ∙ ap (min 4294967295) (sym m))
+        (λ (f : eqb k r ≡ false).
+        let q : k ≡ r → ⊥ = eqb-false k r f in
+        getD-set-other values k r (bumped (getD values k 0) 1) 0 (λ z. q (sym z)) ∙ i .value r u
+        ∙ ap (min 4294967295) (sym (counted-same e h r (s .zeroed) (s .raised r u ∙ f))))
+        (tested (eqb k r));
+  }
+
+  -- an event of none
+  none-tells : (k : ℕ) → 16 ≤ k → Reads e false k → ValuesTell values (e ∷ h)
+  none-tells k w s = record {
+    long = i .long;
+    value = λ r u. i .value r u ∙ ap (min 4294967295) (sym (counted-same e h r (s .zeroed) (s .raised r u ∙ ne-eqb k r (λ q. omega (arith, w, u, q)))));
+  }
+
+  -- values that changed as the history reads the event still tell it
+  pub tells : (z : Bool) (row : ℕ) → Reads e z row → ValuesTell (counted z row values) (e ∷ h)
+  unfolding pick
+  tells true row s = record {
+    long = length-replicate {A = ℕ} 16 0;
+    value = λ r u. zeros 16 r ∙ ap (min 4294967295) (sym (counted-none e h r (s .zeroed)));
+  }
+  tells false row s =
+      by-test (λ (l : List ℕ). ValuesTell l (e ∷ h)) (ltb row 16) (set values row (bumped (getD values row 0) 1)) values (λ t. row-tells row (ltb-true row 16 t) s) (λ f. none-tells row (ltb-false row 16 f) s)
 
 -- sixteen zeros tell an empty history
 pub tells-zeros : ValuesTell (replicate 16 0) []

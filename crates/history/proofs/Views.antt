@@ -18,7 +18,7 @@ use Rattle.frames.proofs.RoundTrip.{read-encoded}
 use Rattle.replies.proofs.Fit.{Fitting}
 use Rattle.replies.specs.Replies.{activateIf}
 use Rattle.device.proofs.Never.{and-never}
-use Rattle.history.specs.Asked.{Asked, quiet, dataAsks, resetAsks}
+use Rattle.history.specs.FrameAsks.{Asked, quiet, dataAsks, resetAsks}
 use Rattle.history.specs.Replied.{some, errIn, collect, isPio, dataIn, payloads}
 use Rattle.history.specs.Seen.{Seen, seenIn, names, begun, Transfer, underWay}
 use Rattle.history.proofs.Sets.{no-bit}

@@ -1,89 +1,15 @@
--- What a call asks for, as far as demand 3 reads it. A host frame is read by the frame reader's own definition. Assumes nothing.
-use mathlib.Core.Bool.{Bool, true, false, not, _&&_, _||_}
+-- What an event asks for, and the host data that it brings. Assumes nothing.
 use mathlib.Core.List.{List, []}
 use Prim.Native.Nat.{ℕ}
-use lib.Dec.{eqb}
 use Rattle.bits.specs.Pick.{pick}
-use Rattle.frame_parts.specs.Shared.{tagOf, sectorsOf, srstOf}
-use Rattle.frames.specs.Read.{readFrame}
-use Rattle.frames.specs.declared.shapes.HostReg.{HostReg}
-use Rattle.frames.specs.declared.shapes.Frame.{Frame}
-use Rattle.frames.specs.declared.shapes.Frame.the-variants.{Host, Device, Bits, Setup, Activate, Data, Bist, Pio, Refused}
-use Rattle.history.specs.Replied.{dataIn}
-use Rattle.rules.specs.Call.{Call, hostFrame, openPhase, sendData, finishTags, mediaError, linkEvent, comReset}
 use Rattle.history.specs.Event.{Event, taken}
-
--- a command; a queued one, whether it writes, its tag, first sector and count; a reset; the bytes of host data
-pub record Asked : Type 0 where
-  pub command : Bool
-  pub queued : Bool
-  pub write : Bool
-  pub tag : ℕ
-  pub first : ℕ
-  pub count : ℕ
-  pub resets : Bool
-  pub brings : ℕ
-
--- nothing of all that
-abbrev pub quiet : Asked
-quiet = record { command = false; queued = false; write = false; tag = 0; first = 0; count = 0; resets = false; brings = 0 }
-
--- 27h: C 1 is a command, 60h and 61h are queued, 61h writes; C 0 with SRST is a reset
-abbrev pub registerAsks : HostReg → Asked
-registerAsks h = record {
-  command = h .«command_bit»;
-  queued = h .«command_bit» && (eqb (h .command) 0x60 || eqb (h .command) 0x61);
-  write = eqb (h .command) 0x61;
-  tag = tagOf (h .task .count);
-  first = h .task .lba;
-  count = sectorsOf (h .features) (h .«features_high»);
-  resets = not (h .«command_bit») && srstOf (h .control);
-  brings = 0;
-}
-
--- 46h brings its payload
-abbrev pub dataAsks : ℕ → Asked
-dataAsks n = record { command = false; queued = false; write = false; tag = 0; first = 0; count = 0; resets = false; brings = n }
-
--- a host frame, by its kind
-abbrev pub frameAsks : Frame → Asked
-frameAsks (Host h) = registerAsks h
-frameAsks (Device f) = quiet
-frameAsks (Bits f) = quiet
-frameAsks (Setup f) = quiet
-frameAsks Activate = quiet
-frameAsks (Data n) = dataAsks n
-frameAsks Bist = quiet
-frameAsks (Pio f) = quiet
-frameAsks Refused = quiet
-
--- COMRESET is a reset
-abbrev pub resetAsks : Asked
-resetAsks = record { command = false; queued = false; write = false; tag = 0; first = 0; count = 0; resets = true; brings = 0 }
-
--- a call, by what it is
-abbrev pub callAsks : Call → Asked
-callAsks (hostFrame f) = frameAsks (readFrame f)
-callAsks (openPhase t) = quiet
-callAsks sendData = quiet
-callAsks (finishTags s) = quiet
-callAsks (mediaError t e s) = quiet
-callAsks (linkEvent r) = quiet
-callAsks comReset = resetAsks
+pub use Rattle.history.specs.FrameAsks.{Asked}
+use Rattle.history.specs.FrameAsks.{quiet}
+use Rattle.history.specs.Reading.{callAsks, callBrings}
 
 -- a refused call counts as never delivered
 abbrev pub asks : Event → Asked
 asks e = pick (taken e) (callAsks (e .call)) quiet
-
--- the host data of a call
-abbrev pub callBrings : Call → List ℕ
-callBrings (hostFrame f) = dataIn f (readFrame f)
-callBrings (openPhase t) = []
-callBrings sendData = []
-callBrings (finishTags s) = []
-callBrings (mediaError t e s) = []
-callBrings (linkEvent r) = []
-callBrings comReset = []
 
 -- the bytes that a taken host data frame brought
 abbrev pub brought : Event → List ℕ

@@ -1,8 +1,10 @@
 pub mod Event
 pub mod Replied
-pub mod Asked
+pub mod FrameAsks
 pub mod Logs
 pub mod Shapes
+pub mod Reading
+pub mod Asked
 pub mod Seen
 pub mod Fates
 pub mod Waits

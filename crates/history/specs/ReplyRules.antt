@@ -8,12 +8,11 @@ use Rattle.bits.specs.Bit.{bitIn}
 use Rattle.pages.specs.Page10.{readLog}
 use Rattle.pages.specs.declared.page10.Page10.{Page10}
 use Rattle.pages.specs.declared.page10.Page10.the-variants.{Fields, Refused}
-use Rattle.rules.specs.Call.{Call, hostFrame, openPhase, sendData, finishTags, mediaError, linkEvent, comReset}
 use Rattle.history.specs.Event.{Event, taken}
 use Rattle.history.specs.Asked.{asks}
-use Rattle.history.specs.Logs.{callReads}
+use Rattle.history.specs.Reading.{Says, saysNone, saysSet, saysErr, callReads, callSays, callReplies}
 use Rattle.history.specs.Replied.{frames, some, errIn, registerIn, collect, faultyIn, paged, page}
-use Rattle.history.specs.Shapes.{kinds, OneOf, callReplies}
+use Rattle.history.specs.Shapes.{kinds, OneOf}
 use Rattle.history.specs.Seen.{Seen, seen, Transfer, errs, accepts}
 use Rattle.history.specs.Fates.{ends, one, totalWith}
 use Rattle.history.specs.Waits.{waits}
@@ -22,15 +21,11 @@ use Rattle.history.specs.Waits.{waits}
 abbrev pub FinishesNone : Event → Type 0
 FinishesNone e = (t : ℕ) → seen e .finishes t ≡ false
 
--- finish says just the set that was asked for and no ERR, a media error says ERR, and no other call finishes anything
-abbrev pub Spoken : Event → Call → Type 0
-Spoken e (hostFrame f) = FinishesNone e
-Spoken e (openPhase t) = FinishesNone e
-Spoken e sendData = FinishesNone e
-Spoken e (finishTags s) = taken e ≡ true → (seen e .fails ≡ false) × ((t : ℕ) → seen e .finishes t ≡ bitIn 32 s t)
-Spoken e (mediaError t x s) = (taken e ≡ true → seen e .fails ≡ true) × FinishesNone e
-Spoken e (linkEvent r) = FinishesNone e
-Spoken e comReset = FinishesNone e
+-- by what its call may say: just a set finished, and no ERR; ERR, and nothing finished; nothing finished
+abbrev pub Spoken : Event → Says → Type 0
+Spoken e saysNone = FinishesNone e
+Spoken e (saysSet s) = taken e ≡ true → (seen e .fails ≡ false) × ((t : ℕ) → seen e .finishes t ≡ bitIn 32 s t)
+Spoken e saysErr = (taken e ≡ true → seen e .fails ≡ true) × FinishesNone e
 
 -- page 10h as its reader answers: it is not refused, and its status has ERR
 abbrev pub TellsError : Page10 → Type 0
@@ -60,7 +55,7 @@ pub record ReplyRules (e : Event) (h : List Seen) : Type 0 where
   -- what is named finished is outstanding: no dead command is called finished
   pub named : (t : ℕ) → t < 32 → seen e .finishes t ≡ true → totalWith t h ≡ 1
   -- and is what was asked for
-  pub spoken : Spoken e (e .call)
+  pub spoken : Spoken e (callSays (e .call))
   -- a command is answered by no A1h but the sweep
   pub swept : seen e .sweeps ≡ true → Swept e h
   -- the rest follows from silent, shaped and asked, and is said for those who read on

@@ -9,7 +9,8 @@ use Rattle.frames.specs.declared.shapes.SetBits.{SetBits}
 use Rattle.frames.specs.declared.shapes.DmaSetup.{DmaSetup}
 use Rattle.frames.specs.declared.shapes.Frame.{Frame}
 use Rattle.history.specs.Event.{Event}
-use Rattle.history.specs.Asked.{Asked, asks}
+use Rattle.history.specs.FrameAsks.{Asked}
+use Rattle.history.specs.Asked.{asks}
 use Rattle.history.specs.Replied.{frames, some, errIn, registerIn, setBitsIn, setupIn, collect, sent}
 
 -- what seems to be under way: nothing; or the data of a tag to the host (D 1) or from it (D 0), at its next byte, up to its end

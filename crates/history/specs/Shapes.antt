@@ -1,4 +1,4 @@
--- Which replies a taken call may have at all, and in which order: by the kinds of their frames. Assumes nothing.
+-- Replies by the kinds of their frames, and those that a taken host frame may have, in their order. Assumes nothing.
 use mathlib.Core.Path.{_≡_}
 use mathlib.Core.Bool.{Bool}
 use mathlib.Core.List.{List, [], _∷_, map}
@@ -6,10 +6,8 @@ use mathlib.Core.Logic.{_⊎_}
 use Prim.Native.Nat.{ℕ}
 use Rattle.bits.specs.Pick.{pick}
 use Rattle.frame_parts.specs.Shared.{srstOf}
-use Rattle.frames.specs.Read.{readFrame}
 use Rattle.frames.specs.declared.shapes.Frame.{Frame}
 use Rattle.frames.specs.declared.shapes.Frame.the-variants.{Host, Device, Bits, Setup, Activate, Data, Bist, Pio, Refused}
-use Rattle.rules.specs.Call.{Call, hostFrame, openPhase, sendData, finishTags, mediaError, linkEvent, comReset}
 use Rattle.history.specs.Event.{Event}
 use Rattle.history.specs.Replied.{frames}
 
@@ -53,13 +51,3 @@ frameReplies (Data n) = [] ∷ (0x39 ∷ []) ∷ []
 frameReplies Bist = [] ∷ []
 frameReplies (Pio f) = []
 frameReplies Refused = []
-
--- open: DMA Setup, and for a write an Activate; send: one data frame; finish and media error: one A1h; link event: none; COMRESET: the signature
-abbrev pub callReplies : Call → List (List ℕ)
-callReplies (hostFrame f) = frameReplies (readFrame f)
-callReplies (openPhase t) = (0x41 ∷ []) ∷ (0x41 ∷ 0x39 ∷ []) ∷ []
-callReplies sendData = (0x46 ∷ []) ∷ []
-callReplies (finishTags s) = (0xA1 ∷ []) ∷ []
-callReplies (mediaError t e s) = (0xA1 ∷ []) ∷ []
-callReplies (linkEvent r) = [] ∷ []
-callReplies comReset = (0x34 ∷ []) ∷ []
