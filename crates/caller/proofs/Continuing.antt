@@ -1,12 +1,12 @@
 -- One call more: what its contract allows continues every history that led to its state. Assumes nothing.
-use mathlib.Core.Path.{_≡_, refl, sym, ap, subst, _∙_}
-use mathlib.Core.List.{List, [], _∷_, _++_, map}
+use mathlib.Core.Path.{_≡_, refl, sym, subst}
+use mathlib.Core.List.{List, [], _∷_, _++_}
 use Rattle.device_state.specs.declared.shapes.Settings.{Settings}
 use Rattle.device.specs.declared.state.Device.{Device}
 use Rattle.device.specs.declared.state.Outcome.{Outcome}
 use Rattle.device.specs.Lent.{Lent, Gave, Typed}
 use Rattle.history.specs.Run.{Done, done, AllTyped}
-use Rattle.history.specs.Allowed.{Allowed, Follows, final, lents, historyOf, Began}
+use Rattle.history.specs.Allowed.{Allowed, Follows, final, lents, historyOf}
 use Rattle.history.proofs.Demand3.{demand3-code, told-code}
 use Rattle.caller.specs.Continued.{Reached, Holds, Continues}
 use Rattle.history.specs.StateAgrees.{StateAgrees}

@@ -7,16 +7,14 @@ use native.Mathlib.Omega.{arith}
 use lib.ListN.{length, take, drop, getD, replicate}
 use lib.Seq.{take-append-seam}
 use lib.Dec.{eqb}
-use Rattle.bits.specs.Pick.{pick}
 use Rattle.bits.specs.Laid.{laid}
-use Rattle.bits.specs.Little.{leAt, Bytes}
+use Rattle.bits.specs.Little.{Bytes}
 use Rattle.bits.proofs.Littles.{le-lt}
 use Rattle.bits.proofs.Picks.{by-test}
 use Rattle.frame_parts.specs.Cut.{joined}
 use Rattle.text.specs.Sheet.{WholeTextGiven}
 use Rattle.replies.specs.Replies.{sentAll}
 use Rattle.device_state.specs.declared.shapes.Settings.{Settings}
-use Rattle.device.specs.Device.{powerOn}
 use Rattle.device.specs.DataDue.{dataDue}
 use Rattle.device.specs.Step.{Step, step, bytesOf}
 use Rattle.device.specs.declared.state.Device.{Device}
@@ -31,14 +29,14 @@ use Rattle.events.specs.declared.asked.Request.{Request}
 use Rattle.events.specs.declared.asked.Request.the-variants.{OpenPhase, SendData, FinishTags, MediaError, LinkEvent, ComReset, HostData, HostFrame, Nothing}
 use Rattle.events.specs.declared.tells.EventLine as tells
 use Rattle.rules.specs.Call.{Call}
-use Rattle.device.specs.Lent.{Lent, lent, Typed}
+use Rattle.device.specs.Lent.{lent}
 use Rattle.device.proofs.Typing.{none-typed, frame-typed, set-typed, error-typed}
 use Rattle.history.specs.Run.{AllTyped, result, Done, done, event, Run, run, runFrom}
-use Rattle.history.specs.Allowed.{newestFirst, lents, historyOf}
+use Rattle.history.specs.Allowed.{newestFirst, lents}
 use Rattle.history.specs.Demand3.{Demand3}
 use Rattle.history.specs.StateAgrees.{StateAgrees}
 use Rattle.history.proofs.Demand3.{demand3, told}
-use Rattle.caller.specs.Program.{Play, Played, played, Start, Started, started, Plays, endState, donesBy, donesAll, Shows, ShowsCall, EachShown, StartShown, IsHistory}
+use Rattle.caller.specs.Program.{Play, Played, played, Start, Started, started, Plays, endState, donesBy, donesAll, ShowsCall, EachShown, StartShown, IsHistory}
 
 -- what a play is told, for the step s
 record Tells (traced : Bool) (number : ℕ) (p : Play) (s : Step) : Type 0 where

@@ -17,7 +17,7 @@ use Rattle.events.specs.declared.tells.EventLine as tells
 use Rattle.events.proofs.play_line
 use Rattle.events.proofs.start_line
 use Rattle.device.specs.Lent.{lent}
-use Rattle.history.specs.Run.{Done, done, result, event, Run, runFrom}
+use Rattle.history.specs.Run.{Done, done, result, event, runFrom}
 use Rattle.history.specs.Allowed.{newestFirst, lents, historyOf}
 use Rattle.history.specs.Demand3.{Demand3}
 use Rattle.history.specs.StateAgrees.{StateAgrees}

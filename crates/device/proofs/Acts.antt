@@ -1,8 +1,7 @@
 -- SRST, release, a halt and its end, a media error and zeroed counters leave a state that does not contradict itself. Assumes nothing.
 use mathlib.Core.Path.{_≡_}
 use mathlib.Core.Bool.{Bool, true, false, not, _&&_, _||_}
-use lib.Dec.{eqb, ltb, lit<}
-use Prim.Native.Nat.{ℕ}
+use lib.Dec.{eqb, ltb}
 use Rattle.bits.specs.Pick.{pick}
 use Rattle.bits.proofs.Firsts as firsts
 use Rattle.bits.specs.Bit.{bitIn}

@@ -1,6 +1,6 @@
 -- What is known of an outstanding command in a state that does not contradict itself. Assumes nothing.
 use mathlib.Core.Path.{_≡_, _∙_, sym}
-use mathlib.Core.Bool.{Bool, true, false, not, _||_}
+use mathlib.Core.Bool.{Bool, true, false, _||_}
 use Prim.Native.Nat.{ℕ, _+_, _-_, _*_, _%_, _≤_, _<_, min}
 use lib.Dec.{eqb}
 use native.Mathlib.Omega.{arith}

@@ -1,5 +1,5 @@
 -- A command accepted, opened, moved on or finished leaves a state that does not contradict itself. Assumes nothing.
-use mathlib.Core.Path.{_≡_, refl}
+use mathlib.Core.Path.{_≡_}
 use mathlib.Core.Bool.{true, false}
 use Prim.Native.Nat.{ℕ, _+_, _-_, _%_, _^_, _<_, min}
 use lib.Dec.{leb, eqb}

@@ -17,7 +17,8 @@ use Rattle.device_state.proofs.TableLaws.{some-never}
 use Rattle.rules.specs.Call.{Call, hostFrame, sendData, handed}
 use Rattle.rules.specs.Tests.{tests, unreadyAt, someUnready}
 use Rattle.rules.specs.Act.{does, act, heardAct}
-use Rattle.rules.specs.Medium.{numberOf, Touch, leaves, sends, stores, touchOf, spanOf, partOf, stored, keptBy, mediumAfter}
+use Rattle.rules.specs.Number.{numberOf}
+use Rattle.rules.specs.Medium.{Touch, leaves, sends, stores, touchOf, spanOf, partOf, stored, keptBy, mediumAfter}
 use Rattle.rules.specs.declared.medium.Span.{Span}
 use Rattle.rules.specs.declared.facts.Facts.{Facts}
 use Rattle.rules.specs.declared.acts.Act.{Act}

@@ -26,7 +26,8 @@ use Rattle.rules.specs.Tests.{wrongKind, wrongTime, wrongSize, someUnready, tes
 use Rattle.rules.specs.Decide.{queuedAct, logPage, otherAct, controlAct, registerAct, frameAct}
 use Rattle.rules.specs.Act.{failing, does, decided, act}
 use Rattle.rules.specs.Call.{hostFrame}
-use Rattle.rules.specs.Medium.{numberOf, touchOf, spanOf}
+use Rattle.rules.specs.Number.{numberOf}
+use Rattle.rules.specs.Medium.{touchOf, spanOf}
 use Rattle.rules.specs.declared.acts.Act.{Act}
 use Rattle.replies.specs.Replies.{repliesOf}
 use Rattle.device.specs.Device.{contradictoryDevice, freshDevice}

@@ -4,7 +4,7 @@ use mathlib.Core.Bool.{true, false, not, _||_}
 use mathlib.Core.List.{List}
 use mathlib.Core.Logic.{⊎-elim}
 use Prim.Native.Nat.{ℕ}
-use lib.Dec.{eqb, ltb, leb, lit<}
+use lib.Dec.{eqb, ltb, leb}
 use lib.ListN.{getD, set}
 use lib.Seq.{getD-set-other}
 use borrow.Author.Tests.{not-false, eqb-true, eqb-false}
@@ -13,7 +13,7 @@ use Rattle.bits.proofs.Firsts as firsts
 use Rattle.bits.proofs.Picks.{tested, and-left, and-right, or-left, or-right}
 use Rattle.pages.specs.Rows.{kept, keepsBoth}
 use Rattle.device_state.specs.Counts.{bumped}
-use Rattle.device_state.specs.Clauses.{settingsOut, tableBad, statusBad, recordBad, rowBadAt, rowsBad, contradictory, rowRefused}
+use Rattle.device_state.specs.Clauses.{settingsOut, tableBad, statusBad, recordBad, rowBadAt, rowsBad, contradictory}
 use Rattle.device_state.proofs.TableLaws.{some-never, some-absent}
 use Rattle.device.specs.Device.{contradictoryDevice}
 use Rattle.device.specs.After.{withValue}

@@ -8,7 +8,8 @@ use Rattle.bits.specs.Laid.{laid}
 use Rattle.frame_parts.specs.Cut.{joined}
 use Rattle.frames.specs.Write.{FrameValue}
 use Rattle.rules.specs.Call.{Call, handed}
-use Rattle.rules.specs.Medium.{numberOf, Touch, leaves, touchOf, spanIn, spanOf, partOf, keptBy}
+use Rattle.rules.specs.Number.{numberOf}
+use Rattle.rules.specs.Medium.{Touch, leaves, touchOf, spanIn, spanOf, partOf, keptBy}
 use Rattle.rules.specs.declared.acts.Act.{Act}
 use Rattle.rules.proofs.Rows.{row}
 use Rattle.rules.proofs.Ruled as by

@@ -12,14 +12,14 @@ use Rattle.bits.specs.Pick.{pick}
 use Rattle.bits.specs.Bit.{bitIn}
 use Rattle.bits.proofs.Picks.{tested}
 use Rattle.frame_parts.specs.Size.{payloadSize}
-use Rattle.frames.specs.Write.{FrameValue, activate, payload}
+use Rattle.frames.specs.Write.{activate, payload}
 use Rattle.device_state.specs.Table.{entryOf}
 use Rattle.device_state.specs.declared.shapes.Entry.{Entry}
-use Rattle.rules.specs.Positions.{leftOf, placeOf, moveOf}
+use Rattle.rules.specs.Positions.{leftOf, moveOf}
 use Rattle.rules.specs.Call.{hostFrame, sendData}
-use Rattle.rules.specs.Medium.{numberOf, touchOf, spanOf, partOf, mediumAfter}
+use Rattle.rules.specs.Number.{numberOf}
+use Rattle.rules.specs.Medium.{touchOf, spanOf, partOf}
 use Rattle.rules.specs.declared.acts.Act.{Act}
-use Rattle.rules.specs.declared.acts.Act.the-variants.{Store, Send}
 use Rattle.rules.proofs.Ruled as by
 use Rattle.replies.specs.Replies.{repliesOf}
 use Rattle.device.specs.Device.{contradictoryDevice}
@@ -31,7 +31,7 @@ use Rattle.device.proofs.Parts.{status-good}
 use Rattle.device.proofs.StatusLaws.{phase-busy}
 use Rattle.device.proofs.Busy.{whole-is}
 use Rattle.device.proofs.Rooms.{open-tag-is}
-use Rattle.device.proofs.Storing.{Taken46, taken-46, data-kept-whole, six-by-left}
+use Rattle.device.proofs.Storing.{taken-46, data-kept-whole, six-by-left}
 
 -- the entry of the open phase
 abbrev pub opened : Device → Entry

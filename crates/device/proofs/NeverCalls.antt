@@ -6,7 +6,7 @@ use Prim.Native.Nat.{ℕ, _-_, _^_, _<_}
 use lib.ListN.{length}
 use Rattle.frames.proofs.ReadLaws.{read-data}
 use Rattle.rules.specs.Call.{Call, hostFrame, handed}
-use Rattle.rules.specs.Medium.{numberOf}
+use Rattle.rules.specs.Number.{numberOf}
 use Rattle.rules.specs.declared.acts.Act.{Act}
 use Rattle.rules.proofs.Ruled as by
 use Rattle.device.specs.Device.{contradictoryDevice}

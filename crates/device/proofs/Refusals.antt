@@ -9,7 +9,8 @@ use Rattle.bits.specs.Laid.{laid}
 use Rattle.frame_parts.specs.Cut.{joined}
 use Rattle.frames.specs.Write.{FrameValue}
 use Rattle.device_state.specs.declared.shapes.Settings.{Settings}
-use Rattle.rules.specs.Medium.{numberOf, touchOf}
+use Rattle.rules.specs.Number.{numberOf}
+use Rattle.rules.specs.Medium.{touchOf}
 use Rattle.rules.specs.declared.acts.Act.{Act}
 use Rattle.rules.proofs.Cases.{act-cases}
 use Rattle.replies.specs.Replies.{repliesOf, sentAll}

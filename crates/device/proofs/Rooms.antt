@@ -12,7 +12,8 @@ use Rattle.bits.proofs.Picks.{pick-no}
 use Rattle.device_state.specs.Table.{entryOf}
 use Rattle.rules.specs.Call.{sendData, handed}
 use Rattle.rules.specs.Positions.{moveOf}
-use Rattle.rules.specs.Medium.{numberOf, touchOf, spanOf}
+use Rattle.rules.specs.Number.{numberOf}
+use Rattle.rules.specs.Medium.{touchOf, spanOf}
 use Rattle.rules.specs.declared.acts.Act.{Act}
 use Rattle.rules.proofs.Ruled as by
 use Rattle.device.specs.Device.{contradictoryDevice}

@@ -3,7 +3,7 @@ use mathlib.Core.Path.{_≡_, refl, sym, ap, _∙_}
 use mathlib.Core.Bool.{true, false, not, _&&_, true≢false}
 use mathlib.Core.List.{List, _++_}
 use mathlib.Core.Logic.{⊎-elim}
-use Prim.Native.Nat.{ℕ, _+_, _-_, _%_, _≤_, min}
+use Prim.Native.Nat.{ℕ, _+_, _-_, _%_, _≤_}
 use native.Mathlib.Omega.{arith}
 use lib.Dec.{ltb, leb, eqb, lit<}
 use lib.ListN.{length, getD, take, drop, length-drop}
@@ -23,9 +23,8 @@ use Rattle.rules.specs.Positions.{leftOf, placeOf, moveOf}
 use Rattle.rules.specs.Call.{hostFrame}
 use Rattle.rules.specs.Tests.{wrongKind, wrongTime, wrongSize, frameTests, tests}
 use Rattle.rules.specs.Decide.{frameAct}
-use Rattle.rules.specs.Act.{does, decided, act}
+use Rattle.rules.specs.Act.{does, act}
 use Rattle.rules.specs.Medium.{touchOf, stored, mediumAfter}
-use Rattle.rules.specs.declared.facts.Facts.{Facts}
 use Rattle.rules.specs.declared.acts.Move.{Move}
 use Rattle.rules.specs.declared.acts.Act.{Act}
 use Rattle.rules.specs.declared.acts.Act.the-variants.{Store}

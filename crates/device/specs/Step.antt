@@ -6,7 +6,8 @@ use lib.ListN.{length}
 use Rattle.bits.specs.Laid.{laid}
 use Rattle.frames.specs.Write.{FrameValue}
 use Rattle.rules.specs.Act.{act}
-use Rattle.rules.specs.Medium.{numberOf, spanOf, partOf, mediumAfter}
+use Rattle.rules.specs.Number.{numberOf}
+use Rattle.rules.specs.Medium.{spanOf, partOf, mediumAfter}
 use Rattle.rules.specs.declared.acts.Act.{Act}
 use Rattle.replies.specs.Replies.{repliesOf, sentAll}
 use Rattle.replies.specs.declared.shown.Shown.{Shown}

@@ -7,7 +7,7 @@ ghost use lib.Dec.{leb};
 ghost use lib.ListN.{length};
 ghost use Rattle.rules.specs.Call.{hostFrame, openPhase, sendData, finishTags, mediaError, linkEvent, comReset};
 ghost use Rattle.rules.specs.Positions.{leftOf};
-ghost use Rattle.rules.specs.Medium.{numberOf};
+ghost use Rattle.rules.specs.Number.{numberOf};
 ghost use Rattle.replies.specs.Replies.{repliesOf, RepliesGiven};
 ghost use Rattle.device.specs.Lent.{lent, gave};
 ghost use Rattle.device.specs.FactsOf.{openTag, mediumWrong, factsWith};

@@ -4,10 +4,9 @@ use Rattle.device_state.specs.Clauses.{contradictory, rowRefused, settin
 use Rattle.device_state.specs.Counts.{bumped}
 use Rattle.device_state.specs.State.{blankRecord, echoOf, taskIn, wholeOf, zeroEntry}
 use Rattle.device_state.specs.Table.{cleared, entryOf, placed}
-use denote.Ref.{now}
 use mathlib.Core.Path.{_≡_, refl}
 use Rattle.bits.specs.Contract.{Tied}
-use Rattle.bits.proofs.Tying.{same, say, by, named}
+use Rattle.bits.proofs.Tying.{say, named}
 use Rattle.device_state.proofs.clauses
 use Rattle.device_state.proofs.counts
 use Rattle.device_state.proofs.shapes

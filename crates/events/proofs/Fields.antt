@@ -1,14 +1,14 @@
 -- The turns of the loop that writes the replies of a line. Assumes nothing.
 use mathlib.Core.Path.{_≡_, refl, sym, ap, _∙_}
 use mathlib.Core.Bool.{Bool}
-use mathlib.Core.List.{List, [], _∷_, _++_}
+use mathlib.Core.List.{List, [], _++_}
 use Prim.Native.Nat.{ℕ, _+_, _-_, _<_, _≤_}
 use native.Mathlib.Omega.{arith}
 use lib.ListN.{length, take, drop, length-drop, drop-of-length-le}
 use lib.Seq.{drop-drop}
 use Rattle.frame_parts.specs.Cut.{firstLength, cut, cutTo}
 use Rattle.frame_parts.proofs.Cuts.{cut-next, first-length-some}
-use Rattle.text.specs.Sheet.{Sheet, sheet, written}
+use Rattle.text.specs.Sheet.{Sheet, written}
 use Rattle.text.proofs.Writing.{written-more}
 use Rattle.events.specs.Lines.{fieldOf, fieldsOf}
 

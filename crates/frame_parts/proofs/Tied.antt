@@ -8,7 +8,7 @@ use denote.Ref.{now}
 use lib.ListN.{getD}
 use mathlib.Core.Path.{_≡_, refl}
 use Rattle.bits.specs.Contract.{Tied}
-use Rattle.bits.proofs.Tying.{same, say, by, named}
+use Rattle.bits.proofs.Tying.{say, by, named}
 use Rattle.frame_parts.proofs.EmitLaws.{emitted-once}
 use Rattle.frame_parts.proofs.cutting
 use Rattle.frame_parts.proofs.emitting

@@ -3,9 +3,9 @@ use Rattle.frames.specs.Read.{FrameGiven}
 use Rattle.frames.specs.Write.{FrameWriteGiven}
 use Rattle.frames.specs.Write.FrameValue.{activate, bist, device, host, payload, pio, setBits, setup}
 use denote.Ref.{now}
-use mathlib.Core.Path.{_≡_, refl}
+use mathlib.Core.Path.{refl}
 use Rattle.bits.specs.Contract.{Tied}
-use Rattle.bits.proofs.Tying.{same, say, by, named}
+use Rattle.bits.proofs.Tying.{same, say, by}
 use Rattle.frame_parts.proofs.EmitLaws.{emitted-once}
 use Rattle.frames.proofs.reading
 use Rattle.frames.proofs.writing

@@ -10,7 +10,8 @@ use borrow.Author.Tests.{eqb-true, eqb-false, ne-eqb}
 use Rattle.bits.specs.Pick.{pick}
 use Rattle.bits.proofs.Picks.{tested}
 use Rattle.rules.specs.Call.{Call}
-use Rattle.rules.specs.Medium.{numberOf, spanOf, partOf}
+use Rattle.rules.specs.Number.{numberOf}
+use Rattle.rules.specs.Medium.{spanOf, partOf}
 use Rattle.rules.specs.declared.acts.Act.{Act}
 use Rattle.rules.proofs.Ruled as by
 use Rattle.replies.specs.Replies.{repliesOf}

@@ -12,7 +12,8 @@ use Rattle.frames.proofs.ReadLaws.{DataRead, read-data}
 use Rattle.frames.specs.declared.shapes.Frame.{Frame}
 use Rattle.rules.specs.Call.{Call, hostFrame}
 use Rattle.rules.specs.Positions.{placeOf, moveOf}
-use Rattle.rules.specs.Medium.{numberOf, spanOf, partOf, mediumAfter}
+use Rattle.rules.specs.Number.{numberOf}
+use Rattle.rules.specs.Medium.{spanOf, partOf, mediumAfter}
 use Rattle.rules.specs.declared.acts.Act.{Act}
 use Rattle.rules.proofs.Ruled as by
 use Rattle.replies.specs.Replies.{repliesOf}

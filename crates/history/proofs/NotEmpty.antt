@@ -30,7 +30,8 @@ use Rattle.rules.specs.Tests.{wrongKind, wrongTime, wrongSize, someUnready, tes
 use Rattle.rules.specs.Decide.{frameAct, registerAct, queuedAct, otherAct, logPage}
 use Rattle.rules.specs.Act.{failing, does, decided, act}
 use Rattle.rules.specs.Positions.{moveOf, advancedBy}
-use Rattle.rules.specs.Medium.{numberOf, touchOf, stored}
+use Rattle.rules.specs.Number.{numberOf}
+use Rattle.rules.specs.Medium.{touchOf, stored}
 use Rattle.replies.specs.Replies.{sentAll, sentBytes, repliesOf}
 use Rattle.device.specs.After.{withValue, renewed, afterOf, zeroedIf, resetHeld, movedBy, unhalted, finishedBy, failedBy, haltWith, released, openedFor, acceptedBy}
 use Rattle.device.specs.FactsOf.{openTag}

@@ -21,7 +21,8 @@ use Rattle.pages.specs.declared.rows.Place.the-variants.{Row, Nowhere}
 use Rattle.pages.specs.declared.page11.Counter.the-variants.{Value, Absent}
 use Rattle.pages.proofs.RowLaws.{row-found, row-only, row-missing}
 use Rattle.pages.proofs.Trip11.{unkept-absent, kept-reads}
-use Rattle.rules.specs.Medium.{numberOf, spanOf, partOf}
+use Rattle.rules.specs.Number.{numberOf}
+use Rattle.rules.specs.Medium.{spanOf, partOf}
 use Rattle.rules.specs.declared.acts.Act.{Act}
 use Rattle.rules.proofs.Ruled as by
 use Rattle.replies.specs.Replies.{pioReply, page11Of, logReplies, repliesOf}

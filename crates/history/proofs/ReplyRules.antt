@@ -17,7 +17,8 @@ use Rattle.frames.specs.RoundTrip as trip
 use Rattle.frames.specs.declared.shapes.Frame.{Frame}
 use Rattle.pages.specs.Page10.{readLog}
 use Rattle.rules.specs.Call.{Call}
-use Rattle.rules.specs.Medium.{numberOf, spanOf, partOf}
+use Rattle.rules.specs.Number.{numberOf}
+use Rattle.rules.specs.Medium.{spanOf, partOf}
 use Rattle.rules.specs.declared.acts.Act.{Act}
 use Rattle.rules.proofs.Ruled as by
 use Rattle.replies.specs.Replies.{repliesOf, sentAll}

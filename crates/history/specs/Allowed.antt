@@ -8,7 +8,7 @@ use Rattle.device_state.specs.declared.shapes.Settings.{Settings}
 use Rattle.device.specs.declared.state.Device.{Device}
 use Rattle.device.specs.declared.state.Outcome.{Outcome}
 use Rattle.device.proofs.state.Device as calls
-use Rattle.rules.specs.Call.{Call, hostFrame, openPhase, sendData, finishTags, mediaError, linkEvent, comReset}
+use Rattle.rules.specs.Call.{hostFrame, openPhase, sendData, finishTags, mediaError, linkEvent, comReset}
 use Rattle.history.specs.Event.{Event}
 use Rattle.device.specs.Lent.{Lent, lent, Gave, gave}
 use Rattle.history.specs.Run.{Done, event}

@@ -1,6 +1,5 @@
 -- Runs of the definitions: any sequence of calls of the device, each given the state that the last one returned. Assumes nothing.
 use mathlib.Core.List.{List, [], _∷_, map}
-use Prim.Native.Nat.{ℕ}
 use lib.ListN.{length, take}
 use Rattle.bits.specs.Laid.{laid}
 use Rattle.device_state.specs.declared.shapes.Settings.{Settings}

@@ -10,7 +10,7 @@ use native.Mathlib.Omega.{arith}
 use lib.ListN.{length, getD, set, replicate, take, drop, length-append, length-replicate, drop-of-length-le}
 use lib.Seq.{take-all, take-at, drop-at}
 use borrow.Rule.Slice.PartMut.{midOf, putMid}
-use Rattle.bits.specs.Laid.{laid, over}
+use Rattle.bits.specs.Laid.{over}
 use Rattle.bits.proofs.Picks.{pick-yes, pick-no, tested}
 use Rattle.bits.proofs.Fronts.{over-yes}
 use Rattle.pages.specs.Rows.{idOf, kept}

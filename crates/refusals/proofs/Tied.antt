@@ -1,10 +1,9 @@
 -- Each public function's own contract: what it says, and that two answers which it allows are equal. Assumes nothing.
 use Rattle.bits.specs.First.{firstOf}
 use Rattle.refusals.specs.Ladders.{comresetLadder, counterLadder, finishLadder, lentLadder, linkLadder, mediaLadder, openLadder, powerLadder, sendLadder}
-use denote.Ref.{now}
 use mathlib.Core.Path.{_≡_, refl}
 use Rattle.bits.specs.Contract.{Tied}
-use Rattle.bits.proofs.Tying.{same, say, by, named}
+use Rattle.bits.proofs.Tying.{say, named}
 use Rattle.refusals.proofs.numbers
 
 pub tied-power-number : Tied numbers.power_number.ended numbers.power_number.Reads.Asked numbers.power_number.Reads.Post (λ κs a r ws. r ≡ firstOf (powerLadder (a .0)))

@@ -6,7 +6,8 @@ use Prim.Native.Nat.{ℕ, zero, suc}
 use lib.Dec.{eqb}
 use types.Run.{OneOf, miss}
 use denote.Enum.Declared.{tagOf}
-use Rattle.rules.specs.Medium.{numberOf, Touch, touchOf, spanIn, nowhere, spanOf, keptBy, mediumAfter}
+use Rattle.rules.specs.Number.{numberOf}
+use Rattle.rules.specs.Medium.{Touch, touchOf, spanIn, nowhere, spanOf, keptBy, mediumAfter}
 use Rattle.rules.specs.declared.acts.Act.{Act}
 use Rattle.rules.proofs.acts.Act as A
 use Rattle.rules.proofs.Cases.{Sort, refusal, storing, sending, another, sort}

@@ -1,7 +1,8 @@
 -- Acts by what their number and the medium have to do with them. Assumes nothing.
 use mathlib.Core.Path.{_≡_, refl}
 use Prim.Native.Nat.{ℕ}
-use Rattle.rules.specs.Medium.{numberOf, leaves, touchOf}
+use Rattle.rules.specs.Number.{numberOf}
+use Rattle.rules.specs.Medium.{leaves, touchOf}
 use Rattle.rules.specs.declared.acts.Move.{Move}
 use Rattle.rules.specs.declared.acts.Act.{Act}
 use Rattle.rules.specs.declared.acts.Act.the-variants.{Refuse, Nothing, Bad, BadAndHalt, Accept, Log10, Log11, Reset, Release, ZeroCounters, Store, Open, Send, Finish, Media, Count, Renew}

@@ -19,7 +19,7 @@ use Rattle.rules.specs.Call.{Call}
 use Rattle.rules.specs.Tests.{wrongKind, wrongTime, wrongSize, tests}
 use Rattle.rules.specs.Decide.{isQueued, queuedAct, otherAct, controlAct, registerAct, frameAct}
 use Rattle.rules.specs.Act.{does, decided, act, heardAct, kindAct}
-use Rattle.rules.specs.Medium.{numberOf}
+use Rattle.rules.specs.Number.{numberOf}
 use Rattle.rules.specs.declared.facts.Facts.{Facts}
 use Rattle.rules.specs.declared.acts.Act.{Act}
 use Rattle.rules.specs.declared.acts.Act.the-variants.{Refuse}

@@ -21,7 +21,8 @@ use Rattle.rules.specs.Positions.{leftOf, moveOf}
 use Rattle.rules.specs.Tests.{wrongKind, wrongTime, wrongSize, allMoved, outside, tests}
 use Rattle.rules.specs.Decide.{bad, fault, tagAsked, countAsked, entryFor, pageAsked, isQueued, queuedAct, otherAct, controlAct, registerAct, frameAct}
 use Rattle.rules.specs.Act.{failing, does, decided, act}
-use Rattle.rules.specs.Medium.{numberOf, leaves, touchOf, nowhere, spanOf}
+use Rattle.rules.specs.Number.{numberOf}
+use Rattle.rules.specs.Medium.{leaves, touchOf, nowhere, spanOf}
 use Rattle.rules.specs.declared.facts.Facts.{Facts}
 use Rattle.rules.specs.declared.acts.Act.{Act}
 use Rattle.rules.specs.declared.acts.Act.the-variants.{Refuse, Nothing, Accept, Log10, Log11, Reset, Release, ZeroCounters, Store, Open, Send, Finish, Media, Count, Renew}

@@ -3,7 +3,8 @@ use Rattle.rules.specs.Call.{openPhase, sendData, finishTags, mediaError
 use Rattle.rules.specs.Tests.{someUnready}
 use Rattle.rules.specs.Act.{act, heardAct}
 use Rattle.rules.specs.Positions.{leftOf, moveOf}
-use Rattle.rules.specs.Medium.{mediumAfter, numberOf, spanOf}
+use Rattle.rules.specs.Number.{numberOf}
+use Rattle.rules.specs.Medium.{mediumAfter, spanOf}
 use denote.Ref.{now}
 use mathlib.Core.Path.{_≡_, refl}
 use Rattle.bits.specs.Contract.{Tied}

@@ -3,4 +3,5 @@ pub mod Positions
 pub mod Tests
 pub mod Decide
 pub mod Act
+pub mod Number
 pub mod Medium

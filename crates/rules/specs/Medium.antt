@@ -1,4 +1,4 @@
--- What an act says besides: its number, and what it takes from the medium or puts there. Assumes nothing.
+-- What an act takes from the medium, or puts there. Assumes nothing.
 use mathlib.Core.Bool.{_&&_}
 use mathlib.Core.List.{List, _++_}
 use Prim.Native.Nat.{ℕ}
@@ -10,26 +10,6 @@ use Rattle.rules.specs.declared.acts.Move.{Move}
 use Rattle.rules.specs.declared.acts.Act.{Act}
 use Rattle.rules.specs.declared.acts.Act.the-variants.{Refuse, Nothing, Bad, BadAndHalt, Accept, Log10, Log11, Reset, Release, ZeroCounters, Store, Open, Send, Finish, Media, Count, Renew}
 use Rattle.rules.specs.declared.medium.Span.{Span}
-
--- the number of a refusal; an act that is done has 0
-unfoldable pub numberOf : Act → ℕ
-numberOf (Refuse n) = n
-numberOf Nothing = 0
-numberOf (Bad b) = 0
-numberOf (BadAndHalt g) = 0
-numberOf (Accept q) = 0
-numberOf (Log10 l) = 0
-numberOf (Log11 l) = 0
-numberOf Reset = 0
-numberOf Release = 0
-numberOf ZeroCounters = 0
-numberOf (Store k) = 0
-numberOf (Open q) = 0
-numberOf (Send k) = 0
-numberOf (Finish s) = 0
-numberOf (Media g) = 0
-numberOf (Count r) = 0
-numberOf Renew = 0
 
 -- what an act has to do with the medium: nothing, a part of it is sent, or host data goes there
 pub data Touch : Type 0 where
@@ -79,7 +59,7 @@ partOf s m = take (s .size) (drop (s .at) m)
 unfoldable pub stored : ℕ → List ℕ → List ℕ → List ℕ
 stored at f m = pick (leb 4 (length f) && leb at (length m)) (take at m ++ over (drop 4 f) (drop at m)) m
 
--- the medium m after an act of frame f
+-- the medium m after such a touch, by frame f
 abbrev pub keptBy : Touch → List ℕ → List ℕ → List ℕ
 keptBy leaves f m = m
 keptBy (sends k) f m = m

@@ -1,6 +1,7 @@
 // What an act says besides: its number, and what it takes from the medium or puts there.
 ghost use mathlib.Core.Path.{_≡_};
-ghost use Rattle.rules.specs.Medium.{numberOf, spanOf, stored, mediumAfter};
+ghost use Rattle.rules.specs.Number.{numberOf};
+ghost use Rattle.rules.specs.Medium.{spanOf, stored, mediumAfter};
 use crate::acts::Act;
 
 // A part of the medium, in bytes.

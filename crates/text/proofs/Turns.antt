@@ -13,7 +13,7 @@ use borrow.Author.Tests.{lt-ltb, le-ltb, ltb-true, ltb-false}
 use Rattle.bits.specs.Pick.{pick}
 use Rattle.bits.proofs.Picks.{pick-yes, pick-no, and-left, and-right}
 use Rattle.bits.proofs.Masks.{lt-or-le}
-use Rattle.text.specs.Sheet.{Sheet, sheet, written}
+use Rattle.text.specs.Sheet.{Sheet, written}
 use Rattle.text.specs.Digits.{hex, digit, decimalTo}
 
 -- one byte more of s

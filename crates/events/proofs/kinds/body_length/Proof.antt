@@ -2,7 +2,6 @@ use Rattle.frame_parts.specs.Size.{fixedSize}
 use Rattle.bits.specs.Pick.{pick}
 use borrow.Author.Tests.{ne-eqb}
 use Rattle.events.specs.Kinds.{bodyLength}
-use borrow.Author.Needs.{needs}
 use Rattle.events.proofs.kinds.body_length.Statement.{statement}
 use Rattle.events.proofs.kinds.body_length.Tie as tie
 use Rattle.events.proofs.kinds.body_length.Reads as reads

@@ -1,6 +1,5 @@
 use Rattle.bits.specs.Pick.{pick}
 use Rattle.events.specs.Kinds.{misplaced}
-use borrow.Author.Needs.{needs}
 use Rattle.events.proofs.kinds.is_misplaced.Statement.{statement}
 use Rattle.events.proofs.kinds.is_misplaced.Tie as tie
 use Rattle.events.proofs.kinds.is_misplaced.Reads as reads

@@ -1,8 +1,5 @@
-use mathlib.Core.List.{[], _∷_, _++_}
-use denote.Ref.{now}
-use lib.ListN.{length, getD}
-use mathlib.Core.Bool.{true, false}
-use Rattle.text.specs.Digits.{decimal, hex, upper8}
+use mathlib.Core.List.{_∷_, _++_}
+use Rattle.text.specs.Digits.{decimal, upper8}
 use Rattle.text.proofs.Writing.{wrote-both, byte-then}
 use Rattle.events.specs.Lines.{headOf}
 use borrow.Author.Needs.{needs}

@@ -1,4 +1,3 @@
-use denote.Ref.{now}
 use Rattle.replies.proofs.Sending.{sends-long}
 use borrow.Author.Needs.{needs}
 use Rattle.replies.proofs.emitting.put_part.Statement.{statement}

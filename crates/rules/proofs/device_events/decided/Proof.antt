@@ -1,6 +1,5 @@
 use Rattle.bits.specs.Pick.{pick}
 use Rattle.rules.specs.Act.{decided}
-use borrow.Author.Needs.{needs}
 use Rattle.rules.proofs.device_events.decided.Statement.{statement}
 use Rattle.rules.proofs.device_events.decided.Tie as tie
 use Rattle.rules.proofs.device_events.decided.Reads as reads

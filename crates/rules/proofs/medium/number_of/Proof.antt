@@ -1,4 +1,4 @@
-use Rattle.rules.specs.Medium.{numberOf}
+use Rattle.rules.specs.Number.{numberOf}
 use Rattle.rules.proofs.ActElses.{else-refuse}
 use borrow.Author.Needs.{needs}
 use Rattle.rules.proofs.medium.number_of.Statement.{statement}

@@ -1,6 +1,5 @@
 use borrow.Author.Tests.{le-leb, lt-leb}
 use Rattle.bits.specs.Pick.{pick}
-use borrow.Author.Needs.{needs}
 use Rattle.text.proofs.sheets.whole.Statement.{statement}
 use Rattle.text.proofs.sheets.whole.Tie as tie
 use Rattle.text.proofs.sheets.whole.Reads as reads

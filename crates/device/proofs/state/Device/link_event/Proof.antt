@@ -1,7 +1,6 @@
-use mathlib.Core.Path.{refl, ap, _∙_}
+use mathlib.Core.Path.{refl}
 use mathlib.Core.List.{[]}
 use Rattle.rules.specs.Call.{linkEvent}
-use Rattle.rules.specs.Act.{act}
 use Rattle.device.proofs.Doing.{given-without, plain-act}
 use Rattle.device.proofs.Lending.{silent-given}
 use borrow.Author.Needs.{needs}

@@ -2,7 +2,7 @@ use denote.Ref.{now}
 use mathlib.Core.Path.{sym, ap, _∙_, refl}
 use mathlib.Core.List.{[]}
 use Rattle.rules.specs.Call.{sendData}
-use Rattle.rules.specs.Medium.{spanOf, partOf, mediumAfter}
+use Rattle.rules.specs.Medium.{mediumAfter}
 use Rattle.rules.specs.declared.acts.Act.{Act}
 use Rattle.device.specs.Lent.{lent}
 use Rattle.device.proofs.Doing.{has-room, given-by, send-left, send-act, span-known, sent-part}
