@@ -26,16 +26,12 @@ pub record Handed : Type 0 where
   pub medium : Bool
   pub buffer : Bool
 
--- a device event
-abbrev pub event : ℕ → ℕ → (ℕ → ℕ) → Bool → Bool → Handed
-event s e t m b = record { frame = []; set = s; error = e; tag = t; medium = m; buffer = b }
-
 -- what each call is handed: a host frame and a send are about the open phase, an open and a media error about their tag; every call but a link event is lent a reply buffer
 abbrev pub handed : Call → Handed
 handed (hostFrame f) = record { frame = f; set = 0; error = 0; tag = λ t. t; medium = true; buffer = true }
-handed (openPhase t) = event 0 0 (λ _. t) false true
-handed sendData = event 0 0 (λ t. t) true true
-handed (finishTags s) = event s 0 (λ _. 32) false true
-handed (mediaError t e s) = event 0 e (λ _. t) false true
-handed (linkEvent r) = event 0 0 (λ _. 32) false false
-handed comReset = event 0 0 (λ _. 32) false true
+handed (openPhase t) = record { frame = []; set = 0; error = 0; tag = λ _. t; medium = false; buffer = true }
+handed sendData = record { frame = []; set = 0; error = 0; tag = λ t. t; medium = true; buffer = true }
+handed (finishTags s) = record { frame = []; set = s; error = 0; tag = λ _. 32; medium = false; buffer = true }
+handed (mediaError t e s) = record { frame = []; set = 0; error = e; tag = λ _. t; medium = false; buffer = true }
+handed (linkEvent r) = record { frame = []; set = 0; error = 0; tag = λ _. 32; medium = false; buffer = false }
+handed comReset = record { frame = []; set = 0; error = 0; tag = λ _. 32; medium = false; buffer = true }
