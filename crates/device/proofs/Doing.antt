@@ -14,7 +14,8 @@ use Rattle.frames.specs.Write.{FrameValue}
 use Rattle.frames.specs.Read.{readFrame}
 use Rattle.frames.specs.declared.shapes.Frame.{Frame}
 use Rattle.device_state.proofs.TableLaws.{some-never}
-use Rattle.rules.specs.Call.{Call, hostFrame, sendData, handed}
+use Rattle.rules.specs.Call.{Call, hostFrame, sendData}
+use Rattle.rules.specs.Handed.{handed}
 use Rattle.rules.specs.Tests.{tests, unreadyAt, someUnready}
 use Rattle.rules.specs.Act.{does, act, heardAct}
 use Rattle.rules.specs.Number.{numberOf}
@@ -23,7 +24,7 @@ use Rattle.rules.specs.declared.medium.Span.{Span}
 use Rattle.rules.specs.declared.facts.Facts.{Facts}
 use Rattle.rules.specs.declared.acts.Act.{Act}
 use Rattle.rules.proofs.Cases.{act-cases}
-use Rattle.rules.proofs.Rows.{row}
+use Rattle.rules.proofs.TestLaws.{test-laws}
 use Rattle.rules.proofs.Ruled as by
 use Rattle.replies.specs.Replies.{repliesOf, sentAll, RepliesGiven}
 use Rattle.device.specs.Lent.{Lent, lent, gave, frameIn}
@@ -88,7 +89,7 @@ given-without d c b a b′ r f e s n w = given-by d (lent c [] b) a [] [] b′ r
 
 -- a host frame sends nothing of the medium
 pub heard-unsent : (v : Facts) (m : List ℕ) {f : Frame} {a : Act} → by.Heard v f a → [] ≡ partOf (spanOf a) m
-heard-unsent v m h = ap (λ (s : Span). partOf s m) (sym (by.unsent v h .nothing-sent))
+heard-unsent v m h = ap (λ (s : Span). partOf s m) (sym (by.heard-laws v h .medium-unsent))
 
 ruled-unsent : (v : Facts) (m : List ℕ) {f : List ℕ} {a : Act} → by.Ruled v (hostFrame f) a → [] ≡ partOf (spanOf a) m
 unfolding touchOf
@@ -129,16 +130,16 @@ module _ (d : Device) where
   send-act m b tag wrong v a p q r e = e ∙ rw (r, p, q)
 
   -- the act of a call that is lent no medium
-  pub lent-act : (c : Call) (b : List ℕ) (some : Bool) (v : Facts) (a : Act) → handed c .medium ≡ false → some ≡ unreadyIn d c
+  pub unlent-act : (c : Call) (b : List ℕ) (some : Bool) (v : Facts) (a : Act) → handed c .medium ≡ false → some ≡ unreadyIn d c
       → v ≡ factsWith d (tagMeant (d .status .phase) c) false some (length b) → a ≡ act v c → a ≡ actOf d (lent c [] b)
   unfolding actOf
-  lent-act c b some v a u q r e =
-      e ∙ ap (λ (x : Facts). act x c) (r ∙ ap (λ (s : Bool). factsWith d (tagMeant (d .status .phase) c) false s (length b)) q) ∙ row (factsOf d (lent c [] b)) c .unlent u false
+  unlent-act c b some v a u q r e =
+      e ∙ ap (λ (x : Facts). act x c) (r ∙ ap (λ (s : Bool). factsWith d (tagMeant (d .status .phase) c) false s (length b)) q) ∙ test-laws (factsOf d (lent c [] b)) c .unlent u false
 
   -- and names no set of tags
   pub plain-act : (c : Call) (b : List ℕ) (v : Facts) (a : Act) → handed c .medium ≡ false → handed c .set ≡ 0
       → v ≡ factsWith d (tagMeant (d .status .phase) c) false false (length b) → a ≡ act v c → a ≡ actOf d (lent c [] b)
-  plain-act c b v a u z r e = lent-act c b false v a u (sym (ap (someUnready (d .entries) (d .status .outstanding)) z ∙ none-unready d)) r e
+  plain-act c b v a u z r e = unlent-act c b false v a u (sym (ap (someUnready (d .entries) (d .status .outstanding)) z ∙ none-unready d)) r e
 
 -- ---- what a call needs before its act is done
 

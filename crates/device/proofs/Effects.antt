@@ -1,4 +1,4 @@
--- What each change of the state does, said of its parts; and how long the record stays. Assumes nothing.
+-- What each change of the state does, said of its parts; and of every act: settings, record, phase, bytes. Assumes nothing.
 use mathlib.Core.Path.{_≡_, refl, sym, subst}
 use mathlib.Core.Bool.{Bool, true, false, true≢false}
 use Prim.Native.Nat.{ℕ, _<_}
@@ -97,10 +97,10 @@ abbrev pub Puts : Act → Type 0
 Puts a = (traits a .error < 256) × Small (traits a .echo)
 
 -- no act changes a setting; the record stays until the next halt or reset; a phase is open after an act only if one was open before it, or the act is an open; record and table stay bytes
-pub record ActKeeps (d : Device) (a : Act) : Type 0 where
+pub record ActLaws (d : Device) (a : Act) : Type 0 where
   pub settings : afterOf d a .settings ≡ d .settings
   pub stays : traits a .anew ≡ false → afterOf d a .errors ≡ d .errors
-  pub opens : eqb (afterOf d a .status .phase) 0 ≡ false → traits a .opens ≡ false → eqb (d .status .phase) 0 ≡ false
+  pub opened : eqb (afterOf d a .status .phase) 0 ≡ false → traits a .opens ≡ false → eqb (d .status .phase) 0 ≡ false
   pub wide : Wide d → Puts a → Wide (afterOf d a)
 
 -- one more event at a row changes no setting
@@ -129,60 +129,60 @@ raised-wide d row w = by-test Wide (leb 16 row) d _ (λ _. w) (λ _. record { si
 same-record : {d e : Device} → e .errors ≡ d .errors → Wide d → SmallAll (e .entries) → Wide e
 same-record q w s = record { sized = record { error = subst (λ (r : ErrorRecord). r .error < 256) (sym q) (w .sized .error); echo = subst (λ (r : ErrorRecord). Small (r .echo)) (sym q) (w .sized .echo) }; entries = s }
 
-pub act-keeps : (d : Device) (a : Act) → ActKeeps d a
+pub act-laws : (d : Device) (a : Act) → ActLaws d a
 unfolding traits afterOf haltWith acceptedBy unhalted zeroedIf resetHeld released movedBy openedFor finishedBy failedBy renewed withValue pick
-act-keeps d (Refuse n) = record { settings = refl; stays = λ _. refl; opens = λ p _. p; wide = λ w _. w }
-act-keeps d Nothing = record { settings = refl; stays = λ _. refl; opens = λ p _. p; wide = λ w _. w }
-act-keeps d (Bad b) = record { settings = refl; stays = λ _. refl; opens = λ p _. p; wide = λ w _. w }
-act-keeps d (BadAndHalt f) = record {
+act-laws d (Refuse n) = record { settings = refl; stays = λ _. refl; opened = λ p _. p; wide = λ w _. w }
+act-laws d Nothing = record { settings = refl; stays = λ _. refl; opened = λ p _. p; wide = λ w _. w }
+act-laws d (Bad b) = record { settings = refl; stays = λ _. refl; opened = λ p _. p; wide = λ w _. w }
+act-laws d (BadAndHalt f) = record {
   settings = refl;
   stays = λ h. absurd (true≢false h);
-  opens = λ p _. absurd (true≢false p);
+  opened = λ p _. absurd (true≢false p);
   wide = λ _ p. record { sized = record { error = p .0; echo = p .1 }; entries = idle-small };
 }
-act-keeps d (Accept q) = record { settings = refl; stays = λ _. refl; opens = λ p _. p; wide = λ w p. same-record refl w (placed-small (d .entries) (q .tag) (q .entry) (w .entries) (p .1)) }
-act-keeps d (Log10 l) = record { settings = refl; stays = λ _. refl; opens = λ p _. p; wide = λ w _. same-record refl w (w .entries) }
-act-keeps d (Log11 l) = record { settings = refl; stays = λ _. refl; opens = λ p _. p; wide = λ w _. same-record refl w (w .entries) }
-act-keeps d Reset = record {
+act-laws d (Accept q) = record { settings = refl; stays = λ _. refl; opened = λ p _. p; wide = λ w p. same-record refl w (placed-small (d .entries) (q .tag) (q .entry) (w .entries) (p .1)) }
+act-laws d (Log10 l) = record { settings = refl; stays = λ _. refl; opened = λ p _. p; wide = λ w _. same-record refl w (w .entries) }
+act-laws d (Log11 l) = record { settings = refl; stays = λ _. refl; opened = λ p _. p; wide = λ w _. same-record refl w (w .entries) }
+act-laws d Reset = record {
   settings = refl;
   stays = λ h. absurd (true≢false h);
-  opens = λ p _. absurd (true≢false p);
+  opened = λ p _. absurd (true≢false p);
   wide = λ _ _. record { sized = record { error = lit< tt; echo = zero-small }; entries = idle-small };
 }
-act-keeps d Release = record { settings = refl; stays = λ _. refl; opens = λ p _. p; wide = λ w _. same-record refl w (w .entries) }
-act-keeps d ZeroCounters = record { settings = refl; stays = λ _. refl; opens = λ p _. p; wide = λ w _. same-record refl w (w .entries) }
-act-keeps d (Store m) = record { settings = refl; stays = λ _. refl; opens = λ p _. still (m .last) (d .status .phase) p; wide = λ w p. same-record refl w (placed-small (d .entries) (m .tag) (m .entry) (w .entries) (p .1)) }
-act-keeps d (Open q) = record { settings = refl; stays = λ _. refl; opens = λ _ e. absurd (true≢false e); wide = λ w _. same-record refl w (w .entries) }
-act-keeps d (Send m) = record { settings = refl; stays = λ _. refl; opens = λ p _. still (m .last) (d .status .phase) p; wide = λ w p. same-record refl w (placed-small (d .entries) (m .tag) (m .entry) (w .entries) (p .1)) }
-act-keeps d (Finish set) = record { settings = refl; stays = λ _. refl; opens = λ p _. p; wide = λ w _. same-record refl w (cleared-small (d .entries) set (w .entries)) }
-act-keeps d (Media f) = record {
+act-laws d Release = record { settings = refl; stays = λ _. refl; opened = λ p _. p; wide = λ w _. same-record refl w (w .entries) }
+act-laws d ZeroCounters = record { settings = refl; stays = λ _. refl; opened = λ p _. p; wide = λ w _. same-record refl w (w .entries) }
+act-laws d (Store m) = record { settings = refl; stays = λ _. refl; opened = λ p _. still (m .last) (d .status .phase) p; wide = λ w p. same-record refl w (placed-small (d .entries) (m .tag) (m .entry) (w .entries) (p .1)) }
+act-laws d (Open q) = record { settings = refl; stays = λ _. refl; opened = λ _ e. absurd (true≢false e); wide = λ w _. same-record refl w (w .entries) }
+act-laws d (Send m) = record { settings = refl; stays = λ _. refl; opened = λ p _. still (m .last) (d .status .phase) p; wide = λ w p. same-record refl w (placed-small (d .entries) (m .tag) (m .entry) (w .entries) (p .1)) }
+act-laws d (Finish set) = record { settings = refl; stays = λ _. refl; opened = λ p _. p; wide = λ w _. same-record refl w (cleared-small (d .entries) set (w .entries)) }
+act-laws d (Media f) = record {
   settings = failed-settings d f (bitIn 8 (f .error) 7);
   stays = λ h. absurd (true≢false h);
-  opens = λ p _. absurd (true≢false p);
+  opened = λ p _. absurd (true≢false p);
   wide = λ _ p. record { sized = record { error = p .0; echo = p .1 }; entries = idle-small };
 }
-act-keeps d (Count row) = record {
+act-laws d (Count row) = record {
   settings = raised-settings d row;
   stays = λ _. by-test (λ (y : Device). y .errors ≡ d .errors) (leb 16 row) d _ (λ _. refl) (λ _. refl);
-  opens = λ p _. by-test (λ (x : Device). eqb (x .status .phase) 0 ≡ false → eqb (d .status .phase) 0 ≡ false) (leb 16 row) d _ (λ _ q. q) (λ _ q. q) p;
+  opened = λ p _. by-test (λ (x : Device). eqb (x .status .phase) 0 ≡ false → eqb (d .status .phase) 0 ≡ false) (leb 16 row) d _ (λ _ q. q) (λ _ q. q) p;
   wide = λ w _. raised-wide d row w;
 }
-act-keeps d Renew = record {
+act-laws d Renew = record {
   settings = raised-settings (released (resetHeld d)) 9;
   stays = λ h. absurd (true≢false h);
-  opens = λ p _. absurd (true≢false p);
+  opened = λ p _. absurd (true≢false p);
   wide = λ _ _. raised-wide (released (resetHeld d)) 9 (record { sized = record { error = lit< tt; echo = zero-small }; entries = idle-small });
 }
 
 -- each by its name
 pub act-settings : (d : Device) (a : Act) → afterOf d a .settings ≡ d .settings
-act-settings d a = act-keeps d a .settings
+act-settings d a = act-laws d a .settings
 
 pub record-stays : (d : Device) (a : Act) → traits a .anew ≡ false → afterOf d a .errors ≡ d .errors
-record-stays d a = act-keeps d a .stays
+record-stays d a = act-laws d a .stays
 
 pub opens-only : (d : Device) (a : Act) → eqb (afterOf d a .status .phase) 0 ≡ false → traits a .opens ≡ false → eqb (d .status .phase) 0 ≡ false
-opens-only d a = act-keeps d a .opens
+opens-only d a = act-laws d a .opened
 
 pub act-wide : (d : Device) (a : Act) → Wide d → Puts a → Wide (afterOf d a)
-act-wide d a = act-keeps d a .wide
+act-wide d a = act-laws d a .wide

@@ -7,11 +7,12 @@ use lib.ListN.{length}
 use Rattle.bits.specs.Laid.{laid}
 use Rattle.frame_parts.specs.Cut.{joined}
 use Rattle.frames.specs.Write.{FrameValue}
-use Rattle.rules.specs.Call.{Call, handed}
+use Rattle.rules.specs.Call.{Call}
+use Rattle.rules.specs.Handed.{handed}
 use Rattle.rules.specs.Number.{numberOf}
 use Rattle.rules.specs.Medium.{Touch, leaves, touchOf, spanIn, spanOf, partOf, keptBy}
 use Rattle.rules.specs.declared.acts.Act.{Act}
-use Rattle.rules.proofs.Rows.{row}
+use Rattle.rules.proofs.TestLaws.{test-laws}
 use Rattle.rules.proofs.Ruled as by
 use Rattle.replies.specs.Replies.{repliesOf, sentAll, RepliesGiven}
 use Rattle.replies.proofs.Sending.{sends-none}
@@ -30,7 +31,7 @@ Unlent c = handed c .medium ≡ false
 -- is decided without it
 act-unlent : (d : Device) (c : Call) (m b : List ℕ) → Unlent c → actOf d (lent c [] b) ≡ actOf d (lent c m b)
 unfolding actOf
-act-unlent d c m b u = row (factsOf d (lent c m b)) c .unlent u (mediumWrong (d .settings .capacity) 0)
+act-unlent d c m b u = test-laws (factsOf d (lent c m b)) c .unlent u (mediumWrong (d .settings .capacity) 0)
 
 -- and leaves it
 act-leaves : (d : Device) (c : Call) (m b : List ℕ) → Unlent c → touchOf (actOf d (lent c m b)) ≡ leaves
@@ -66,7 +67,7 @@ unlent d c m b b′ r u h =
 -- is decided without them
 act-alone : (d : Device) (c : Call) (m b : List ℕ) → Unlent c → handed c .buffer ≡ false → actOf d (lent c [] []) ≡ actOf d (lent c m b)
 unfolding actOf
-act-alone d c m b u h = row (factsOf d (lent c [] b)) c .unheld h true ∙ act-unlent d c m b u
+act-alone d c m b u h = test-laws (factsOf d (lent c [] b)) c .unbuffered h true ∙ act-unlent d c m b u
 
 -- replies nothing
 ruled-silent : (d : Device) (m b part : List ℕ) {c : Call} {a : Act} → handed c .buffer ≡ false → by.Ruled (factsOf d (lent c m b)) c a → repliesOf (shown d) part a ≡ []

@@ -5,7 +5,8 @@ use mathlib.Core.List.{List}
 use Prim.Native.Nat.{ℕ, _-_, _^_, _<_}
 use lib.ListN.{length}
 use Rattle.frames.proofs.ReadLaws.{read-data}
-use Rattle.rules.specs.Call.{Call, hostFrame, handed}
+use Rattle.rules.specs.Call.{Call, hostFrame}
+use Rattle.rules.specs.Handed.{handed}
 use Rattle.rules.specs.Number.{numberOf}
 use Rattle.rules.specs.declared.acts.Act.{Act}
 use Rattle.rules.proofs.Ruled as by

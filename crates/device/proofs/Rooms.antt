@@ -10,7 +10,8 @@ use borrow.Author.Tests.{ltb-false, le-leb, eqb-true, not-false}
 use Rattle.bits.specs.Bit.{bitIn}
 use Rattle.bits.proofs.Picks.{pick-no}
 use Rattle.device_state.specs.Table.{entryOf}
-use Rattle.rules.specs.Call.{sendData, handed}
+use Rattle.rules.specs.Call.{sendData}
+use Rattle.rules.specs.Handed.{handed}
 use Rattle.rules.specs.Positions.{moveOf}
 use Rattle.rules.specs.Number.{numberOf}
 use Rattle.rules.specs.Medium.{touchOf, spanOf}

@@ -13,11 +13,11 @@ use Rattle.frame_parts.specs.Size.{payloadSize}
 use Rattle.frames.specs.declared.shapes.HostReg.{HostReg}
 use Rattle.frames.specs.declared.shapes.Frame.{Frame}
 use Rattle.frames.proofs.ReadLaws.{DataRead}
-use Rattle.frames.specs.declared.shapes.Frame.the-variants as fs
 use Rattle.pages.specs.Rows.{kept}
 use Rattle.device_state.specs.State.{echoOf, zeroEcho}
 use Rattle.device_state.specs.Table.{entryOf}
-use Rattle.rules.specs.Call.{handed, Call}
+use Rattle.rules.specs.Call.{Call}
+use Rattle.rules.specs.Handed.{handed}
 use Rattle.rules.specs.Positions.{advancedBy, leftOf, moveOf}
 use Rattle.rules.specs.Decide.{entryFor, fault, tagAsked}
 use Rattle.rules.specs.Medium.{partOf, spanOf, touchOf}
@@ -39,7 +39,7 @@ use Rattle.device.proofs.Entering.{entry-good, tag-small}
 use Rattle.device.proofs.Busy.{moves-on, part-fours}
 use Rattle.device.proofs.Tags.{busy-below}
 use Rattle.device.proofs.Fitting.{ReadFits, echo-bytes, record-fits}
-use Rattle.device.proofs.Widths.{Small, SmallAll, failing-small, Small, zero-small}
+use Rattle.device.proofs.Widths.{Small, SmallAll, failing-small, zero-small}
 use Rattle.device.proofs.Sized.{SizedRecord}
 use Rattle.device.proofs.Rooms.{move-within, open-tag-is}
 
@@ -71,10 +71,10 @@ moving-good d k h n four =
     (sym (pick-no (eqb (d .status .phase) 0) 32 (d .status .phase - 1) n)) (moved-good d k h n (part-fours d k h n four))
 
 -- where arguments and record are of their types, the replies of an act can be written and what it puts is of bytes; and the state after it does not contradict itself
-pub record Keeps (d : Device) (part : List ℕ) (typed set : Type 0) (a : Act) : Type 0 where
+pub record RuleKeeps (d : Device) (part : List ℕ) (typed narrow : Type 0) (a : Act) : Type 0 where
   pub fits : typed → SizedRecord d → Fit (shown d) part a
   pub puts : typed → SmallAll (d .entries) → Puts a
-  pub good : set → Good d a
+  pub good : narrow → Good d a
 
 -- what moves next keeps its command's bytes
 move-small : (d : Device) (t n : ℕ) → SmallAll (d .entries) → Small (moveOf (d .status) (entryOf (d .entries) t) n .entry .echo)
@@ -84,7 +84,7 @@ move-small d t n h = h t
 -- ---- a host frame that is not turned down
 
 module _ (d : Device) (wrong some : Bool) (room : ℕ) (g : contradictoryDevice d ≡ false) where
-  pub heard-keeps : {f : Frame} {a : Act} → (k : ℕ) (l : List ℕ) → DataRead k l f → by.Heard (factsWith d (openTag (d .status .phase)) wrong some room) f a → Keeps d [] (ReadFits f) Unit a
+  pub heard-keeps : {f : Frame} {a : Act} → (k : ℕ) (l : List ℕ) → DataRead k l f → by.Heard (factsWith d (openTag (d .status .phase)) wrong some room) f a → RuleKeeps d [] (ReadFits f) Unit a
   unfolding afterOf Fit traits ReadFits
   heard-keeps k l r (by.srst h c s) = record { fits = λ _ _. tt; puts = λ _ _. none-puts; good = λ _. reset-held-good d g }
   heard-keeps k l r (by.release h c s x) = record { fits = λ _ _. tt; puts = λ _ _. none-puts; good = λ _. released-good d g }
@@ -126,7 +126,7 @@ part-sized d m good w phase =
 
 -- and a call that is lent no reply buffer replies nothing
 pub record OwnKeeps (d : Device) (part : List ℕ) (c : Call) (a : Act) : Type 0 where
-  pub keeps : Keeps d part (Typed c) (handed c .set < 2 ^ 32) a
+  pub keeps : RuleKeeps d part (Typed c) (handed c .set < 2 ^ 32) a
   pub silent : handed c .buffer ≡ false → (sent : List ℕ) → repliesOf (shown d) sent a ≡ []
 
 pub own-keeps : (d : Device) (m b : List ℕ) {c : Call} {a : Act} → by.Own (factsOf d (lent c m b)) c a → OwnKeeps d (partOf (spanOf a) m) c a

@@ -5,7 +5,8 @@ use lib.Dec.{eqb, ltb}
 use lib.ListN.{length}
 use Rattle.bits.specs.Pick.{pick}
 use Rattle.device_state.specs.Table.{entryOf}
-use Rattle.rules.specs.Call.{Call, handed}
+use Rattle.rules.specs.Call.{Call}
+use Rattle.rules.specs.Handed.{handed}
 use Rattle.rules.specs.Tests.{someUnready}
 use Rattle.rules.specs.declared.facts.Facts.{Facts}
 use Rattle.device.specs.Device.{contradictoryDevice}

@@ -2,7 +2,8 @@
 use mathlib.Core.List.{List}
 use Prim.Native.Nat.{ℕ, _^_, _<_}
 use Rattle.bits.specs.Little.{Bytes}
-use Rattle.rules.specs.Call.{Call, handed}
+use Rattle.rules.specs.Call.{Call}
+use Rattle.rules.specs.Handed.{handed}
 use Rattle.device.specs.declared.state.Outcome.{Outcome}
 
 -- a call with a medium and a reply buffer beside it, any of them; what it is not lent it does not look at and leaves as it was (`unlent`), and a method's own contract has no bytes there

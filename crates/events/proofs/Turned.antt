@@ -12,9 +12,9 @@ use Rattle.bits.specs.Pick.{pick}
 use Rattle.bits.specs.First.{Rung, firstOf, noRung, FirstExactly, fresh}
 use Rattle.bits.proofs.Firsts as firsts
 use Rattle.bits.proofs.Picks.{tested, and-left, and-right}
-use Rattle.rules.specs.Call.{Call, hostFrame, openPhase, sendData, finishTags, mediaError, linkEvent, comReset}
+use Rattle.rules.specs.Call.{Call}
 use Rattle.rules.specs.Tests.{tests}
-use Rattle.rules.specs.declared.facts.Facts.{Facts}
+use Rattle.rules.proofs.TestLaws.{test-laws}
 use Rattle.device.specs.Lent.{lent}
 use Rattle.device.specs.FactsOf.{factsOf}
 use Rattle.device.specs.Step.{step}
@@ -48,22 +48,11 @@ never-given rs given f x = ⊎-elim (λ (h : eqb given 24 ≡ true). absurd (los
     lost : given ≡ 24 → ⊥
     lost e = let z : given ≡ 0 = x .other (λ k l p. not-there 24 rs k f l (sym e ∙ p)) in omega arith
 
--- no call of the device has 24 in its row
-row-fresh : (v : Facts) (c : Call) → fresh 24 (tests v c) ≡ true
-unfolding tests
-row-fresh v (hostFrame f) = refl
-row-fresh v (openPhase t) = refl
-row-fresh v sendData = refl
-row-fresh v (finishTags s) = refl
-row-fresh v (mediaError t e s) = refl
-row-fresh v (linkEvent r) = refl
-row-fresh v comReset = refl
-
--- so only what makes no call is given it
+-- no call of the device has 24 in its row, so only what makes no call is given it
 call-24 : (d : Device) (m b : List ℕ) (cs : List Call) → eqb (stepFor d m b cs .refusal) 24 ≡ isNone cs
 unfolding stepFor isNone
 call-24 d m b [] = refl
-call-24 d m b (c ∷ cs) = never-given (tests (factsOf d (lent c m b)) c) (step d (lent c m b) .refusal) (row-fresh (factsOf d (lent c m b)) c) (first-exactly d (lent c m b))
+call-24 d m b (c ∷ cs) = never-given (tests (factsOf d (lent c m b)) c) (step d (lent c m b) .refusal) (test-laws (factsOf d (lent c m b)) c .no-24) (first-exactly d (lent c m b))
 
 -- 24 exactly for what is no event, and for settings
 pub refused-24-exactly : (d : Device) (e m b : List ℕ) → eqb (eventStep d e m b .refusal) 24 ≡ noCall e

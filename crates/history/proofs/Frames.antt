@@ -16,7 +16,8 @@ use Rattle.device.specs.Step.{step}
 use Rattle.device.specs.declared.state.Device.{Device}
 use Rattle.device.proofs.Sending.{whole}
 use Rattle.history.specs.Event.{Event}
-use Rattle.history.specs.Asked.{Asked, asks}
+use Rattle.history.specs.FrameAsks.{Asked}
+use Rattle.history.specs.Asked.{asks}
 use Rattle.history.specs.Replied.{frames, repliesIn, some, isPio, payloads, page, sent}
 use Rattle.history.specs.Seen.{seenIn, seen}
 use Rattle.history.specs.Run.{result, done, event}

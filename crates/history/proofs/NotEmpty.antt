@@ -8,7 +8,8 @@ use lib.Dec.{ltb}
 use borrow.Author.Tests.{ltb-true}
 use Rattle.bits.specs.Little.{Bytes}
 use Rattle.bits.proofs.Picks.{and-left, and-right}
-use Rattle.rules.specs.Call.{Call, Handed, handed}
+use Rattle.rules.specs.Call.{Call}
+use Rattle.rules.specs.Handed.{Handed, handed}
 use Rattle.bits.specs.First.{firstOf}
 use Rattle.bits.specs.Laid.{over}
 use Rattle.bits.specs.Pick.{pick}

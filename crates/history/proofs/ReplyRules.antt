@@ -31,7 +31,7 @@ use Rattle.device.proofs.Sized.{SizedRecord}
 use Rattle.device.proofs.Refusals.{refused-keeps}
 use Rattle.history.specs.Event.{Event, taken}
 use Rattle.history.specs.FrameAsks.{Asked, quiet}
-use Rattle.history.specs.Reading.{Says, saysNone, saysSet, saysErr, callAsks, callReads, callSays, callReplies}
+use Rattle.history.specs.Reading.{Speech, noneFinished, setFinished, errorTold, callAsks, callReads, callSays, callReplies}
 use Rattle.history.specs.Asked.{asks}
 use Rattle.history.specs.Replied.{frames, some, isPio, setBitsIn, collect, faultyIn, paged}
 use Rattle.history.specs.Seen.{Seen, seen}
@@ -80,11 +80,11 @@ unfolding pick
 asked-as x t = rw t
 
 -- what a call says, by what its replies say if it is taken
-spoken-as : (d : Device) (l : Lent) → Typed (l .call) → SizedRecord d → (s : Says) → (step d l .refusal ≡ 0 → SpokenBy s (view (callAsks (l .call)) (step d l .frames))) → Spoken (event (done l (result d l))) s
-spoken-as d l t z saysNone go = λ u. by-view d l t z (λ (e : Seen). e .finishes u ≡ false) (λ y. go y u) (λ _. quiet-finishes u)
-spoken-as d l t z (saysSet s) go =
+spoken-as : (d : Device) (l : Lent) → Typed (l .call) → SizedRecord d → (s : Speech) → (step d l .refusal ≡ 0 → SpokenBy s (view (callAsks (l .call)) (step d l .frames))) → Spoken (event (done l (result d l))) s
+spoken-as d l t z noneFinished go = λ u. by-view d l t z (λ (e : Seen). e .finishes u ≡ false) (λ y. go y u) (λ _. quiet-finishes u)
+spoken-as d l t z (setFinished s) go =
     λ y. by-view d l t z (λ (e : Seen). step d l .refusal ≡ 0 → (e .fails ≡ false) × ((u : ℕ) → e .finishes u ≡ bitIn 32 s u)) (λ k _. go k) (λ n k. absurd (n k)) (eqb-true (step d l .refusal) 0 y)
-spoken-as d l t z saysErr go = (
+spoken-as d l t z errorTold go = (
   λ y. by-view d l t z (λ (e : Seen). step d l .refusal ≡ 0 → e .fails ≡ true) (λ k _. go k .0) (λ n k. absurd (n k)) (eqb-true (step d l .refusal) 0 y),
   λ u. by-view d l t z (λ (e : Seen). e .finishes u ≡ false) (λ k. go k .1 u) (λ _. quiet-finishes u),
 )

@@ -18,7 +18,7 @@ use Rattle.device.specs.declared.state.Device.{Device}
 use Rattle.device.proofs.Never.{and-never}
 use Rattle.history.specs.FrameAsks.{Asked, frameAsks}
 use Rattle.history.specs.Logs.{frameReads}
-use Rattle.history.specs.Reading.{Says, saysNone, saysSet, saysErr, callAsks, callReads, callSays}
+use Rattle.history.specs.Reading.{Speech, noneFinished, setFinished, errorTold, callAsks, callReads, callSays}
 use Rattle.history.specs.Replied.{some}
 use Rattle.history.specs.Seen.{Seen}
 use Rattle.history.specs.ReplyRules.{TellsError}
@@ -34,10 +34,10 @@ unfolding view some
 none-finished k rs e t = rw e (and-never (not (k .command)))
 
 -- what is seen of a taken call, by what it may say: just a set finished, without ERR; ERR, and nothing finished; nothing finished
-abbrev pub SpokenBy : Says → Seen → Type 0
-SpokenBy saysNone e = (t : ℕ) → e .finishes t ≡ false
-SpokenBy (saysSet s) e = (e .fails ≡ false) × ((t : ℕ) → e .finishes t ≡ bitIn 32 s t)
-SpokenBy saysErr e = (e .fails ≡ true) × ((t : ℕ) → e .finishes t ≡ false)
+abbrev pub SpokenBy : Speech → Seen → Type 0
+SpokenBy noneFinished e = (t : ℕ) → e .finishes t ≡ false
+SpokenBy (setFinished s) e = (e .fails ≡ false) × ((t : ℕ) → e .finishes t ≡ bitIn 32 s t)
+SpokenBy errorTold e = (e .fails ≡ true) × ((t : ℕ) → e .finishes t ≡ false)
 
 -- ---- the sweep
 

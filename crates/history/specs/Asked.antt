@@ -3,8 +3,7 @@ use mathlib.Core.List.{List, []}
 use Prim.Native.Nat.{ℕ}
 use Rattle.bits.specs.Pick.{pick}
 use Rattle.history.specs.Event.{Event, taken}
-pub use Rattle.history.specs.FrameAsks.{Asked}
-use Rattle.history.specs.FrameAsks.{quiet}
+use Rattle.history.specs.FrameAsks.{Asked, quiet}
 use Rattle.history.specs.Reading.{callAsks, callBrings}
 
 -- a refused call counts as never delivered

@@ -10,7 +10,7 @@ use Rattle.pages.specs.declared.page10.Page10.{Page10}
 use Rattle.pages.specs.declared.page10.Page10.the-variants.{Fields, Refused}
 use Rattle.history.specs.Event.{Event, taken}
 use Rattle.history.specs.Asked.{asks}
-use Rattle.history.specs.Reading.{Says, saysNone, saysSet, saysErr, callReads, callSays, callReplies}
+use Rattle.history.specs.Reading.{Speech, noneFinished, setFinished, errorTold, callReads, callSays, callReplies}
 use Rattle.history.specs.Replied.{frames, some, errIn, registerIn, collect, faultyIn, paged, page}
 use Rattle.history.specs.Shapes.{kinds, OneOf}
 use Rattle.history.specs.Seen.{Seen, seen, Transfer, errs, accepts}
@@ -22,10 +22,10 @@ abbrev pub FinishesNone : Event → Type 0
 FinishesNone e = (t : ℕ) → seen e .finishes t ≡ false
 
 -- by what its call may say: just a set finished, and no ERR; ERR, and nothing finished; nothing finished
-abbrev pub Spoken : Event → Says → Type 0
-Spoken e saysNone = FinishesNone e
-Spoken e (saysSet s) = taken e ≡ true → (seen e .fails ≡ false) × ((t : ℕ) → seen e .finishes t ≡ bitIn 32 s t)
-Spoken e saysErr = (taken e ≡ true → seen e .fails ≡ true) × FinishesNone e
+abbrev pub Spoken : Event → Speech → Type 0
+Spoken e noneFinished = FinishesNone e
+Spoken e (setFinished s) = taken e ≡ true → (seen e .fails ≡ false) × ((t : ℕ) → seen e .finishes t ≡ bitIn 32 s t)
+Spoken e errorTold = (taken e ≡ true → seen e .fails ≡ true) × FinishesNone e
 
 -- page 10h as its reader answers: it is not refused, and its status has ERR
 abbrev pub TellsError : Page10 → Type 0

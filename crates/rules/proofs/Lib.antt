@@ -2,7 +2,7 @@ pub mod Elses
 pub mod Cases
 pub mod ActElses
 pub mod StoreLaws
-pub mod Rows
+pub mod TestLaws
 pub mod Ruled
 pub mod Numbers
 pub mod Tied

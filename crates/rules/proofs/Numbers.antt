@@ -23,7 +23,7 @@ use Rattle.rules.specs.Number.{numberOf}
 use Rattle.rules.specs.declared.facts.Facts.{Facts}
 use Rattle.rules.specs.declared.acts.Act.{Act}
 use Rattle.rules.specs.declared.acts.Act.the-variants.{Refuse}
-use Rattle.rules.proofs.Rows.{rises, row}
+use Rattle.rules.proofs.TestLaws.{rises, test-laws}
 use Rattle.rules.proofs.Ruled.{act-done}
 
 -- an act that is refused
@@ -113,8 +113,8 @@ module _ (v : Facts) (c : Call) where
 
   -- each call gives each number of its row exactly when that test holds and none before it does, 0 exactly when none holds, and no other number
   pub act-exactly : FirstExactly (tests v c) (numberOf (act v c))
-  act-exactly = subst (FirstExactly _) (sym act-number) (firsts.first-exactly (tests v c) (row v c .once))
+  act-exactly = subst (FirstExactly _) (sym act-number) (firsts.first-exactly (tests v c) (test-laws v c .once))
 
   -- the numbers of a call's row rise
   pub tests-rise : rises (tests v c) ≡ true
-  tests-rise = row v c .rising
+  tests-rise = test-laws v c .rising

@@ -16,7 +16,8 @@ use Rattle.frames.specs.declared.shapes.HostReg.{HostReg}
 use Rattle.frames.specs.declared.shapes.Frame.{Frame}
 use Rattle.frames.specs.declared.shapes.Frame.the-variants.{Host, Device, Bits, Setup, Activate, Data, Bist, Pio, Refused}
 use Rattle.device_state.specs.Clauses.{rowRefused}
-use Rattle.rules.specs.Call.{Call, hostFrame, openPhase, sendData, finishTags, mediaError, linkEvent, comReset, handed}
+use Rattle.rules.specs.Call.{Call, hostFrame, openPhase, sendData, finishTags, mediaError, linkEvent, comReset}
+use Rattle.rules.specs.Handed.{handed}
 use Rattle.rules.specs.Positions.{leftOf, moveOf}
 use Rattle.rules.specs.Tests.{wrongKind, wrongTime, wrongSize, allMoved, outside, tests}
 use Rattle.rules.specs.Decide.{bad, fault, tagAsked, countAsked, entryFor, pageAsked, isQueued, queuedAct, otherAct, controlAct, registerAct, frameAct}
@@ -77,56 +78,56 @@ pub data Ruled (v : Facts) : Call → Act → Type 0 where
   own : {c : Call} {a : Act} → Own v c a → Ruled v c a
 
 -- what a host frame that is not turned down makes the device do is done, and sends nothing of the medium
-pub record Unsent (a : Act) : Type 0 where
+pub record HeardLaws (a : Act) : Type 0 where
   pub done : numberOf a ≡ 0
-  pub nothing-sent : spanOf a ≡ nowhere
+  pub medium-unsent : spanOf a ≡ nowhere
 
-pub unsent : (v : Facts) {f : Frame} {a : Act} → Heard v f a → Unsent a
+pub heard-laws : (v : Facts) {f : Frame} {a : Act} → Heard v f a → HeardLaws a
 unfolding numberOf touchOf
-unsent v (srst h c s) = record { done = refl; nothing-sent = refl }
-unsent v (release h c s x) = record { done = refl; nothing-sent = refl }
-unsent v (nothing h c s x) = record { done = refl; nothing-sent = refl }
-unsent v (rule1 h c x) = record { done = refl; nothing-sent = refl }
-unsent v (rule2 h c x u) = record { done = refl; nothing-sent = refl }
-unsent v (rule3 h c x u y) = record { done = refl; nothing-sent = refl }
-unsent v (rule4 h c x u y) = record { done = refl; nothing-sent = refl }
-unsent v (other-halted h c x) = record { done = refl; nothing-sent = refl }
-unsent v (other-busy h c x) = record { done = refl; nothing-sent = refl }
-unsent v (page10 h c e p) = record { done = refl; nothing-sent = refl }
-unsent v (page11 h c x e p) = record { done = refl; nothing-sent = refl }
-unsent v (other-bad h c x e) = record { done = refl; nothing-sent = refl }
-unsent v (due n p w s) = record { done = refl; nothing-sent = refl }
-unsent v (bist b) = record { done = refl; nothing-sent = refl }
+heard-laws v (srst h c s) = record { done = refl; medium-unsent = refl }
+heard-laws v (release h c s x) = record { done = refl; medium-unsent = refl }
+heard-laws v (nothing h c s x) = record { done = refl; medium-unsent = refl }
+heard-laws v (rule1 h c x) = record { done = refl; medium-unsent = refl }
+heard-laws v (rule2 h c x u) = record { done = refl; medium-unsent = refl }
+heard-laws v (rule3 h c x u y) = record { done = refl; medium-unsent = refl }
+heard-laws v (rule4 h c x u y) = record { done = refl; medium-unsent = refl }
+heard-laws v (other-halted h c x) = record { done = refl; medium-unsent = refl }
+heard-laws v (other-busy h c x) = record { done = refl; medium-unsent = refl }
+heard-laws v (page10 h c e p) = record { done = refl; medium-unsent = refl }
+heard-laws v (page11 h c x e p) = record { done = refl; medium-unsent = refl }
+heard-laws v (other-bad h c x e) = record { done = refl; medium-unsent = refl }
+heard-laws v (due n p w s) = record { done = refl; medium-unsent = refl }
+heard-laws v (bist b) = record { done = refl; medium-unsent = refl }
 
 -- what all device events share: they are done; the state does not contradict itself; where a reply buffer is lent it is not short; and where no medium is lent the act leaves it
-pub record Owned (v : Facts) (c : Call) (a : Act) : Type 0 where
+pub record OwnLaws (v : Facts) (c : Call) (a : Act) : Type 0 where
   pub done : numberOf a ≡ 0
   pub sound : v .contradicts ≡ false
   pub room : handed c .buffer ≡ true → v .«reply_short» ≡ false
   pub leaving : handed c .medium ≡ false → touchOf a ≡ leaves
 
-pub owned : (v : Facts) {c : Call} {a : Act} → Own v c a → Owned v c a
+pub own-laws : (v : Facts) {c : Call} {a : Act} → Own v c a → OwnLaws v c a
 unfolding numberOf touchOf
-owned v (opened t g s o q e) = record { done = refl; sound = g; room = λ _. s; leaving = λ _. refl }
-owned v (sent g w s p r) = record { done = refl; sound = g; room = λ _. s; leaving = λ h. absurd (true≢false h) }
-owned v (finished t g s q e r) = record { done = refl; sound = g; room = λ _. s; leaving = λ _. refl }
-owned v (failed t e x g s o y w) = record { done = refl; sound = g; room = λ _. s; leaving = λ _. refl }
-owned v (linked r g x) = record { done = refl; sound = g; room = λ h. absurd (false≢true h); leaving = λ _. refl }
-owned v (renewed g s) = record { done = refl; sound = g; room = λ _. s; leaving = λ _. refl }
+own-laws v (opened t g s o q e) = record { done = refl; sound = g; room = λ _. s; leaving = λ _. refl }
+own-laws v (sent g w s p r) = record { done = refl; sound = g; room = λ _. s; leaving = λ h. absurd (true≢false h) }
+own-laws v (finished t g s q e r) = record { done = refl; sound = g; room = λ _. s; leaving = λ _. refl }
+own-laws v (failed t e x g s o y w) = record { done = refl; sound = g; room = λ _. s; leaving = λ _. refl }
+own-laws v (linked r g x) = record { done = refl; sound = g; room = λ h. absurd (false≢true h); leaving = λ _. refl }
+own-laws v (renewed g s) = record { done = refl; sound = g; room = λ _. s; leaving = λ _. refl }
 
 -- a taken call is not refused for its reply buffer, where it is lent one
 pub ruled-room : (v : Facts) {c : Call} {a : Act} → handed c .buffer ≡ true → Ruled v c a → numberOf a ≡ 0 → v .«reply_short» ≡ false
 unfolding numberOf
 ruled-room v p (refused c n h e) z = absurd (h z)
 ruled-room v p (host f a g w s h) z = s
-ruled-room v p (own o) z = owned v o .room p
+ruled-room v p (own o) z = own-laws v o .room p
 
 -- a call that is lent no medium leaves it
 pub ruled-leaves : (v : Facts) {c : Call} {a : Act} → handed c .medium ≡ false → Ruled v c a → touchOf a ≡ leaves
 unfolding touchOf
 ruled-leaves v u (refused c n h e) = refl
 ruled-leaves v u (host f a g w s h) = absurd (true≢false u)
-ruled-leaves v u (own o) = owned v o .leaving u
+ruled-leaves v u (own o) = own-laws v o .leaving u
 
 -- of one that does not hold beside one that does
 and-other : (a b : Bool) → a && not b ≡ false → b ≡ false → a ≡ false
@@ -232,8 +233,8 @@ module _ (v : Facts) where
   ruled-done : {c : Call} {a : Act} → Ruled v c a → firstOf (tests v c) ≡ 0 → numberOf a ≡ 0
   unfolding numberOf
   ruled-done (refused c n h e) z = sym e ∙ z
-  ruled-done (host f a g w s h) z = unsent v h .done
-  ruled-done (own o) z = owned v o .done
+  ruled-done (host f a g w s h) z = heard-laws v h .done
+  ruled-done (own o) z = own-laws v o .done
 
   pub act-done : (c : Call) → firstOf (tests v c) ≡ 0 → numberOf (act v c) ≡ 0
   act-done c = ruled-done (ruled c)

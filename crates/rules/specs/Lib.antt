@@ -1,4 +1,5 @@
 pub mod Call
+pub mod Handed
 pub mod Positions
 pub mod Tests
 pub mod Decide

@@ -3,7 +3,7 @@ use mathlib.Core.Path.{refl}
 use mathlib.Core.List.{[]}
 use Rattle.rules.specs.Call.{finishTags}
 use Rattle.device.specs.Lent.{lent}
-use Rattle.device.proofs.Doing.{has-room, given-without, lent-act}
+use Rattle.device.proofs.Doing.{has-room, given-without, unlent-act}
 use borrow.Author.Needs.{needs}
 use Rattle.device.proofs.state.Device.finish.Statement.{statement}
 use Rattle.device.proofs.state.Device.finish.Tie as tie
@@ -29,7 +29,7 @@ slice-aggregate-done c = search needs
 done-requires : tie.Need-done-requires
 done-requires c κs =
     let a = c .before .before .before .before .before .before .before .args in
-    let e = lent-act (a .self) (finishTags (a .set)) (now (a .reply)) (c .before .before .before .before .some-unready .result) (c .before .before .before .facts .result) (c .before .before .finish-act .result) refl (c .before .before .before .before .some-unready .ensures) (c .before .before .before .facts .ensures) (c .before .before .finish-act .ensures) in
+    let e = unlent-act (a .self) (finishTags (a .set)) (now (a .reply)) (c .before .before .before .before .some-unready .result) (c .before .before .before .facts .result) (c .before .before .finish-act .result) refl (c .before .before .before .before .some-unready .ensures) (c .before .before .before .facts .ensures) (c .before .before .finish-act .ensures) in
     has-room (a .self) (lent (finishTags (a .set)) [] (now (a .reply))) (c .before .before .finish-act .result) refl e
 
 same-length : tie.Need-same-length
@@ -38,7 +38,7 @@ same-length c = search needs
 returns : tie.Need-returns
 returns c =
     let a = c .before .before .before .before .before .before .before .before .before .before .args in
-    let e = lent-act (a .self) (finishTags (a .set)) (now (a .reply)) (c .before .before .before .before .before .before .before .some-unready .result) (c .before .before .before .before .before .before .facts .result) (c .before .before .before .before .before .finish-act .result) refl (c .before .before .before .before .before .before .before .some-unready .ensures) (c .before .before .before .before .before .before .facts .ensures) (c .before .before .before .before .before .finish-act .ensures) in
+    let e = unlent-act (a .self) (finishTags (a .set)) (now (a .reply)) (c .before .before .before .before .before .before .before .some-unready .result) (c .before .before .before .before .before .before .facts .result) (c .before .before .before .before .before .finish-act .result) refl (c .before .before .before .before .before .before .before .some-unready .ensures) (c .before .before .before .before .before .before .facts .ensures) (c .before .before .before .before .before .finish-act .ensures) in
     let w = c .before .before .done .ensures in
     given-without (a .self) (finishTags (a .set)) (now (a .reply)) (c .before .before .before .before .before .finish-act .result) (c .before .before .done .last .1 .0) (c .before .before .done .result) refl e (w .0) (w .1 .0) (w .1 .1)
 
