@@ -1,7 +1,6 @@
 pub mod Elses
 pub mod Cases
 pub mod ActElses
-pub mod StoreLaws
 pub mod TestLaws
 pub mod Ruled
 pub mod Numbers

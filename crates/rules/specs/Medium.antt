@@ -1,11 +1,8 @@
 -- What an act takes from the medium, or puts there. Assumes nothing.
-use mathlib.Core.Bool.{_&&_}
-use mathlib.Core.List.{List, _++_}
+use mathlib.Core.List.{List}
 use Prim.Native.Nat.{ℕ}
-use lib.Dec.{leb}
-use lib.ListN.{length, take, drop}
-use Rattle.bits.specs.Pick.{pick}
-use Rattle.bits.specs.Laid.{over}
+use lib.ListN.{take, drop}
+unfoldable pub use Rattle.moves.specs.Stored.{stored}
 use Rattle.rules.specs.declared.acts.Move.{Move}
 use Rattle.rules.specs.declared.acts.Act.{Act}
 use Rattle.rules.specs.declared.acts.Act.the-variants.{Refuse, Nothing, Bad, BadAndHalt, Accept, Log10, Log11, Reset, Release, ZeroCounters, Store, Open, Send, Finish, Media, Count, Renew}
@@ -54,10 +51,6 @@ spanOf a = spanIn (touchOf a)
 -- the bytes of a part of the medium
 abbrev pub partOf : Span → List ℕ → List ℕ
 partOf s m = take (s .size) (drop (s .at) m)
-
--- the payload of frame f laid over the medium m from a place on, where there is room for all of it; that a taken frame's payload has it is `data-stored`
-unfoldable pub stored : ℕ → List ℕ → List ℕ → List ℕ
-stored at f m = pick (leb 4 (length f) && leb at (length m)) (take at m ++ over (drop 4 f) (drop at m)) m
 
 -- the medium m after such a touch, by frame f
 abbrev pub keptBy : Touch → List ℕ → List ℕ → List ℕ

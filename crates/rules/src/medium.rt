@@ -1,7 +1,7 @@
 // What an act says besides: its number, and what it takes from the medium or puts there.
 ghost use mathlib.Core.Path.{_≡_};
 ghost use Rattle.rules.specs.Number.{numberOf};
-ghost use Rattle.rules.specs.Medium.{spanOf, stored, mediumAfter};
+ghost use Rattle.rules.specs.Medium.{spanOf, mediumAfter};
 use crate::acts::Act;
 
 // A part of the medium, in bytes.
@@ -33,19 +33,6 @@ pub fn span_of(act: Act) -> Span
     }
 }
 
-// The payload behind a frame's header goes to its place in the medium.
-fn store(medium: &mut [u8], at: usize, frame: &[u8])
-    ensures { λ _. ⌜ now (medium .exit) ≡ stored at (now (frame .entry)) (now (medium .entry)) ⌝ }
-{
-    if frame.len() < 4 {
-        return;
-    }
-    if medium.len() < at {
-        return;
-    }
-    bits::lay(&mut medium[at..], &frame[4..]);
-}
-
 // The host's data goes to the medium, where the act says so.
 pub fn store_data(medium: &mut [u8], act: Act, frame: &[u8])
     ensures { λ _. ⌜ now (medium .exit) ≡ mediumAfter act (now (frame .entry)) (now (medium .entry)) ⌝ }
@@ -54,5 +41,5 @@ pub fn store_data(medium: &mut [u8], act: Act, frame: &[u8])
         return;
     };
     let at = m.at;
-    store(medium, at, frame);
+    moves::store(medium, at, frame);
 }

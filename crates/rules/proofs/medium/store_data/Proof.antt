@@ -5,7 +5,7 @@ use Rattle.rules.proofs.medium.store_data.Statement.{statement}
 use Rattle.rules.proofs.medium.store_data.Tie as tie
 use Rattle.rules.proofs.medium.store_data.Reads as reads
 use Rattle.rules.proofs.medium.store_data.Lts as lts
-use Rattle.rules.proofs.medium.store.Reads as store-reads
+use Rattle.moves.proofs.store.Reads as store-reads
 
 enum-known-act : tie.Need-enum-known-act
 enum-known-act c = search needs

@@ -1,10 +1,10 @@
 use denote.Ref.{now}
-use Rattle.rules.proofs.StoreLaws.{store-short, store-far, store-laid}
+use Rattle.moves.proofs.StoreLaws.{store-short, store-far, store-laid}
 use borrow.Author.Needs.{needs}
-use Rattle.rules.proofs.medium.store.Statement.{statement}
-use Rattle.rules.proofs.medium.store.Tie as tie
-use Rattle.rules.proofs.medium.store.Reads as reads
-use Rattle.rules.proofs.medium.store.Lts as lts
+use Rattle.moves.proofs.medium.store.Statement.{statement}
+use Rattle.moves.proofs.medium.store.Tie as tie
+use Rattle.moves.proofs.medium.store.Reads as reads
+use Rattle.moves.proofs.medium.store.Lts as lts
 use Rattle.bits.proofs.lay.Reads as lay-reads
 
 returns : tie.Need-returns

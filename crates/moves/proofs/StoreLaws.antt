@@ -8,7 +8,7 @@ use lib.ListN.{length}
 use Rattle.bits.specs.Pick.{pick}
 use Rattle.bits.specs.Laid.{over}
 use Rattle.bits.proofs.Fronts.{rest-part, rest-put}
-use Rattle.rules.specs.Medium.{stored}
+use Rattle.moves.specs.Stored.{stored}
 
 -- a frame without a payload, and a place outside the medium
 pub store-short : (at : ℕ) (f m : List ℕ) → length f < 4 → m ≡ stored at f m

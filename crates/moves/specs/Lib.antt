@@ -1,0 +1,2 @@
+pub mod Amounts
+pub mod Stored
