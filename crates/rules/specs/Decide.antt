@@ -8,6 +8,7 @@ use Rattle.frame_parts.specs.Shared.{tagOf, sectorsOf, srstOf}
 use Rattle.frames.specs.declared.shapes.HostReg.{HostReg}
 use Rattle.frames.specs.declared.shapes.Frame.{Frame}
 use Rattle.frames.specs.declared.shapes.Frame.the-variants.{Host, Device, Bits, Setup, Activate, Data, Bist, Pio, Refused}
+use Rattle.verdicts.specs.Other.{zeroes}
 use Rattle.device_state.specs.State.{echoOf}
 use Rattle.rules.specs.Positions.{moveOf}
 use Rattle.device_state.specs.declared.shapes.Echo.{Echo}
@@ -67,7 +68,7 @@ otherAct v h =
     pick (v .status .halted && not (eqb (pageAsked h) 0x10)) (bad h 0x04)
     (pick (not (eqb (v .status .outstanding) 0)) (fault h true 0 0x04)
     (pick (eqb (pageAsked h) 0x10) (Log10 (h .task))
-    (pick (eqb (pageAsked h) 0x11) (Log11 (record { zero = bitIn 8 (h .features) 0; task = h .task })) (bad h 0x04))))
+    (pick (eqb (pageAsked h) 0x11) (Log11 (record { zero = zeroes (h .features); task = h .task })) (bad h 0x04))))
 
 -- control frame with SRST: reset; with SRST 0: if held, release; otherwise nothing
 unfoldable pub controlAct : Facts → HostReg → Act

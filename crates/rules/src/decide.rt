@@ -92,7 +92,7 @@ fn other_act(v: Facts, h: HostReg) -> Act
     let status = v.status;
     let echo = echo_of(task);
     let page = log_page(h.command, echo);
-    let zero = frame_parts::flag(h.features, 0);
+    let zero = verdicts::zeroes(h.features);
     if status.halted & !(page == 0x10) {
         return Act::Bad(BadReply { error: 0x04, task });
     }
@@ -153,7 +153,7 @@ fn data_act(v: Facts, n: usize) -> Act
     if (status.phase == 0) | !e.write {
         return Act::Refuse(5);
     }
-    if (left_of(e) as usize) < n {
+    if verdicts::longer(left_of(e), n) {
         return Act::Refuse(6);
     }
     Act::Store(next_move(status, e, n))

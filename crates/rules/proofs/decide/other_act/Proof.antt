@@ -8,7 +8,7 @@ use Rattle.rules.proofs.decide.other_act.Reads as reads
 use Rattle.rules.proofs.decide.other_act.Lts as lts
 use Rattle.rules.proofs.decide.log_page.Reads as log-page-reads
 use Rattle.device_state.proofs.echo_of.Reads as echo-of-reads
-use Rattle.frame_parts.proofs.flag.Reads as flag-reads
+use Rattle.verdicts.proofs.zeroes.Reads as zeroes-reads
 
 echo-of-requires : tie.Need-echo-of-requires
 echo-of-requires c κs = search needs
@@ -16,8 +16,8 @@ echo-of-requires c κs = search needs
 log-page-requires : tie.Need-log-page-requires
 log-page-requires c κs = search needs
 
-flag-requires : tie.Need-flag-requires
-flag-requires c κs = search needs
+zeroes-requires : tie.Need-zeroes-requires
+zeroes-requires c κs = search needs
 
 returns : tie.Need-returns
 unfolding otherAct pick
@@ -33,7 +33,7 @@ returns-3 c = rw (← c .before .before .before .before .before .before .before 
 
 returns-4 : tie.Need-returns-4
 unfolding otherAct pick
-returns-4 c = rw (← c .before .before .before .before .before .before .before .before .echo-of .ensures, ← c .before .before .before .before .before .before .before .log-page .ensures, c .before .before .before .before .if1 .left, c .before .before .if2 .left, ne-eqb _ 0x10 (c .before .if3 .left), eq-eqb _ 0x11 (c .if4 .taken), ← c .before .before .before .before .before .before .flag .ensures)
+returns-4 c = rw (← c .before .before .before .before .before .before .before .before .echo-of .ensures, ← c .before .before .before .before .before .before .before .log-page .ensures, c .before .before .before .before .if1 .left, c .before .before .if2 .left, ne-eqb _ 0x10 (c .before .if3 .left), eq-eqb _ 0x11 (c .if4 .taken), ← c .before .before .before .before .before .before .zeroes .ensures)
 
 returns-5 : tie.Need-returns-5
 unfolding otherAct pick
@@ -45,7 +45,7 @@ other-act-spec =
     (tie.spec
     echo-of-requires
     log-page-requires
-    flag-requires
+    zeroes-requires
     returns
     returns-2
     returns-3
