@@ -2,11 +2,10 @@
 use mathlib.Core.Path.{_≡_, refl, sym, ap, subst, _∙_}
 use mathlib.Core.Bool.{Bool, true, false, not, _&&_, _||_}
 use mathlib.Core.List.{[], _∷_}
-use Prim.Native.Nat.{ℕ, _+_, _-_, _≤_}
-use native.Mathlib.Omega.{arith}
-use lib.Dec.{ltb, eqb}
+use Prim.Native.Nat.{ℕ}
+use lib.Dec.{eqb}
 use mathlib.Core.Logic.{⊎-elim}
-use borrow.Author.Tests.{eqb-true, not-false, ltb-true, ltb-false, lt-ltb, le-ltb}
+use borrow.Author.Tests.{eqb-true, not-false}
 use Rattle.bits.specs.Pick.{pick}
 use Rattle.bits.specs.First.{firstOf, FirstExactly, rung}
 use Rattle.bits.proofs.Picks.{by-test, tested, pick-yes, pick-no}
@@ -64,13 +63,6 @@ pub lent-passed : (v : Facts) (f : Frame) (n : ℕ) → n ≡ lentOf v → not (
 unfolding decided
 lent-passed v f n e h =
     sym (lent-first (v .contradicts) (v .«medium_wrong») (v .«reply_short») (wrongKind f) (wrongTime v f) (wrongSize v f) (frameAct v f) ∙ pick-no (not (eqb (lentOf v) 0)) (Refuse (lentOf v)) (kindAct v f) (rw e at h))
-
--- a sum compared without wrap
-pub far-test : (most first count : ℕ) → first ≤ most → ltb (most - first) count ≡ ltb most (first + count)
-far-test most first count h =
-    ⊎-elim (λ (t : ltb (most - first) count ≡ true). t ∙ sym (lt-ltb most (first + count) (let l = ltb-true (most - first) count t in omega arith)))
-    (λ (f : ltb (most - first) count ≡ false). f ∙ sym (le-ltb most (first + count) (let l = ltb-false (most - first) count f in omega arith)))
-    (tested (ltb (most - first) count))
 
 -- 5 for a register frame, and then its rules
 timed : (command wrong queued : Bool) (a b c : Act) → decided (firstOf (rung 4 false ∷ rung 5 (command && wrong) ∷ rung 6 false ∷ [])) (pick (not command) a (pick queued b c)) ≡ pick (not command) a (pick wrong (Refuse 5) (pick queued b c))

@@ -15,12 +15,16 @@ use Rattle.frames.specs.Read.{readFrame}
 use Rattle.frames.specs.declared.shapes.HostReg.{HostReg}
 use Rattle.frames.specs.declared.shapes.Frame.{Frame}
 use Rattle.frames.specs.declared.shapes.Frame.the-variants.{Host, Device, Bits, Setup, Activate, Data, Bist, Pio, Refused}
+use Rattle.verdicts.specs.Range.{tooFar}
+use Rattle.verdicts.specs.Queued.{tagRefused}
+use Rattle.verdicts.specs.declared.commands.QueuedRule.{QueuedRule}
+use Rattle.verdicts.specs.declared.commands.OtherRule.{OtherRule}
 use Rattle.device_state.specs.Clauses.{rowRefused}
 use Rattle.rules.specs.Call.{Call, hostFrame, openPhase, sendData, finishTags, mediaError, linkEvent, comReset}
 use Rattle.rules.specs.Handed.{handed}
 use Rattle.rules.specs.Positions.{leftOf, moveOf}
 use Rattle.rules.specs.Tests.{wrongKind, wrongTime, wrongSize, allMoved, outside, tests}
-use Rattle.rules.specs.Decide.{bad, fault, tagAsked, countAsked, entryFor, pageAsked, isQueued, queuedAct, otherAct, controlAct, registerAct, frameAct}
+use Rattle.rules.specs.Decide.{bad, fault, tagAsked, countAsked, entryFor, pageAsked, isQueued, queuedDoes, queuedAct, otherDoes, otherAct, controlAct, registerAct, frameAct}
 use Rattle.rules.specs.Act.{failing, does, decided, act}
 use Rattle.rules.specs.Number.{numberOf}
 use Rattle.rules.specs.Medium.{leaves, touchOf, nowhere, spanOf}
@@ -145,30 +149,22 @@ module _ (v : Facts) where
   queued-heard : (h : HostReg) → TimelyCommand v h true → Heard v (Host h) (queuedAct v h)
   unfolding queuedAct
   queued-heard h c =
-      let R : Act → Type 0 = Heard v (Host h) in
-      let far : Bool = ltb (v .settings .capacity) (h .task .lba + countAsked h) in
-      let used : Bool = leb (v .settings .depth) (tagAsked h) || bitIn 32 (v .status .outstanding) (tagAsked h) in
-      let good : Act = Accept (record { tag = tagAsked h; entry = entryFor h }) in
-      let third : Act = pick far (fault h false (tagAsked h) 0x10) good in
-      by-test R (v .status .halted) (bad h 0x04) (pick used (fault h false (tagAsked h) 0x04) third) (rule1 h c)
-      (λ x. by-test R used (fault h false (tagAsked h) 0x04) third (rule2 h c x)
-      (λ u. by-test R far (fault h false (tagAsked h) 0x10) good (rule3 h c x u) (rule4 h c x u)))
+      let R : QueuedRule → Type 0 = λ r. Heard v (Host h) (queuedDoes h r) in
+      let far : Bool = tooFar (v .settings .capacity) (h .task .lba) (countAsked h) in
+      let used : Bool = tagRefused (v .settings .depth) (tagAsked h) (bitIn 32 (v .status .outstanding) (tagAsked h)) in
+      by-test R (v .status .halted) _ _ (rule1 h c) (λ x. by-test R used _ _ (rule2 h c x) (λ u. by-test R far _ _ (rule3 h c x u) (rule4 h c x u)))
 
   other-heard : (h : HostReg) → TimelyCommand v h false → Heard v (Host h) (otherAct v h)
   unfolding otherAct
   other-heard h c =
-      let R : Act → Type 0 = Heard v (Host h) in
-      let ten : Act = Log10 (h .task) in
-      let eleven : Act = Log11 (record { zero = bitIn 8 (h .features) 0; task = h .task }) in
-      let fourth : Act = pick (eqb (pageAsked h) 0x11) eleven (bad h 0x04) in
-      let third : Act = pick (eqb (pageAsked h) 0x10) ten fourth in
+      let R : OtherRule → Type 0 = λ r. Heard v (Host h) (otherDoes h r) in
       let asked : Bool = eqb (pageAsked h) 0x10 in
-      by-test R (v .status .halted && not asked) (bad h 0x04) (pick (not (eqb (v .status .outstanding) 0)) (fault h true 0 0x04) third) (λ x. other-halted h c (and-left (v .status .halted) (not asked) x))
-      (λ x. by-test R (not (eqb (v .status .outstanding) 0)) (fault h true 0 0x04) third (λ y. other-busy h c (not-true (eqb (v .status .outstanding) 0) y))
+      by-test R (v .status .halted && not asked) _ _ (λ x. other-halted h c (and-left (v .status .halted) (not asked) x))
+      (λ x. by-test R (not (eqb (v .status .outstanding) 0)) _ _ (λ y. other-busy h c (not-true (eqb (v .status .outstanding) 0) y))
       (λ z. let e = not-false (eqb (v .status .outstanding) 0) z in
-      by-test R asked ten fourth (page10 h c e)
+      by-test R asked _ _ (page10 h c e)
       (λ n. let q = and-other (v .status .halted) asked x n in
-      by-test R (eqb (pageAsked h) 0x11) eleven (bad h 0x04) (page11 h c q e) (λ _. other-bad h c q e))))
+      by-test R (eqb (pageAsked h) 0x11) _ _ (page11 h c q e) (λ _. other-bad h c q e))))
 
   register-heard : (h : HostReg) → h .«command_bit» && (v .status .held || v .«link_busy») ≡ false → Heard v (Host h) (registerAct v h)
   unfolding registerAct

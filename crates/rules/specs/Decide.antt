@@ -1,13 +1,20 @@
 -- What a host frame makes the device do where it is not turned down: the first rule that holds. Assumes nothing.
-use mathlib.Core.Bool.{Bool, true, false, not, _&&_, _||_}
-use Prim.Native.Nat.{ℕ, _+_}
-use lib.Dec.{ltb, leb, eqb}
+use mathlib.Core.Bool.{Bool, not, _&&_, _||_}
+use Prim.Native.Nat.{ℕ}
+use lib.Dec.{eqb}
 use Rattle.bits.specs.Pick.{pick}
 use Rattle.bits.specs.Bit.{bitIn}
 use Rattle.frame_parts.specs.Shared.{tagOf, sectorsOf, srstOf}
 use Rattle.frames.specs.declared.shapes.HostReg.{HostReg}
 use Rattle.frames.specs.declared.shapes.Frame.{Frame}
 use Rattle.frames.specs.declared.shapes.Frame.the-variants.{Host, Device, Bits, Setup, Activate, Data, Bist, Pio, Refused}
+use Rattle.verdicts.specs.Range.{tooFar}
+use Rattle.verdicts.specs.Queued.{tagRefused, queuedRule}
+use Rattle.verdicts.specs.Other.{otherRule, zeroes}
+use Rattle.verdicts.specs.declared.commands.QueuedRule.{QueuedRule}
+use Rattle.verdicts.specs.declared.commands.QueuedRule.the-variants as queued
+use Rattle.verdicts.specs.declared.commands.OtherRule.{OtherRule}
+use Rattle.verdicts.specs.declared.commands.OtherRule.the-variants as other
 use Rattle.device_state.specs.State.{echoOf}
 use Rattle.rules.specs.Positions.{moveOf}
 use Rattle.device_state.specs.declared.shapes.Echo.{Echo}
@@ -44,13 +51,18 @@ entryFor h = record {
   echo = echoOf (h .task);
 }
 
--- queued command, first rule that holds: 1 halted; 2 tag at or above the depth, or already outstanding; 3 first sector + count above capacity; 4 otherwise good
+-- what a rule of a queued command makes the device do
+abbrev pub queuedDoes : HostReg → QueuedRule → Act
+queuedDoes h (queued.Bad e) = bad h e
+queuedDoes h (queued.Fault k) = fault h (k .nq) (tagAsked h) (k .error)
+queuedDoes h queued.Good = Accept (record { tag = tagAsked h; entry = entryFor h })
+
+-- queued command: what the first rule that holds says
 unfoldable pub queuedAct : Facts → HostReg → Act
 queuedAct v h =
-    pick (v .status .halted) (bad h 0x04)
-    (pick (leb (v .settings .depth) (tagAsked h) || bitIn 32 (v .status .outstanding) (tagAsked h)) (fault h false (tagAsked h) 0x04)
-    (pick (ltb (v .settings .capacity) (h .task .lba + countAsked h)) (fault h false (tagAsked h) 0x10)
-    (Accept (record { tag = tagAsked h; entry = entryFor h }))))
+    queuedDoes h
+    (queuedRule (v .status .halted) (tagRefused (v .settings .depth) (tagAsked h) (bitIn 32 (v .status .outstanding) (tagAsked h)))
+    (tooFar (v .settings .capacity) (h .task .lba) (countAsked h)))
 
 -- READ LOG EXT (2Fh) is well-formed if byte 4 is 10h or 11h, bytes 5 and 9 are 0, byte 12 is 1 and 13 is 0; its page, else 0
 unfoldable pub logPage : ℕ → Echo → ℕ
@@ -61,13 +73,16 @@ logPage command e =
 abbrev pub pageAsked : HostReg → ℕ
 pageAsked h = logPage (h .command) (echoOf (h .task))
 
--- any other command: halted and not a well-formed READ LOG EXT of page 10h: bad; something outstanding: bad, halt with NQ; page 10h; page 11h; otherwise bad, no halt
+-- what a rule of any other command makes the device do; a halt is for no tag
+abbrev pub otherDoes : HostReg → OtherRule → Act
+otherDoes h (other.Bad e) = bad h e
+otherDoes h (other.Fault k) = fault h (k .nq) 0 (k .error)
+otherDoes h other.Page10 = Log10 (h .task)
+otherDoes h other.Page11 = Log11 (record { zero = zeroes (h .features); task = h .task })
+
+-- any other command: what the first rule that holds says
 unfoldable pub otherAct : Facts → HostReg → Act
-otherAct v h =
-    pick (v .status .halted && not (eqb (pageAsked h) 0x10)) (bad h 0x04)
-    (pick (not (eqb (v .status .outstanding) 0)) (fault h true 0 0x04)
-    (pick (eqb (pageAsked h) 0x10) (Log10 (h .task))
-    (pick (eqb (pageAsked h) 0x11) (Log11 (record { zero = bitIn 8 (h .features) 0; task = h .task })) (bad h 0x04))))
+otherAct v h = otherDoes h (otherRule (v .status .halted) (pageAsked h) (not (eqb (v .status .outstanding) 0)))
 
 -- control frame with SRST: reset; with SRST 0: if held, release; otherwise nothing
 unfoldable pub controlAct : Facts → HostReg → Act

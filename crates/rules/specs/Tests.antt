@@ -1,14 +1,16 @@
 -- What a call is turned down for: its row of the refusal table, in the order in which it is tried. Assumes nothing.
 use mathlib.Core.Bool.{Bool, true, false, not, _&&_, _||_}
 use mathlib.Core.List.{List, [], _∷_}
-use Prim.Native.Nat.{ℕ, _+_}
-use lib.Dec.{ltb, leb, eqb}
+use Prim.Native.Nat.{ℕ}
+use lib.Dec.{eqb}
 use Rattle.bits.specs.First.{Rung, rung}
 use Rattle.bits.specs.Bit.{bitIn}
 use Rattle.frames.specs.Read.{readFrame}
 use Rattle.frames.specs.declared.shapes.Frame.{Frame}
 use Rattle.frames.specs.declared.shapes.Frame.the-variants.{Host, Device, Bits, Setup, Activate, Data, Bist, Pio, Refused}
 use Rattle.refusals.specs.Ladders.{hostLadder, openLadder, sendLadder, finishLadder, mediaLadder, linkLadder, comresetLadder}
+use Rattle.verdicts.specs.Range.{outsideOf}
+use Rattle.verdicts.specs.Moved.{longer, wholly, notReady}
 use Rattle.device_state.specs.State.{wholeOf}
 use Rattle.device_state.specs.Table.{someBelow, entryOf}
 use Rattle.device_state.specs.Clauses.{rowRefused}
@@ -48,7 +50,7 @@ wrongSize v (Device f) = false
 wrongSize v (Bits f) = false
 wrongSize v (Setup f) = false
 wrongSize v Activate = false
-wrongSize v (Data n) = ltb (leftOf (v .entry)) n
+wrongSize v (Data n) = longer (leftOf (v .entry)) n
 wrongSize v Bist = false
 wrongSize v (Pio f) = false
 wrongSize v Refused = false
@@ -67,7 +69,7 @@ idleTag v tag = not (bitIn 32 (v .status .outstanding) tag)
 
 -- 9: wholly moved
 abbrev pub allMoved : Entry → Bool
-allMoved e = eqb (e .moved) (wholeOf (e .count))
+allMoved e = wholly (e .moved) (wholeOf (e .count))
 
 -- 10: no read phase
 abbrev pub noReadPhase : Facts → Bool
@@ -75,7 +77,7 @@ noReadPhase v = eqb (v .status .phase) 0 || v .entry .write
 
 -- 11: a tag of the set that is not outstanding or not wholly moved
 abbrev pub unready : Entry → Bool → Bool → Bool
-unready e asked busy = asked && (not busy || not (allMoved e))
+unready e asked busy = notReady asked busy (e .moved) (wholeOf (e .count))
 
 -- of tag t, in the table
 abbrev pub unreadyAt : List Entry → ℕ → ℕ → ℕ → Bool
@@ -87,7 +89,7 @@ someUnready es outstanding set = someBelow 32 (unreadyAt es outstanding set)
 
 -- 12: a sector outside the command
 abbrev pub outside : Entry → ℕ → Bool
-outside e sector = ltb sector (e .first) || leb (e .first + e .count) sector
+outside e sector = outsideOf (e .first) (e .count) sector
 
 -- the refusal table: a call's tests, the lowest number first
 unfoldable pub tests : Facts → Call → List Rung

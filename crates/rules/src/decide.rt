@@ -1,7 +1,5 @@
 // What a host frame makes the device do: the first rule that holds.
 ghost use mathlib.Core.Path.{_≡_};
-ghost use Prim.Native.Nat.{_+_};
-ghost use lib.Dec.{ltb};
 ghost use Rattle.frames.specs.declared.shapes.Frame.the-variants.{Host, Data, Bist};
 ghost use Rattle.rules.specs.Decide.{queuedAct, logPage, otherAct, controlAct};
 ghost use Rattle.rules.specs.Act.{kindAct, heardAct};
@@ -18,17 +16,8 @@ use device_state::Entry;
 use device_state::echo_of;
 use frames::Frame;
 use frames::HostReg;
-
-// First sector + count above capacity, compared without wrap.
-fn too_far(capacity: u32, first: u64, count: u32) -> bool
-    ensures { λ r. ⌜ r ≡ ltb capacity (first + count) ⌝ }
-{
-    let most = capacity as u64;
-    if most < first {
-        return true;
-    }
-    most - first < count as u64
-}
+use verdicts::OtherRule;
+use verdicts::QueuedRule;
 
 // Rules 1 to 4 of a queued command.
 fn queued_act(v: Facts, h: HostReg) -> Act
@@ -41,36 +30,37 @@ fn queued_act(v: Facts, h: HostReg) -> Act
     let tag = frame_parts::tag_of(task.count);
     let count = frame_parts::sectors_of(h.features, h.features_high);
     let busy = bits::bit(status.outstanding, tag as u32);
-    if status.halted {
-        return Act::Bad(BadReply { error: 0x04, task });
-    }
-    if (settings.depth <= tag as u32) | busy {
-        return Act::BadAndHalt(Fault {
-            nq: false,
-            tag,
-            error: 0x04,
-            echo,
-        });
-    }
     let first = task.lba;
-    if too_far(settings.capacity, first, count) {
-        return Act::BadAndHalt(Fault {
-            nq: false,
-            tag,
-            error: 0x10,
-            echo,
-        });
-    }
-    let entry = Entry {
-        write: h.command == 0x61,
-        first: first as u32,
+    let rule = verdicts::queued_rule(
+        status.halted,
+        settings.depth,
+        tag,
+        busy,
+        settings.capacity,
+        first,
         count,
-        moved: 0,
-        features: h.features,
-        features_high: h.features_high,
-        echo,
-    };
-    Act::Accept(Queued { tag, entry })
+    );
+    match rule {
+        QueuedRule::Bad(error) => Act::Bad(BadReply { error, task }),
+        QueuedRule::Fault(k) => Act::BadAndHalt(Fault {
+            nq: k.nq,
+            tag,
+            error: k.error,
+            echo,
+        }),
+        QueuedRule::Good => {
+            let entry = Entry {
+                write: h.command == 0x61,
+                first: first as u32,
+                count,
+                moved: 0,
+                features: h.features,
+                features_high: h.features_high,
+                echo,
+            };
+            Act::Accept(Queued { tag, entry })
+        }
+    }
 }
 
 // 10h or 11h for a well-formed READ LOG EXT, otherwise 0.
@@ -92,25 +82,20 @@ fn other_act(v: Facts, h: HostReg) -> Act
     let status = v.status;
     let echo = echo_of(task);
     let page = log_page(h.command, echo);
-    let zero = frame_parts::flag(h.features, 0);
-    if status.halted & !(page == 0x10) {
-        return Act::Bad(BadReply { error: 0x04, task });
-    }
-    if !(status.outstanding == 0) {
-        return Act::BadAndHalt(Fault {
-            nq: true,
+    let zero = verdicts::zeroes(h.features);
+    let busy = !(status.outstanding == 0);
+    let rule = verdicts::other_rule(status.halted, page, busy);
+    match rule {
+        OtherRule::Bad(error) => Act::Bad(BadReply { error, task }),
+        OtherRule::Fault(k) => Act::BadAndHalt(Fault {
+            nq: k.nq,
             tag: 0,
-            error: 0x04,
+            error: k.error,
             echo,
-        });
+        }),
+        OtherRule::Page10 => Act::Log10(task),
+        OtherRule::Page11 => Act::Log11(CountersRead { zero, task }),
     }
-    if page == 0x10 {
-        return Act::Log10(task);
-    }
-    if page == 0x11 {
-        return Act::Log11(CountersRead { zero, task });
-    }
-    Act::Bad(BadReply { error: 0x04, task })
 }
 
 // A control frame.
@@ -153,7 +138,7 @@ fn data_act(v: Facts, n: usize) -> Act
     if (status.phase == 0) | !e.write {
         return Act::Refuse(5);
     }
-    if (left_of(e) as usize) < n {
+    if verdicts::longer(left_of(e), n) {
         return Act::Refuse(6);
     }
     Act::Store(next_move(status, e, n))

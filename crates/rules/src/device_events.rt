@@ -26,7 +26,7 @@ fn decided(number: u8, act: Act) -> Act
 fn all_moved(e: Entry) -> bool
     ensures { λ r. ⌜ r ≡ allMoved e ⌝ }
 {
-    e.moved == device_state::whole_of(e.count)
+    verdicts::wholly(e.moved, device_state::whole_of(e.count))
 }
 
 // Open a phase for a tag. A tag of 32 or more is not outstanding.
@@ -66,7 +66,7 @@ pub fn send_act(v: Facts) -> Act
 fn unready(e: Entry, asked: bool, busy: bool) -> bool
     ensures { λ r. ⌜ r ≡ unready e asked busy ⌝ }
 {
-    asked & (!busy | !all_moved(e))
+    verdicts::not_ready(asked, busy, e.moved, device_state::whole_of(e.count))
 }
 
 // One walk over the thirty-two entries.
@@ -124,12 +124,12 @@ pub fn media_act(v: Facts, tag: u8, error: u8, sector: u32) -> Act
     let entry = v.entry;
     let echo = failing(entry.echo, sector);
     let busy = bits::bit(status.outstanding, tag as u32);
-    let behind = (entry.first as u64) + (entry.count as u64) <= sector as u64;
+    let outside = verdicts::outside_of(entry.first, entry.count, sector);
     let number = refusals::media_number(
         v.contradicts,
         v.reply_short,
         !busy,
-        (error == 0) | ((sector < entry.first) | behind),
+        (error == 0) | outside,
     );
     decided(
         number,

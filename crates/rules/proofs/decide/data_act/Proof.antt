@@ -1,5 +1,3 @@
-use native.Mathlib.Omega.{arith}
-use borrow.Author.Tests.{lt-ltb, le-ltb}
 use Rattle.bits.specs.Pick.{pick}
 use Rattle.bits.specs.First.{firstOf}
 use Rattle.rules.specs.Tests.{wrongKind, wrongTime, wrongSize}
@@ -12,6 +10,7 @@ use Rattle.rules.proofs.decide.data_act.Reads as reads
 use Rattle.rules.proofs.decide.data_act.Lts as lts
 use Rattle.rules.proofs.facts.left_of.Reads as left-of-reads
 use Rattle.rules.proofs.facts.next_move.Reads as next-move-reads
+use Rattle.verdicts.proofs.longer.Reads as longer-reads
 
 returns : tie.Need-returns
 unfolding wrongKind wrongTime wrongSize frameAct decided firstOf pick
@@ -20,20 +19,20 @@ returns c = rw (c .if1 .taken)
 left-of-requires : tie.Need-left-of-requires
 left-of-requires c κs = search needs
 
-cast-if2 : tie.Need-cast-if2
-cast-if2 c = search needs
+longer-requires : tie.Need-longer-requires
+longer-requires c κs = search needs
 
 returns-2 : tie.Need-returns-2
 unfolding wrongKind wrongTime wrongSize frameAct decided firstOf pick
-returns-2 c = rw (c .before .before .if1 .left, ← c .before .left-of .ensures, lt-ltb (c .before .left-of .result) (c .before .before .before .before .before .before .before .args .n) (omega (arith, c .if2 .taken)))
+returns-2 c = rw (c .before .before .before .if1 .left, ← c .before .before .left-of .ensures, ← c .before .longer .ensures, c .if2 .taken)
 
 next-move-requires : tie.Need-next-move-requires
 next-move-requires c κs = search needs
 
 returns-3 : tie.Need-returns-3
 unfolding wrongKind wrongTime wrongSize frameAct decided firstOf pick
-returns-3 c = rw (c .before .before .before .if1 .left, ← c .before .before .left-of .ensures, le-ltb (c .before .before .left-of .result) (c .before .before .before .before .before .before .before .before .args .n) (omega (arith, c .before .if2 .left)), c .next-move .ensures)
+returns-3 c = rw (c .before .before .before .before .if1 .left, ← c .before .before .before .left-of .ensures, ← c .before .before .longer .ensures, c .before .if2 .left, c .next-move .ensures)
 
 pub data-act-spec : {M : Type 1} → statement M
 data-act-spec =
-    tie.close (tie.spec returns left-of-requires cast-if2 returns-2 next-move-requires returns-3)
+    tie.close (tie.spec returns left-of-requires longer-requires returns-2 next-move-requires returns-3)

@@ -1,19 +1,20 @@
 use Prim.Native.Nat.{_+_}
-use Rattle.bits.specs.Pick.{pick}
-use mathlib.Core.Path.{sym, _∙_}
 use native.Mathlib.Omega.{arith}
 use borrow.Author.Tests.{ltb-false}
 use Rattle.rules.specs.Decide.{queuedAct}
+use Rattle.verdicts.specs.Range.{tooFar}
+use Rattle.verdicts.specs.Queued.{tagRefused}
+use Rattle.verdicts.proofs.Rules.{good-near}
 use borrow.Author.Needs.{needs}
 use Rattle.rules.proofs.decide.queued_act.Statement.{statement}
 use Rattle.rules.proofs.decide.queued_act.Tie as tie
 use Rattle.rules.proofs.decide.queued_act.Reads as reads
 use Rattle.rules.proofs.decide.queued_act.Lts as lts
 use Rattle.bits.proofs.bit.Reads as bit-reads
-use Rattle.rules.proofs.decide.too_far.Reads as too-far-reads
 use Rattle.device_state.proofs.echo_of.Reads as echo-of-reads
 use Rattle.frame_parts.proofs.sectors_of.Reads as sectors-of-reads
 use Rattle.frame_parts.proofs.tag_of.Reads as tag-of-reads
+use Rattle.verdicts.proofs.queued_rule.Reads as queued-rule-reads
 
 echo-of-requires : tie.Need-echo-of-requires
 echo-of-requires c κs = search needs
@@ -30,32 +31,38 @@ cast-bit c = search needs
 bit-requires : tie.Need-bit-requires
 bit-requires c κs = search needs
 
-returns : tie.Need-returns
-unfolding queuedAct pick
-returns c = rw (c .if1 .taken)
+queued-rule-requires : tie.Need-queued-rule-requires
+queued-rule-requires c κs = search needs
 
-cast-if2 : tie.Need-cast-if2
-cast-if2 c = search needs
+enum-known-rule : tie.Need-enum-known-rule
+enum-known-rule c = search needs
+
+enum-known-rule-2 : tie.Need-enum-known-rule-2
+enum-known-rule-2 c = search needs
+
+enum-told : tie.Need-enum-told
+enum-told c = search needs
+
+cast-t20 : tie.Need-cast-t20
+cast-t20 c =
+    let a = c .before .before .before .before .before .before .before .before .before .before .before .args in
+    let fits = c .before .before .before .before .before .before .before .before .before .before .before .good .0 .1 .1 .1 .1 .1 .1 .0 in
+    let used = tagRefused (a .v .settings .depth) (c .before .before .before .before .before .before .tag-of .result) (c .before .before .before .before .bit .result) in
+    let far = tooFar (a .v .settings .capacity) (a .h .task .lba) (c .before .before .before .before .before .sectors-of .result) in
+    let near = good-near (c .before .before .before .queued-rule .result) (a .v .status .halted) used far (c .before .enum-told .given .1) (c .before .before .before .queued-rule .ensures) in
+    omega (arith, fits, ltb-false (a .v .settings .capacity) (a .h .task .lba + c .before .before .before .before .before .sectors-of .result) near)
+
+returns : tie.Need-returns
+unfolding queuedAct
+returns c = rw (← c .before .before .before .before .before .before .tag-of .ensures, ← c .before .before .before .before .bit .ensures, ← c .before .before .before .before .before .sectors-of .ensures, ← c .before .before .before .queued-rule .ensures, c .before .rule .given .1)
 
 returns-2 : tie.Need-returns-2
-unfolding queuedAct pick
-returns-2 c = rw (c .before .before .if1 .left, ← c .before .before .before .before .before .tag-of .ensures, ← c .before .before .before .bit .ensures, c .if2 .taken, ← c .before .before .before .before .before .before .echo-of .ensures)
-
-too-far-requires : tie.Need-too-far-requires
-too-far-requires c κs = search needs
+unfolding queuedAct
+returns-2 c = rw (← c .before .before .before .before .before .before .tag-of .ensures, ← c .before .before .before .before .bit .ensures, ← c .before .before .before .before .before .sectors-of .ensures, ← c .before .before .before .queued-rule .ensures, c .before .rule2 .given .1, ← c .before .before .before .before .before .before .tag-of .ensures, ← c .before .before .before .before .before .before .before .echo-of .ensures)
 
 returns-3 : tie.Need-returns-3
-unfolding queuedAct pick
-returns-3 c = rw (c .before .before .before .before .if1 .left, ← c .before .before .before .before .before .before .before .tag-of .ensures, ← c .before .before .before .before .before .bit .ensures, c .before .before .if2 .left, ← c .before .before .before .before .before .before .sectors-of .ensures, ← c .before .too-far .ensures, c .if3 .taken, ← c .before .before .before .before .before .before .before .before .echo-of .ensures)
-
-cast-t12 : tie.Need-cast-t12
-cast-t12 c =
-    let a = c .before .before .before .before .before .before .before .before .before .before .before .before .before .args in
-    omega (arith, ltb-false (a .v .settings .capacity) (a .h .task .lba + c .before .before .before .before .before .before .before .sectors-of .result) (sym (c .before .before .too-far .ensures) ∙ c .before .if3 .left))
-
-returns-4 : tie.Need-returns-4
-unfolding queuedAct pick
-returns-4 c = rw (c .before .before .before .before .before .if1 .left, ← c .before .before .before .before .before .before .before .before .tag-of .ensures, ← c .before .before .before .before .before .before .bit .ensures, c .before .before .before .if2 .left, ← c .before .before .before .before .before .before .before .sectors-of .ensures, ← c .before .before .too-far .ensures, c .before .if3 .left, ← c .before .before .before .before .before .before .before .before .before .echo-of .ensures)
+unfolding queuedAct
+returns-3 c = rw (← c .before .before .before .before .before .before .tag-of .ensures, ← c .before .before .before .before .bit .ensures, ← c .before .before .before .before .before .sectors-of .ensures, ← c .before .before .before .queued-rule .ensures, c .before .enum-told .given .1, ← c .before .before .before .before .before .before .tag-of .ensures, ← c .before .before .before .before .before .sectors-of .ensures, ← c .before .before .before .before .before .before .before .echo-of .ensures)
 
 pub queued-act-spec : {M : Type 1} → statement M
 queued-act-spec =
@@ -66,10 +73,11 @@ queued-act-spec =
     sectors-of-requires
     cast-bit
     bit-requires
+    queued-rule-requires
+    enum-known-rule
+    enum-known-rule-2
+    enum-told
+    cast-t20
     returns
-    cast-if2
     returns-2
-    too-far-requires
-    returns-3
-    cast-t12
-    returns-4)
+    returns-3)

@@ -9,6 +9,7 @@ use Rattle.bits.proofs.bit.Reads as bit-reads
 use Rattle.rules.proofs.device_events.decided.Reads as decided-reads
 use Rattle.rules.proofs.device_events.failing.Reads as failing-reads
 use Rattle.refusals.proofs.media_number.Reads as media-number-reads
+use Rattle.verdicts.proofs.outside_of.Reads as outside-of-reads
 
 failing-requires : tie.Need-failing-requires
 failing-requires c κs = search needs
@@ -16,14 +17,8 @@ failing-requires c κs = search needs
 bit-requires : tie.Need-bit-requires
 bit-requires c κs = search needs
 
-cast-behind : tie.Need-cast-behind
-cast-behind c = search needs
-
-cast-behind-2 : tie.Need-cast-behind-2
-cast-behind-2 c = search needs
-
-add-behind : tie.Need-add-behind
-add-behind c = search needs
+outside-of-requires : tie.Need-outside-of-requires
+outside-of-requires c κs = search needs
 
 media-number-requires : tie.Need-media-number-requires
 media-number-requires c κs = search needs
@@ -33,7 +28,7 @@ decided-requires c κs = search needs
 
 returns : tie.Need-returns
 unfolding act tests does
-returns c = rw (c .decided .ensures, c .before .media-number .ensures, c .before .before .before .before .before .bit .ensures, c .before .before .before .before .before .before .failing .ensures)
+returns c = rw (c .decided .ensures, c .before .media-number .ensures, c .before .before .outside-of .ensures, c .before .before .before .bit .ensures, c .before .before .before .before .failing .ensures)
 
 pub media-act-spec : {M : Type 1} → statement M
 media-act-spec =
@@ -41,9 +36,7 @@ media-act-spec =
     (tie.spec
     failing-requires
     bit-requires
-    cast-behind
-    cast-behind-2
-    add-behind
+    outside-of-requires
     media-number-requires
     decided-requires
     returns)

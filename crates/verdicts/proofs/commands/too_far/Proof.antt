@@ -2,11 +2,11 @@ use mathlib.Core.Path.{sym}
 use Prim.Native.Nat.{_+_}
 use native.Mathlib.Omega.{arith}
 use borrow.Author.Tests.{lt-ltb}
-use Rattle.rules.proofs.Numbers.{far-test}
-use Rattle.rules.proofs.decide.too_far.Statement.{statement}
-use Rattle.rules.proofs.decide.too_far.Tie as tie
-use Rattle.rules.proofs.decide.too_far.Reads as reads
-use Rattle.rules.proofs.decide.too_far.Lts as lts
+use Rattle.verdicts.proofs.Ranges.{far-test}
+use Rattle.verdicts.proofs.commands.too_far.Statement.{statement}
+use Rattle.verdicts.proofs.commands.too_far.Tie as tie
+use Rattle.verdicts.proofs.commands.too_far.Reads as reads
+use Rattle.verdicts.proofs.commands.too_far.Lts as lts
 
 returns : tie.Need-returns
 returns c = sym (lt-ltb (c .before .args .capacity) (c .before .args .first + c .before .args .count) (omega arith))

@@ -1,0 +1,3 @@
+pub mod Ranges
+pub mod Rules
+pub mod Tied

@@ -1,0 +1,4 @@
+pub mod Range
+pub mod Moved
+pub mod Queued
+pub mod Other
