@@ -28,7 +28,8 @@ use Rattle.device.specs.Step.{shown}
 use Rattle.device.specs.declared.state.Device.{Device}
 use Rattle.device.proofs.Never.{and-never}
 use Rattle.history.specs.Replied.{some, isPio}
-use Rattle.history.specs.Logs.{readsLog, frameReads, frameZeroes}
+use Rattle.history.specs.Logs.{readsLog}
+use Rattle.history.specs.FrameReading.{frameReads, frameZeroes}
 use Rattle.history.proofs.Tally.{counted}
 use Rattle.history.proofs.Impact.{zeroed-values}
 

@@ -30,9 +30,9 @@ use Rattle.device.specs.After.{afterOf, haltWith, resetHeld, released, accepted
 use Rattle.device.specs.Step.{shown}
 use Rattle.device.specs.declared.state.Device.{Device}
 use Rattle.device.proofs.Doing.{heard-unsent}
-use Rattle.history.specs.FrameAsks.{registerAsks, frameAsks}
+use Rattle.history.specs.FrameAsks.{registerAsks}
+use Rattle.history.specs.FrameReading.{frameAsks, frameReplies}
 use Rattle.history.specs.Replied.{some, collect, dataIn}
-use Rattle.history.specs.Shapes.{frameReplies}
 use Rattle.history.proofs.Views.{sentIn}
 use Rattle.history.proofs.Marked.{Marked}
 use Rattle.history.proofs.Placed.{log-none, active-none}

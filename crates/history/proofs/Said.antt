@@ -14,7 +14,7 @@ use Rattle.frames.specs.declared.shapes.Frame.the-variants as fs
 use Rattle.pages.specs.Page10.{readLog}
 use Rattle.replies.specs.Replies.{logReplies, activateIf, page10Of}
 use Rattle.replies.specs.declared.shown.Shown.{Shown}
-use Rattle.history.specs.Logs.{frameReads}
+use Rattle.history.specs.FrameReading.{frameReads}
 use Rattle.history.specs.Replied.{some, setBitsIn, collect}
 use Rattle.history.specs.ReplyRules.{TellsError}
 use Rattle.history.proofs.Views.{pageIn}

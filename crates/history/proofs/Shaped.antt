@@ -14,10 +14,11 @@ use Rattle.frames.specs.declared.shapes.Frame.the-variants as fs
 use Rattle.rules.specs.Decide.{isQueued}
 use Rattle.replies.specs.Replies.{activateIf, logReplies}
 use Rattle.rules.specs.Call.{Call}
-use Rattle.history.specs.FrameAsks.{Asked, dataAsks, frameAsks}
+use Rattle.history.specs.FrameAsks.{Asked, dataAsks}
+use Rattle.history.specs.FrameReading.{frameAsks, frameReplies}
 use Rattle.history.specs.Reading.{callAsks, callReplies}
 use Rattle.history.specs.Replied.{some, errIn, registerIn, collect, faultyIn}
-use Rattle.history.specs.Shapes.{kindOf, OneOf, commandReplies, frameReplies}
+use Rattle.history.specs.Shapes.{kindOf, OneOf, commandReplies}
 
 -- the kinds of what is sent
 abbrev pub kindsOf : List FrameValue → List ℕ

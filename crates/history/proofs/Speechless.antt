@@ -16,8 +16,8 @@ use Rattle.pages.specs.Page10.{readLog}
 use Rattle.rules.specs.Call.{Call, hostFrame}
 use Rattle.device.specs.declared.state.Device.{Device}
 use Rattle.device.proofs.Never.{and-never}
-use Rattle.history.specs.FrameAsks.{Asked, frameAsks}
-use Rattle.history.specs.Logs.{frameReads}
+use Rattle.history.specs.FrameAsks.{Asked}
+use Rattle.history.specs.FrameReading.{frameAsks, frameReads}
 use Rattle.history.specs.Reading.{Speech, noneFinished, setFinished, errorTold, callAsks, callReads, callSays}
 use Rattle.history.specs.Replied.{some}
 use Rattle.history.specs.Seen.{Seen}

@@ -1,11 +1,9 @@
--- What can be asked for, as far as demand 3 reads it, and what a host frame asks for. Assumes nothing.
+-- What can be asked for, as far as demand 3 reads it. Assumes nothing.
 use mathlib.Core.Bool.{Bool, true, false, not, _&&_, _||_}
 use Prim.Native.Nat.{ℕ}
 use lib.Dec.{eqb}
 use Rattle.frame_parts.specs.Shared.{tagOf, sectorsOf, srstOf}
 use Rattle.frames.specs.declared.shapes.HostReg.{HostReg}
-use Rattle.frames.specs.declared.shapes.Frame.{Frame}
-use Rattle.frames.specs.declared.shapes.Frame.the-variants.{Host, Device, Bits, Setup, Activate, Data, Bist, Pio, Refused}
 
 -- a command; a queued one, whether it writes, its tag, first sector and count; a reset; the bytes of host data
 pub record Asked : Type 0 where
@@ -38,18 +36,6 @@ registerAsks h = record {
 -- 46h brings its payload
 abbrev pub dataAsks : ℕ → Asked
 dataAsks n = record { command = false; queued = false; write = false; tag = 0; first = 0; count = 0; resets = false; brings = n }
-
--- a host frame, by its kind
-abbrev pub frameAsks : Frame → Asked
-frameAsks (Host h) = registerAsks h
-frameAsks (Device f) = quiet
-frameAsks (Bits f) = quiet
-frameAsks (Setup f) = quiet
-frameAsks Activate = quiet
-frameAsks (Data n) = dataAsks n
-frameAsks Bist = quiet
-frameAsks (Pio f) = quiet
-frameAsks Refused = quiet
 
 -- COMRESET is a reset
 abbrev pub resetAsks : Asked

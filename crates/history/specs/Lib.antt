@@ -3,6 +3,7 @@ pub mod Replied
 pub mod FrameAsks
 pub mod Logs
 pub mod Shapes
+pub mod FrameReading
 pub mod Reading
 pub mod Asked
 pub mod Seen

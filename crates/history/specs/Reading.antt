@@ -8,9 +8,8 @@ use Rattle.frames.specs.Read.{readFrame}
 use Rattle.frames.specs.declared.shapes.Frame.{Frame}
 use Rattle.rules.specs.Call.{Call, hostFrame, openPhase, sendData, finishTags, mediaError, linkEvent, comReset}
 use Rattle.history.specs.Replied.{dataIn}
-use Rattle.history.specs.FrameAsks.{Asked, quiet, resetAsks, frameAsks}
-use Rattle.history.specs.Logs.{frameReads, frameZeroes}
-use Rattle.history.specs.Shapes.{frameReplies}
+use Rattle.history.specs.FrameAsks.{Asked, quiet, resetAsks}
+use Rattle.history.specs.FrameReading.{frameAsks, frameZeroes, frameReads, frameReplies}
 
 -- what a taken call says of commands: none is finished; just a set of tags is finished, without ERR; an error, by an A1h with ERR, and none is finished
 pub data Speech : Type 0 where
@@ -29,9 +28,9 @@ pub record Reading : Type 0 where
   pub says : Speech
   pub replies : List (List ℕ)
 
--- a host frame, read by the frame reader's own definition, by its kind
-abbrev pub frameReading : List ℕ → Frame → Reading
-frameReading p f = record { asks = frameAsks f; hostData = dataIn p f; row = 16; zeroes = λ on. frameZeroes on f; reads = λ page. frameReads page f; says = noneFinished; replies = frameReplies f }
+-- a host frame, read by the frame reader's own definition
+abbrev pub hostReading : List ℕ → Frame → Reading
+hostReading p f = record { asks = frameAsks f; hostData = dataIn p f; row = 16; zeroes = λ on. frameZeroes on f; reads = λ page. frameReads page f; says = noneFinished; replies = frameReplies f }
 
 -- a device event brings no host data, zeroes nothing and asks for no page
 abbrev pub deviceEvent : Asked → ℕ → Speech → List (List ℕ) → Reading
@@ -41,7 +40,7 @@ deviceEvent k r s rs = record { asks = k; hostData = []; row = r; zeroes = λ on
 -- A media error whose byte has bit 7 raises row 0 (001h), COMRESET row 9 (00Ah), a link event its row.
 -- Finish says just its set and no ERR, a media error says ERR, and no other call finishes anything
 abbrev pub readingOf : Call → Reading
-readingOf (hostFrame f) = frameReading f (readFrame f)
+readingOf (hostFrame f) = hostReading f (readFrame f)
 readingOf (openPhase t) = deviceEvent quiet 16 noneFinished ((0x41 ∷ []) ∷ (0x41 ∷ 0x39 ∷ []) ∷ [])
 readingOf sendData = deviceEvent quiet 16 noneFinished ((0x46 ∷ []) ∷ [])
 readingOf (finishTags s) = deviceEvent quiet 16 (setFinished s) ((0xA1 ∷ []) ∷ [])

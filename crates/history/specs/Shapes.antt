@@ -1,11 +1,10 @@
--- Replies by the kinds of their frames, and those that a taken host frame may have, in their order. Assumes nothing.
+-- Replies by the kinds of their frames, and those that a taken command or control frame may have, in their order. Assumes nothing.
 use mathlib.Core.Path.{_≡_}
 use mathlib.Core.Bool.{Bool}
 use mathlib.Core.List.{List, [], _∷_, map}
 use mathlib.Core.Logic.{_⊎_}
 use Prim.Native.Nat.{ℕ}
 use Rattle.bits.specs.Pick.{pick}
-use Rattle.frame_parts.specs.Shared.{srstOf}
 use Rattle.frames.specs.declared.shapes.Frame.{Frame}
 use Rattle.frames.specs.declared.shapes.Frame.the-variants.{Host, Device, Bits, Setup, Activate, Data, Bist, Pio, Refused}
 use Rattle.history.specs.Event.{Event}
@@ -39,15 +38,3 @@ commandReplies = (0x34 ∷ []) ∷ (0x5F ∷ 0x46 ∷ []) ∷ (0xA1 ∷ 0x5F ∷
 -- a control frame: with SRST no reply; with SRST 0 none, or the signature
 abbrev pub controlReplies : Bool → List (List ℕ)
 controlReplies srst = pick srst ([] ∷ []) ([] ∷ (0x34 ∷ []) ∷ [])
-
--- a host frame: 27h by its C; data none, or an Activate if more is left; BIST Activate none; a frame of any other kind is never taken, so that no reply will do
-abbrev pub frameReplies : Frame → List (List ℕ)
-frameReplies (Host h) = pick (h .«command_bit») commandReplies (controlReplies (srstOf (h .control)))
-frameReplies (Device f) = []
-frameReplies (Bits f) = []
-frameReplies (Setup f) = []
-frameReplies Activate = []
-frameReplies (Data n) = [] ∷ (0x39 ∷ []) ∷ []
-frameReplies Bist = [] ∷ []
-frameReplies (Pio f) = []
-frameReplies Refused = []

@@ -10,7 +10,7 @@ use Rattle.frames.specs.declared.shapes.Frame.{Frame}
 use Rattle.frames.specs.declared.shapes.Frame.the-variants.{Host, Device, Bits, Setup, Activate, Data, Bist, Pio, Refused}
 use Rattle.verdicts.specs.Range.{tooFar}
 use Rattle.verdicts.specs.Queued.{tagRefused, queuedRule}
-use Rattle.verdicts.specs.Other.{otherRule, zeroes}
+use Rattle.verdicts.specs.Other.{otherRule, logZeroes}
 use Rattle.verdicts.specs.declared.commands.QueuedRule.{QueuedRule}
 use Rattle.verdicts.specs.declared.commands.QueuedRule.the-variants as queued
 use Rattle.verdicts.specs.declared.commands.OtherRule.{OtherRule}
@@ -53,8 +53,8 @@ entryFor h = record {
 
 -- what a rule of a queued command makes the device do
 abbrev pub queuedDoes : HostReg → QueuedRule → Act
-queuedDoes h (queued.Bad e) = bad h e
-queuedDoes h (queued.Fault k) = fault h (k .nq) (tagAsked h) (k .error)
+queuedDoes h (queued.BadOnly e) = bad h e
+queuedDoes h (queued.Halts k) = fault h (k .nq) (tagAsked h) (k .error)
 queuedDoes h queued.Good = Accept (record { tag = tagAsked h; entry = entryFor h })
 
 -- queued command: what the first rule that holds says
@@ -75,10 +75,10 @@ pageAsked h = logPage (h .command) (echoOf (h .task))
 
 -- what a rule of any other command makes the device do; a halt is for no tag
 abbrev pub otherDoes : HostReg → OtherRule → Act
-otherDoes h (other.Bad e) = bad h e
-otherDoes h (other.Fault k) = fault h (k .nq) 0 (k .error)
+otherDoes h (other.BadOnly e) = bad h e
+otherDoes h (other.Halts k) = fault h (k .nq) 0 (k .error)
 otherDoes h other.Page10 = Log10 (h .task)
-otherDoes h other.Page11 = Log11 (record { zero = zeroes (h .features); task = h .task })
+otherDoes h other.Page11 = Log11 (record { zero = logZeroes (h .features); task = h .task })
 
 -- any other command: what the first rule that holds says
 unfoldable pub otherAct : Facts → HostReg → Act

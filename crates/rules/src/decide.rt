@@ -41,8 +41,8 @@ fn queued_act(v: Facts, h: HostReg) -> Act
         count,
     );
     match rule {
-        QueuedRule::Bad(error) => Act::Bad(BadReply { error, task }),
-        QueuedRule::Fault(k) => Act::BadAndHalt(Fault {
+        QueuedRule::BadOnly(error) => Act::Bad(BadReply { error, task }),
+        QueuedRule::Halts(k) => Act::BadAndHalt(Fault {
             nq: k.nq,
             tag,
             error: k.error,
@@ -82,12 +82,12 @@ fn other_act(v: Facts, h: HostReg) -> Act
     let status = v.status;
     let echo = echo_of(task);
     let page = log_page(h.command, echo);
-    let zero = verdicts::zeroes(h.features);
+    let zero = verdicts::log_zeroes(h.features);
     let busy = !(status.outstanding == 0);
     let rule = verdicts::other_rule(status.halted, page, busy);
     match rule {
-        OtherRule::Bad(error) => Act::Bad(BadReply { error, task }),
-        OtherRule::Fault(k) => Act::BadAndHalt(Fault {
+        OtherRule::BadOnly(error) => Act::Bad(BadReply { error, task }),
+        OtherRule::Halts(k) => Act::BadAndHalt(Fault {
             nq: k.nq,
             tag: 0,
             error: k.error,

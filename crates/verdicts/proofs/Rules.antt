@@ -4,11 +4,11 @@ use mathlib.Core.Bool.{Bool, true, false, true≢false}
 use Rattle.bits.specs.Pick.{pick}
 use Rattle.verdicts.specs.Queued.{queuedRule}
 use Rattle.verdicts.specs.declared.commands.QueuedRule.{QueuedRule}
-use Rattle.verdicts.specs.declared.commands.QueuedRule.the-variants.{Bad, Fault, Good}
+use Rattle.verdicts.specs.declared.commands.QueuedRule.the-variants.{BadOnly, Halts, Good}
 
 abbrev isGood : QueuedRule → Bool
-isGood (Bad e) = false
-isGood (Fault k) = false
+isGood (BadOnly e) = false
+isGood (Halts k) = false
 isGood Good = true
 
 -- a good queued command ends at or below capacity

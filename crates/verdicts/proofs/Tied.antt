@@ -2,7 +2,7 @@
 use Rattle.verdicts.specs.Range.{tooFar, outsideOf}
 use Rattle.verdicts.specs.Moved.{longer, wholly, notReady}
 use Rattle.verdicts.specs.Queued.{tagRefused, queuedRule}
-use Rattle.verdicts.specs.Other.{otherRule, zeroes}
+use Rattle.verdicts.specs.Other.{otherRule, logZeroes}
 use mathlib.Core.Path.{_≡_, refl}
 use Rattle.bits.specs.Contract.{Tied}
 use Rattle.bits.proofs.Tying.{say, named}
@@ -16,8 +16,8 @@ tied-queued-rule = named (say (λ κs a. tt) (λ κs a r ws p. p)) (λ κs a ws 
 pub tied-other-rule : Tied commands.other_rule.ended commands.other_rule.Reads.Asked commands.other_rule.Reads.Post (λ κs a r ws. r ≡ otherRule (a .0) (a .1 .0) (a .1 .1 .0))
 tied-other-rule = named (say (λ κs a. tt) (λ κs a r ws p. p)) (λ κs a ws ws′. refl)
 
-pub tied-zeroes : Tied commands.zeroes.ended commands.zeroes.Reads.Asked commands.zeroes.Reads.Post (λ κs a r ws. r ≡ zeroes (a .0))
-tied-zeroes = named (say (λ κs a. tt) (λ κs a r ws p. p)) (λ κs a ws ws′. refl)
+pub tied-log-zeroes : Tied commands.log_zeroes.ended commands.log_zeroes.Reads.Asked commands.log_zeroes.Reads.Post (λ κs a r ws. r ≡ logZeroes (a .0))
+tied-log-zeroes = named (say (λ κs a. tt) (λ κs a r ws p. p)) (λ κs a ws ws′. refl)
 
 pub tied-longer : Tied moving.longer.ended moving.longer.Reads.Asked moving.longer.Reads.Post (λ κs a r ws. r ≡ longer (a .0) (a .1 .0))
 tied-longer = named (say (λ κs a. tt) (λ κs a r ws p. p)) (λ κs a ws ws′. refl)

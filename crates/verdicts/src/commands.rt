@@ -2,7 +2,7 @@
 ghost use mathlib.Core.Path.{_≡_};
 ghost use Rattle.verdicts.specs.Range.{tooFar};
 ghost use Rattle.verdicts.specs.Queued.{tagRefused, queuedRule};
-ghost use Rattle.verdicts.specs.Other.{otherRule, zeroes};
+ghost use Rattle.verdicts.specs.Other.{otherRule, logZeroes};
 
 // A halt: NQ, and the error that its record holds.
 pub struct Halting {
@@ -12,15 +12,15 @@ pub struct Halting {
 
 // A queued command: bad with an error; bad with a halt; good.
 pub enum QueuedRule {
-    Bad(u8),
-    Fault(Halting),
+    BadOnly(u8),
+    Halts(Halting),
     Good,
 }
 
 // Any other command: bad with an error; bad with a halt; page 10h; page 11h.
 pub enum OtherRule {
-    Bad(u8),
-    Fault(Halting),
+    BadOnly(u8),
+    Halts(Halting),
     Page10,
     Page11,
 }
@@ -49,16 +49,16 @@ pub fn queued_rule(
     ensures { λ r. ⌜ r ≡ queuedRule halted (tagRefused depth tag busy) (tooFar capacity first count) ⌝ }
 {
     if halted {
-        return QueuedRule::Bad(0x04);
+        return QueuedRule::BadOnly(0x04);
     }
     if (depth <= tag as u32) | busy {
-        return QueuedRule::Fault(Halting {
+        return QueuedRule::Halts(Halting {
             nq: false,
             error: 0x04,
         });
     }
     if too_far(capacity, first, count) {
-        return QueuedRule::Fault(Halting {
+        return QueuedRule::Halts(Halting {
             nq: false,
             error: 0x10,
         });
@@ -71,10 +71,10 @@ pub fn other_rule(halted: bool, page: u8, busy: bool) -> OtherRule
     ensures { λ r. ⌜ r ≡ otherRule halted page busy ⌝ }
 {
     if halted & !(page == 0x10) {
-        return OtherRule::Bad(0x04);
+        return OtherRule::BadOnly(0x04);
     }
     if busy {
-        return OtherRule::Fault(Halting {
+        return OtherRule::Halts(Halting {
             nq: true,
             error: 0x04,
         });
@@ -85,12 +85,12 @@ pub fn other_rule(halted: bool, page: u8, busy: bool) -> OtherRule
     if page == 0x11 {
         return OtherRule::Page11;
     }
-    OtherRule::Bad(0x04)
+    OtherRule::BadOnly(0x04)
 }
 
 // Page 11h, by the features of the command that asks for it.
-pub fn zeroes(features: u8) -> bool
-    ensures { λ r. ⌜ r ≡ zeroes features ⌝ }
+pub fn log_zeroes(features: u8) -> bool
+    ensures { λ r. ⌜ r ≡ logZeroes features ⌝ }
 {
     bits::bit(features as u32, 0)
 }

@@ -7,7 +7,7 @@ pub use commands::OtherRule;
 pub use commands::QueuedRule;
 pub use commands::other_rule;
 pub use commands::queued_rule;
-pub use commands::zeroes;
+pub use commands::log_zeroes;
 pub use moving::longer;
 pub use moving::not_ready;
 pub use moving::outside_of;

@@ -7,7 +7,7 @@ use Rattle.rules.proofs.decide.other_act.Lts as lts
 use Rattle.device_state.proofs.echo_of.Reads as echo-of-reads
 use Rattle.rules.proofs.decide.log_page.Reads as log-page-reads
 use Rattle.verdicts.proofs.other_rule.Reads as other-rule-reads
-use Rattle.verdicts.proofs.zeroes.Reads as zeroes-reads
+use Rattle.verdicts.proofs.log_zeroes.Reads as log-zeroes-reads
 
 echo-of-requires : tie.Need-echo-of-requires
 echo-of-requires c κs = search needs
@@ -15,8 +15,8 @@ echo-of-requires c κs = search needs
 log-page-requires : tie.Need-log-page-requires
 log-page-requires c κs = search needs
 
-zeroes-requires : tie.Need-zeroes-requires
-zeroes-requires c κs = search needs
+log-zeroes-requires : tie.Need-log-zeroes-requires
+log-zeroes-requires c κs = search needs
 
 other-rule-requires : tie.Need-other-rule-requires
 other-rule-requires c κs = search needs
@@ -47,7 +47,7 @@ returns-3 c = rw (← c .before .before .before .before .before .before .echo-of
 
 returns-4 : tie.Need-returns-4
 unfolding otherAct
-returns-4 c = rw (← c .before .before .before .before .before .before .echo-of .ensures, ← c .before .before .before .before .before .log-page .ensures, ← c .before .before .other-rule .ensures, c .enum-told2 .given .1, ← c .before .before .before .before .zeroes .ensures)
+returns-4 c = rw (← c .before .before .before .before .before .before .echo-of .ensures, ← c .before .before .before .before .before .log-page .ensures, ← c .before .before .other-rule .ensures, c .enum-told2 .given .1, ← c .before .before .before .before .log-zeroes .ensures)
 
 pub other-act-spec : {M : Type 1} → statement M
 other-act-spec =
@@ -55,7 +55,7 @@ other-act-spec =
     (tie.spec
     echo-of-requires
     log-page-requires
-    zeroes-requires
+    log-zeroes-requires
     other-rule-requires
     enum-known-rule
     enum-known-rule-2
