@@ -4,6 +4,7 @@ use Rattle.bits.specs.Bit.{bitIn, clearIn, withBitIn}
 use Rattle.bits.specs.Laid.{over}
 use Rattle.bits.specs.Little.{NumberGiven, byteOf}
 use denote.Ref.{now}
+use lib.Count.{ones}
 use lib.Dec.{leb}
 use lib.ListN.{getD, length}
 use mathlib.Core.Path.{_≡_, refl}
@@ -33,3 +34,6 @@ tied-with-bit = named (say (λ κs a. tt) (λ κs a r ws p. p)) (λ κs a ws ws�
 
 pub tied-without : Tied mask.without.ended mask.without.Reads.Asked mask.without.Reads.Post (λ κs a r ws. r ≡ clearIn 32 (a .0) (a .1 .0))
 tied-without = named (say (λ κs a. tt) (λ κs a r ws p. p)) (λ κs a ws ws′. refl)
+
+pub tied-ones : Tied mask.ones.ended mask.ones.Reads.Asked mask.ones.Reads.Post (λ κs a r ws. r ≡ ones (a .0))
+tied-ones = named (say (λ κs a. tt) (λ κs a r ws p. p)) (λ κs a ws ws′. refl)

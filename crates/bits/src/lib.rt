@@ -8,5 +8,6 @@ pub use little::byte;
 pub use little::byte_at;
 pub use little::le;
 pub use mask::bit;
+pub use mask::ones;
 pub use mask::with_bit;
 pub use mask::without;

@@ -1,5 +1,6 @@
 // Single bits of a mask. An index of 32 or more names no bit.
 ghost use mathlib.Core.Path.{_≡_};
+ghost use lib.Count.{ones};
 ghost use Rattle.bits.specs.Bit.{bitIn, withBitIn, clearIn};
 
 // Bit t of m.
@@ -27,4 +28,11 @@ pub fn without(m: u32, s: u32) -> u32
     ensures { λ r. ⌜ r ≡ clearIn 32 m s ⌝ }
 {
     m & !s
+}
+
+// How many bits of m are on.
+pub fn ones(m: u32) -> u32
+    ensures { λ r. ⌜ r ≡ ones m ⌝ }
+{
+    u32::count_ones(m)
 }

@@ -5,7 +5,7 @@ use lib.Dec.{eqb, ltb}
 use Rattle.bits.specs.Pick.{pick}
 use Rattle.bits.proofs.Firsts as firsts
 use Rattle.bits.specs.Bit.{bitIn}
-use Rattle.device_state.specs.Clauses.{statusBad, recordBad, phaseIdle, contradictory}
+use Rattle.contradictions.specs.Clauses.{statusBad, recordBad, phaseIdle, contradictory}
 use Rattle.bits.proofs.Picks.{by-test, or-right}
 use Rattle.rules.specs.declared.acts.Fault.{Fault}
 use Rattle.device.specs.Device.{contradictoryDevice}

@@ -9,7 +9,7 @@ use Rattle.bits.specs.Bit.{bitIn}
 use Rattle.bits.proofs.Picks.{pick-yes, pick-no, or-left, or-right}
 use Rattle.device_state.specs.State.{wholeOf}
 use Rattle.device_state.specs.Table.{entryOf}
-use Rattle.device_state.specs.Clauses.{aboveDepth, pastCapacity, countZero, otherTag, otherRange, movedAbove, movedOdd, movedBetween, phaseDone, movedBad, busyBad, idleBad, entryBad}
+use Rattle.contradictions.specs.Clauses.{aboveDepth, pastCapacity, countZero, otherTag, otherRange, movedAbove, movedOdd, movedBetween, phaseDone, movedBad, busyBad, idleBad, entryBad}
 use Rattle.device_state.specs.declared.shapes.Entry.{Entry}
 use Rattle.rules.specs.Positions.{leftOf}
 use Rattle.device.specs.Device.{contradictoryDevice}

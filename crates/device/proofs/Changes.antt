@@ -9,7 +9,7 @@ use Rattle.bits.specs.Bit.{bitIn, withBitIn, clearIn}
 use Rattle.device_state.specs.State.{wholeOf}
 use Rattle.device_state.specs.Table.{entryOf, placed, cleared}
 use Rattle.rules.specs.Positions.{leftOf, advancedBy, moveOf}
-use Rattle.device_state.specs.Clauses.{busyBad}
+use Rattle.contradictions.specs.Clauses.{busyBad}
 use Rattle.rules.specs.declared.acts.Queued.{Queued}
 use Rattle.device.specs.Device.{contradictoryDevice}
 use Rattle.device.specs.After.{acceptedBy, movedBy, openedFor, finishedBy}

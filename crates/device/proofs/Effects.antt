@@ -2,11 +2,10 @@
 use mathlib.Core.Path.{_≡_, refl, sym, subst}
 use mathlib.Core.Bool.{Bool, true, false, true≢false}
 use Prim.Native.Nat.{ℕ, _<_}
-use lib.Dec.{leb, eqb, lit<}
+use lib.Dec.{eqb, lit<}
 use lib.ListN.{replicate}
 use Rattle.bits.specs.Pick.{pick}
 use Rattle.bits.specs.Bit.{bitIn}
-use Rattle.bits.proofs.Picks.{by-test}
 use Rattle.device_state.specs.State.{blankRecord, zeroEcho}
 use Rattle.device_state.specs.declared.shapes.Echo.{Echo}
 use Rattle.device_state.specs.declared.shapes.Entry.{Entry}
@@ -103,15 +102,10 @@ pub record ActLaws (d : Device) (a : Act) : Type 0 where
   pub opened : eqb (afterOf d a .status .phase) 0 ≡ false → traits a .opens ≡ false → eqb (d .status .phase) 0 ≡ false
   pub wide : Wide d → Puts a → Wide (afterOf d a)
 
--- one more event at a row changes no setting
-raised-settings : (d : Device) (row : ℕ) → withValue d row .settings ≡ d .settings
-unfolding withValue
-raised-settings d row = by-test (λ (x : Device). x .settings ≡ d .settings) (leb 16 row) d _ (λ _. refl) (λ _. refl)
-
 -- nor does a media error
 failed-settings : (d : Device) (f : Fault) → (b : Bool) → haltWith (pick b (withValue d 0) d) f .settings ≡ d .settings
-unfolding haltWith pick
-failed-settings d f true = raised-settings d 0
+unfolding haltWith withValue pick
+failed-settings d f true = refl
 failed-settings d f false = refl
 
 -- what moves closes a phase, or leaves it
@@ -123,7 +117,7 @@ still false phase e = e
 -- one more event at a row leaves record and table
 raised-wide : (d : Device) (row : ℕ) → Wide d → Wide (withValue d row)
 unfolding withValue
-raised-wide d row w = by-test Wide (leb 16 row) d _ (λ _. w) (λ _. record { sized = record { error = w .sized .error; echo = w .sized .echo }; entries = w .entries })
+raised-wide d row w = record { sized = record { error = w .sized .error; echo = w .sized .echo }; entries = w .entries }
 
 -- another state with this record, and a table of bytes
 same-record : {d e : Device} → e .errors ≡ d .errors → Wide d → SmallAll (e .entries) → Wide e
@@ -162,13 +156,13 @@ act-laws d (Media f) = record {
   wide = λ _ p. record { sized = record { error = p .0; echo = p .1 }; entries = idle-small };
 }
 act-laws d (Count row) = record {
-  settings = raised-settings d row;
-  stays = λ _. by-test (λ (y : Device). y .errors ≡ d .errors) (leb 16 row) d _ (λ _. refl) (λ _. refl);
-  opened = λ p _. by-test (λ (x : Device). eqb (x .status .phase) 0 ≡ false → eqb (d .status .phase) 0 ≡ false) (leb 16 row) d _ (λ _ q. q) (λ _ q. q) p;
+  settings = refl;
+  stays = λ _. refl;
+  opened = λ p _. p;
   wide = λ w _. raised-wide d row w;
 }
 act-laws d Renew = record {
-  settings = raised-settings (released (resetHeld d)) 9;
+  settings = refl;
   stays = λ h. absurd (true≢false h);
   opened = λ p _. absurd (true≢false p);
   wide = λ _ _. raised-wide (released (resetHeld d)) 9 (record { sized = record { error = lit< tt; echo = zero-small }; entries = idle-small });

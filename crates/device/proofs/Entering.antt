@@ -12,7 +12,7 @@ use Rattle.frames.specs.declared.shapes.HostReg.{HostReg}
 use Rattle.device_state.specs.State.{taskIn, tagIn, wholeOf, echoOf}
 use Rattle.device_state.proofs.EchoLaws.{echo-tag, echo-lba}
 use Rattle.rules.specs.Decide.{tagAsked, countAsked, entryFor}
-use Rattle.device_state.specs.Clauses.{settingsOut, movedBad, busyBad}
+use Rattle.contradictions.specs.Clauses.{settingsOut, movedBad, busyBad}
 use Rattle.device_state.specs.declared.shapes.Settings.{Settings}
 use Rattle.device.proofs.Tags.{wrongMove, moved-none}
 

@@ -2,7 +2,7 @@
 use Rattle.bits.specs.First.{FirstExactly}
 use Rattle.bits.proofs.Firsts as firsts
 use Rattle.refusals.specs.Ladders.{powerLadder}
-use Rattle.device_state.specs.Clauses.{settingsOut}
+use Rattle.contradictions.specs.Clauses.{settingsOut}
 use Rattle.device_state.specs.declared.shapes.Settings.{Settings}
 use Rattle.rules.specs.Tests.{tests}
 use Rattle.rules.proofs.Numbers.{act-exactly}

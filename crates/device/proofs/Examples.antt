@@ -20,7 +20,7 @@ use Rattle.pages.specs.Page11.{damaged, valueIn, readCounter, counterAnswer}
 use Rattle.pages.specs.Made11.{rowBytes, rowsTo, openTo, page11}
 use Rattle.device_state.specs.State.{taskIn, echoOf}
 use Rattle.device_state.specs.Table.{someBelow, tab, placed, cleared}
-use Rattle.device_state.specs.Clauses.{movedBad, settingsOut, busyBad, idleBad, entryBad, tableBad, statusBad, recordBad, rowsBad, contradictory}
+use Rattle.contradictions.specs.Clauses.{movedBad, settingsOut, busyBad, idleBad, entryBad, tableBad, statusBad, recordBad, rowsBad, contradictory}
 use Rattle.rules.specs.Positions.{advancedBy, moveOf}
 use Rattle.rules.specs.Tests.{wrongKind, wrongTime, wrongSize, someUnready, tests}
 use Rattle.rules.specs.Decide.{queuedAct, logPage, otherAct, controlAct, registerAct, frameAct}

@@ -20,7 +20,7 @@ use Rattle.frames.specs.declared.shapes.Frame.the-variants as fs
 use Rattle.pages.specs.Page10.{fits10}
 use Rattle.pages.specs.declared.page10.ErrorLog.{ErrorLog}
 use Rattle.device_state.specs.State.{placedBytes, taskIn, echoOf}
-use Rattle.device_state.specs.Clauses.{tagTooLarge, tagUnderNq, blankNotZero, recordBad}
+use Rattle.contradictions.specs.Clauses.{tagTooLarge, tagUnderNq, blankNotZero, recordBad}
 use Rattle.rules.proofs.Ruled as by
 use Rattle.replies.specs.Replies.{logOf}
 use Rattle.device.specs.Device.{contradictoryDevice}

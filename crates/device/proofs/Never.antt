@@ -9,7 +9,7 @@ use Rattle.bits.specs.Pick.{pick}
 use Rattle.bits.specs.Bit.{bitIn}
 use Rattle.pages.specs.Rows.{kept}
 use Rattle.device_state.specs.State.{zeroEntry}
-use Rattle.device_state.specs.Clauses.{settingsOut, entryBad, idleBad, tagBad, tableBad, statusBad, recordBad, rowBadAt, rowsBad, contradictory}
+use Rattle.contradictions.specs.Clauses.{settingsOut, entryBad, idleBad, tagBad, tableBad, statusBad, recordBad, rowBadAt, rowsBad, contradictory}
 use Rattle.device_state.specs.declared.shapes.Settings.{Settings}
 use Rattle.device_state.proofs.TableLaws.{some-never}
 use Rattle.device.specs.Device.{freshDevice, zeroDevice, contradictoryDevice, powerOn}

@@ -17,7 +17,7 @@ use Rattle.bits.proofs.Picks.{tested, and-left, and-right, or-left, or-right}
 use Rattle.bits.proofs.Tables.{sumOf, ones-tied}
 use Rattle.device_state.specs.State.{zeroEntry}
 use Rattle.device_state.specs.Table.{entryOf}
-use Rattle.device_state.specs.Clauses.{aboveDepth, pastCapacity, countZero, otherTag, otherRange, echoSet, movedBad, busyBad, idleBad, entryBad}
+use Rattle.contradictions.specs.Clauses.{aboveDepth, pastCapacity, countZero, otherTag, otherRange, echoSet, movedBad, busyBad, idleBad, entryBad}
 use Rattle.device_state.specs.declared.shapes.Settings.{Settings}
 use Rattle.device_state.specs.declared.shapes.Entry.{Entry}
 use Rattle.device.specs.Device.{contradictoryDevice}

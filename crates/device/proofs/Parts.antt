@@ -4,7 +4,7 @@ use mathlib.Core.Bool.{Bool, false, _||_}
 use mathlib.Core.List.{List}
 use Prim.Native.Nat.{ℕ, _<_}
 use Rattle.bits.proofs.Picks.{or-left, or-right}
-use Rattle.device_state.specs.Clauses.{settingsOut, tagBad, tableBad, statusBad, recordBad, contradictory}
+use Rattle.contradictions.specs.Clauses.{settingsOut, tagBad, tableBad, statusBad, recordBad, contradictory}
 use Rattle.device_state.specs.declared.shapes.Entry.{Entry}
 use Rattle.device_state.specs.declared.shapes.Status.{Status}
 use Rattle.device_state.proofs.TableLaws.{some-never, some-absent}

@@ -13,7 +13,7 @@ use Rattle.bits.proofs.Picks.{tested, or-left, or-right}
 use Rattle.device_state.specs.State.{wholeOf}
 use Rattle.device_state.specs.Table.{entryOf, placed, cleared}
 use Rattle.rules.specs.Positions.{leftOf, advancedBy}
-use Rattle.device_state.specs.Clauses.{aboveDepth, pastCapacity, countZero, otherTag, otherRange, movedBad, busyBad, entryBad, tagBad}
+use Rattle.contradictions.specs.Clauses.{aboveDepth, pastCapacity, countZero, otherTag, otherRange, movedBad, busyBad, entryBad, tagBad}
 use Rattle.device_state.specs.declared.shapes.Settings.{Settings}
 use Rattle.device_state.specs.declared.shapes.Entry.{Entry}
 use Rattle.device_state.proofs.TableLaws.{getD-placed, getD-cleared}

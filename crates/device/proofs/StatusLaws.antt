@@ -9,7 +9,7 @@ use borrow.Author.Tests.{not-false, eqb-true}
 use Rattle.bits.specs.Pick.{pick}
 use Rattle.bits.specs.Bit.{bitIn, clearIn}
 use Rattle.bits.proofs.Picks.{or-left, or-right}
-use Rattle.device_state.specs.Clauses.{phaseIdle, statusBad}
+use Rattle.contradictions.specs.Clauses.{phaseIdle, statusBad}
 use Rattle.device_state.specs.declared.shapes.Status.{Status}
 use Rattle.device.proofs.Never.{and-never}
 

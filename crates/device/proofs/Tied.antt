@@ -3,7 +3,7 @@ use Rattle.rules.specs.Call.{hostFrame, openPhase, sendData, finishTags, mediaE
 use Rattle.device.specs.After.{afterOf}
 use Rattle.device.specs.Counter.{CountGiven, CounterGiven}
 use Rattle.device.specs.DataDue.{dataDue}
-use Rattle.device.specs.Device.{contradictoryDevice, freshDevice, powerOn}
+use Rattle.device.specs.Device.{contradictoryDevice, powerOn}
 use Rattle.device.specs.Lent.{lent, gave}
 use Rattle.device.specs.Step.{Given}
 use Rattle.device.proofs.Outcomes.{given-once}
@@ -47,9 +47,6 @@ tied-counter = by (say (λ κs a. tt) (λ κs a r ws p. p)) (λ κs a r r′ ws 
 
 pub tied-outstanding-count : Tied state.Device.outstanding_count.ended state.Device.outstanding_count.Reads.Asked state.Device.outstanding_count.Reads.Post (λ κs a r ws. CountGiven (a .0) r)
 tied-outstanding-count = by (say (λ κs a. tt) (λ κs a r ws p. p)) (λ κs a r r′ ws ws′ p q. (same (p .answer) (q .answer), refl))
-
-pub tied-fresh : Tied state.fresh.ended state.fresh.Reads.Asked state.fresh.Reads.Post (λ κs a r ws. r ≡ freshDevice (a .0))
-tied-fresh = named (say (λ κs a. tt) (λ κs a r ws p. p)) (λ κs a ws ws′. refl)
 
 pub tied-power-on : Tied state.Device.power_on.ended state.Device.power_on.Reads.Asked state.Device.power_on.Reads.Post (λ κs a r ws. r ≡ powerOn (a .0))
 tied-power-on = named (say (λ κs a. tt) (λ κs a r ws p. p)) (λ κs a ws ws′. refl)

@@ -2,16 +2,16 @@
 use mathlib.Core.Bool.{Bool, true, false}
 use mathlib.Core.List.{List}
 use Prim.Native.Nat.{ℕ, _+_}
-use lib.Dec.{leb}
-use lib.ListN.{getD, set, replicate}
+use lib.ListN.{replicate}
 use Rattle.bits.specs.Pick.{pick}
-use Rattle.bits.specs.Bit.{bitIn, withBitIn, clearIn}
+use Rattle.bits.specs.Bit.{bitIn}
 use Rattle.device_state.specs.State.{zeroEntry, blankRecord}
 use Rattle.device_state.specs.Table.{placed, cleared}
+use Rattle.device_state.specs.UnderWay.{noneUnderWay, withTag, withoutTags}
 use Rattle.device_state.specs.declared.shapes.Status.{Status}
 use Rattle.device_state.specs.declared.shapes.Entry.{Entry}
 use Rattle.device_state.specs.declared.shapes.ErrorRecord.{ErrorRecord}
-use Rattle.device_state.specs.Counts.{bumped}
+use Rattle.counter_values.specs.Counts.{countedAt}
 use Rattle.rules.specs.declared.acts.Fault.{Fault}
 use Rattle.rules.specs.declared.acts.Queued.{Queued}
 use Rattle.rules.specs.declared.acts.Move.{Move}
@@ -25,21 +25,15 @@ withValues d values = record { settings = d .settings; status = d .status; entri
 
 -- one event more at a row
 unfoldable pub withValue : Device → ℕ → Device
-withValue d row = pick (leb 16 row) d (withValues d (set (d .values) row (bumped (getD (d .values) row 0) 1)))
+withValue d row = withValues d (countedAt (d .values) row)
 
--- the same settings and counters, nothing outstanding, no phase open
-abbrev pub emptied : Device → Bool → Bool → ErrorRecord → Device
-emptied d halted held record′ = record {
-  settings = d .settings;
-  status = record { outstanding = 0; phase = 0; halted = halted; held = held };
-  entries = replicate 32 zeroEntry;
-  errors = record′;
-  values = d .values;
-}
+-- the same settings and counters, an empty table
+abbrev pub emptied : Device → Status → ErrorRecord → Device
+emptied d status record′ = record { settings = d .settings; status = status; entries = replicate 32 zeroEntry; errors = record′; values = d .values }
 
 -- halt: every outstanding command is given up, an open phase closes, the error record is set
 unfoldable pub haltWith : Device → Fault → Device
-haltWith d f = emptied d true false (record { set = true; nq = f .nq; tag = f .tag; error = f .error; echo = f .echo })
+haltWith d f = emptied d (noneUnderWay true false) (record { set = true; nq = f .nq; tag = f .tag; error = f .error; echo = f .echo })
 
 -- another status and table
 abbrev pub withStatus : Device → Status → List Entry → Device
@@ -47,9 +41,7 @@ withStatus d f es = record { settings = d .settings; status = f; entries = es; e
 
 -- rule 4: the tag is outstanding
 unfoldable pub acceptedBy : Device → Queued → Device
-acceptedBy d q =
-    withStatus d (record { outstanding = withBitIn 32 (d .status .outstanding) (q .tag); phase = d .status .phase; halted = d .status .halted; held = d .status .held })
-    (placed (d .entries) (q .tag) (q .entry))
+acceptedBy d q = withStatus d (withTag (d .status) (q .tag)) (placed (d .entries) (q .tag) (q .entry))
 
 -- the halt ends
 unfoldable pub unhalted : Device → Device
@@ -61,7 +53,7 @@ zeroedIf d on = withValues d (pick on (replicate 16 0) (d .values))
 
 -- SRST: everything outstanding is dropped, halt and record cleared, reset held
 unfoldable pub resetHeld : Device → Device
-resetHeld d = emptied d false true blankRecord
+resetHeld d = emptied d (noneUnderWay false true) blankRecord
 
 -- release
 unfoldable pub released : Device → Device
@@ -79,9 +71,7 @@ openedFor d tag = withStatus d (record { outstanding = d .status .outstanding; p
 
 -- the commands of a set are finished
 unfoldable pub finishedBy : Device → ℕ → Device
-finishedBy d set =
-    withStatus d (record { outstanding = clearIn 32 (d .status .outstanding) set; phase = d .status .phase; halted = d .status .halted; held = d .status .held })
-    (cleared (d .entries) set)
+finishedBy d set = withStatus d (withoutTags (d .status) set) (cleared (d .entries) set)
 
 -- media error: halt; error bit 7 adds one to counter 001h
 unfoldable pub failedBy : Device → Fault → Device

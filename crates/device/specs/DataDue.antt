@@ -1,8 +1,8 @@
 -- The host data that is due. Assumes nothing.
 use mathlib.Core.Bool.{Bool, not, _&&_}
-use Prim.Native.Nat.{ℕ, min}
+use Prim.Native.Nat.{ℕ}
 use lib.Dec.{eqb}
-use Rattle.bits.specs.Pick.{pick}
+use Rattle.moves.specs.Amounts.{dueIn}
 use Rattle.device_state.specs.Table.{entryOf}
 use Rattle.device_state.specs.declared.shapes.Entry.{Entry}
 use Rattle.rules.specs.Positions.{leftOf}
@@ -17,6 +17,6 @@ phaseEntry d = entryOf (d .entries) (openTag (d .status .phase))
 abbrev pub writing : Device → Bool
 writing d = not (eqb (d .status .phase) 0) && phaseEntry d .write
 
--- the length due: min(8,192, what is left) of the open write phase; 4 payload bytes if no write phase
+-- the length due, by the open write phase and what is left of it
 unfoldable pub dataDue : Device → ℕ
-dataDue d = pick (writing d) (min 8192 (leftOf (phaseEntry d))) 4
+dataDue d = dueIn (writing d) (leftOf (phaseEntry d))

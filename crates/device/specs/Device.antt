@@ -6,7 +6,8 @@ use lib.ListN.{replicate}
 use Rattle.bits.specs.Pick.{pick}
 use Rattle.bits.specs.First.{firstOf}
 use Rattle.device_state.specs.State.{zeroEntry, blankRecord}
-use Rattle.device_state.specs.Clauses.{settingsOut, contradictory}
+use Rattle.device_state.specs.UnderWay.{noneUnderWay}
+use Rattle.contradictions.specs.Clauses.{settingsOut, contradictory}
 use Rattle.refusals.specs.Ladders.{powerLadder}
 use Rattle.device_state.specs.declared.shapes.Settings.{Settings}
 use Rattle.device.specs.declared.state.Device.{Device}
@@ -20,7 +21,7 @@ contradictoryDevice d = contradictory (d .settings) (d .status) (d .entries) (d 
 unfoldable pub freshDevice : Settings → Device
 freshDevice s = record {
   settings = s;
-  status = record { outstanding = 0; phase = 0; halted = false; held = false };
+  status = noneUnderWay false false;
   entries = replicate 32 zeroEntry;
   errors = blankRecord;
   values = replicate 16 0;

@@ -1,34 +1,41 @@
 // The state after an act.
 ghost use mathlib.Core.Path.{_≡_};
-ghost use Rattle.device.specs.After.{withValue, haltWith, acceptedBy, unhalted, zeroedIf, resetHeld, released, movedBy, openedFor, finishedBy, failedBy, renewed, afterOf};
+ghost use Rattle.device.specs.After.{withValue, emptied, haltWith, acceptedBy, unhalted, zeroedIf, resetHeld, released, movedBy, openedFor, finishedBy, failedBy, renewed, afterOf};
 use crate::state::Device;
-use crate::state::fresh;
 use device_state::ErrorRecord;
+use device_state::Settings;
+use device_state::Status;
 use rules::Act;
 use rules::Fault;
 use rules::Move;
 use rules::Queued;
 
-// One row's counter has one event more.
-fn counted(mut d: Device, row: u8) -> Device
-    ensures { λ r. ⌜ r ≡ withValue d row ⌝ }
-{
-    if 16 <= row {
-        return d;
-    }
-    let i = row as usize;
-    let v = d.values[i];
-    let next = device_state::bump(v, 1);
-    d.values[i] = next;
-    d
-}
-
 impl Device {
-    fn halt_with(mut self, f: Fault) -> Device
+    // One row's counter has one event more.
+    fn counted(mut self, row: u8) -> Device
+        ensures { λ r. ⌜ r ≡ withValue self row ⌝ }
+    {
+        let values = self.values;
+        let more = counter_values::counted(values, row);
+        self.values = more;
+        self
+    }
+
+    // Nothing is under way any more; settings and counters stay.
+    fn emptied(mut self, status: Status, errors: ErrorRecord) -> Device
+        ensures { λ r. ⌜ r ≡ emptied self status errors ⌝ }
+    {
+        let e = device_state::idle_entry();
+        let entries = [e; Settings::ENTRIES];
+        self.status = status;
+        self.entries = entries;
+        self.errors = errors;
+        self
+    }
+
+    fn halt_with(self, f: Fault) -> Device
         ensures { λ r. ⌜ r ≡ haltWith self f ⌝ }
     {
-        let settings = self.settings;
-        let values = self.values;
         let echo = f.echo;
         let errors = ErrorRecord {
             set: true,
@@ -37,11 +44,7 @@ impl Device {
             error: f.error,
             echo,
         };
-        let mut state = fresh(settings);
-        state.status.halted = true;
-        state.errors = errors;
-        state.values = values;
-        state
+        self.emptied(device_state::halted(), errors)
     }
 
     fn accepted_by(mut self, q: Queued) -> Device
@@ -51,9 +54,9 @@ impl Device {
         let e = q.entry;
         let tag = q.tag as u32;
         let entries = device_state::with_entry(old, tag, e);
-        let outstanding = bits::with_bit(self.status.outstanding, tag);
+        let status = device_state::with_tag(self.status, tag);
         self.entries = entries;
-        self.status.outstanding = outstanding;
+        self.status = status;
         self
     }
 
@@ -75,15 +78,10 @@ impl Device {
         self
     }
 
-    fn reset_held(mut self) -> Device
+    fn reset_held(self) -> Device
         ensures { λ r. ⌜ r ≡ resetHeld self ⌝ }
     {
-        let settings = self.settings;
-        let values = self.values;
-        let mut state = fresh(settings);
-        state.status.held = true;
-        state.values = values;
-        state
+        self.emptied(device_state::held(), device_state::no_record())
     }
 
     fn released(mut self) -> Device
@@ -120,30 +118,26 @@ impl Device {
     {
         let old = self.entries;
         let entries = device_state::cleared(old, set);
-        let outstanding = bits::without(self.status.outstanding, set);
+        let status = device_state::without_tags(self.status, set);
         self.entries = entries;
-        self.status.outstanding = outstanding;
+        self.status = status;
         self
     }
 
     fn renewed(mut self) -> Device
         ensures { λ r. ⌜ r ≡ renewed self ⌝ }
     {
-        let settings = self.settings;
-        let v = self.values[9];
-        let next = device_state::bump(v, 1);
-        let mut values = self.values;
-        values[9] = next;
-        let mut state = fresh(settings);
-        state.values = values;
-        state
+        let values = self.values;
+        let more = counter_values::with_link_reset(values);
+        self.values = more;
+        self.emptied(device_state::idle(), device_state::no_record())
     }
 
     fn failed_by(self, f: Fault) -> Device
         ensures { λ r. ⌜ r ≡ failedBy self f ⌝ }
     {
         if frame_parts::flag(f.error, 7) {
-            return counted(self, 0).halt_with(f);
+            return self.counted(0).halt_with(f);
         }
         self.halt_with(f)
     }
@@ -169,7 +163,7 @@ pub fn after(d: Device, act: Act) -> Device
         Act::Send(m) => d.moved_by(m),
         Act::Finish(set) => d.finished_by(set),
         Act::Media(f) => d.failed_by(f),
-        Act::Count(row) => counted(d, row),
+        Act::Count(row) => d.counted(row),
         Act::Renew => d.renewed(),
     }
 }

@@ -2,11 +2,9 @@
 ghost use mathlib.Core.Path.{_≡_};
 ghost use mathlib.Core.Bool.{true};
 ghost use mathlib.Core.List.{[]};
-ghost use Prim.Native.Nat.{min};
 ghost use lib.Dec.{leb};
 ghost use lib.ListN.{length};
 ghost use Rattle.rules.specs.Call.{hostFrame, openPhase, sendData, finishTags, mediaError, linkEvent, comReset};
-ghost use Rattle.rules.specs.Positions.{leftOf};
 ghost use Rattle.rules.specs.Number.{numberOf};
 ghost use Rattle.replies.specs.Replies.{repliesOf, RepliesGiven};
 ghost use Rattle.device.specs.Lent.{lent, gave};
@@ -17,7 +15,6 @@ ghost use Rattle.device.specs.Step.{shown, Given};
 use crate::after::after;
 use crate::state::Device;
 use crate::state::Outcome;
-use device_state::Entry;
 use replies::Shown;
 use rules::Act;
 use rules::Facts;
@@ -37,17 +34,6 @@ fn medium_wrong(capacity: u32, n: usize) -> bool
     ensures { λ r. ⌜ r ≡ mediumWrong capacity n ⌝ }
 {
     !(n == Device::SECTOR_SIZE * (capacity as usize))
-}
-
-// min(8,192, what is left) bytes.
-fn due_of(e: Entry) -> usize
-    ensures { λ r. ⌜ r ≡ min 8192 (leftOf e) ⌝ }
-{
-    let left = rules::left_of(e) as usize;
-    if Device::FRAME_SIZE <= left {
-        return Device::FRAME_SIZE;
-    }
-    left
 }
 
 impl Device {
@@ -192,10 +178,6 @@ impl Device {
         let phase = self.status.phase;
         let entries = self.entries;
         let entry = device_state::entry_of(entries, open_tag(phase));
-        let due = due_of(entry);
-        if !(phase == 0) & entry.write {
-            return due;
-        }
-        4
+        moves::due(!(phase == 0) & entry.write, rules::left_of(entry))
     }
 }

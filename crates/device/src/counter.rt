@@ -1,6 +1,5 @@
 // A counter by its number, and how many commands are outstanding.
 ghost use mathlib.Core.Path.{_≡_};
-ghost use lib.Count.{ones};
 ghost use Rattle.pages.specs.Made11.{onRow};
 ghost use Rattle.device.specs.Counter.{CounterGiven, CountGiven};
 use crate::state::Device;
@@ -23,13 +22,6 @@ fn shown(mask: u16, values: [u32; 16], place: Place) -> Counter
     }
     let value = values[row];
     Counter::Value(value as u64)
-}
-
-// The ones of a mask.
-fn ones_of(m: u32) -> u32
-    ensures { λ r. ⌜ r ≡ ones m ⌝ }
-{
-    u32::count_ones(m)
 }
 
 impl Device {
@@ -58,7 +50,7 @@ impl Device {
         if bad {
             return Counter::Refused(1);
         }
-        let on = ones_of(outstanding);
+        let on = bits::ones(outstanding);
         Counter::Value(on as u64)
     }
 }

@@ -23,15 +23,10 @@ pub struct Outcome {
 }
 
 // Idle, record blank, counters 0.
-pub fn fresh(settings: Settings) -> Device
+fn fresh(settings: Settings) -> Device
     ensures { λ r. ⌜ r ≡ freshDevice settings ⌝ }
 {
-    let status = Status {
-        outstanding: 0,
-        phase: 0,
-        halted: false,
-        held: false,
-    };
+    let status = device_state::idle();
     let e = device_state::idle_entry();
     let entries = [e; Settings::ENTRIES];
     let errors = device_state::no_record();
@@ -69,7 +64,7 @@ impl Device {
     pub fn power_on(settings: Settings) -> Outcome
         ensures { λ r. ⌜ r ≡ powerOn settings ⌝ }
     {
-        let refusal = refusals::power_number(device_state::settings_out(settings));
+        let refusal = refusals::power_number(contradictions::settings_out(settings));
         if !(refusal == 0) {
             let state = zeros();
             return Outcome {
@@ -95,6 +90,6 @@ impl Device {
         let entries = self.entries;
         let errors = self.errors;
         let values = self.values;
-        device_state::contradicts(settings, status, entries, errors, values)
+        contradictions::contradicts(settings, status, entries, errors, values)
     }
 }

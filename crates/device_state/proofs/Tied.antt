@@ -1,28 +1,15 @@
 -- Each public function's own contract: what it says, and that two answers which it allows are equal. Assumes nothing.
 use Prim.Native.Nat.{_-_}
-use Rattle.device_state.specs.Clauses.{contradictory, rowRefused, settingsOut}
-use Rattle.device_state.specs.Counts.{bumped}
 use Rattle.device_state.specs.State.{blankRecord, echoOf, taskIn, wholeOf, zeroEntry}
 use Rattle.device_state.specs.Table.{cleared, entryOf, placed}
+use Rattle.device_state.specs.UnderWay.{noneUnderWay, withTag, withoutTags}
+use mathlib.Core.Bool.{true, false}
 use mathlib.Core.Path.{_≡_, refl}
 use Rattle.bits.specs.Contract.{Tied}
 use Rattle.bits.proofs.Tying.{say, named}
-use Rattle.device_state.proofs.clauses
-use Rattle.device_state.proofs.counts
 use Rattle.device_state.proofs.shapes
+use Rattle.device_state.proofs.status
 use Rattle.device_state.proofs.table
-
-pub tied-settings-out : Tied clauses.settings_out.ended clauses.settings_out.Reads.Asked clauses.settings_out.Reads.Post (λ κs a r ws. r ≡ settingsOut (a .0))
-tied-settings-out = named (say (λ κs a. tt) (λ κs a r ws p. p)) (λ κs a ws ws′. refl)
-
-pub tied-below : Tied clauses.below.ended clauses.below.Reads.Asked clauses.below.Reads.Post (λ κs a r ws. r ≡ (a .0) - 1)
-tied-below = named (say (λ κs a. tt) (λ κs a r ws p. p)) (λ κs a ws ws′. refl)
-
-pub tied-contradicts : Tied clauses.contradicts.ended clauses.contradicts.Reads.Asked clauses.contradicts.Reads.Post (λ κs a r ws. r ≡ contradictory (a .0) (a .1 .0) (a .1 .1 .0) (a .1 .1 .1 .0) (a .1 .1 .1 .1 .0))
-tied-contradicts = named (say (λ κs a. tt) (λ κs a r ws p. p)) (λ κs a ws ws′. refl)
-
-pub tied-row-refused : Tied clauses.row_refused.ended clauses.row_refused.Reads.Asked clauses.row_refused.Reads.Post (λ κs a r ws. r ≡ rowRefused (a .0) (a .1 .0))
-tied-row-refused = named (say (λ κs a. tt) (λ κs a r ws p. p)) (λ κs a ws ws′. refl)
 
 pub tied-task-in : Tied shapes.task_in.ended shapes.task_in.Reads.Asked shapes.task_in.Reads.Post (λ κs a r ws. r ≡ taskIn (a .0))
 tied-task-in = named (say (λ κs a. tt) (λ κs a r ws p. p)) (λ κs a ws ws′. refl)
@@ -48,5 +35,20 @@ tied-with-entry = named (say (λ κs a. tt) (λ κs a r ws p. p)) (λ κs a ws w
 pub tied-cleared : Tied table.cleared.ended table.cleared.Reads.Asked table.cleared.Reads.Post (λ κs a r ws. r ≡ cleared (a .0) (a .1 .0))
 tied-cleared = named (say (λ κs a. tt) (λ κs a r ws p. p)) (λ κs a ws ws′. refl)
 
-pub tied-bump : Tied counts.bump.ended counts.bump.Reads.Asked counts.bump.Reads.Post (λ κs a r ws. r ≡ bumped (a .0) (a .1 .0))
-tied-bump = named (say (λ κs a. tt) (λ κs a r ws p. p)) (λ κs a ws ws′. refl)
+pub tied-idle : Tied status.idle.ended status.idle.Reads.Asked status.idle.Reads.Post (λ κs a r ws. r ≡ noneUnderWay false false)
+tied-idle = named (say (λ κs a. tt) (λ κs a r ws p. p)) (λ κs a ws ws′. refl)
+
+pub tied-halted : Tied status.halted.ended status.halted.Reads.Asked status.halted.Reads.Post (λ κs a r ws. r ≡ noneUnderWay true false)
+tied-halted = named (say (λ κs a. tt) (λ κs a r ws p. p)) (λ κs a ws ws′. refl)
+
+pub tied-held : Tied status.held.ended status.held.Reads.Asked status.held.Reads.Post (λ κs a r ws. r ≡ noneUnderWay false true)
+tied-held = named (say (λ κs a. tt) (λ κs a r ws p. p)) (λ κs a ws ws′. refl)
+
+pub tied-with-tag : Tied status.with_tag.ended status.with_tag.Reads.Asked status.with_tag.Reads.Post (λ κs a r ws. r ≡ withTag (a .0) (a .1 .0))
+tied-with-tag = named (say (λ κs a. tt) (λ κs a r ws p. p)) (λ κs a ws ws′. refl)
+
+pub tied-without-tags : Tied status.without_tags.ended status.without_tags.Reads.Asked status.without_tags.Reads.Post (λ κs a r ws. r ≡ withoutTags (a .0) (a .1 .0))
+tied-without-tags = named (say (λ κs a. tt) (λ κs a r ws p. p)) (λ κs a ws ws′. refl)
+
+pub tied-below : Tied status.below.ended status.below.Reads.Asked status.below.Reads.Post (λ κs a r ws. r ≡ (a .0) - 1)
+tied-below = named (say (λ κs a. tt) (λ κs a r ws p. p)) (λ κs a ws ws′. refl)

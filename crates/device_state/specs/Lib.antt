@@ -1,4 +1,3 @@
 pub mod State
 pub mod Table
-pub mod Clauses
-pub mod Counts
+pub mod UnderWay

@@ -1,14 +1,8 @@
-// What the state holds, its counters, which stay at the top, and when it contradicts itself.
-mod clauses;
-mod counts;
+// What the state holds, and how its parts change.
 mod shapes;
+mod status;
 mod table;
 
-pub use clauses::below;
-pub use clauses::contradicts;
-pub use clauses::row_refused;
-pub use clauses::settings_out;
-pub use counts::bump;
 pub use shapes::Echo;
 pub use shapes::Entry;
 pub use shapes::ErrorRecord;
@@ -19,6 +13,12 @@ pub use shapes::idle_entry;
 pub use shapes::no_record;
 pub use shapes::task_in;
 pub use shapes::whole_of;
+pub use status::below;
+pub use status::halted;
+pub use status::held;
+pub use status::idle;
+pub use status::with_tag;
+pub use status::without_tags;
 pub use table::cleared;
 pub use table::entry_of;
 pub use table::with_entry;

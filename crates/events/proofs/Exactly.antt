@@ -8,7 +8,7 @@ use lib.ListN.{length, getD}
 use Rattle.bits.specs.Pick.{pick}
 use Rattle.bits.specs.First.{FirstExactly}
 use Rattle.refusals.specs.Ladders.{powerLadder}
-use Rattle.device_state.specs.Clauses.{settingsOut}
+use Rattle.contradictions.specs.Clauses.{settingsOut}
 use Rattle.device_state.specs.declared.shapes.Settings.{Settings}
 use Rattle.device.proofs.Exactly.{first-exactly-power}
 use Rattle.events.specs.Kinds.{bodyLength, misplaced, nextWhole, nextOf}

@@ -4,7 +4,7 @@ use mathlib.Core.List.{List, [], _∷_}
 use Prim.Native.Nat.{ℕ, _+_}
 use lib.Dec.{eqb, leb}
 use lib.ListN.{length, getD}
-use Rattle.device_state.specs.Clauses.{settingsOut}
+use Rattle.contradictions.specs.Clauses.{settingsOut}
 use Rattle.rules.specs.Call.{Call}
 use Rattle.events.specs.Kinds.{bodyLength, isEvent}
 use Rattle.events.specs.Start.{inLimit, settingsOf}

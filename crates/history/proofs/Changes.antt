@@ -12,7 +12,7 @@ use Rattle.bits.specs.Bit.{bitIn}
 use Rattle.bits.proofs.Picks.{tested, or-left, or-right}
 use Rattle.device_state.specs.State.{wholeOf}
 use Rattle.device_state.specs.Table.{entryOf, placed, cleared}
-use Rattle.device_state.specs.Clauses.{statusBad, busyBad, aboveDepth, pastCapacity, countZero, otherTag, otherRange, movedAbove, movedOdd, movedBetween, phaseDone, movedBad, stoppedBusy, haltedHeld, heldRecord, phaseIdle}
+use Rattle.contradictions.specs.Clauses.{statusBad, busyBad, aboveDepth, pastCapacity, countZero, otherTag, otherRange, movedAbove, movedOdd, movedBetween, phaseDone, movedBad, stoppedBusy, haltedHeld, heldRecord, phaseIdle}
 use Rattle.device_state.specs.declared.shapes.Entry.{Entry}
 use Rattle.device_state.proofs.TableLaws.{getD-placed, getD-cleared}
 use Rattle.frames.specs.declared.shapes.HostReg.{HostReg}

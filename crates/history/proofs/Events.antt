@@ -5,7 +5,7 @@ use mathlib.Core.List.{List}
 use Prim.Native.Nat.{ℕ, _+_, _-_, _*_, _^_, _≤_, _<_, min}
 use native.Mathlib.Omega.{arith}
 use native.Mathlib.Nat.{zero-add}
-use lib.Dec.{eqb, leb, lit<}
+use lib.Dec.{eqb, lit<}
 use lib.ListN.{length, length-take, length-drop}
 use borrow.Author.Tests.{eqb-true, eqb-false, not-false}
 use Rattle.bits.specs.Pick.{pick}
@@ -35,7 +35,7 @@ use Rattle.history.specs.Seen.{underWay}
 use Rattle.history.proofs.Class.{none, Class, Same, plain, halts, resets, opens, carries, ends}
 use Rattle.history.proofs.Sets.{no-busy, no-bits}
 use Rattle.history.proofs.Views.{view, is-silent, is-finish, is-failed, is-reset, is-setup, setup-begins, is-sent, silent-unbegun, answer-unbegun, bits-unbegun, sent-unbegun}
-use Rattle.history.proofs.Changes.{same, halted-empty, carried-by, unmoved, cleared-other}
+use Rattle.history.proofs.Changes.{halted-empty, carried-by, unmoved, cleared-other}
 
 -- an act's part of the medium, and what is seen of it
 abbrev pub Happens : Device → List ℕ → Act → Type 0
@@ -139,7 +139,7 @@ finished-comes d part set g l shut some ready =
 -- one more at a row changes nothing else
 value-same : (d : Device) (row : ℕ) → Same d (withValue d row)
 unfolding withValue
-value-same d row = by-test (Same d) (leb 16 row) d _ (λ _. same d) (λ _. record { settings = refl; outstanding = refl; phase = refl; halted = refl; entries = refl })
+value-same d row = record { settings = refl; outstanding = refl; phase = refl; halted = refl; entries = refl }
 
 -- a media error
 pub failed-comes : (d : Device) (part : List ℕ) (f : Fault) → d .status .halted ≡ false → Happens d part (Media f)

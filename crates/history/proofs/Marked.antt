@@ -3,7 +3,7 @@ use mathlib.Core.Path.{_≡_, refl, ap, subst⁻¹, _∙_}
 use mathlib.Core.Bool.{true, false, false≢true}
 use mathlib.Core.List.{List, []}
 use Prim.Native.Nat.{ℕ}
-use lib.Dec.{eqb, leb}
+use lib.Dec.{eqb}
 use lib.ListN.{length, getD}
 use borrow.Author.Tests.{eq-eqb}
 use Rattle.bits.specs.Pick.{pick}
@@ -32,7 +32,7 @@ Marked d = d .status .halted ≡ true → d .errors .set ≡ true
 -- one more event at a row
 pub raised-marked : (d : Device) (row : ℕ) → Marked d → Marked (withValue d row)
 unfolding withValue
-raised-marked d row k = by-test Marked (leb 16 row) d _ (λ _. k) (λ _. k)
+raised-marked d row k = k
 
 -- power-on, refused or not
 pub marked-start : (s : Settings) → Marked (powerOn s .state)

@@ -24,7 +24,7 @@ use Rattle.pages.specs.Page10.{fits10, page10}
 use Rattle.pages.specs.Page11.{readCounter, damaged, valueIn}
 use Rattle.pages.specs.Rows.{ids, rowOf, rowFrom}
 use Rattle.pages.specs.Sum.{sealed, sum256, sumTo}
-use Rattle.device_state.specs.Clauses.{movedBad, contradictory, statusBad, settingsOut, recordBad, rowsBad, tableBad, entryBad, busyBad, idleBad}
+use Rattle.contradictions.specs.Clauses.{movedBad, contradictory, statusBad, settingsOut, recordBad, rowsBad, tableBad, entryBad, busyBad, idleBad}
 use Rattle.device_state.specs.State.{echoOf, taskIn}
 use Rattle.device_state.specs.Table.{someBelow, placed, tab, cleared}
 use Rattle.rules.specs.Tests.{wrongKind, wrongTime, wrongSize, someUnready, tests}

@@ -28,7 +28,7 @@ use Rattle.rules.proofs.Ruled as by
 use Rattle.replies.specs.Replies.{pioReply, page11Of, logReplies, repliesOf}
 use Rattle.device.specs.Device.{contradictoryDevice}
 use Rattle.device.specs.declared.state.Device.{Device}
-use Rattle.device_state.specs.Clauses.{settingsOut}
+use Rattle.contradictions.specs.Clauses.{settingsOut}
 use Rattle.device.proofs.Keeping.{settings-good, both-kept}
 use Rattle.rules.specs.Call.{Call}
 use Rattle.history.specs.Event.{Event, taken}

@@ -7,7 +7,7 @@ use Prim.Native.Nat.{ℕ}
 use lib.Dec.{eqb}
 use Rattle.bits.specs.Pick.{pick}
 use Rattle.bits.proofs.Picks.{tested}
-use Rattle.device_state.specs.Clauses.{settingsOut}
+use Rattle.contradictions.specs.Clauses.{settingsOut}
 use Rattle.device_state.specs.declared.shapes.Settings.{Settings}
 use Rattle.device.specs.Device.{freshDevice, powerNumber, powerOn}
 use Rattle.device.specs.declared.state.Device.{Device}

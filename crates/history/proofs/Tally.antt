@@ -11,7 +11,7 @@ use lib.Seq.{getD-set-same, getD-set-other}
 use borrow.Author.Tests.{eqb-true, eqb-false, ne-eqb, ltb-true, ltb-false}
 use Rattle.bits.specs.Pick.{pick}
 use Rattle.bits.proofs.Picks.{by-test, tested, pick-yes}
-use Rattle.device_state.specs.Counts.{bumped}
+use Rattle.counter_values.specs.Counts.{bumped}
 use Rattle.device_state.specs.declared.shapes.Settings.{Settings}
 use Rattle.device.specs.Device.{freshDevice, powerOn, powerNumber}
 use Rattle.device.specs.declared.state.Device.{Device}

@@ -1,5 +1,5 @@
 -- Each public function's own contract: what it says, and that two answers which it allows are equal. Assumes nothing.
-use Rattle.moves.specs.Amounts.{leftIn, partIn, lastIn, movedOn}
+use Rattle.moves.specs.Amounts.{leftIn, partIn, lastIn, dueIn, movedOn}
 use Rattle.moves.specs.Stored.{placeIn, stored}
 use denote.Ref.{now}
 use mathlib.Core.Path.{_≡_, refl}
@@ -19,6 +19,9 @@ tied-is-last = named (say (λ κs a. tt) (λ κs a r ws p. p)) (λ κs a ws ws�
 
 pub tied-moved-on : Tied amounts.moved_on.ended amounts.moved_on.Reads.Asked amounts.moved_on.Reads.Post (λ κs a r ws. r ≡ movedOn (a .1 .0) (partIn (a .0) (a .1 .0) (a .1 .1 .0)))
 tied-moved-on = named (say (λ κs a. tt) (λ κs a r ws p. p)) (λ κs a ws ws′. refl)
+
+pub tied-due : Tied amounts.due.ended amounts.due.Reads.Asked amounts.due.Reads.Post (λ κs a r ws. r ≡ dueIn (a .0) (a .1 .0))
+tied-due = named (say (λ κs a. tt) (λ κs a r ws p. p)) (λ κs a ws ws′. refl)
 
 pub tied-place : Tied medium.place.ended medium.place.Reads.Asked medium.place.Reads.Post (λ κs a r ws. r ≡ placeIn (a .0) (a .1 .0))
 tied-place = named (say (λ κs a. tt) (λ κs a r ws p. p)) (λ κs a ws ws′. refl)

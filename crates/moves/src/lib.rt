@@ -2,6 +2,7 @@
 mod amounts;
 mod medium;
 
+pub use amounts::due;
 pub use amounts::is_last;
 pub use amounts::left;
 pub use amounts::moved_on;

@@ -19,7 +19,7 @@ use Rattle.verdicts.specs.Range.{tooFar}
 use Rattle.verdicts.specs.Queued.{tagRefused}
 use Rattle.verdicts.specs.declared.commands.QueuedRule.{QueuedRule}
 use Rattle.verdicts.specs.declared.commands.OtherRule.{OtherRule}
-use Rattle.device_state.specs.Clauses.{rowRefused}
+use Rattle.contradictions.specs.Clauses.{rowRefused}
 use Rattle.rules.specs.Call.{Call, hostFrame, openPhase, sendData, finishTags, mediaError, linkEvent, comReset}
 use Rattle.rules.specs.Handed.{handed}
 use Rattle.rules.specs.Positions.{leftOf, moveOf}

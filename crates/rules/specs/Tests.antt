@@ -13,7 +13,7 @@ use Rattle.verdicts.specs.Range.{outsideOf}
 use Rattle.verdicts.specs.Moved.{longer, wholly, notReady}
 use Rattle.device_state.specs.State.{wholeOf}
 use Rattle.device_state.specs.Table.{someBelow, entryOf}
-use Rattle.device_state.specs.Clauses.{rowRefused}
+use Rattle.contradictions.specs.Clauses.{rowRefused}
 use Rattle.device_state.specs.declared.shapes.Entry.{Entry}
 use Rattle.rules.specs.Call.{Call, hostFrame, openPhase, sendData, finishTags, mediaError, linkEvent, comReset}
 use Rattle.rules.specs.Positions.{leftOf}

@@ -149,7 +149,7 @@ pub fn link_act(v: Facts, row: u8) -> Act
     let settings = v.settings;
     let number = refusals::link_number(
         v.contradicts,
-        device_state::row_refused(settings.mask, row),
+        contradictions::row_refused(settings.mask, row),
     );
     decided(number, Act::Count(row))
 }

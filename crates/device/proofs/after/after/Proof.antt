@@ -4,7 +4,7 @@ use Rattle.device.proofs.after.after.Statement.{statement}
 use Rattle.device.proofs.after.after.Tie as tie
 use Rattle.device.proofs.after.after.Reads as reads
 use Rattle.device.proofs.after.after.Lts as lts
-use Rattle.device.proofs.after.counted.Reads as counted-reads
+use Rattle.device.proofs.state.Device.counted.Reads as counted-reads
 use Rattle.device.proofs.state.Device.accepted_by.Reads as accepted-by-reads
 use Rattle.device.proofs.state.Device.failed_by.Reads as failed-by-reads
 use Rattle.device.proofs.state.Device.finished_by.Reads as finished-by-reads

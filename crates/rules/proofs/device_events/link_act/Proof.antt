@@ -7,7 +7,7 @@ use Rattle.rules.proofs.device_events.link_act.Reads as reads
 use Rattle.rules.proofs.device_events.link_act.Lts as lts
 use Rattle.refusals.proofs.link_number.Reads as link-number-reads
 use Rattle.rules.proofs.device_events.decided.Reads as decided-reads
-use Rattle.device_state.proofs.row_refused.Reads as row-refused-reads
+use Rattle.contradictions.proofs.row_refused.Reads as row-refused-reads
 
 row-refused-requires : tie.Need-row-refused-requires
 row-refused-requires c κs = search needs

@@ -4,7 +4,7 @@ use Rattle.device.proofs.state.Device.accepted_by.Statement.{statement}
 use Rattle.device.proofs.state.Device.accepted_by.Tie as tie
 use Rattle.device.proofs.state.Device.accepted_by.Reads as reads
 use Rattle.device.proofs.state.Device.accepted_by.Lts as lts
-use Rattle.bits.proofs.with_bit.Reads as with-bit-reads
+use Rattle.device_state.proofs.with_tag.Reads as with-tag-reads
 use Rattle.device_state.proofs.with_entry.Reads as with-entry-reads
 
 cast-tag : tie.Need-cast-tag
@@ -13,12 +13,12 @@ cast-tag c = search needs
 with-entry-requires : tie.Need-with-entry-requires
 with-entry-requires c κs = search needs
 
-with-bit-requires : tie.Need-with-bit-requires
-with-bit-requires c κs = search needs
+with-tag-requires : tie.Need-with-tag-requires
+with-tag-requires c κs = search needs
 
 returns : tie.Need-returns
 unfolding acceptedBy
-returns c = rw (c .before .before .with-entry .ensures, c .before .with-bit .ensures)
+returns c = rw (c .before .with-entry .ensures, c .with-tag .ensures)
 
 pub accepted-by-spec : {M : Type 1} → statement M
-accepted-by-spec = tie.close (tie.spec cast-tag with-entry-requires with-bit-requires returns)
+accepted-by-spec = tie.close (tie.spec cast-tag with-entry-requires with-tag-requires returns)

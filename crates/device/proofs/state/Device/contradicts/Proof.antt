@@ -4,7 +4,7 @@ use Rattle.device.proofs.state.Device.contradicts.Statement.{statement}
 use Rattle.device.proofs.state.Device.contradicts.Tie as tie
 use Rattle.device.proofs.state.Device.contradicts.Reads as reads
 use Rattle.device.proofs.state.Device.contradicts.Lts as lts
-use Rattle.device_state.proofs.contradicts.Reads as contradicts-reads
+use Rattle.contradictions.proofs.contradicts.Reads as contradicts-reads
 
 contradicts-requires : tie.Need-contradicts-requires
 contradicts-requires c κs = search needs

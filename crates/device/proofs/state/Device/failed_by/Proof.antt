@@ -5,7 +5,7 @@ use Rattle.device.proofs.state.Device.failed_by.Statement.{statement}
 use Rattle.device.proofs.state.Device.failed_by.Tie as tie
 use Rattle.device.proofs.state.Device.failed_by.Reads as reads
 use Rattle.device.proofs.state.Device.failed_by.Lts as lts
-use Rattle.device.proofs.after.counted.Reads as counted-reads
+use Rattle.device.proofs.state.Device.counted.Reads as counted-reads
 use Rattle.device.proofs.state.Device.halt_with.Reads as halt-with-reads
 use Rattle.frame_parts.proofs.flag.Reads as flag-reads
 

@@ -6,7 +6,7 @@ use Rattle.device.proofs.state.Device.outstanding_count.Statement.{stat
 use Rattle.device.proofs.state.Device.outstanding_count.Tie as tie
 use Rattle.device.proofs.state.Device.outstanding_count.Reads as reads
 use Rattle.device.proofs.state.Device.outstanding_count.Lts as lts
-use Rattle.device.proofs.counter.ones_of.Reads as ones-of-reads
+use Rattle.bits.proofs.ones.Reads as ones-reads
 use Rattle.device.proofs.state.Device.contradicts.Reads as contradicts-reads
 
 contradicts-requires : tie.Need-contradicts-requires
@@ -16,16 +16,16 @@ returns : tie.Need-returns
 unfolding countOf pick
 returns c = count-given _ _ (rw (← c .before .contradicts .ensures, c .if1 .taken))
 
-ones-of-requires : tie.Need-ones-of-requires
-ones-of-requires c κs = search needs
+ones-requires : tie.Need-ones-requires
+ones-requires c κs = search needs
 
 cast-t6 : tie.Need-cast-t6
 cast-t6 c = search needs
 
 returns-2 : tie.Need-returns-2
 unfolding countOf pick
-returns-2 c = count-given _ _ (rw (← c .before .before .contradicts .ensures, c .before .if1 .left, c .ones-of .ensures))
+returns-2 c = count-given _ _ (rw (← c .before .before .contradicts .ensures, c .before .if1 .left, c .ones .ensures))
 
 pub outstanding-count-spec : {M : Type 1} → statement M
 outstanding-count-spec =
-    tie.close (tie.spec contradicts-requires returns ones-of-requires cast-t6 returns-2)
+    tie.close (tie.spec contradicts-requires returns ones-requires cast-t6 returns-2)

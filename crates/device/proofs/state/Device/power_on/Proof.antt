@@ -7,7 +7,7 @@ use Rattle.device.proofs.state.Device.power_on.Reads as reads
 use Rattle.device.proofs.state.Device.power_on.Lts as lts
 use Rattle.device.proofs.state.fresh.Reads as fresh-reads
 use Rattle.device.proofs.state.zeros.Reads as zeros-reads
-use Rattle.device_state.proofs.settings_out.Reads as settings-out-reads
+use Rattle.contradictions.proofs.settings_out.Reads as settings-out-reads
 use Rattle.refusals.proofs.power_number.Reads as power-number-reads
 
 settings-out-requires : tie.Need-settings-out-requires

@@ -1,30 +1,31 @@
-use Rattle.bits.specs.Pick.{pick}
-use Rattle.device.specs.After.{withValue, released, resetHeld, renewed}
-use Rattle.device.specs.Device.{freshDevice}
+use Rattle.device.specs.After.{withValue, resetHeld, released, renewed}
 use borrow.Author.Needs.{needs}
 use Rattle.device.proofs.state.Device.renewed.Statement.{statement}
 use Rattle.device.proofs.state.Device.renewed.Tie as tie
 use Rattle.device.proofs.state.Device.renewed.Reads as reads
 use Rattle.device.proofs.state.Device.renewed.Lts as lts
-use Rattle.device.proofs.state.fresh.Reads as fresh-reads
-use Rattle.device_state.proofs.bump.Reads as bump-reads
+use Rattle.counter_values.proofs.with_link_reset.Reads as with-link-reset-reads
+use Rattle.device.proofs.state.Device.emptied.Reads as emptied-reads
+use Rattle.device_state.proofs.no_record.Reads as no-record-reads
+use Rattle.device_state.proofs.idle.Reads as idle-reads
 
-element-copy-out-v : tie.Need-element-copy-out-v
-element-copy-out-v c = search needs
+with-link-reset-requires : tie.Need-with-link-reset-requires
+with-link-reset-requires c κs = search needs
 
-bump-requires : tie.Need-bump-requires
-bump-requires c κs = search needs
+idle-requires : tie.Need-idle-requires
+idle-requires c κs = search needs
 
-array-write-values : tie.Need-array-write-values
-array-write-values c = search needs
+no-record-requires : tie.Need-no-record-requires
+no-record-requires c κs = search needs
 
-fresh-requires : tie.Need-fresh-requires
-fresh-requires c κs = search needs
+emptied-requires : tie.Need-emptied-requires
+emptied-requires c κs = search needs
 
 returns : tie.Need-returns
-unfolding renewed withValue released resetHeld pick freshDevice
-returns c = rw (c .fresh .ensures, c .before .before .bump .ensures)
+unfolding renewed withValue released resetHeld
+returns c = rw (← c .before .before .before .with-link-reset .ensures, ← c .before .before .idle .ensures, ← c .before .no-record .ensures) (c .emptied .ensures)
 
 pub renewed-spec : {M : Type 1} → statement M
 renewed-spec =
-    tie.close (tie.spec element-copy-out-v bump-requires array-write-values fresh-requires returns)
+    tie.close
+    (tie.spec with-link-reset-requires idle-requires no-record-requires emptied-requires returns)
