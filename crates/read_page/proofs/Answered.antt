@@ -10,10 +10,10 @@ use lib.ListN.{length, getD}
 use borrow.Author.Tests.{eqb-true, eq-eqb}
 use Rattle.bits.specs.First.{firstOf}
 use Rattle.bits.proofs.Picks.{pick-yes, pick-no, tested}
-use Rattle.pages.specs.Entries.{CounterEntry, entryAsked, entries}
-use Rattle.pages.specs.Page11.{valueIn, ladder11, readCounter}
-use Rattle.pages.specs.Rows.{ids, idOf}
-use Rattle.pages.specs.declared.page11.Counter.the-variants.{Refused}
+use Rattle.page_11h.specs.Entries.{CounterEntry, entryAsked, entries}
+use Rattle.page_11h.specs.Page11.{valueIn, ladder11, readCounter}
+use Rattle.page_rows.specs.Rows.{ids, idOf}
+use Rattle.page_rows.specs.declared.shown.Counter.the-variants.{Refused}
 use Rattle.read_page.specs.Asking.{refusalIn}
 use Rattle.read_page.proofs.Asked.{length-ids}
 

@@ -10,8 +10,8 @@ use borrow.Author.Tests.{eq-eqb, ne-eqb}
 use Rattle.bits.specs.Pick.{pick}
 use Rattle.bits.specs.First.{firstOf}
 use Rattle.bits.proofs.Picks.{pick-yes, pick-no}
-use Rattle.pages.specs.Page11.{ladder11}
-use Rattle.pages.specs.Rows.{ids, idOf}
+use Rattle.page_11h.specs.Page11.{ladder11}
+use Rattle.page_rows.specs.Rows.{ids, idOf}
 use Rattle.read_page.specs.Asking.{refusalIn}
 
 pub length-ids : length ids ≡ 16

@@ -13,10 +13,10 @@ use Rattle.bits.specs.First.{firstOf, Iff}
 use Rattle.bits.specs.Little.{leAt}
 use Rattle.bits.proofs.Picks.{pick-yes, pick-no, tested, or-left, or-right}
 use Rattle.bits.proofs.Firsts as firsts
-use Rattle.pages.specs.Entries.{CounterEntry, widthOf, bytesIn, wrongWidth, pastEnd, nameless, entryAsked, entries, someOf, countEntries}
-use Rattle.pages.specs.Page11.{damaged, valueIn, ladder11, readCounter}
-use Rattle.pages.specs.declared.page11.Counter.the-variants.{Value, Refused}
-use Rattle.pages.proofs.Values.{noEntry}
+use Rattle.page_11h.specs.Entries.{CounterEntry, widthOf, bytesIn, wrongWidth, pastEnd, nameless, entryAsked, entries, someOf, countEntries}
+use Rattle.page_11h.specs.Page11.{damaged, valueIn, ladder11, readCounter}
+use Rattle.page_rows.specs.declared.shown.Counter.the-variants.{Value, Refused}
+use Rattle.page_11h.proofs.Values.{noEntry}
 use Rattle.read_page.specs.Top.{bytesFor, topOf, atTop}
 
 -- the entry of a list that a value was read from

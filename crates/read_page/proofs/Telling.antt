@@ -14,7 +14,7 @@ use Rattle.bits.proofs.Picks.{pick-yes, pick-no}
 use Rattle.text.specs.Sheet.{Sheet, written, TextGiven}
 use Rattle.text.specs.Digits.{hex}
 use Rattle.text.proofs.Writing.{written-more, fronted}
-use Rattle.pages.specs.Rows.{ids, idOf}
+use Rattle.page_rows.specs.Rows.{ids, idOf}
 use Rattle.read_page.specs.Asking.{refusalIn}
 use Rattle.read_page.specs.Lines.{upper, refusalLine, counterLine, counterLines, countersText}
 use Rattle.read_page.proofs.Asked.{length-ids}

@@ -8,8 +8,8 @@ use lib.Dec.{ltb}
 use borrow.Author.Tests.{eq-eqb, ne-eqb, le-leb, lt-leb}
 use Rattle.bits.specs.Pick.{pick}
 use Rattle.bits.proofs.Picks.{pick-yes, pick-no}
-use Rattle.pages.specs.Entries.{idAt, widthOf, bytesIn, idAsked, entriesFrom, entries}
-use Rattle.pages.proofs.Walking.{ends, entries-end, entries-some, entries-fuel}
+use Rattle.page_11h.specs.Entries.{idAt, widthOf, bytesIn, idAsked, entriesFrom, entries}
+use Rattle.page_11h.proofs.Walking.{ends, entries-end, entries-some, entries-fuel}
 use Rattle.read_page.specs.Top.{bytesFor}
 
 -- the bytes of the number's value, looked for from a place on

@@ -4,7 +4,7 @@ use mathlib.Core.List.{List, [], _∷_}
 use lib.Dec.{eqb}
 use Rattle.bits.specs.Pick.{pick}
 use Rattle.bits.specs.First.{firstOf}
-use Rattle.pages.specs.Page11.{ladder11}
+use Rattle.page_11h.specs.Page11.{ladder11}
 
 -- the refusal of the first of the numbers that is refused, and 0 where each is answered
 unfoldable pub refusalIn : List ℕ → List ℕ → ℕ

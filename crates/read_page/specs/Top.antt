@@ -4,7 +4,7 @@ use mathlib.Core.Bool.{Bool}
 use mathlib.Core.List.{List, [], _∷_}
 use lib.Dec.{eqb}
 use Rattle.bits.specs.Pick.{pick}
-use Rattle.pages.specs.Entries.{CounterEntry, bytesIn, entryAsked, entries}
+use Rattle.page_11h.specs.Entries.{CounterEntry, bytesIn, entryAsked, entries}
 
 -- how many bytes the value of the asked number has, by the entry whose value `valueIn` gives; 0 where there is none
 unfoldable pub bytesFor : ℕ → List CounterEntry → ℕ

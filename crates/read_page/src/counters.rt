@@ -1,15 +1,15 @@
 // The counters of page 11h, in the order of figure 24.
 ghost use mathlib.Core.Path.{_≡_};
 ghost use Rattle.bits.specs.First.{firstOf};
-ghost use Rattle.pages.specs.Page11.{ladder11, readCounter};
-ghost use Rattle.pages.specs.Rows.{ids};
+ghost use Rattle.page_11h.specs.Page11.{ladder11, readCounter};
+ghost use Rattle.page_rows.specs.Rows.{ids};
 ghost use Rattle.text.specs.Sheet.{TextGiven, WholeTextGiven};
 ghost use Rattle.read_page.specs.Asking.{refusalIn};
 ghost use Rattle.read_page.specs.Lines.{valueLine, answerLine, counterLine, counterLines, countersText};
 use crate::tops::is_top;
 use crate::words::put_refusal;
 use crate::words::put_upper;
-use pages::Counter;
+use page_rows::Counter;
 use text::put;
 use text::put_byte;
 use text::put_decimal;
@@ -18,7 +18,7 @@ use text::put_decimal;
 fn refusal_of(page: &[u8], number: u16) -> u8
     ensures { λ r. ⌜ r ≡ firstOf (ladder11 (now (page .entry)) number) ⌝ }
 {
-    match pages::read_counter(page, number) {
+    match page_11h::read_counter(page, number) {
         Counter::Value(_) => 0,
         Counter::Absent => 0,
         Counter::Refused(n) => n,
@@ -31,7 +31,7 @@ fn refusal(page: &[u8]) -> u8
 {
     let mut row: usize = 0;
     while row < 16 {
-        let n = refusal_of(page, pages::id_of(row));
+        let n = refusal_of(page, page_rows::id_of(row));
         if n != 0 {
             return n;
         }
@@ -55,7 +55,7 @@ fn put_value(out: &mut [u8], at: usize, v: u64, top: bool) -> usize
 fn put_answer(out: &mut [u8], at: usize, page: &[u8], number: u16) -> usize
     ensures { λ r. ⌜ TextGiven (answerLine (now (page .entry)) number (readCounter (now (page .entry)) number)) at (now (out .entry)) r (now (out .exit)) ⌝ }
 {
-    match pages::read_counter(page, number) {
+    match page_11h::read_counter(page, number) {
         Counter::Value(v) => put_value(out, at, v, is_top(page, number, v)),
         Counter::Absent => put(out, at, b"absent\n"),
         Counter::Refused(n) => put_refusal(out, at, n),
@@ -77,7 +77,7 @@ fn put_all(out: &mut [u8], page: &[u8]) -> usize
     let mut end: usize = 0;
     let mut row: usize = 0;
     while row < 16 {
-        end = put_counter(out, end, page, pages::id_of(row));
+        end = put_counter(out, end, page, page_rows::id_of(row));
         row += 1;
     }
     end

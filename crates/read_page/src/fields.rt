@@ -6,8 +6,8 @@ use crate::words::put_hex;
 use crate::words::put_number;
 use crate::words::put_refusal;
 use frame_parts::Task;
-use pages::ErrorLog;
-use pages::Page10;
+use page_10h::ErrorLog;
+use page_10h::Page10;
 
 fn put_marks(out: &mut [u8], log: ErrorLog) -> usize
     ensures { λ r. ⌜ TextGiven (marksText log) 0 (now (out .entry)) r (now (out .exit)) ⌝ }
@@ -37,7 +37,7 @@ fn put_log(out: &mut [u8], log: ErrorLog) -> usize
 fn put_read(out: &mut [u8], page: &[u8]) -> usize
     ensures { λ r. ⌜ TextGiven (fieldsText (now (page .entry))) 0 (now (out .entry)) r (now (out .exit)) ⌝ }
 {
-    match pages::read_log(page) {
+    match page_10h::read_log(page) {
         Page10::Fields(log) => put_log(out, log),
         Page10::Refused(n) => put_refusal(out, 0, n),
     }

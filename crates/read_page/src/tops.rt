@@ -3,7 +3,7 @@
 ghost use mathlib.Core.Path.{_≡_};
 ghost use mathlib.Core.Bool.{_||_};
 ghost use lib.Dec.{ltb};
-ghost use Rattle.pages.specs.Entries.{widthOf, bytesIn, idAsked, entries};
+ghost use Rattle.page_11h.specs.Entries.{widthOf, bytesIn, idAsked, entries};
 ghost use Rattle.read_page.specs.Top.{bytesFor, topOf, atTop};
 
 // Bits 14:12 of an identifier.

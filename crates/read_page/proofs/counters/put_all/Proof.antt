@@ -4,7 +4,7 @@ use native.Mathlib.Omega.{arith}
 use lib.ListN.{length, drop}
 use denote.Ref.{now}
 use Rattle.text.specs.Sheet.{sheet, written}
-use Rattle.pages.specs.Rows.{ids}
+use Rattle.page_rows.specs.Rows.{ids}
 use Rattle.read_page.specs.Lines.{counterLines}
 use Rattle.read_page.proofs.Telling.{lines-turn, lines-end}
 use borrow.Author.Needs.{needs}
@@ -12,7 +12,7 @@ use Rattle.read_page.proofs.counters.put_all.Statement.{statement}
 use Rattle.read_page.proofs.counters.put_all.Tie as tie
 use Rattle.read_page.proofs.counters.put_all.Reads as reads
 use Rattle.read_page.proofs.counters.put_all.Lts as lts
-use Rattle.pages.proofs.id_of.Reads as id-of-reads
+use Rattle.page_rows.proofs.id_of.Reads as id-of-reads
 use Rattle.read_page.proofs.counters.put_counter.Reads as put-counter-reads
 
 abbrev Inv-loop : tie.InvT-loop

@@ -5,7 +5,7 @@ use Rattle.read_page.proofs.counters.put_answer.Statement.{statement}
 use Rattle.read_page.proofs.counters.put_answer.Tie as tie
 use Rattle.read_page.proofs.counters.put_answer.Reads as reads
 use Rattle.read_page.proofs.counters.put_answer.Lts as lts
-use Rattle.pages.proofs.read_counter.Reads as read-counter-reads
+use Rattle.page_11h.proofs.read_counter.Reads as read-counter-reads
 use Rattle.read_page.proofs.counters.put_value.Reads as put-value-reads
 use Rattle.read_page.proofs.tops.is_top.Reads as is-top-reads
 use Rattle.read_page.proofs.words.put_refusal.Reads as put-refusal-reads

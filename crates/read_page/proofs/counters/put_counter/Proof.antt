@@ -1,7 +1,7 @@
 use mathlib.Core.List.{[], _∷_}
 use denote.Ref.{now}
 use Rattle.text.proofs.Writing.{wrote-both}
-use Rattle.pages.specs.Page11.{readCounter}
+use Rattle.page_11h.specs.Page11.{readCounter}
 use Rattle.read_page.specs.Lines.{upper, answerLine, counterLine}
 use borrow.Author.Needs.{needs}
 use Rattle.read_page.proofs.counters.put_counter.Statement.{statement}

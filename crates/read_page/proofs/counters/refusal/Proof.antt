@@ -2,7 +2,7 @@ use mathlib.Core.Path.{_≡_, refl, _∙_, sym}
 use Prim.Native.Nat.{_-_, _≤_}
 use native.Mathlib.Omega.{arith}
 use lib.ListN.{drop}
-use Rattle.pages.specs.Rows.{ids}
+use Rattle.page_rows.specs.Rows.{ids}
 use Rattle.read_page.specs.Asking.{refusalIn}
 use Rattle.read_page.proofs.Asked.{asked-refused, asked-next, asked-all}
 use borrow.Author.Needs.{needs}
@@ -10,7 +10,7 @@ use Rattle.read_page.proofs.counters.refusal.Statement.{statement}
 use Rattle.read_page.proofs.counters.refusal.Tie as tie
 use Rattle.read_page.proofs.counters.refusal.Reads as reads
 use Rattle.read_page.proofs.counters.refusal.Lts as lts
-use Rattle.pages.proofs.id_of.Reads as id-of-reads
+use Rattle.page_rows.proofs.id_of.Reads as id-of-reads
 use Rattle.read_page.proofs.counters.refusal_of.Reads as refusal-of-reads
 
 abbrev Inv-loop : tie.InvT-loop

@@ -1,12 +1,12 @@
 use mathlib.Core.Path.{ap, sym, _∙_}
-use Rattle.pages.specs.Page11.{counterAnswer}
-use Rattle.pages.specs.declared.page11.Counter.{Counter}
+use Rattle.page_11h.specs.Page11.{counterAnswer}
+use Rattle.page_rows.specs.declared.shown.Counter.{Counter}
 use borrow.Author.Needs.{needs}
 use Rattle.read_page.proofs.counters.refusal_of.Statement.{statement}
 use Rattle.read_page.proofs.counters.refusal_of.Tie as tie
 use Rattle.read_page.proofs.counters.refusal_of.Reads as reads
 use Rattle.read_page.proofs.counters.refusal_of.Lts as lts
-use Rattle.pages.proofs.read_counter.Reads as read-counter-reads
+use Rattle.page_11h.proofs.read_counter.Reads as read-counter-reads
 
 read-counter-requires : tie.Need-read-counter-requires
 read-counter-requires c κs = search needs

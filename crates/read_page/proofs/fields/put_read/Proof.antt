@@ -5,7 +5,7 @@ use Rattle.read_page.proofs.fields.put_read.Statement.{statement}
 use Rattle.read_page.proofs.fields.put_read.Tie as tie
 use Rattle.read_page.proofs.fields.put_read.Reads as reads
 use Rattle.read_page.proofs.fields.put_read.Lts as lts
-use Rattle.pages.proofs.read_log.Reads as read-log-reads
+use Rattle.page_10h.proofs.read_log.Reads as read-log-reads
 use Rattle.read_page.proofs.fields.put_log.Reads as put-log-reads
 use Rattle.read_page.proofs.words.put_refusal.Reads as put-refusal-reads
 

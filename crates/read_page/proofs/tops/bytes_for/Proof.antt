@@ -1,7 +1,7 @@
 use mathlib.Core.Path.{_≡_, _∙_, sym}
 use Prim.Native.Nat.{_-_}
-use Rattle.pages.specs.Entries.{entries}
-use Rattle.pages.proofs.Walking.{id-read}
+use Rattle.page_11h.specs.Entries.{entries}
+use Rattle.page_11h.proofs.Walking.{id-read}
 use Rattle.read_page.specs.Top.{bytesFor}
 use Rattle.read_page.proofs.Widths.{fromHere, width-starts, width-past, width-end, width-hit, width-stop, width-next}
 use borrow.Author.Needs.{needs}
