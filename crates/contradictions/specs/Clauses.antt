@@ -7,7 +7,7 @@ use lib.ListN.{getD}
 use Rattle.bits.specs.Pick.{pick}
 use Rattle.bits.specs.Bit.{bitIn}
 use Rattle.frame_parts.specs.Shared.{sectorsOf}
-use Rattle.pages.specs.Rows.{kept, keepsBoth}
+use Rattle.page_rows.specs.Rows.{kept, keepsBoth}
 use Rattle.device_state.specs.State.{taskIn, tagIn, wholeOf, zeroEntry}
 use Rattle.device_state.specs.Table.{someBelow}
 use Rattle.device_state.specs.declared.shapes.Settings.{Settings}

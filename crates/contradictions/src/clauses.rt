@@ -13,8 +13,8 @@ use device_state::whole_of;
 pub fn settings_out(s: Settings) -> bool
     ensures { λ r. ⌜ r ≡ settingsOut s ⌝ }
 {
-    let first = pages::is_kept(s.mask, 0);
-    let tenth = pages::is_kept(s.mask, 9);
+    let first = page_rows::is_kept(s.mask, 0);
+    let tenth = page_rows::is_kept(s.mask, 9);
     ((s.depth < 1) | (Settings::DEPTH_LIMIT < s.depth))
         | ((s.capacity < 1) | (Settings::CAPACITY_LIMIT < s.capacity))
         | !(first & tenth)
@@ -115,7 +115,7 @@ fn record_bad(r: ErrorRecord) -> bool
 fn row_bad(mask: u16, row: usize, value: u32) -> bool
     ensures { λ r. ⌜ r ≡ rowBad mask row value ⌝ }
 {
-    let kept = pages::is_kept(mask, row);
+    let kept = page_rows::is_kept(mask, row);
     !kept & !(value == 0)
 }
 
@@ -152,6 +152,6 @@ pub fn contradicts(
 pub fn row_refused(mask: u16, row: u8) -> bool
     ensures { λ r. ⌜ r ≡ rowRefused mask row ⌝ }
 {
-    let kept = pages::is_kept(mask, row as usize);
+    let kept = page_rows::is_kept(mask, row as usize);
     ((row == 0) | (row == 9)) | ((15 < row) | !kept)
 }

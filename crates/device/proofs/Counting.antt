@@ -8,13 +8,13 @@ use borrow.Author.Tests.{eqb-true}
 use Rattle.bits.specs.First.{FirstExactly, firstOf}
 use Rattle.bits.proofs.Firsts as firsts
 use Rattle.bits.proofs.Picks.{by-test, pick-yes, pick-no}
-use Rattle.pages.specs.Rows.{kept, rowOf}
-use Rattle.pages.specs.Page11.{counterAnswer}
-use Rattle.pages.specs.Made11.{onRow, shownFor}
-use Rattle.pages.specs.declared.rows.Place.{Place}
-use Rattle.pages.specs.declared.rows.Place.the-variants.{Row, Nowhere}
-use Rattle.pages.specs.declared.page11.Counter.{Counter}
-use Rattle.pages.specs.declared.page11.Counter.the-variants.{Value, Absent, Refused}
+use Rattle.page_rows.specs.Rows.{kept, rowOf}
+use Rattle.page_11h.specs.Page11.{counterAnswer}
+use Rattle.page_rows.specs.Made11.{onRow, shownFor}
+use Rattle.page_rows.specs.declared.rows.Place.{Place}
+use Rattle.page_rows.specs.declared.rows.Place.the-variants.{Row, Nowhere}
+use Rattle.page_rows.specs.declared.shown.Counter.{Counter}
+use Rattle.page_rows.specs.declared.shown.Counter.the-variants.{Value, Absent, Refused}
 use Rattle.device.specs.Counter.{counterTests, counterOf, CounterGiven, countOf, CountGiven}
 use Rattle.device.specs.Device.{contradictoryDevice}
 use Rattle.refusals.specs.Ladders.{powerLadder}

@@ -6,7 +6,7 @@ use native.Mathlib.Omega.{arith}
 use lib.Dec.{ltb, leb, eqb}
 use borrow.Author.Tests.{eq-eqb, ltb-false}
 use Rattle.bits.proofs.Picks.{by-test, or-left, or-right}
-use Rattle.pages.specs.Rows.{keepsBoth}
+use Rattle.page_rows.specs.Rows.{keepsBoth}
 use Rattle.frame_parts.specs.Shared.{tagOf, sectorsOf}
 use Rattle.frames.specs.declared.shapes.HostReg.{HostReg}
 use Rattle.device_state.specs.State.{taskIn, tagIn, wholeOf, echoOf}

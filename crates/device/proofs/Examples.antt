@@ -12,12 +12,12 @@ use Rattle.frame_parts.specs.Shared.{registerBytes}
 use Rattle.frame_parts.specs.Size.{fixedSize, readable}
 use Rattle.frames.specs.Read.{frameByKind, readFrame}
 use Rattle.frames.specs.Write.{bitsBytes, setupBytes, encode}
-use Rattle.pages.specs.Sum.{sumTo, sum256, sealed}
-use Rattle.pages.specs.Rows.{ids}
-use Rattle.pages.specs.Entries.{idAt, entriesFrom, entries, someOf, countEntries}
-use Rattle.pages.specs.Page10.{page10, fits10}
-use Rattle.pages.specs.Page11.{damaged, valueIn, readCounter, counterAnswer}
-use Rattle.pages.specs.Made11.{rowBytes, rowsTo, openTo, page11}
+use Rattle.page_sum.specs.Sum.{sumTo, sum256, sealed}
+use Rattle.page_rows.specs.Rows.{ids}
+use Rattle.page_11h.specs.Entries.{idAt, entriesFrom, entries, someOf, countEntries}
+use Rattle.page_10h.specs.Page10.{page10, fits10}
+use Rattle.page_11h.specs.Page11.{damaged, valueIn, readCounter, counterAnswer}
+use Rattle.page_rows.specs.Made11.{rowBytes, rowsTo, openTo, page11}
 use Rattle.device_state.specs.State.{taskIn, echoOf}
 use Rattle.device_state.specs.Table.{someBelow, tab, placed, cleared}
 use Rattle.contradictions.specs.Clauses.{movedBad, settingsOut, busyBad, idleBad, entryBad, tableBad, statusBad, recordBad, rowsBad, contradictory}

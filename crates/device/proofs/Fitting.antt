@@ -17,8 +17,8 @@ use Rattle.frame_parts.proofs.TaskLaws.{task-fits}
 use Rattle.frames.specs.Read.{hostOf, deviceOf, bitsOf, setupOf, pioOf, frameByKind, readFrame}
 use Rattle.frames.specs.declared.shapes.Frame.{Frame}
 use Rattle.frames.specs.declared.shapes.Frame.the-variants as fs
-use Rattle.pages.specs.Page10.{fits10}
-use Rattle.pages.specs.declared.page10.ErrorLog.{ErrorLog}
+use Rattle.page_10h.specs.Page10.{fits10}
+use Rattle.page_10h.specs.declared.page10.ErrorLog.{ErrorLog}
 use Rattle.device_state.specs.State.{placedBytes, taskIn, echoOf}
 use Rattle.contradictions.specs.Clauses.{tagTooLarge, tagUnderNq, blankNotZero, recordBad}
 use Rattle.rules.proofs.Ruled as by

@@ -11,7 +11,7 @@ use borrow.Author.Tests.{not-false, eqb-true, eqb-false}
 use Rattle.bits.specs.Pick.{pick}
 use Rattle.bits.proofs.Firsts as firsts
 use Rattle.bits.proofs.Picks.{tested, and-left, and-right, or-left, or-right}
-use Rattle.pages.specs.Rows.{kept, keepsBoth}
+use Rattle.page_rows.specs.Rows.{kept, keepsBoth}
 use Rattle.counter_values.specs.Counts.{bumped}
 use Rattle.contradictions.specs.Clauses.{settingsOut, tableBad, statusBad, recordBad, rowBadAt, rowsBad, contradictory}
 use Rattle.device_state.proofs.TableLaws.{some-never, some-absent}

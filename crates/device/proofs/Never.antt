@@ -7,7 +7,7 @@ use lib.Dec.{eqb, ltb, lit<}
 use lib.ListN.{replicate, getD-replicate}
 use Rattle.bits.specs.Pick.{pick}
 use Rattle.bits.specs.Bit.{bitIn}
-use Rattle.pages.specs.Rows.{kept}
+use Rattle.page_rows.specs.Rows.{kept}
 use Rattle.device_state.specs.State.{zeroEntry}
 use Rattle.contradictions.specs.Clauses.{settingsOut, entryBad, idleBad, tagBad, tableBad, statusBad, recordBad, rowBadAt, rowsBad, contradictory}
 use Rattle.device_state.specs.declared.shapes.Settings.{Settings}

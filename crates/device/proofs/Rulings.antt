@@ -13,7 +13,7 @@ use Rattle.frame_parts.specs.Size.{payloadSize}
 use Rattle.frames.specs.declared.shapes.HostReg.{HostReg}
 use Rattle.frames.specs.declared.shapes.Frame.{Frame}
 use Rattle.frames.proofs.ReadLaws.{DataRead}
-use Rattle.pages.specs.Rows.{kept}
+use Rattle.page_rows.specs.Rows.{kept}
 use Rattle.device_state.specs.State.{echoOf, zeroEcho}
 use Rattle.device_state.specs.Table.{entryOf}
 use Rattle.rules.specs.Call.{Call}

@@ -6,10 +6,10 @@ use lib.Dec.{eqb}
 use lib.Count.{ones}
 use Rattle.bits.specs.Pick.{pick}
 use Rattle.bits.specs.First.{Rung, firstOf}
-use Rattle.pages.specs.Page11.{noNumber, counterAnswer}
-use Rattle.pages.specs.Made11.{shownFor}
-use Rattle.pages.specs.declared.page11.Counter.{Counter}
-use Rattle.pages.specs.declared.page11.Counter.the-variants.{Value, Refused}
+use Rattle.page_11h.specs.Page11.{noNumber, counterAnswer}
+use Rattle.page_rows.specs.Made11.{shownFor}
+use Rattle.page_rows.specs.declared.shown.Counter.{Counter}
+use Rattle.page_rows.specs.declared.shown.Counter.the-variants.{Value, Refused}
 use Rattle.refusals.specs.Ladders.{powerLadder, counterLadder}
 use Rattle.device.specs.Device.{contradictoryDevice}
 use Rattle.device.specs.declared.state.Device.{Device}

@@ -7,8 +7,8 @@ use lib.ListN.{getD, take, drop, replicate}
 use Rattle.bits.specs.Little.{leBytes}
 use Rattle.frame_parts.specs.Cut.{joined}
 use Rattle.frames.specs.Write.{encode}
-use Rattle.pages.specs.Page11.{readCounter, counterAnswer}
-use Rattle.pages.specs.declared.page11.Counter.{Counter}
+use Rattle.page_11h.specs.Page11.{readCounter, counterAnswer}
+use Rattle.page_rows.specs.declared.shown.Counter.{Counter}
 use Rattle.device_state.specs.State.{blankRecord}
 use Rattle.replies.specs.Replies.{page10Of, page11Of}
 use Rattle.device.specs.Device.{freshDevice}

@@ -8,12 +8,12 @@ use Rattle.bits.specs.Pick.{pick}
 use Rattle.bits.specs.First.{firstOf}
 use Rattle.bits.proofs.Firsts as firsts
 use Rattle.bits.proofs.Picks.{pick-yes}
-use Rattle.pages.specs.Rows.{kept, rowOf}
-use Rattle.pages.specs.Made11.{onRow, shownFor}
-use Rattle.pages.specs.declared.rows.Place.{Place}
-use Rattle.pages.specs.declared.rows.Place.the-variants.{Row, Nowhere}
-use Rattle.pages.specs.declared.page11.Counter.the-variants.{Value, Absent, Refused}
-use Rattle.pages.proofs.RowLaws.{row-only}
+use Rattle.page_rows.specs.Rows.{kept, rowOf}
+use Rattle.page_rows.specs.Made11.{onRow, shownFor}
+use Rattle.page_rows.specs.declared.rows.Place.{Place}
+use Rattle.page_rows.specs.declared.rows.Place.the-variants.{Row, Nowhere}
+use Rattle.page_rows.specs.declared.shown.Counter.the-variants.{Value, Absent, Refused}
+use Rattle.page_rows.proofs.RowLaws.{row-only}
 use Rattle.device_state.specs.declared.shapes.Settings.{Settings}
 use Rattle.device.specs.Counter.{counterTests, counterOf}
 use Rattle.device.specs.declared.state.Device.{Device}

@@ -10,11 +10,11 @@ use Rattle.bits.specs.Pick.{pick}
 use Rattle.bits.specs.First.{firstOf}
 use Rattle.bits.proofs.Picks.{by-test, pick-yes}
 use Rattle.frame_parts.specs.Shared.{registerBytes}
-use Rattle.pages.specs.Sum.{sum256, sealed}
-use Rattle.pages.specs.Page10.{page10, fits10, fields10, readLog}
-use Rattle.pages.specs.declared.page10.ErrorLog.{ErrorLog}
-use Rattle.pages.specs.declared.page10.Page10.the-variants.{Fields}
-use Rattle.pages.proofs.Trip10.{length-10, sums-to-zero}
+use Rattle.page_sum.specs.Sum.{sum256, sealed}
+use Rattle.page_10h.specs.Page10.{page10, fits10, fields10, readLog}
+use Rattle.page_10h.specs.declared.page10.ErrorLog.{ErrorLog}
+use Rattle.page_10h.specs.declared.page10.Page10.the-variants.{Fields}
+use Rattle.page_10h.proofs.Trip10.{length-10, sums-to-zero}
 use Rattle.device_state.specs.declared.shapes.Settings.{Settings}
 use Rattle.replies.specs.Replies.{logOf, page10Of}
 use Rattle.device.proofs.Sized.{SizedRecord}

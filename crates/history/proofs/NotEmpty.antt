@@ -18,12 +18,12 @@ use Rattle.frame_parts.specs.Shared.{registerBytes}
 use Rattle.frame_parts.specs.Size.{readable, fixedSize}
 use Rattle.frames.specs.Read.{readFrame, frameByKind}
 use Rattle.frames.specs.Write.{fits, encode, setupBytes, bitsBytes}
-use Rattle.pages.specs.Entries.{entries, entriesFrom, idAt, countEntries as entriesSo, someOf}
-use Rattle.pages.specs.Made11.{page11, openTo, rowsTo, rowBytes}
-use Rattle.pages.specs.Page10.{fits10, page10}
-use Rattle.pages.specs.Page11.{readCounter, damaged, valueIn}
-use Rattle.pages.specs.Rows.{ids, rowOf, rowFrom}
-use Rattle.pages.specs.Sum.{sealed, sum256, sumTo}
+use Rattle.page_11h.specs.Entries.{entries, entriesFrom, idAt, countEntries as entriesSo, someOf}
+use Rattle.page_rows.specs.Made11.{page11, openTo, rowsTo, rowBytes}
+use Rattle.page_10h.specs.Page10.{fits10, page10}
+use Rattle.page_11h.specs.Page11.{readCounter, damaged, valueIn}
+use Rattle.page_rows.specs.Rows.{ids, rowOf, rowFrom}
+use Rattle.page_sum.specs.Sum.{sealed, sum256, sumTo}
 use Rattle.contradictions.specs.Clauses.{movedBad, contradictory, statusBad, settingsOut, recordBad, rowsBad, tableBad, entryBad, busyBad, idleBad}
 use Rattle.device_state.specs.State.{echoOf, taskIn}
 use Rattle.device_state.specs.Table.{someBelow, placed, tab, cleared}

@@ -13,14 +13,14 @@ use Rattle.frame_parts.specs.declared.shared.Task.{Task}
 use Rattle.frames.specs.Write.{payload, encode}
 use Rattle.frames.specs.RoundTrip.{readBack}
 use Rattle.frames.specs.Read.{readFrame}
-use Rattle.pages.specs.Rows.{kept, keepsBoth, rowOf}
-use Rattle.pages.specs.Page11.{readCounter, noNumber}
-use Rattle.pages.specs.Made11.{page11}
-use Rattle.pages.specs.declared.rows.Place.{Place}
-use Rattle.pages.specs.declared.rows.Place.the-variants.{Row, Nowhere}
-use Rattle.pages.specs.declared.page11.Counter.the-variants.{Value, Absent}
-use Rattle.pages.proofs.RowLaws.{row-found, row-only, row-missing}
-use Rattle.pages.proofs.Trip11.{unkept-absent, kept-reads}
+use Rattle.page_rows.specs.Rows.{kept, keepsBoth, rowOf}
+use Rattle.page_11h.specs.Page11.{readCounter, noNumber}
+use Rattle.page_rows.specs.Made11.{page11}
+use Rattle.page_rows.specs.declared.rows.Place.{Place}
+use Rattle.page_rows.specs.declared.rows.Place.the-variants.{Row, Nowhere}
+use Rattle.page_rows.specs.declared.shown.Counter.the-variants.{Value, Absent}
+use Rattle.page_rows.proofs.RowLaws.{row-found, row-only, row-missing}
+use Rattle.page_11h.proofs.Trip11.{unkept-absent, kept-reads}
 use Rattle.rules.specs.Number.{numberOf}
 use Rattle.rules.specs.Medium.{spanOf, partOf}
 use Rattle.rules.specs.declared.acts.Act.{Act}

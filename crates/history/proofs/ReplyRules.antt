@@ -15,7 +15,7 @@ use Rattle.frame_parts.specs.Cut.{joined}
 use Rattle.frames.specs.Write.{FrameValue}
 use Rattle.frames.specs.RoundTrip as trip
 use Rattle.frames.specs.declared.shapes.Frame.{Frame}
-use Rattle.pages.specs.Page10.{readLog}
+use Rattle.page_10h.specs.Page10.{readLog}
 use Rattle.rules.specs.Call.{Call}
 use Rattle.rules.specs.Number.{numberOf}
 use Rattle.rules.specs.Medium.{spanOf, partOf}

@@ -11,7 +11,7 @@ use Rattle.frames.specs.declared.shapes.SetBits.{SetBits}
 use Rattle.frames.specs.declared.shapes.HostReg.{HostReg}
 use Rattle.frames.specs.declared.shapes.Frame.{Frame}
 use Rattle.frames.specs.declared.shapes.Frame.the-variants as fs
-use Rattle.pages.specs.Page10.{readLog}
+use Rattle.page_10h.specs.Page10.{readLog}
 use Rattle.replies.specs.Replies.{logReplies, activateIf, page10Of}
 use Rattle.replies.specs.declared.shown.Shown.{Shown}
 use Rattle.history.specs.FrameReading.{frameReads}

@@ -12,7 +12,7 @@ use Rattle.frames.specs.Write.{FrameValue}
 use Rattle.frames.specs.declared.shapes.SetBits.{SetBits}
 use Rattle.frames.specs.declared.shapes.Frame.{Frame}
 use Rattle.frames.specs.declared.shapes.Frame.the-variants as fs
-use Rattle.pages.specs.Page10.{readLog}
+use Rattle.page_10h.specs.Page10.{readLog}
 use Rattle.rules.specs.Call.{Call, hostFrame}
 use Rattle.device.specs.declared.state.Device.{Device}
 use Rattle.device.proofs.Never.{and-never}

@@ -4,7 +4,7 @@ use mathlib.Core.List.{List}
 use Prim.Native.Nat.{ℕ, _≤_}
 use lib.Count.{ones}
 use Rattle.bits.proofs.Picks.{pick-no}
-use Rattle.pages.specs.declared.page11.Counter.the-variants.{Value, Refused}
+use Rattle.page_rows.specs.declared.shown.Counter.the-variants.{Value, Refused}
 use Rattle.device.specs.Device.{contradictoryDevice}
 use Rattle.device.specs.Counter.{countOf}
 use Rattle.device.specs.declared.state.Device.{Device}

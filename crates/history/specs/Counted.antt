@@ -4,11 +4,11 @@ use mathlib.Core.List.{List, [], _∷_}
 use Prim.Native.Nat.{ℕ, _+_, min}
 use lib.Dec.{eqb}
 use Rattle.bits.specs.Pick.{pick}
-use Rattle.pages.specs.Rows.{kept, rowOf}
-use Rattle.pages.specs.declared.rows.Place.{Place}
-use Rattle.pages.specs.declared.rows.Place.the-variants.{Row, Nowhere}
-use Rattle.pages.specs.declared.page11.Counter.{Counter}
-use Rattle.pages.specs.declared.page11.Counter.the-variants.{Value, Absent}
+use Rattle.page_rows.specs.Rows.{kept, rowOf}
+use Rattle.page_rows.specs.declared.rows.Place.{Place}
+use Rattle.page_rows.specs.declared.rows.Place.the-variants.{Row, Nowhere}
+use Rattle.page_rows.specs.declared.shown.Counter.{Counter}
+use Rattle.page_rows.specs.declared.shown.Counter.the-variants.{Value, Absent}
 use Rattle.history.specs.Event.{Event, taken}
 use Rattle.history.specs.Replied.{paged}
 use Rattle.history.specs.Reading.{rowRaised, callZeroes, callReads}

@@ -5,7 +5,7 @@ use mathlib.Core.List.{List, [], _∷_, _++_, map}
 use Prim.Native.Nat.{ℕ, _+_, _≤_, _<_}
 use lib.Dec.{ltb}
 use lib.ListN.{length, take, drop}
-use Rattle.pages.specs.Page11.{readCounter, noNumber}
+use Rattle.page_11h.specs.Page11.{readCounter, noNumber}
 use Rattle.history.specs.Event.{Event}
 use Rattle.history.specs.Asked.{brought}
 use Rattle.history.specs.Replied.{page, sent}

@@ -6,9 +6,9 @@ use Prim.Native.Nat.{ℕ, zero, suc, _-_, _*_}
 use lib.ListN.{length, getD, drop, replicate}
 use Rattle.bits.specs.Pick.{pick}
 use Rattle.device_state.specs.declared.shapes.Settings.{Settings}
-use Rattle.pages.specs.Page11.{readCounter}
-use Rattle.pages.specs.declared.page11.Counter.{Counter}
-use Rattle.pages.specs.declared.page11.Counter.the-variants.{Value, Absent}
+use Rattle.page_11h.specs.Page11.{readCounter}
+use Rattle.page_rows.specs.declared.shown.Counter.{Counter}
+use Rattle.page_rows.specs.declared.shown.Counter.the-variants.{Value, Absent}
 use Rattle.device.specs.Device.{powerOn}
 use Rattle.rules.specs.Call.{Call, hostFrame, openPhase, sendData, finishTags, mediaError, comReset}
 use Rattle.history.specs.Event.{Event}

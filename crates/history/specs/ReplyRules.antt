@@ -5,9 +5,9 @@ use mathlib.Core.Bool.{true, false, _&&_, _||_}
 use mathlib.Core.List.{List, []}
 use Prim.Native.Nat.{ℕ, _+_, _<_}
 use Rattle.bits.specs.Bit.{bitIn}
-use Rattle.pages.specs.Page10.{readLog}
-use Rattle.pages.specs.declared.page10.Page10.{Page10}
-use Rattle.pages.specs.declared.page10.Page10.the-variants.{Fields, Refused}
+use Rattle.page_10h.specs.Page10.{readLog}
+use Rattle.page_10h.specs.declared.page10.Page10.{Page10}
+use Rattle.page_10h.specs.declared.page10.Page10.the-variants.{Fields, Refused}
 use Rattle.history.specs.Event.{Event, taken}
 use Rattle.history.specs.Asked.{asks}
 use Rattle.history.specs.Reading.{Speech, noneFinished, setFinished, errorTold, callReads, callSays, callReplies}

@@ -7,9 +7,9 @@ use lib.Count.{ones}
 use lib.ListN.{getD}
 use Rattle.bits.specs.Bit.{bitIn}
 use Rattle.bits.specs.Contract.{Allows}
-use Rattle.pages.specs.Page11.{counterAnswer}
-use Rattle.pages.specs.declared.page11.Counter.{Counter}
-use Rattle.pages.specs.declared.page11.Counter.the-variants.{Value}
+use Rattle.page_11h.specs.Page11.{counterAnswer}
+use Rattle.page_rows.specs.declared.shown.Counter.{Counter}
+use Rattle.page_rows.specs.declared.shown.Counter.the-variants.{Value}
 use Rattle.device_state.specs.declared.shapes.Settings.{Settings}
 use Rattle.device.specs.Device.{contradictoryDevice, powerOn, zeroDevice}
 use Rattle.device.specs.declared.state.Device.{Device}

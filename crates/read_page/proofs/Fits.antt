@@ -14,21 +14,24 @@ use Rattle.bits.proofs.Picks.{by-test, pick-yes}
 use Rattle.text.specs.Sheet.{WholeTextGiven}
 use Rattle.text.specs.Digits.{decimalTo, decimal, hex}
 use Rattle.frame_parts.specs.declared.shared.Task.{Task}
-use Rattle.pages.specs.Rows.{ids}
-use Rattle.pages.specs.Page10.{readLog}
-use Rattle.pages.specs.Page11.{readCounter}
-use Rattle.pages.specs.declared.page10.ErrorLog.{ErrorLog}
-use Rattle.pages.specs.declared.page10.Page10 as page10
-use Rattle.pages.specs.declared.page10.Page10.the-variants as answer10
-use Rattle.pages.specs.declared.page11.Counter as page11
-use Rattle.pages.specs.declared.page11.Counter.the-variants as answer11
+use Rattle.page_rows.specs.Rows.{ids}
+use Rattle.page_10h.specs.Page10.{readLog}
+use Rattle.page_11h.specs.Page11.{readCounter}
+use Rattle.page_10h.specs.declared.page10.ErrorLog.{ErrorLog}
+use Rattle.page_10h.specs.declared.page10.Page10 as page10
+use Rattle.page_10h.specs.declared.page10.Page10.the-variants as answer10
+use Rattle.page_rows.specs.declared.shown.Counter as page11
+use Rattle.page_rows.specs.declared.shown.Counter.the-variants as answer11
 use Rattle.read_page.specs.declared.Page.{Page}
 use Rattle.read_page.specs.declared.Page.the-variants.{Errors, Counters}
-use Rattle.read_page.specs.Asking.{refusalIn}
-use Rattle.read_page.specs.Top.{atTop}
-use Rattle.read_page.specs.Words.{nqWord, tagWord, statusWord, errorWord, lbaWord, deviceWord, countWord, refusedWord, topWord}
-use Rattle.read_page.specs.Lines.{upper, numberLine, hexLine, refusalLine, valueLine, answerLine, counterLine, counterLines, countersText, marksText, taskText, logText, fieldsText, pageText, PageTextGiven}
-use Rattle.read_page.proofs.Asked.{length-ids}
+use Rattle.page_11h_text.specs.Asking.{refusalIn}
+use Rattle.page_tops.specs.Top.{atTop}
+use Rattle.page_words.specs.Words.{nqWord, tagWord, statusWord, errorWord, lbaWord, deviceWord, countWord, refusedWord, topWord}
+use Rattle.page_words.specs.Lines.{upper, numberLine, hexLine, refusalLine}
+use Rattle.page_10h_text.specs.Lines.{marksText, taskText, logText, fieldsText}
+use Rattle.page_11h_text.specs.Lines.{valueLine, answerLine, counterLine, counterLines, countersText}
+use Rattle.read_page.specs.Lines.{pageText, PageTextGiven}
+use Rattle.page_11h_text.proofs.Asked.{length-ids}
 
 -- a text has at most so many bytes
 abbrev Most : ℕ → List ℕ → Type 0

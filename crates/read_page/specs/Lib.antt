@@ -1,4 +1,1 @@
-pub mod Asking
-pub mod Top
-pub mod Words
 pub mod Lines

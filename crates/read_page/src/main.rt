@@ -5,12 +5,8 @@ ghost use Prim.Native.Nat.{_≤_};
 ghost use lib.ListN.{length};
 ghost use Rattle.read_page.specs.Lines.{pageText, PageTextGiven};
 
-mod counters;
-mod fields;
 mod input;
 mod output;
-mod tops;
-mod words;
 
 use output::show;
 
@@ -25,8 +21,8 @@ fn put_page(out: &mut [u8], which: Page, page: &[u8]) -> usize
     ensures { λ r. ⌜ PageTextGiven (pageText which (now (page .entry))) r (now (out .exit)) ⌝ }
 {
     match which {
-        Page::Errors => fields::put_fields(out, page),
-        Page::Counters => counters::put_counters(out, page),
+        Page::Errors => page_10h_text::put_fields(out, page),
+        Page::Counters => page_11h_text::put_counters(out, page),
     }
 }
 
@@ -48,13 +44,19 @@ fn answer_page(which: Page) {
     show_page(which, &page[0..n]);
 }
 
+// Whether two words of at most eight bytes are the same, as the names of the pages are.
+fn is_word(s: &[u8], w: &[u8]) -> bool {
+    let same = bits::le(s, 0, 8) == bits::le(w, 0, 8);
+    same & (s.len() == w.len())
+}
+
 // The word is looked at before anything is read: without a page's name nobody waits for one.
 fn answer(word: &[u8]) {
-    if words::is_word(word, b"10") {
+    if is_word(word, b"10") {
         answer_page(Page::Errors);
         return;
     }
-    if words::is_word(word, b"11") {
+    if is_word(word, b"11") {
         answer_page(Page::Counters);
         return;
     }

@@ -8,8 +8,8 @@ use Rattle.bits.specs.Little.{Bytes}
 use Rattle.frame_parts.specs.Shared.{taskFits}
 use Rattle.frame_parts.specs.Size.{payloadSize}
 use Rattle.frames.specs.Write.{FrameValue, fits}
-use Rattle.pages.specs.Page10.{fits10}
-use Rattle.pages.specs.Rows.{keepsBoth}
+use Rattle.page_10h.specs.Page10.{fits10}
+use Rattle.page_rows.specs.Rows.{keepsBoth}
 use Rattle.device_state.specs.State.{placedBytes}
 use Rattle.replies.specs.declared.shown.Shown.{Shown}
 use Rattle.rules.specs.declared.acts.Act.{Act}

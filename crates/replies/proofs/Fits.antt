@@ -17,11 +17,11 @@ use Rattle.frame_parts.proofs.TaskLaws.{task-fits}
 use Rattle.frames.specs.Write.{FrameValue, payload, encode, fits}
 use Rattle.frames.specs.DataLast.{DataLast}
 use Rattle.frames.proofs.Cuts.{cut-sent}
-use Rattle.pages.specs.Page10.{page10, fits10}
-use Rattle.pages.specs.Rows.{keepsBoth}
-use Rattle.pages.specs.Made11.{page11}
-use Rattle.pages.proofs.Trip10.{length-10}
-use Rattle.pages.proofs.Bytes11.{page-length}
+use Rattle.page_10h.specs.Page10.{page10, fits10}
+use Rattle.page_rows.specs.Rows.{keepsBoth}
+use Rattle.page_rows.specs.Made11.{page11}
+use Rattle.page_10h.proofs.Trip10.{length-10}
+use Rattle.page_rows.proofs.Bytes11.{page-length}
 use Rattle.device_state.specs.State.{placedBytes, taskIn, wholeOf}
 use Rattle.device_state.specs.declared.shapes.Echo.{Echo}
 use Rattle.device_state.specs.declared.shapes.ErrorRecord.{ErrorRecord}

@@ -9,10 +9,10 @@ use Rattle.bits.specs.Laid.{laid}
 use Rattle.frame_parts.specs.Cut.{joined}
 use Rattle.frame_parts.specs.declared.shared.Task.{Task}
 use Rattle.frames.specs.Write.{FrameValue, device, setBits, setup, activate, payload, pio, encode, fits}
-use Rattle.pages.specs.Page10.{page10, fits10}
-use Rattle.pages.specs.Rows.{keepsBoth}
-use Rattle.pages.specs.Made11.{page11}
-use Rattle.pages.specs.declared.page10.ErrorLog.{ErrorLog}
+use Rattle.page_10h.specs.Page10.{page10, fits10}
+use Rattle.page_rows.specs.Rows.{keepsBoth}
+use Rattle.page_rows.specs.Made11.{page11}
+use Rattle.page_10h.specs.declared.page10.ErrorLog.{ErrorLog}
 use Rattle.device_state.specs.State.{taskIn, wholeOf}
 use Rattle.device_state.specs.declared.shapes.ErrorRecord.{ErrorRecord}
 use Rattle.replies.specs.declared.shown.Shown.{Shown}

@@ -17,7 +17,7 @@ use frames::DevReg;
 use frames::DmaSetup;
 use frames::PioSetup;
 use frames::SetBits;
-use pages::ErrorLog;
+use page_10h::ErrorLog;
 use rules::Act;
 use rules::Queued;
 
@@ -193,7 +193,7 @@ fn put_log10(reply: &mut [u8], sweep: bool, task: Task, r: ErrorRecord) -> usize
 {
     let mut page = page_room();
     let f = log_of(r);
-    let w = pages::write_log(&mut page, f);
+    let w = page_10h::write_log(&mut page, f);
     let n = w.len;
     put_log(reply, sweep, task, &page[..n])
 }
@@ -203,7 +203,7 @@ fn put_log11(reply: &mut [u8], task: Task, mask: u16, values: [u32; 16]) -> usiz
     ensures { λ n. ⌜ RepliesGiven (logReplies false task (page11Of mask values)) (now (reply .entry)) n (now (reply .exit)) ⌝ }
 {
     let mut page = page_room();
-    let w = pages::write_counters(&mut page, mask, values);
+    let w = page_rows::write_counters(&mut page, mask, values);
     let n = w.len;
     put_log(reply, false, task, &page[..n])
 }

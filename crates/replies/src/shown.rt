@@ -4,7 +4,7 @@ ghost use Rattle.replies.specs.Replies.{logOf};
 use device_state::ErrorRecord;
 use device_state::Settings;
 use frame_parts::Task;
-use pages::ErrorLog;
+use page_10h::ErrorLog;
 
 // What replies show of the state.
 pub struct Shown {

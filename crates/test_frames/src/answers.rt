@@ -2,7 +2,7 @@
 use crate::reads;
 use crate::writes;
 use crate::writes::filled;
-use pages::Place;
+use page_rows::Place;
 use vector_io::next;
 use vector_io::number;
 use vector_io::two;
@@ -41,7 +41,7 @@ fn write_case(op: u8, kind: u8, n: usize, m: usize, first: u8, body: &[u8]) {
 }
 
 fn say_row(asked: u16) {
-    match pages::row_of(asked) {
+    match page_rows::row_of(asked) {
         Place::Row(k) => number(k as u64),
         Place::Nowhere => word(b"none"),
     }

@@ -5,8 +5,8 @@ use frames::Frame;
 use frames::HostReg;
 use frames::PioSetup;
 use frames::SetBits;
-use pages::ErrorLog;
-use pages::Page10;
+use page_10h::ErrorLog;
+use page_10h::Page10;
 use vector_io::next;
 use vector_io::number;
 use vector_io::word;
@@ -143,14 +143,14 @@ fn log(f: ErrorLog) -> [u64; 12] {
 }
 
 pub fn say_log(s: &[u8]) {
-    match pages::read_log(s) {
+    match page_10h::read_log(s) {
         Page10::Fields(f) => fields(7, log(f)),
         Page10::Refused(n) => number(n as u64),
     }
 }
 
 pub fn say_counter(s: &[u8], asked: u16) {
-    vector_io::counter(pages::read_counter(s, asked));
+    vector_io::counter(page_11h::read_counter(s, asked));
 }
 
 fn say_piece(first: bool, kind: u8, n: usize) {

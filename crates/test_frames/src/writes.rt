@@ -9,7 +9,7 @@ use frames::DmaSetup;
 use frames::HostReg;
 use frames::PioSetup;
 use frames::SetBits;
-use pages::ErrorLog;
+use page_10h::ErrorLog;
 use vector_io::four;
 use vector_io::hex;
 use vector_io::next;
@@ -160,7 +160,7 @@ pub fn say_frame(buf: &mut [u8], kind: u8, s: &[u8], n: usize, first: u8) {
 
 pub fn say_log(buf: &mut [u8], s: &[u8]) {
     let t = task(s, 4);
-    let w = pages::write_log(
+    let w = page_10h::write_log(
         buf,
         ErrorLog {
             nq: byte(s, 0) == 1,
@@ -180,6 +180,6 @@ pub fn say_counters(buf: &mut [u8], s: &[u8]) {
         values[row] = four(s, 2 + 4 * row);
         row += 1;
     }
-    let w = pages::write_counters(buf, two(s, 0), values);
+    let w = page_rows::write_counters(buf, two(s, 0), values);
     say_written(w, buf);
 }

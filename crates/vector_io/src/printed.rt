@@ -1,7 +1,7 @@
 // Numbers, words and bytes on standard output.
 ghost use Prim.Native.Nat.{_≤_};
 use libc::STDOUT_FILENO;
-use pages::Counter;
+use page_rows::Counter;
 
 pub fn line() {
     io::write_all(STDOUT_FILENO, b"\n");

@@ -1,15 +1,17 @@
 use native.Mathlib.Omega.{arith}
 use denote.Ref.{now}
 use Rattle.read_page.specs.declared.Page.the-variants.{Errors, Counters}
-use Rattle.read_page.specs.Lines.{countersText, fieldsText, pageText}
+use Rattle.page_10h_text.specs.Lines.{fieldsText}
+use Rattle.page_11h_text.specs.Lines.{countersText}
+use Rattle.read_page.specs.Lines.{pageText}
 use Rattle.read_page.proofs.Fits.{text-most, held}
 use borrow.Author.Needs.{needs}
 use Rattle.read_page.proofs.put_page.Statement.{statement}
 use Rattle.read_page.proofs.put_page.Tie as tie
 use Rattle.read_page.proofs.put_page.Reads as reads
 use Rattle.read_page.proofs.put_page.Lts as lts
-use Rattle.read_page.proofs.counters.put_counters.Reads as put-counters-reads
-use Rattle.read_page.proofs.fields.put_fields.Reads as put-fields-reads
+use Rattle.page_11h_text.proofs.put_counters.Reads as put-counters-reads
+use Rattle.page_10h_text.proofs.put_fields.Reads as put-fields-reads
 
 enum-told : tie.Need-enum-told
 enum-told c = search needs

@@ -4,7 +4,7 @@ use Rattle.contradictions.proofs.clauses.settings_out.Statement.{statem
 use Rattle.contradictions.proofs.clauses.settings_out.Tie as tie
 use Rattle.contradictions.proofs.clauses.settings_out.Reads as reads
 use Rattle.contradictions.proofs.clauses.settings_out.Lts as lts
-use Rattle.pages.proofs.is_kept.Reads as is-kept-reads
+use Rattle.page_rows.proofs.is_kept.Reads as is-kept-reads
 
 is-kept-requires : tie.Need-is-kept-requires
 is-kept-requires c κs = search needs

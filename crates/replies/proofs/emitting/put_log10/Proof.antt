@@ -1,15 +1,15 @@
 use mathlib.Core.Path.{sym}
 use native.Mathlib.Omega.{arith}
 use lib.Seq.{length-take-le}
-use Rattle.pages.specs.Page10.{fits10, page10}
-use Rattle.pages.proofs.Trip10.{length-10}
+use Rattle.page_10h.specs.Page10.{fits10, page10}
+use Rattle.page_10h.proofs.Trip10.{length-10}
 use Rattle.replies.proofs.Sending.{page-taken, page-most}
 use borrow.Author.Needs.{needs}
 use Rattle.replies.proofs.emitting.put_log10.Statement.{statement}
 use Rattle.replies.proofs.emitting.put_log10.Tie as tie
 use Rattle.replies.proofs.emitting.put_log10.Reads as reads
 use Rattle.replies.proofs.emitting.put_log10.Lts as lts
-use Rattle.pages.proofs.write_log.Reads as write-log-reads
+use Rattle.page_10h.proofs.write_log.Reads as write-log-reads
 use Rattle.replies.proofs.shown.log_of.Reads as log-of-reads
 use Rattle.replies.proofs.emitting.page_room.Reads as page-room-reads
 use Rattle.replies.proofs.emitting.put_log.Reads as put-log-reads

@@ -1,16 +1,16 @@
 use mathlib.Core.Path.{sym}
 use native.Mathlib.Omega.{arith}
 use lib.Seq.{length-take-le}
-use Rattle.pages.specs.Rows.{keepsBoth}
-use Rattle.pages.specs.Made11.{page11}
-use Rattle.pages.proofs.Bytes11.{page-length}
+use Rattle.page_rows.specs.Rows.{keepsBoth}
+use Rattle.page_rows.specs.Made11.{page11}
+use Rattle.page_rows.proofs.Bytes11.{page-length}
 use Rattle.replies.proofs.Sending.{page-taken, page-most}
 use borrow.Author.Needs.{needs}
 use Rattle.replies.proofs.emitting.put_log11.Statement.{statement}
 use Rattle.replies.proofs.emitting.put_log11.Tie as tie
 use Rattle.replies.proofs.emitting.put_log11.Reads as reads
 use Rattle.replies.proofs.emitting.put_log11.Lts as lts
-use Rattle.pages.proofs.write_counters.Reads as write-counters-reads
+use Rattle.page_rows.proofs.write_counters.Reads as write-counters-reads
 use Rattle.replies.proofs.emitting.page_room.Reads as page-room-reads
 use Rattle.replies.proofs.emitting.put_log.Reads as put-log-reads
 

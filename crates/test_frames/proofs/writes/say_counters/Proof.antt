@@ -9,7 +9,7 @@ use Rattle.test_frames.proofs.writes.say_counters.Lts as lts
 use Rattle.vector_io.proofs.four.Reads as four-reads
 use Rattle.test_frames.proofs.writes.say_written.Reads as say-written-reads
 use Rattle.vector_io.proofs.two.Reads as two-reads
-use Rattle.pages.proofs.write_counters.Reads as write-counters-reads
+use Rattle.page_rows.proofs.write_counters.Reads as write-counters-reads
 
 abbrev Inv-loop : tie.InvT-loop
 Inv-loop buf s values₀ row₀ values row = (row ≤ 16) × (16 ≡ length values)

@@ -1,0 +1,4 @@
+pub mod Laws10
+pub mod Exactly10
+pub mod Trip10
+pub mod Tied

@@ -1,0 +1,11 @@
+pub mod Rest
+pub mod Walking
+pub mod Exactly11
+pub mod ByWidth
+pub mod Values
+pub mod Places11
+pub mod Trip11
+pub mod Straddle
+pub mod Written11
+pub mod Tied
+pub mod TiedWalk

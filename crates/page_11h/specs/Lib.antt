@@ -1,0 +1,3 @@
+pub mod Entries
+pub mod Page11
+pub mod WalkStep

@@ -1,0 +1,4 @@
+pub mod Asked
+pub mod Telling
+pub mod Answered
+pub mod Tied

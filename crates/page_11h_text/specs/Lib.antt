@@ -1,0 +1,2 @@
+pub mod Asking
+pub mod Lines

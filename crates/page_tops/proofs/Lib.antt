@@ -1,0 +1,3 @@
+pub mod Widths
+pub mod Largest
+pub mod Tied

@@ -1,0 +1,2 @@
+pub mod LastDigits
+pub mod Tied
