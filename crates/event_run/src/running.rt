@@ -12,7 +12,7 @@ use crate::output::close;
 use crate::output::complain;
 use crate::output::next_place;
 use device::Device;
-use events::Next;
+use event_kinds::Next;
 
 // The device between two events, and how far the output buffer is filled.
 struct Step {
@@ -74,7 +74,7 @@ fn play_on(
         let at = more.at;
         let end = more.end;
         let filled = step.filled;
-        match events::next_event(false, &input[at..end]) {
+        match event_kinds::next_event(false, &input[at..end]) {
             Next::Whole(n) => {
                 let place = next_place(output, filled);
                 if place.lost {
@@ -128,7 +128,7 @@ fn run_over(
     let window = refill(fd, input, unread());
     let at = window.at;
     let end = window.end;
-    let Next::Whole(n) = events::next_event(true, &input[at..end]) else {
+    let Next::Whole(n) = event_kinds::next_event(true, &input[at..end]) else {
         close(output, 0, true);
         return;
     };

@@ -9,7 +9,7 @@ use Rattle.event_run.proofs.running.play_on.Statement.{statement}
 use Rattle.event_run.proofs.running.play_on.Tie as tie
 use Rattle.event_run.proofs.running.play_on.Reads as reads
 use Rattle.event_run.proofs.running.play_on.Lts as lts
-use Rattle.events.proofs.next_event.Reads as next-event-reads
+use Rattle.event_kinds.proofs.next_event.Reads as next-event-reads
 use Rattle.event_run.proofs.input.refill.Reads as refill-reads
 use Rattle.event_run.proofs.output.close.Reads as close-reads
 use Rattle.event_run.proofs.output.complain.Reads as complain-reads

@@ -6,7 +6,7 @@ use Rattle.event_run.proofs.running.run_over.Statement.{statement}
 use Rattle.event_run.proofs.running.run_over.Tie as tie
 use Rattle.event_run.proofs.running.run_over.Reads as reads
 use Rattle.event_run.proofs.running.run_over.Lts as lts
-use Rattle.events.proofs.next_event.Reads as next-event-reads
+use Rattle.event_kinds.proofs.next_event.Reads as next-event-reads
 use Rattle.events.proofs.start_line.Reads as start-line-reads
 use Rattle.event_run.proofs.input.refill.Reads as refill-reads
 use Rattle.event_run.proofs.input.unread.Reads as unread-reads
