@@ -3,15 +3,15 @@ ghost use mathlib.Core.Path.{_≡_};
 ghost use Prim.Native.Nat.{_≤_};
 ghost use lib.ListN.{length};
 ghost use Rattle.events.specs.Played.{eventStep};
-ghost use Rattle.event_run.specs.Bounds.{WithinBuffer};
-use crate::input::Window;
-use crate::input::refill;
-use crate::input::unread;
-use crate::output::behind;
-use crate::output::close;
-use crate::output::complain;
-use crate::output::next_place;
+ghost use Rattle.event_io.specs.Bounds.{WithinBuffer};
 use device::Device;
+use event_io::Window;
+use event_io::behind;
+use event_io::close;
+use event_io::complain;
+use event_io::next_place;
+use event_io::refill;
+use event_io::unread;
 use event_kinds::Next;
 
 // The device between two events, and how far the output buffer is filled.

@@ -1,11 +1,11 @@
-use Rattle.event_run.proofs.Fronts.{behind-more, behind-again}
-use Rattle.event_run.specs.Bounds.{Behind}
+use Rattle.event_io.proofs.Fronts.{behind-more, behind-again}
+use Rattle.event_io.specs.Bounds.{Behind}
 use borrow.Author.Needs.{needs}
-use Rattle.event_run.proofs.input.read_event.Statement.{statement}
-use Rattle.event_run.proofs.input.read_event.Tie as tie
-use Rattle.event_run.proofs.input.read_event.Reads as reads
-use Rattle.event_run.proofs.input.read_event.Lts as lts
-use Rattle.event_run.proofs.input.read_more.Reads as read-more-reads
+use Rattle.event_io.proofs.input.read_event.Statement.{statement}
+use Rattle.event_io.proofs.input.read_event.Tie as tie
+use Rattle.event_io.proofs.input.read_event.Reads as reads
+use Rattle.event_io.proofs.input.read_event.Lts as lts
+use Rattle.event_io.proofs.input.read_more.Reads as read-more-reads
 
 abbrev Inv-loop : tie.InvT-loop
 Inv-loop fd input₀ kept window₀ turns₀ input window turns = Behind kept input₀ window input

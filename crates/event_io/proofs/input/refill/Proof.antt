@@ -1,14 +1,14 @@
 use mathlib.Core.Path.{sym}
 use native.Mathlib.Omega.{arith}
-use Rattle.event_run.proofs.Fronts.{inside-within, refilled, refilled-none, refilled-inside}
+use Rattle.event_io.proofs.Fronts.{inside-within, refilled, refilled-none, refilled-inside}
 use borrow.Author.Needs.{needs}
-use Rattle.event_run.proofs.input.refill.Statement.{statement}
-use Rattle.event_run.proofs.input.refill.Tie as tie
-use Rattle.event_run.proofs.input.refill.Reads as reads
-use Rattle.event_run.proofs.input.refill.Lts as lts
-use Rattle.event_run.proofs.input.inside_of.Reads as inside-of-reads
-use Rattle.event_run.proofs.input.move_to_front.Reads as move-to-front-reads
-use Rattle.event_run.proofs.input.read_event.Reads as read-event-reads
+use Rattle.event_io.proofs.input.refill.Statement.{statement}
+use Rattle.event_io.proofs.input.refill.Tie as tie
+use Rattle.event_io.proofs.input.refill.Reads as reads
+use Rattle.event_io.proofs.input.refill.Lts as lts
+use Rattle.event_io.proofs.input.inside_of.Reads as inside-of-reads
+use Rattle.event_io.proofs.input.move_to_front.Reads as move-to-front-reads
+use Rattle.event_io.proofs.input.read_event.Reads as read-event-reads
 
 inside-of-requires : tie.Need-inside-of-requires
 inside-of-requires c κs = search needs

@@ -8,8 +8,8 @@ use lib.Seq.{take-append-seam, take-take}
 use borrow.Author.Tests.{le-leb}
 use Rattle.bits.specs.Laid.{laid, over}
 use Rattle.bits.proofs.Picks.{pick-yes}
-use Rattle.event_run.specs.Bounds.{WithinBuffer, inside, Behind, RefillGiven}
-use Rattle.event_run.specs.declared.input.Window.{Window}
+use Rattle.event_io.specs.Bounds.{WithinBuffer, inside, Behind, RefillGiven}
+use Rattle.event_io.specs.declared.input.Window.{Window}
 
 -- n bytes that were laid over the front of a buffer which has room for them
 pub laid-front : (n : ℕ) (s d : List ℕ) → n ≡ length s → n ≤ length d → take n (over s d) ≡ s

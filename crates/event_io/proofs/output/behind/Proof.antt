@@ -4,11 +4,11 @@ use lib.Dec.{eqb}
 use borrow.Author.Tests.{eq-eqb, ne-eqb}
 use Rattle.bits.proofs.Picks.{pick-yes, pick-no}
 use borrow.Author.Needs.{needs}
-use Rattle.event_run.proofs.output.behind.Statement.{statement}
-use Rattle.event_run.proofs.output.behind.Tie as tie
-use Rattle.event_run.proofs.output.behind.Reads as reads
-use Rattle.event_run.proofs.output.behind.Lts as lts
-use Rattle.event_run.proofs.input.least.Reads as least-reads
+use Rattle.event_io.proofs.output.behind.Statement.{statement}
+use Rattle.event_io.proofs.output.behind.Tie as tie
+use Rattle.event_io.proofs.output.behind.Reads as reads
+use Rattle.event_io.proofs.output.behind.Lts as lts
+use Rattle.event_io.proofs.input.least.Reads as least-reads
 
 returns : tie.Need-returns
 returns c = sym (pick-yes (eqb (c .before .args .n) 0) _ _ (eq-eqb (c .before .args .n) 0 (omega arith)))

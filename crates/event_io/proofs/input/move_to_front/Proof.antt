@@ -4,12 +4,12 @@ use Prim.Native.Nat.{_-_}
 use native.Mathlib.Omega.{arith}
 use lib.ListN.{length, take, drop, length-take, length-drop}
 use lib.Seq.{length-take-le}
-use Rattle.event_run.proofs.Fronts.{laid-front}
+use Rattle.event_io.proofs.Fronts.{laid-front}
 use borrow.Author.Needs.{needs}
-use Rattle.event_run.proofs.input.move_to_front.Statement.{statement}
-use Rattle.event_run.proofs.input.move_to_front.Tie as tie
-use Rattle.event_run.proofs.input.move_to_front.Reads as reads
-use Rattle.event_run.proofs.input.move_to_front.Lts as lts
+use Rattle.event_io.proofs.input.move_to_front.Statement.{statement}
+use Rattle.event_io.proofs.input.move_to_front.Tie as tie
+use Rattle.event_io.proofs.input.move_to_front.Reads as reads
+use Rattle.event_io.proofs.input.move_to_front.Lts as lts
 use Rattle.bits.proofs.lay.Reads as lay-reads
 
 sub-n : tie.Need-sub-n

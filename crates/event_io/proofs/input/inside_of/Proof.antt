@@ -1,11 +1,11 @@
 use mathlib.Core.Path.{ap, ap₂, _∙_}
 use Prim.Native.Nat.{ℕ, min}
 use borrow.Author.Needs.{needs}
-use Rattle.event_run.proofs.input.inside_of.Statement.{statement}
-use Rattle.event_run.proofs.input.inside_of.Tie as tie
-use Rattle.event_run.proofs.input.inside_of.Reads as reads
-use Rattle.event_run.proofs.input.inside_of.Lts as lts
-use Rattle.event_run.proofs.input.least.Reads as least-reads
+use Rattle.event_io.proofs.input.inside_of.Statement.{statement}
+use Rattle.event_io.proofs.input.inside_of.Tie as tie
+use Rattle.event_io.proofs.input.inside_of.Reads as reads
+use Rattle.event_io.proofs.input.inside_of.Lts as lts
+use Rattle.event_io.proofs.input.least.Reads as least-reads
 
 least-requires : tie.Need-least-requires
 least-requires c κs = search needs

@@ -4,7 +4,7 @@ use mathlib.Core.Bool.{false}
 use mathlib.Core.List.{List}
 use Prim.Native.Nat.{ℕ, _-_, _≤_, min}
 use lib.ListN.{length, take, drop}
-use Rattle.event_run.specs.declared.input.Window.{Window}
+use Rattle.event_io.specs.declared.input.Window.{Window}
 
 -- nothing is read yet, and nothing has ended or failed
 abbrev pub nothingRead : Window

@@ -7,9 +7,9 @@ use denote.Ref.{now}
 use Rattle.bits.specs.Pick.{pick}
 use Rattle.bits.specs.Contract.{Says, Tied}
 use Rattle.bits.proofs.Tying.{say, named}
-use Rattle.event_run.specs.Bounds.{nothingRead, inside, RefillGiven}
-use Rattle.event_run.proofs.input
-use Rattle.event_run.proofs.output
+use Rattle.event_io.specs.Bounds.{nothingRead, inside, RefillGiven}
+use Rattle.event_io.proofs.input
+use Rattle.event_io.proofs.output
 
 pub tied-least : Tied input.least.ended input.least.Reads.Asked input.least.Reads.Post (λ κs a r ws. r ≡ min (a .0) (a .1 .0))
 tied-least = named (say (λ κs a. tt) (λ κs a r ws p. p)) (λ κs a ws ws′. refl)

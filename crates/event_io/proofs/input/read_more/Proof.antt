@@ -5,10 +5,10 @@ use denote.Ref.{now}
 use native.Mathlib.Omega.{arith}
 use borrow.Rule.Slice.PartMut.{take-put, same-len-mid}
 use borrow.Author.Needs.{needs}
-use Rattle.event_run.proofs.input.read_more.Statement.{statement}
-use Rattle.event_run.proofs.input.read_more.Tie as tie
-use Rattle.event_run.proofs.input.read_more.Reads as reads
-use Rattle.event_run.proofs.input.read_more.Lts as lts
+use Rattle.event_io.proofs.input.read_more.Statement.{statement}
+use Rattle.event_io.proofs.input.read_more.Tie as tie
+use Rattle.event_io.proofs.input.read_more.Reads as reads
+use Rattle.event_io.proofs.input.read_more.Lts as lts
 use Rattle.io.proofs.count.Reads as count-reads
 use Rattle.libc.proofs.read.Reads as read-reads
 

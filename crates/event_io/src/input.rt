@@ -2,7 +2,7 @@
 ghost use mathlib.Core.Path.{_≡_};
 ghost use Prim.Native.Nat.{_-_, _≤_, min};
 ghost use lib.ListN.{length, take, drop};
-ghost use Rattle.event_run.specs.Bounds.{nothingRead, inside, Behind, RefillGiven};
+ghost use Rattle.event_io.specs.Bounds.{nothingRead, inside, Behind, RefillGiven};
 
 // The most bytes that an event has: a frame of 27h.
 const LONGEST: usize = 20;
