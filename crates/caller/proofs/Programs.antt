@@ -18,15 +18,17 @@ use Rattle.device_state.specs.declared.shapes.Settings.{Settings}
 use Rattle.device.specs.DataDue.{dataDue}
 use Rattle.device.specs.Step.{Step, step, bytesOf}
 use Rattle.device.specs.declared.state.Device.{Device}
-use Rattle.events.specs.Kinds.{isEvent}
+use Rattle.event_kinds.specs.Kinds.{isEvent}
+use Rattle.event_kinds.specs.Settings.{askedOf}
+use Rattle.event_kinds.specs.Requests.{callByKind, requestOf}
+use Rattle.event_kinds.specs.declared.asked.Request.{Request}
+use Rattle.event_kinds.specs.declared.asked.Request.the-variants.{OpenPhase, SendData, FinishTags, MediaError, LinkEvent, ComReset, HostData, HostFrame, Nothing}
+use Rattle.event_lines.specs.Lines.{lineOf}
 use Rattle.events.specs.HostData.{dataFrame}
-use Rattle.events.specs.Start.{askedOf, startOf}
-use Rattle.events.specs.Calls.{callByKind, requestOf, callsOf, callsFor}
+use Rattle.events.specs.Start.{startOf}
+use Rattle.events.specs.Calls.{callsOf, callsFor}
 use Rattle.events.specs.Played.{stepFor}
-use Rattle.events.specs.Lines.{lineOf}
 use Rattle.events.specs.EventLine.{lineFor}
-use Rattle.events.specs.declared.asked.Request.{Request}
-use Rattle.events.specs.declared.asked.Request.the-variants.{OpenPhase, SendData, FinishTags, MediaError, LinkEvent, ComReset, HostData, HostFrame, Nothing}
 use Rattle.events.specs.declared.tells.EventLine as tells
 use Rattle.rules.specs.Call.{Call}
 use Rattle.device.specs.Lent.{lent}

@@ -10,9 +10,9 @@ use Rattle.bits.specs.Little.{Bytes}
 use Rattle.text.specs.Sheet.{WholeTextGiven}
 use Rattle.device.specs.Device.{powerOn}
 use Rattle.device.specs.declared.state.Device.{Device}
-use Rattle.events.specs.Start.{askedOf}
+use Rattle.event_kinds.specs.Settings.{askedOf}
+use Rattle.event_lines.specs.Lines.{lineOf}
 use Rattle.events.specs.Calls.{callsFor}
-use Rattle.events.specs.Lines.{lineOf}
 use Rattle.events.specs.declared.tells.EventLine as tells
 use Rattle.events.proofs.play_line
 use Rattle.events.proofs.start_line

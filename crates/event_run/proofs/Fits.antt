@@ -9,11 +9,11 @@ use lib.ListN.{length, getD, take, drop, length-take, length-drop}
 use borrow.Author.Tests.{leb-true}
 use Rattle.bits.specs.Pick.{pick}
 use Rattle.bits.proofs.Picks.{by-test}
-use Rattle.events.specs.Kinds.{nextOf, misplaced, nextWhole, bodyLength}
-use Rattle.events.specs.declared.kinds.Length.{Length}
-use Rattle.events.specs.declared.kinds.Length.the-variants.{Bytes, Unknown}
-use Rattle.events.specs.declared.kinds.Next.{Next}
-use Rattle.events.specs.declared.kinds.Next.the-variants.{Whole, Stop, End}
+use Rattle.event_kinds.specs.Kinds.{nextOf, misplaced, nextWhole, bodyLength}
+use Rattle.event_kinds.specs.declared.kinds.Length.{Length}
+use Rattle.event_kinds.specs.declared.kinds.Length.the-variants.{Bytes, Unknown}
+use Rattle.event_kinds.specs.declared.kinds.Next.{Next}
+use Rattle.event_kinds.specs.declared.kinds.Next.the-variants.{Whole, Stop, End}
 
 -- an event that is ahead is there
 Ahead : ℕ → Next → Type 0

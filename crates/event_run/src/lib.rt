@@ -1,6 +1,4 @@
-// The run of an event file, from a descriptor to standard output: read and written in large pieces, one event after the other.
-mod input;
-mod output;
+// The run of an event file, from a descriptor to standard output: one event after the other.
 mod running;
 
 pub use running::run;

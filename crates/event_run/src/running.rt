@@ -3,16 +3,16 @@ ghost use mathlib.Core.Path.{_≡_};
 ghost use Prim.Native.Nat.{_≤_};
 ghost use lib.ListN.{length};
 ghost use Rattle.events.specs.Played.{eventStep};
-ghost use Rattle.event_run.specs.Bounds.{WithinBuffer};
-use crate::input::Window;
-use crate::input::refill;
-use crate::input::unread;
-use crate::output::behind;
-use crate::output::close;
-use crate::output::complain;
-use crate::output::next_place;
+ghost use Rattle.event_io.specs.Bounds.{WithinBuffer};
 use device::Device;
-use events::Next;
+use event_io::Window;
+use event_io::behind;
+use event_io::close;
+use event_io::complain;
+use event_io::next_place;
+use event_io::refill;
+use event_io::unread;
+use event_kinds::Next;
 
 // The device between two events, and how far the output buffer is filled.
 struct Step {
@@ -74,7 +74,7 @@ fn play_on(
         let at = more.at;
         let end = more.end;
         let filled = step.filled;
-        match events::next_event(false, &input[at..end]) {
+        match event_kinds::next_event(false, &input[at..end]) {
             Next::Whole(n) => {
                 let place = next_place(output, filled);
                 if place.lost {
@@ -128,7 +128,7 @@ fn run_over(
     let window = refill(fd, input, unread());
     let at = window.at;
     let end = window.end;
-    let Next::Whole(n) = events::next_event(true, &input[at..end]) else {
+    let Next::Whole(n) = event_kinds::next_event(true, &input[at..end]) else {
         close(output, 0, true);
         return;
     };

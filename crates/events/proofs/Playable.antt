@@ -13,15 +13,16 @@ use Rattle.bits.specs.Pick.{pick}
 use Rattle.frame_parts.specs.Size.{fixedSize}
 use Rattle.bits.proofs.Picks.{tested, by-test, pick-no}
 use Rattle.device.specs.declared.state.Device.{Device}
-use Rattle.events.specs.Kinds.{bodyLength, misplaced, nextWhole, nextOf, fitsLength, isEvent}
-use Rattle.events.specs.Calls.{callByKind, requestOf, callsOf, callsFor}
-use Rattle.events.specs.Stops.{isNone, noCall}
-use Rattle.events.specs.declared.kinds.Length.{Length}
-use Rattle.events.specs.declared.kinds.Length.the-variants.{Bytes, Unknown}
-use Rattle.events.specs.declared.kinds.Next.{Next}
-use Rattle.events.specs.declared.kinds.Next.the-variants.{Whole, Stop, End}
-use Rattle.events.specs.declared.asked.Request.{Request}
-use Rattle.events.specs.declared.asked.Request.the-variants.{Nothing}
+use Rattle.event_kinds.specs.Kinds.{bodyLength, misplaced, nextWhole, nextOf, fitsLength, isEvent}
+use Rattle.event_kinds.specs.Requests.{callByKind, requestOf}
+use Rattle.event_kinds.specs.Stops.{noCall}
+use Rattle.event_kinds.specs.declared.kinds.Length.{Length}
+use Rattle.event_kinds.specs.declared.kinds.Length.the-variants.{Bytes, Unknown}
+use Rattle.event_kinds.specs.declared.kinds.Next.{Next}
+use Rattle.event_kinds.specs.declared.kinds.Next.the-variants.{Whole, Stop, End}
+use Rattle.event_kinds.specs.declared.asked.Request.{Request}
+use Rattle.event_kinds.specs.declared.asked.Request.the-variants.{Nothing}
+use Rattle.events.specs.Calls.{callsOf, callsFor, isNone}
 
 settings-nothing : (k : ℕ) (e : List ℕ) → eqb k 0x00 ≡ true → callByKind k e ≡ Nothing
 unfolding callByKind pick

@@ -17,7 +17,7 @@ use Rattle.device.specs.Step.{Step, bytesOf, Gives}
 use Rattle.device.specs.declared.state.Device.{Device}
 use Rattle.device.specs.declared.state.Outcome.{Outcome}
 use Rattle.events.specs.Start.{startOf}
-use Rattle.events.specs.Lines.{lineOf}
+use Rattle.event_lines.specs.Lines.{lineOf}
 use Rattle.events.specs.EventLine.{lineFor, Tells, startStep}
 use Rattle.events.specs.declared.tells.EventLine.{EventLine}
 

@@ -2,45 +2,23 @@
 use Rattle.rules.specs.Call.{hostFrame}
 use Rattle.device.specs.Lent.{lent, gave}
 use Rattle.device.specs.Step.{Given, Gives}
-use Rattle.events.specs.Calls.{requestOf}
 use Rattle.events.specs.HostData.{hostData}
-use Rattle.events.specs.Kinds.{bodyLength, isEvent, nextOf}
-use Rattle.events.specs.Lines.{lineOf}
 use Rattle.events.specs.Played.{eventStep}
 use Rattle.events.specs.Start.{startOf}
 use Rattle.events.specs.EventLine.{PlayTold, Tells, startStep}
-use Rattle.text.specs.Sheet.{WholeTextGiven}
 use denote.Ref.{now}
 use mathlib.Core.Path.{_≡_, refl}
 use Rattle.bits.specs.Contract.{Tied}
 use Rattle.bits.proofs.Tying.{same, say, by, named}
 use Rattle.device.proofs.Outcomes.{given-once}
 use Rattle.events.proofs.Telling.{tells-once}
-use Rattle.events.proofs.asked
 use Rattle.events.proofs.host_data
-use Rattle.events.proofs.kinds
-use Rattle.events.proofs.lines
 use Rattle.events.proofs.plays
 use Rattle.events.proofs.starts
 use Rattle.events.proofs.tells
 
-pub tied-request-of : Tied asked.request_of.ended asked.request_of.Reads.Asked asked.request_of.Reads.Post (λ κs a r ws. r ≡ requestOf (now (a .0)))
-tied-request-of = named (say (λ κs a. tt) (λ κs a r ws p. p)) (λ κs a ws ws′. refl)
-
 pub tied-host-data : Tied host_data.host_data.ended host_data.host_data.Reads.Asked host_data.host_data.Reads.Post (λ κs a r ws. Given (a .0) (lent (hostFrame (hostData (a .0) (a .1 .0))) (now (a .1 .1 .0)) (now (a .1 .1 .1 .0))) (gave r (ws .1 .1 .0) (ws .1 .1 .1 .0)))
 tied-host-data = by (say (λ κs a. tt) (λ κs a r ws p. p)) (λ κs a r r′ ws ws′ p q. let e = given-once _ _ r r′ (ws .1 .1 .0) (ws′ .1 .1 .0) (ws .1 .1 .1 .0) (ws′ .1 .1 .1 .0) p q in (e .0, λ i. (tt, (tt, (e .1 .0 i, (e .1 .1 i, tt))))))
-
-pub tied-body-length : Tied kinds.body_length.ended kinds.body_length.Reads.Asked kinds.body_length.Reads.Post (λ κs a r ws. r ≡ bodyLength (a .0))
-tied-body-length = named (say (λ κs a. tt) (λ κs a r ws p. p)) (λ κs a ws ws′. refl)
-
-pub tied-next-event : Tied kinds.next_event.ended kinds.next_event.Reads.Asked kinds.next_event.Reads.Post (λ κs a r ws. r ≡ nextOf (a .0) (now (a .1 .0)))
-tied-next-event = named (say (λ κs a. tt) (λ κs a r ws p. p)) (λ κs a ws ws′. refl)
-
-pub tied-is-event : Tied kinds.is_event.ended kinds.is_event.Reads.Asked kinds.is_event.Reads.Post (λ κs a r ws. r ≡ isEvent (now (a .0)))
-tied-is-event = named (say (λ κs a. tt) (λ κs a r ws p. p)) (λ κs a ws ws′. refl)
-
-pub tied-put-line : Tied lines.put_line.ended lines.put_line.Reads.Asked lines.put_line.Reads.Post (λ κs a r ws. WholeTextGiven (lineOf (a .1 .1 .1 .1 .1 .0) (a .1 .0) (a .1 .1 .0) (a .1 .1 .1 .0) (now (a .1 .1 .1 .1 .0))) (now (a .0)) r (ws .0))
-tied-put-line = by (say (λ κs a. tt) (λ κs a r ws p. p)) (λ κs a r r′ ws ws′ p q. (same (p .len) (q .len), λ i. (same (p .bytes) (q .bytes) i, (tt, (tt, (tt, (tt, (tt, tt))))))))
 
 pub tied-play : Tied plays.play.ended plays.play.Reads.Asked plays.play.Reads.Post (λ κs a r ws. Gives (eventStep (a .0) (now (a .1 .0)) (now (a .1 .1 .0)) (now (a .1 .1 .1 .0))) (now (a .1 .1 .1 .0)) (gave r (ws .1 .1 .0) (ws .1 .1 .1 .0)))
 tied-play = by (say (λ κs a. tt) (λ κs a r ws p. p)) (λ κs a r r′ ws ws′ p q. let e = given-once _ _ r r′ (ws .1 .1 .0) (ws′ .1 .1 .0) (ws .1 .1 .1 .0) (ws′ .1 .1 .1 .0) p q in (e .0, λ i. (tt, (tt, (e .1 .0 i, (e .1 .1 i, tt))))))

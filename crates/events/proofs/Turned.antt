@@ -20,9 +20,9 @@ use Rattle.device.specs.FactsOf.{factsOf}
 use Rattle.device.specs.Step.{step}
 use Rattle.device.specs.declared.state.Device.{Device}
 use Rattle.device.proofs.Exactly.{first-exactly}
-use Rattle.events.specs.Calls.{callsFor}
+use Rattle.event_kinds.specs.Stops.{noCall}
+use Rattle.events.specs.Calls.{callsFor, isNone}
 use Rattle.events.specs.Played.{stepFor, testsFor, eventStep, eventTests}
-use Rattle.events.specs.Stops.{isNone, noCall}
 use Rattle.events.proofs.Playable.{no-call-exactly}
 
 -- the call that it makes, whichever that is: each number of its row exactly when that test holds and none before it does, 0 exactly when none holds; and 24 for none

@@ -9,7 +9,7 @@ use Rattle.device.specs.Step.{Step, bytesOf}
 use Rattle.device.specs.declared.state.Device.{Device}
 use Rattle.events.specs.Start.{startOf}
 use Rattle.events.specs.Played.{eventStep}
-use Rattle.events.specs.Lines.{lineOf}
+use Rattle.event_lines.specs.Lines.{lineOf}
 use Rattle.events.specs.declared.tells.EventLine.{EventLine}
 
 -- what is told of a step: its refusal, the tags outstanding after it, and its replies

@@ -3,11 +3,11 @@ ghost use Rattle.device.specs.Lent.{gave};
 ghost use Rattle.device.specs.Step.{Gives};
 ghost use Rattle.events.specs.Calls.{callsOf};
 ghost use Rattle.events.specs.Played.{stepFor, eventStep};
-use crate::asked::Request;
-use crate::asked::request_of;
 use crate::host_data::host_data;
 use device::Device;
 use device::Outcome;
+use event_kinds::Request;
+use event_kinds::request_of;
 
 // A frame is handed on as it came, its kind being its first byte. What is no event changes nothing.
 fn make_call(

@@ -3,13 +3,13 @@ ghost use mathlib.Core.Path.{_≡_};
 ghost use Prim.Native.Nat.{_≤_};
 ghost use lib.ListN.{length, take};
 ghost use Rattle.text.specs.Sheet.{WholeTextGiven};
-ghost use Rattle.events.specs.Lines.{lineOf};
+ghost use Rattle.event_lines.specs.Lines.{lineOf};
 ghost use Rattle.events.specs.EventLine.{startStep, Tells, PlayTold};
-use crate::lines::put_line;
 use crate::plays::play;
 use crate::starts::start;
 use device::Device;
 use device::Outcome;
+use event_lines::put_line;
 
 // The state after an event, its refusal, and the length of its line; 0 where the buffer has no room for all of the line, which is then cut.
 pub struct EventLine {

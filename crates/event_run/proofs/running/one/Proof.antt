@@ -4,7 +4,7 @@ use Rattle.event_run.proofs.running.one.Tie as tie
 use Rattle.event_run.proofs.running.one.Reads as reads
 use Rattle.event_run.proofs.running.one.Lts as lts
 use Rattle.events.proofs.play_line.Reads as play-line-reads
-use Rattle.event_run.proofs.output.behind.Reads as behind-reads
+use Rattle.event_io.proofs.behind.Reads as behind-reads
 
 sub-play-line : tie.Need-sub-play-line
 sub-play-line c = search needs

@@ -2,18 +2,18 @@ use mathlib.Core.Path.{_≡_, _∙_}
 use Prim.Native.Nat.{_-_}
 use native.Mathlib.Omega.{arith}
 use lib.ListN.{length}
-use Rattle.event_run.specs.Bounds.{WithinBuffer}
+use Rattle.event_io.specs.Bounds.{WithinBuffer}
 use Rattle.event_run.proofs.Fits.{part-fits}
 use borrow.Author.Needs.{needs}
 use Rattle.event_run.proofs.running.play_on.Statement.{statement}
 use Rattle.event_run.proofs.running.play_on.Tie as tie
 use Rattle.event_run.proofs.running.play_on.Reads as reads
 use Rattle.event_run.proofs.running.play_on.Lts as lts
-use Rattle.events.proofs.next_event.Reads as next-event-reads
-use Rattle.event_run.proofs.input.refill.Reads as refill-reads
-use Rattle.event_run.proofs.output.close.Reads as close-reads
-use Rattle.event_run.proofs.output.complain.Reads as complain-reads
-use Rattle.event_run.proofs.output.next_place.Reads as next-place-reads
+use Rattle.event_kinds.proofs.next_event.Reads as next-event-reads
+use Rattle.event_io.proofs.refill.Reads as refill-reads
+use Rattle.event_io.proofs.close.Reads as close-reads
+use Rattle.event_io.proofs.complain.Reads as complain-reads
+use Rattle.event_io.proofs.next_place.Reads as next-place-reads
 use Rattle.event_run.proofs.running.one.Reads as one-reads
 
 abbrev Inv-loop : tie.InvT-loop

@@ -6,12 +6,12 @@ use Rattle.event_run.proofs.running.run_over.Statement.{statement}
 use Rattle.event_run.proofs.running.run_over.Tie as tie
 use Rattle.event_run.proofs.running.run_over.Reads as reads
 use Rattle.event_run.proofs.running.run_over.Lts as lts
-use Rattle.events.proofs.next_event.Reads as next-event-reads
+use Rattle.event_kinds.proofs.next_event.Reads as next-event-reads
 use Rattle.events.proofs.start_line.Reads as start-line-reads
-use Rattle.event_run.proofs.input.refill.Reads as refill-reads
-use Rattle.event_run.proofs.input.unread.Reads as unread-reads
-use Rattle.event_run.proofs.output.behind.Reads as behind-reads
-use Rattle.event_run.proofs.output.close.Reads as close-reads
+use Rattle.event_io.proofs.refill.Reads as refill-reads
+use Rattle.event_io.proofs.unread.Reads as unread-reads
+use Rattle.event_io.proofs.behind.Reads as behind-reads
+use Rattle.event_io.proofs.close.Reads as close-reads
 use Rattle.event_run.proofs.running.play_on.Reads as play-on-reads
 
 unread-requires : tie.Need-unread-requires

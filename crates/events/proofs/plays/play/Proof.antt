@@ -3,7 +3,7 @@ use Rattle.events.proofs.plays.play.Statement.{statement}
 use Rattle.events.proofs.plays.play.Tie as tie
 use Rattle.events.proofs.plays.play.Reads as reads
 use Rattle.events.proofs.plays.play.Lts as lts
-use Rattle.events.proofs.asked.request_of.Reads as request-of-reads
+use Rattle.event_kinds.proofs.request_of.Reads as request-of-reads
 use Rattle.events.proofs.plays.make_call.Reads as make-call-reads
 
 request-of-requires : tie.Need-request-of-requires

@@ -5,17 +5,17 @@ use Rattle.events.proofs.starts.start.Tie as tie
 use Rattle.events.proofs.starts.start.Reads as reads
 use Rattle.events.proofs.starts.start.Lts as lts
 use Rattle.device.proofs.state.Device.power_on.Reads as power-on-reads
-use Rattle.events.proofs.starts.asked.Reads as asked-reads
+use Rattle.event_kinds.proofs.settings_asked.Reads as settings-asked-reads
 
-asked-requires : tie.Need-asked-requires
-asked-requires c κs = search needs
+settings-asked-requires : tie.Need-settings-asked-requires
+settings-asked-requires c κs = search needs
 
 power-on-requires : tie.Need-power-on-requires
 power-on-requires c κs = search needs
 
 returns : tie.Need-returns
 unfolding startOf
-returns c = rw (← c .before .asked .ensures) (c .power-on .ensures)
+returns c = rw (← c .before .settings-asked .ensures) (c .power-on .ensures)
 
 pub start-spec : {M : Type 1} → statement M
-start-spec = tie.close (tie.spec asked-requires power-on-requires returns)
+start-spec = tie.close (tie.spec settings-asked-requires power-on-requires returns)

@@ -7,7 +7,7 @@ use Rattle.events.proofs.tells.tell.Statement.{statement}
 use Rattle.events.proofs.tells.tell.Tie as tie
 use Rattle.events.proofs.tells.tell.Reads as reads
 use Rattle.events.proofs.tells.tell.Lts as lts
-use Rattle.events.proofs.lines.put_line.Reads as put-line-reads
+use Rattle.event_lines.proofs.put_line.Reads as put-line-reads
 
 cast-put-line : tie.Need-cast-put-line
 cast-put-line c = search needs
