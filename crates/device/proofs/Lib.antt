@@ -24,7 +24,6 @@ pub mod Exactly
 pub mod Refusals
 pub mod Counting
 pub mod Tied
-pub mod Examples
 pub mod Widening
 pub mod Sending
 pub mod Storing

@@ -6,4 +6,3 @@ pub mod After
 pub mod Step
 pub mod Counter
 pub mod Ones
-pub mod Example

@@ -49,4 +49,3 @@ pub mod Runs
 pub mod StateAgrees
 pub mod Contracts
 pub mod Demand3
-pub mod NotEmpty

@@ -16,4 +16,3 @@ pub mod Demand3
 pub mod Run
 pub mod Allowed
 pub mod StateAgrees
-pub mod Example

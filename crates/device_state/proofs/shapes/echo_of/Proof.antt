@@ -35,7 +35,7 @@ byte-requires-8 c κs = search needs
 
 returns : tie.Need-returns
 unfolding echoOf
-returns c = cc
+returns c = rw (c .byte8 .ensures, c .before .byte7 .ensures, c .before .before .byte6 .ensures, c .before .before .before .byte5 .ensures, c .before .before .before .before .byte4 .ensures, c .before .before .before .before .before .byte3 .ensures, c .before .before .before .before .before .before .byte2 .ensures, c .before .before .before .before .before .before .before .byte .ensures)
 
 pub echo-of-spec : {M : Type 1} → statement M
 echo-of-spec =

@@ -41,7 +41,7 @@ byte-requires-10 c κs = search needs
 
 returns : tie.Need-returns
 unfolding registerBytes
-returns c = cc
+returns c = rw (c .byte10 .ensures, c .before .byte9 .ensures, c .before .before .byte8 .ensures, c .before .before .before .byte7 .ensures, c .before .before .before .before .byte6 .ensures, c .before .before .before .before .before .byte5 .ensures, c .before .before .before .before .before .before .byte4 .ensures, c .before .before .before .before .before .before .before .byte3 .ensures, c .before .before .before .before .before .before .before .before .byte2 .ensures, c .before .before .before .before .before .before .before .before .before .byte .ensures)
 
 pub register-bytes-spec : {M : Type 1} → statement M
 register-bytes-spec =

@@ -20,7 +20,7 @@ cast-t5 : tie.Need-cast-t5
 cast-t5 c = search needs
 
 returns : tie.Need-returns
-returns c = cc
+returns c = rw (c .le .ensures .value, c .before .byte-of .ensures, c .before .before .lba-of .ensures .value)
 
 pub task-of-spec : {M : Type 1} → statement M
 task-of-spec = tie.close (tie.spec lba-of-requires byte-of-requires le-requires cast-t5 returns)

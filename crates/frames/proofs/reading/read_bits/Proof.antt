@@ -30,7 +30,7 @@ cast-t8 : tie.Need-cast-t8
 cast-t8 c = search needs
 
 returns : tie.Need-returns
-returns c = cc
+returns c = rw (c .le .ensures .value, c .before .byte-of3 .ensures, c .before .before .halves .ensures, c .before .before .before .byte-of2 .ensures, c .before .before .before .before .flag .ensures, c .before .before .before .before .before .byte-of .ensures)
 
 pub read-bits-spec : {M : Type 1} → statement M
 read-bits-spec =

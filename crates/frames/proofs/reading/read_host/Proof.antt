@@ -29,7 +29,7 @@ byte-of-requires-5 : tie.Need-byte-of-requires-5
 byte-of-requires-5 c κs = search needs
 
 returns : tie.Need-returns
-returns c = cc
+returns c = rw (c .byte-of5 .ensures, c .before .byte-of4 .ensures, c .before .before .task-of .ensures, c .before .before .before .byte-of3 .ensures, c .before .before .before .before .byte-of2 .ensures, c .before .before .before .before .before .flag .ensures, c .before .before .before .before .before .before .byte-of .ensures)
 
 pub read-host-spec : {M : Type 1} → statement M
 read-host-spec =

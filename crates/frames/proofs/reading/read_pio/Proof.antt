@@ -39,7 +39,7 @@ cast-t11 : tie.Need-cast-t11
 cast-t11 c = search needs
 
 returns : tie.Need-returns
-returns c = cc
+returns c = rw (c .le .ensures .value, c .before .byte-of5 .ensures, c .before .before .task-of .ensures, c .before .before .before .byte-of4 .ensures, c .before .before .before .before .byte-of3 .ensures, c .before .before .before .before .before .flag2 .ensures, c .before .before .before .before .before .before .byte-of2 .ensures, c .before .before .before .before .before .before .before .flag .ensures, c .before .before .before .before .before .before .before .before .byte-of .ensures)
 
 pub read-pio-spec : {M : Type 1} → statement M
 read-pio-spec =

@@ -44,7 +44,7 @@ cast-t13 : tie.Need-cast-t13
 cast-t13 c = search needs
 
 returns : tie.Need-returns
-returns c = cc
+returns c = rw (c .le3 .ensures .value, c .before .le2 .ensures .value, c .before .before .le .ensures .value, c .before .before .before .flag3 .ensures, c .before .before .before .before .byte-of3 .ensures, c .before .before .before .before .before .flag2 .ensures, c .before .before .before .before .before .before .byte-of2 .ensures, c .before .before .before .before .before .before .before .flag .ensures, c .before .before .before .before .before .before .before .before .byte-of .ensures)
 
 pub read-setup-spec : {M : Type 1} → statement M
 read-setup-spec =

@@ -31,7 +31,7 @@ byte-requires-4 c κs = search needs
 
 returns : tie.Need-returns
 unfolding bitsBytes
-returns c = cc
+returns c = rw (c .byte4 .ensures, c .before .byte3 .ensures, c .before .before .byte2 .ensures, c .before .before .before .byte .ensures, c .before .before .before .before .halves .ensures, c .before .before .before .before .before .flags .ensures)
 
 pub bits-bytes-spec : {M : Type 1} → statement M
 bits-bytes-spec =

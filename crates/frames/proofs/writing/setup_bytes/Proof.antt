@@ -57,7 +57,7 @@ byte-requires-12 c κs = search needs
 
 returns : tie.Need-returns
 unfolding setupBytes
-returns c = cc
+returns c = rw (c .byte12 .ensures, c .before .byte11 .ensures, c .before .before .byte10 .ensures, c .before .before .before .byte9 .ensures, c .before .before .before .before .byte8 .ensures, c .before .before .before .before .before .byte7 .ensures, c .before .before .before .before .before .before .byte6 .ensures, c .before .before .before .before .before .before .before .byte5 .ensures, c .before .before .before .before .before .before .before .before .byte4 .ensures, c .before .before .before .before .before .before .before .before .before .byte3 .ensures, c .before .before .before .before .before .before .before .before .before .before .byte2 .ensures, c .before .before .before .before .before .before .before .before .before .before .before .byte .ensures, c .before .before .before .before .before .before .before .before .before .before .before .before .flags .ensures)
 
 pub setup-bytes-spec : {M : Type 1} → statement M
 setup-bytes-spec =

@@ -30,14 +30,14 @@ use Rattle.rules.specs.Number.{numberOf}
 use Rattle.rules.specs.Medium.{touchOf, spanOf}
 use Rattle.rules.specs.declared.acts.Act.{Act}
 use Rattle.replies.specs.Replies.{repliesOf}
 use Rattle.device.specs.Device.{contradictoryDevice, freshDevice}
 use Rattle.device.specs.After.{withValue, haltWith, acceptedBy, unhalted, movedBy, openedFor, finishedBy, failedBy, afterOf}
 use Rattle.device.specs.Lent.{lent}
 use Rattle.device.specs.FactsOf.{openTag, mediumWrong, factsWith}
 use Rattle.device.specs.declared.state.Device.{Device}
 use Rattle.device.proofs.Doing.{part-none, host-unsent, none-unready}
 use Rattle.device.specs.Step.{shown, actOf, step}
-use Rattle.device.specs.Example.{Hold, examples as all, room, replyTo}
+use Rattle.worked_examples.specs.Points.{Hold, examples as all, room, replyTo}
 
 pub examples : Hold all
 unfolding Hold all pick firstOf joined registerBytes fixedSize readable frameByKind readFrame bitsBytes setupBytes encode sumTo sum256 sealed ids idAt entriesFrom entries someOf countEntries page10 fits10 damaged valueIn readCounter counterAnswer rowBytes rowsTo openTo page11 taskIn echoOf someBelow tab placed cleared settingsOut busyBad idleBad entryBad tableBad statusBad recordBad rowsBad contradictory advancedBy moveOf queuedAct logPage otherAct controlAct registerAct frameAct wrongKind wrongTime wrongSize tests does decided act someUnready failing numberOf touchOf actOf repliesOf contradictoryDevice freshDevice withValue haltWith acceptedBy unhalted movedBy openedFor finishedBy failedBy afterOf openTag movedBad

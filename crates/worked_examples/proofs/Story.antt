@@ -38,15 +38,15 @@ use Rattle.device.specs.After.{withValue, renewed, afterOf, zeroedIf, resetHeld
 use Rattle.device.specs.FactsOf.{openTag}
 use Rattle.device.specs.Step.{actOf}
 use Rattle.device.specs.Device.{contradictoryDevice, powerOn, freshDevice}
 use Rattle.history.specs.Carried.{carriedAt, span, transfer}
 use Rattle.history.specs.Counted.{countedIn}
-use Rattle.history.specs.Example.{story, tagsFrom, linesOf, calls, ExampleShows}
+use Rattle.worked_examples.specs.Story.{story, tagsFrom, linesOf, calls, ExampleShows}
 use Rattle.history.specs.Fates.{commands, outstandingAt, finishedAt, givenUpAt, droppedAt, total, totalWith, howMany}
 use Rattle.history.specs.Replied.{collect, some, payloads}
 use Rattle.device.specs.Lent.{Lent, Typed}
 use Rattle.history.specs.Run.{run, AllTyped}
 use Rattle.history.specs.Seen.{seen, begun}
 use Rattle.history.specs.Waits.{waits, sactive, before, since}
 
 -- each of a list is a byte
 small : List ℕ → Bool
