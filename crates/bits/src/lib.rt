@@ -1,4 +1,6 @@
 // Bits, little-endian numbers and copies: no word of Serial ATA. Every public function is total and has no `requires`.
+#![tactic(auto)]
+
 mod copying;
 mod little;
 mod mask;

@@ -1,4 +1,6 @@
 // Callers of the device: a function for each call, whose contract is demand 3 of every history that the call continues; and the two functions of the event program, whose results, one after the other, are such a history (`program-history` in proofs/).
+#![tactic(auto)]
+
 mod calling;
 mod telling;
 

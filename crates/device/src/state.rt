@@ -5,7 +5,7 @@ ghost use Rattle.device.specs.Device.{contradictoryDevice, zeroDevice, freshDevi
 use device_state::{Entry, ErrorRecord, Settings, Status};
 
 // Settings, what is under way, the entry of each tag, the error record, and the counters by row: a row that is not kept holds 0 here, and is absent to `counter` and on page 11h.
-#[derive(Drop)]
+#[derive(Clone, Copy)]
 pub struct Device {
     pub settings: Settings,
     pub status: Status,
@@ -15,7 +15,7 @@ pub struct Device {
 }
 
 // What every call answers: the state to be handed in next, the refusal or 0, and the length of the replies.
-#[derive(Drop)]
+#[derive(Clone, Copy)]
 pub struct Outcome {
     pub state: Device,
     pub refusal: u8,

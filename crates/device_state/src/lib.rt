@@ -1,4 +1,6 @@
 // What the state holds, and how its parts change.
+#![tactic(auto)]
+
 mod shapes;
 mod status;
 mod table;

@@ -5,7 +5,7 @@ ghost use Rattle.device_state.specs.State.{taskIn, echoOf, whole_of, zeroEntry, 
 use frame_parts::Task;
 
 // Queue depth, capacity in sectors, and which rows of page 11h are kept.
-#[derive(Drop)]
+#[derive(Clone, Copy)]
 pub struct Settings {
     pub depth: u32,
     pub capacity: u32,
@@ -28,7 +28,7 @@ impl Settings {
 }
 
 // Bytes 4-10 and 12-13 of a command, as they stand.
-#[derive(Drop)]
+#[derive(Clone, Copy)]
 pub struct Echo {
     pub b4: u8,
     pub b5: u8,
@@ -42,7 +42,7 @@ pub struct Echo {
 }
 
 // The table's entry of a tag: direction and range in sectors, what has moved in bytes, and the command's bytes 3-13. An idle one is all zeros.
-#[derive(Drop)]
+#[derive(Clone, Copy)]
 pub struct Entry {
     pub write: bool,
     pub first: u32,
@@ -54,7 +54,7 @@ pub struct Entry {
 }
 
 // The outstanding tags; the open phase as its tag plus one, 0 while none is open; halted; reset held.
-#[derive(Drop)]
+#[derive(Clone, Copy)]
 pub struct Status {
     pub outstanding: u32,
     pub phase: u32,
@@ -63,7 +63,7 @@ pub struct Status {
 }
 
 // The error record. Blank is all zeros here, though its page starts with 80h.
-#[derive(Drop)]
+#[derive(Clone, Copy)]
 pub struct ErrorRecord {
     pub set: bool,
     pub nq: bool,

@@ -6,7 +6,7 @@ ghost use Rattle.event_io.specs.Bounds.{nothingRead, inside, Behind, RefillGiven
 const LONGEST: usize = 20;
 
 // `ended`: nothing more is to be read, since the input has ended or a read has failed.
-#[derive(Drop)]
+#[derive(Clone, Copy)]
 pub struct Window {
     pub at: usize,
     pub end: usize,

@@ -9,7 +9,7 @@ use libc::{STDERR_FILENO, STDOUT_FILENO};
 const ROOM: usize = 32768;
 
 // Where the next line goes; `lost`: lines before it could not be written.
-#[derive(Drop)]
+#[derive(Clone, Copy)]
 pub struct LinePlace {
     pub at: usize,
     pub lost: bool,

@@ -7,7 +7,7 @@ use crate::kinds::is_event;
 use frame_parts::byte_of;
 
 // The calls of the device, with their arguments; host data has the length due, and the frame of a host frame is the event itself.
-#[derive(Drop)]
+#[derive(Clone, Copy)]
 pub enum Request {
     OpenPhase(u8),
     SendData,

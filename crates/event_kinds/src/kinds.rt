@@ -3,14 +3,14 @@ ghost use Rattle.std.specs.Prelude.{◌≡◌};
 ghost use Rattle.event_kinds.specs.Kinds.{bodyLength, misplaced, next_of, isEvent};
 
 // The length of a kind's body.
-#[derive(Drop)]
+#[derive(Clone, Copy)]
 pub enum Length {
     Bytes(usize),
     Unknown,
 }
 
 // What the rest of the input begins with: a whole event of so many bytes, its kind among them; what ends the run with `stop`; or its end.
-#[derive(Drop)]
+#[derive(Clone, Copy)]
 pub enum Next {
     Whole(usize),
     Stop,

@@ -1,4 +1,6 @@
 // An event as its bytes: what the rest of the input begins with, what an event asks for, and the settings. Every public function is total and has no `requires`.
+#![tactic(auto)]
+
 mod asked;
 mod kinds;
 mod settings;

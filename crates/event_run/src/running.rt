@@ -8,7 +8,7 @@ use event_io::{Window, behind, close, complain, next_place, refill, unread};
 use event_kinds::Next;
 
 // The device between two events, and how far the output buffer is filled.
-#[derive(Drop)]
+#[derive(Clone, Copy)]
 struct Step {
     state: Device,
     filled: usize,

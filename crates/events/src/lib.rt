@@ -1,4 +1,6 @@
 // One event to a call of the device and its line, over slices. Every public function is total and has no `requires`.
+#![tactic(auto)]
+
 mod host_data;
 mod plays;
 mod starts;

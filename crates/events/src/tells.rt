@@ -10,7 +10,7 @@ use device::{Device, Outcome};
 use event_lines::put_line;
 
 // The state after an event, its refusal, and the length of its line; 0 where the buffer has no room for all of the line, which is then cut.
-#[derive(Drop)]
+#[derive(Clone, Copy)]
 pub struct EventLine {
     pub state: Device,
     pub refusal: u8,

@@ -2,7 +2,7 @@
 ghost use Rattle.frame_parts.specs.Emit.{WriteGiven};
 
 // What a writer answers: 0, 25 or 26, and the length written.
-#[derive(Drop)]
+#[derive(Clone, Copy)]
 pub struct Written {
     pub number: u8,
     pub len: usize,

@@ -1,4 +1,6 @@
 // What frames and pages are made of: the parts that several share, the lengths of the kinds, the writer that refuses, and the cut of several frames.
+#![tactic(auto)]
+
 mod cutting;
 mod emitting;
 mod shared;

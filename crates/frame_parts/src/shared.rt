@@ -4,7 +4,7 @@ ghost use Rattle.bits.specs.Bit.{bitIn};
 ghost use Rattle.frame_parts.specs.Shared.{flags_of, halvesOf, LbaGiven, task_of, srstOf, tag_of, sectorsOf, registerBytes, taskFits};
 
 // Bytes 4-10 and 12-13 of the frames that repeat a command: LBA 0-23 at 4-6, device at 7, LBA 24-47 at 8-10, count at 12-13.
-#[derive(Drop)]
+#[derive(Clone, Copy)]
 pub struct Task {
     pub lba: u64,
     pub device: u8,

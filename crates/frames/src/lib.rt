@@ -1,4 +1,6 @@
 // The frames of Serial ATA: a reader and a writer for each kind.
+#![tactic(auto)]
+
 mod reading;
 mod shapes;
 mod writing;

@@ -2,7 +2,7 @@
 use frame_parts::Task;
 
 // 27h, host register.
-#[derive(Drop)]
+#[derive(Clone, Copy)]
 pub struct HostReg {
     pub command_bit: bool,
     pub command: u8,
@@ -13,7 +13,7 @@ pub struct HostReg {
 }
 
 // 34h, device register.
-#[derive(Drop)]
+#[derive(Clone, Copy)]
 pub struct DevReg {
     pub interrupt: bool,
     pub status: u8,
@@ -22,7 +22,7 @@ pub struct DevReg {
 }
 
 // A1h, Set Device Bits.
-#[derive(Drop)]
+#[derive(Clone, Copy)]
 pub struct SetBits {
     pub interrupt: bool,
     pub status: u8,
@@ -31,7 +31,7 @@ pub struct SetBits {
 }
 
 // 41h, DMA Setup.
-#[derive(Drop)]
+#[derive(Clone, Copy)]
 pub struct DmaSetup {
     pub auto: bool,
     pub interrupt: bool,
@@ -42,7 +42,7 @@ pub struct DmaSetup {
 }
 
 // 5Fh, PIO Setup.
-#[derive(Drop)]
+#[derive(Clone, Copy)]
 pub struct PioSetup {
     pub interrupt: bool,
     pub to_host: bool,
@@ -54,7 +54,7 @@ pub struct PioSetup {
 }
 
 // A frame that was read. Of a data frame the length of its payload, which stays in the caller's slice behind 4 bytes.
-#[derive(Drop)]
+#[derive(Clone, Copy)]
 pub enum Frame {
     Host(HostReg),
     Device(DevReg),

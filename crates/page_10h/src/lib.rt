@@ -1,4 +1,6 @@
 // Log page 10h, the error record, read and written. Every public function is total and has no `requires`.
+#![tactic(auto)]
+
 mod page10;
 mod writing;
 

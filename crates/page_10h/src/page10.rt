@@ -6,7 +6,7 @@ use frame_parts::Task;
 use page_sum::{byte_sum, sum_byte};
 
 // The named fields of page 10h.
-#[derive(Drop)]
+#[derive(Clone, Copy)]
 pub struct ErrorLog {
     pub nq: bool,
     pub tag: u8,
@@ -21,7 +21,7 @@ impl ErrorLog {
 }
 
 // What reading page 10h gives: its fields, or the refusal's number.
-#[derive(Drop)]
+#[derive(Clone, Copy)]
 pub enum Page10 {
     Fields(ErrorLog),
     Refused(u8),

@@ -1,4 +1,6 @@
 // Log page 11h as it is read: a counter's value, or absent, or a refusal. Every public function is total and has no `requires`.
+#![tactic(auto)]
+
 mod page11;
 mod walk;
 

@@ -10,7 +10,7 @@ use page_rows::Counter;
 use page_sum::byte_sum;
 
 // One turn of the reader: the answer, or the next place and what is found so far.
-#[derive(Drop)]
+#[derive(Clone, Copy)]
 enum Turn {
     Done(Counter),
     Next { at: usize, found: Counter },

@@ -7,7 +7,7 @@ ghost use Rattle.page_11h.specs.WalkStep.{faulty, stepAt};
 
 // What stands at a place: a row with its identifier, the place of its value and the value's length in bytes; the end;
 // or what no page may have.
-#[derive(Drop)]
+#[derive(Clone, Copy)]
 pub enum WalkStep {
     Row { id: u64, start: usize, len: usize },
     End,
@@ -76,7 +76,7 @@ pub fn entry_at(page: &[u8], at: usize) -> WalkStep
 }
 
 // The walk keeps its page and its place together.
-#[derive(Drop)]
+#[derive(Clone, Copy)]
 pub struct Walk<'a> {
     pub page: &'a [u8],
     pub at: usize,

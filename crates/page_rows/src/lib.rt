@@ -1,4 +1,6 @@
 // The sixteen rows of page 11h, and the page made and written of them. Every public function is total and has no `requires`.
+#![tactic(auto)]
+
 mod made11;
 mod rows;
 mod shown;

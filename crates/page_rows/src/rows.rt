@@ -9,7 +9,7 @@ const IDS: [u16; 16] = [
 ];
 
 // Where a counter's number stands in the table.
-#[derive(Drop)]
+#[derive(Clone, Copy)]
 pub enum Place {
     Row(usize),
     Nowhere,

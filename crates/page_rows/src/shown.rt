@@ -5,7 +5,7 @@ ghost use Rattle.page_rows.specs.Made11.{onRow};
 use crate::rows::{Place, is_kept};
 
 // What the page says of a counter: its value, that it is not kept, or the refusal's number.
-#[derive(Drop)]
+#[derive(Clone, Copy)]
 pub enum Counter {
     Value(u64),
     Absent,

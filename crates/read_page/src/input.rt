@@ -2,7 +2,7 @@
 ghost use Rattle.std.specs.Prelude.{◌≤◌, length};
 
 // How many bytes stand at the buffer's front, and whether a read failed behind them.
-#[derive(Drop)]
+#[derive(Clone, Copy)]
 pub struct Input {
     pub len: usize,
     pub failed: bool,

@@ -1,6 +1,8 @@
 // Reads a log page, 512 bytes on standard input: page 10h's fields by name, or of page 11h each counter of figure 24 with its value or `absent`.
 // The argument says which page: 10 or 11. A read that fails prints `stop`, and a page that is refused its refusal, and nothing else.
 // All is written at once, and a write that fails is told on standard error.
+#![tactic(auto)]
+
 ghost use Rattle.std.specs.Prelude.{◌≤◌, length};
 ghost use Rattle.read_page.specs.Lines.{pageText, PageTextGiven};
 
@@ -9,7 +11,7 @@ mod output;
 
 use output::show;
 
-#[derive(Drop)]
+#[derive(Clone, Copy)]
 enum Page {
     Errors,
     Counters,

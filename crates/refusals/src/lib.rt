@@ -1,4 +1,6 @@
 // Each call's refusals in the order in which they are tried, over plain tests.
+#![tactic(auto)]
+
 mod numbers;
 
 pub use numbers::{

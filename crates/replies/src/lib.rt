@@ -1,4 +1,6 @@
 // What the device sends: the replies of an act as frame values, and their bytes.
+#![tactic(auto)]
+
 mod emitting;
 mod shown;
 

@@ -7,7 +7,7 @@ use frame_parts::Task;
 use page_10h::ErrorLog;
 
 // What replies show of the state.
-#[derive(Drop)]
+#[derive(Clone, Copy)]
 pub struct Shown {
     pub halted: bool,
     pub settings: Settings,

@@ -3,14 +3,14 @@ use device_state::{Echo, Entry};
 use frame_parts::Task;
 
 // A device register reply with ERR.
-#[derive(Drop)]
+#[derive(Clone, Copy)]
 pub struct BadReply {
     pub error: u8,
     pub task: Task,
 }
 
 // An error that halts the device, and what its record will hold.
-#[derive(Drop)]
+#[derive(Clone, Copy)]
 pub struct Fault {
     pub nq: bool,
     pub tag: u8,
@@ -19,21 +19,21 @@ pub struct Fault {
 }
 
 // A queued command: accepted, or its phase to be opened.
-#[derive(Drop)]
+#[derive(Clone, Copy)]
 pub struct Queued {
     pub tag: u8,
     pub entry: Entry,
 }
 
 // Page 11h to be sent; with `zero` the counters are zeroed after it is made.
-#[derive(Drop)]
+#[derive(Clone, Copy)]
 pub struct CountersRead {
     pub zero: bool,
     pub task: Task,
 }
 
 // Data that move: `size` bytes of the medium from `at` on, and the command's entry once they have moved. `last`: nothing is left then.
-#[derive(Drop)]
+#[derive(Clone, Copy)]
 pub struct Move {
     pub tag: u32,
     pub at: usize,
@@ -43,7 +43,7 @@ pub struct Move {
 }
 
 // By the rule that holds.
-#[derive(Drop)]
+#[derive(Clone, Copy)]
 pub enum Act {
     Refuse(u8),
     Nothing,

@@ -6,7 +6,7 @@ use crate::acts::Move;
 use device_state::{Entry, Settings, Status};
 
 // The tests of refusals 1, 2 (of a host frame and of a send) and 3 (of a call that replies), and whether a phase is open on the link; settings and control values. `entry`: that of the tag asked for, or of the open phase; an idle one if there is none. `unready`: a tag of the set asked for is not outstanding or not wholly moved.
-#[derive(Drop)]
+#[derive(Clone, Copy)]
 pub struct Facts {
     pub contradicts: bool,
     pub medium_wrong: bool,

@@ -1,4 +1,6 @@
 // The rules of the device over plain values: what each call makes it do, or the number that it is refused with.
+#![tactic(auto)]
+
 mod acts;
 mod decide;
 mod device_events;

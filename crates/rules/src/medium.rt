@@ -6,7 +6,7 @@ ghost use Rattle.rules.specs.Medium.{span_of, mediumAfter};
 use crate::acts::Act;
 
 // A part of the medium, in bytes.
-#[derive(Drop)]
+#[derive(Clone, Copy)]
 pub struct Span {
     pub at: usize,
     pub size: usize,

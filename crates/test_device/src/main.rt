@@ -1,5 +1,7 @@
 // Runs the vectors of the device: records of 32 bytes on standard input, which set a state or make a call; a call has one line.
 // One state and one medium stay between them; tests/model writes both files, and says what the ops are.
+#![tactic(auto)]
+
 mod answers;
 mod calls;
 mod digests;

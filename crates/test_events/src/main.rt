@@ -1,8 +1,10 @@
 // Runs each event file that an argument names under its name: by the run of run_events, by that of trace_events, and by the first again
 // with its input in pieces.
+#![tactic(auto)]
+
 use libc::STDOUT_FILENO;
 
-#[derive(Drop)]
+#[derive(Clone, Copy)]
 enum Way {
     Lines,
     Traced,

@@ -1,5 +1,7 @@
 // Runs the vectors of frames and pages: cases of 544 bytes on standard input, one line for each.
 // A case is 16 bytes of head (op, a, n, m, f) and 528 of body; tests/model writes both files, and says what the ops are.
+#![tactic(auto)]
+
 mod answers;
 mod reads;
 mod writes;

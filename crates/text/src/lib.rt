@@ -1,4 +1,6 @@
 // Text over slices: bytes, decimal numbers and hex digits, written one behind the other. Every public function is total and has no `requires`.
+#![tactic(auto)]
+
 mod digits;
 mod sheets;
 

@@ -1,4 +1,6 @@
 // What the programs of the vectors share: the cases that they read, and the numbers, words, bytes and digests that they print.
+#![tactic(auto)]
+
 mod digests;
 mod printed;
 mod reading;

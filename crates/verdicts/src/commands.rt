@@ -5,14 +5,14 @@ ghost use Rattle.verdicts.specs.Queued.{tagRefused, queuedRule};
 ghost use Rattle.verdicts.specs.Other.{otherRule, logZeroes};
 
 // A halt: NQ, and the error that its record holds.
-#[derive(Drop)]
+#[derive(Clone, Copy)]
 pub struct Halting {
     pub nq: bool,
     pub error: u8,
 }
 
 // A queued command: bad with an error; bad with a halt; good.
-#[derive(Drop)]
+#[derive(Clone, Copy)]
 pub enum QueuedRule {
     BadOnly(u8),
     Halts(Halting),
@@ -20,7 +20,7 @@ pub enum QueuedRule {
 }
 
 // Any other command: bad with an error; bad with a halt; page 10h; page 11h.
-#[derive(Drop)]
+#[derive(Clone, Copy)]
 pub enum OtherRule {
     BadOnly(u8),
     Halts(Halting),

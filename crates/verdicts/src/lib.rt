@@ -1,4 +1,6 @@
 // Which rule holds, over plain values: no frame, no entry, no state. Every public function is total and has no `requires`.
+#![tactic(auto)]
+
 mod commands;
 mod moving;
 
