@@ -10,29 +10,32 @@ use mathlib.Core.Path.{◌≡◌, refl}
 use Rattle.bits.specs.Contract.{Tied}
 use Rattle.bits.proofs.Tying.{same, say, by, named}
 use Rattle.bits.proofs.copying
+use Rattle.bits.specs.contracts.copying as copying-said
 use Rattle.bits.proofs.little
+use Rattle.bits.specs.contracts.little as little-said
 use Rattle.bits.proofs.mask
+use Rattle.bits.specs.contracts.mask as mask-said
 
-pub tied-lay : Tied copying.lay.ended copying.lay.Reads.Asked copying.lay.Reads.Post (λ κs a r ws. (r ≡ leb (length a.1.0.now) (length a.0.now)) × (ws.0 ≡ over a.1.0.now a.0.now))
+pub tied-lay : Tied copying-said.lay.ended copying.lay.Reads.Asked copying.lay.Reads.Post (λ κs a r ws. (r ≡ leb (length a.1.0.now) (length a.0.now)) × (ws.0 ≡ over a.1.0.now a.0.now))
 tied-lay = by (say (λ κs a. tt) (λ κs a r ws p. p)) (λ κs a r r' ws ws' p q. (same p.0 q.0, λ i. (same p.1 q.1 i, (tt, tt))))
 
-pub tied-byte-at : Tied little.byte_at.ended little.byte_at.Reads.Asked little.byte_at.Reads.Post (λ κs a r ws. r ≡ get_or a.0.now (a.1.0 + a.1.1.0) 0)
+pub tied-byte-at : Tied little-said.byte_at.ended little.byte_at.Reads.Asked little.byte_at.Reads.Post (λ κs a r ws. r ≡ get_or a.0.now (a.1.0 + a.1.1.0) 0)
 tied-byte-at = named (say (λ κs a. tt) (λ κs a r ws p. p)) (λ κs a ws ws'. refl)
 
-pub tied-le : Tied little.le.ended little.le.Reads.Asked little.le.Reads.Post (λ κs a r ws. NumberGiven a.0.now a.1.0 (min a.1.1.0 8) r)
+pub tied-le : Tied little-said.le.ended little.le.Reads.Asked little.le.Reads.Post (λ κs a r ws. NumberGiven a.0.now a.1.0 (min a.1.1.0 8) r)
 tied-le = by (say (λ κs a. tt) (λ κs a r ws p. p)) (λ κs a r r' ws ws' p q. (same p.value q.value, refl))
 
-pub tied-byte : Tied little.byte.ended little.byte.Reads.Asked little.byte.Reads.Post (λ κs a r ws. r ≡ byte_of a.0 a.1.0)
+pub tied-byte : Tied little-said.byte.ended little.byte.Reads.Asked little.byte.Reads.Post (λ κs a r ws. r ≡ byte_of a.0 a.1.0)
 tied-byte = named (say (λ κs a. tt) (λ κs a r ws p. p)) (λ κs a ws ws'. refl)
 
-pub tied-bit : Tied mask.bit.ended mask.bit.Reads.Asked mask.bit.Reads.Post (λ κs a r ws. r ≡ bitIn 32 a.0 a.1.0)
+pub tied-bit : Tied mask-said.bit.ended mask.bit.Reads.Asked mask.bit.Reads.Post (λ κs a r ws. r ≡ bitIn 32 a.0 a.1.0)
 tied-bit = named (say (λ κs a. tt) (λ κs a r ws p. p)) (λ κs a ws ws'. refl)
 
-pub tied-with-bit : Tied mask.with_bit.ended mask.with_bit.Reads.Asked mask.with_bit.Reads.Post (λ κs a r ws. r ≡ withBitIn 32 a.0 a.1.0)
+pub tied-with-bit : Tied mask-said.with_bit.ended mask.with_bit.Reads.Asked mask.with_bit.Reads.Post (λ κs a r ws. r ≡ withBitIn 32 a.0 a.1.0)
 tied-with-bit = named (say (λ κs a. tt) (λ κs a r ws p. p)) (λ κs a ws ws'. refl)
 
-pub tied-without : Tied mask.without.ended mask.without.Reads.Asked mask.without.Reads.Post (λ κs a r ws. r ≡ clearIn 32 a.0 a.1.0)
+pub tied-without : Tied mask-said.without.ended mask.without.Reads.Asked mask.without.Reads.Post (λ κs a r ws. r ≡ clearIn 32 a.0 a.1.0)
 tied-without = named (say (λ κs a. tt) (λ κs a r ws p. p)) (λ κs a ws ws'. refl)
 
-pub tied-ones : Tied mask.ones.ended mask.ones.Reads.Asked mask.ones.Reads.Post (λ κs a r ws. r ≡ ones a.0)
+pub tied-ones : Tied mask-said.ones.ended mask.ones.Reads.Asked mask.ones.Reads.Post (λ κs a r ws. r ≡ ones a.0)
 tied-ones = named (say (λ κs a. tt) (λ κs a r ws p. p)) (λ κs a ws ws'. refl)
