@@ -6,40 +6,42 @@ use Rattle.device.specs.Lent.{lent, gave}
 use Rattle.caller.specs.Continued.{Begins, Continues, ContinuesReplying, ContinuesAlone, FirstCall}
 use Rattle.caller.specs.Program.{start, play, Started, Played}
 use Rattle.caller.proofs.calling
+use Rattle.caller.specs.contracts.calling as calling-said
 use Rattle.caller.proofs.telling
+use Rattle.caller.specs.contracts.telling as telling-said
 
-pub tied-begin : Says calling.begin.ended calling.begin.Reads.Asked calling.begin.Reads.Post (λ κs a r ws. Begins a.0 r)
+pub tied-begin : Says calling-said.begin.ended calling.begin.Reads.Asked calling.begin.Reads.Post (λ κs a r ws. Begins a.0 r)
 tied-begin = say (λ κs a. tt) (λ κs a r ws p. p)
 
-pub tied-host-frame : Says calling.host_frame.ended calling.host_frame.Reads.Asked calling.host_frame.Reads.Post
+pub tied-host-frame : Says calling-said.host_frame.ended calling.host_frame.Reads.Asked calling.host_frame.Reads.Post
     (λ κs a r ws. Continues a.0 (lent (hostFrame a.1.0.now) a.1.1.0.now a.1.1.1.0.now) (gave r ws.1.1.0 ws.1.1.1.0))
 tied-host-frame = say (λ κs a. tt) (λ κs a r ws p. p)
 
-pub tied-open : Says calling.open.ended calling.open.Reads.Asked calling.open.Reads.Post (λ κs a r ws. ContinuesReplying a.0 (openPhase a.1.0) a.1.1.0.now r ws.1.1.0)
+pub tied-open : Says calling-said.open.ended calling.open.Reads.Asked calling.open.Reads.Post (λ κs a r ws. ContinuesReplying a.0 (openPhase a.1.0) a.1.1.0.now r ws.1.1.0)
 tied-open = say (λ κs a. tt) (λ κs a r ws p. p)
 
-pub tied_send : Says calling.send.ended calling.send.Reads.Asked calling.send.Reads.Post (λ κs a r ws. Continues a.0 (lent sendData a.1.0.now a.1.1.0.now) (gave r a.1.0.now ws.1.1.0))
+pub tied_send : Says calling-said.send.ended calling.send.Reads.Asked calling.send.Reads.Post (λ κs a r ws. Continues a.0 (lent sendData a.1.0.now a.1.1.0.now) (gave r a.1.0.now ws.1.1.0))
 tied_send = say (λ κs a. tt) (λ κs a r ws p. p)
 
-pub tied-finish : Says calling.finish.ended calling.finish.Reads.Asked calling.finish.Reads.Post (λ κs a r ws. ContinuesReplying a.0 (finishTags a.1.0) a.1.1.0.now r ws.1.1.0)
+pub tied-finish : Says calling-said.finish.ended calling.finish.Reads.Asked calling.finish.Reads.Post (λ κs a r ws. ContinuesReplying a.0 (finishTags a.1.0) a.1.1.0.now r ws.1.1.0)
 tied-finish = say (λ κs a. tt) (λ κs a r ws p. p)
 
-pub tied-media-error : Says calling.media_error.ended calling.media_error.Reads.Asked calling.media_error.Reads.Post
+pub tied-media-error : Says calling-said.media_error.ended calling.media_error.Reads.Asked calling.media_error.Reads.Post
     (λ κs a r ws. ContinuesReplying a.0 (mediaError a.1.0 a.1.1.0 a.1.1.1.0) a.1.1.1.1.0.now r ws.1.1.1.1.0)
 tied-media-error = say (λ κs a. tt) (λ κs a r ws p. p)
 
-pub tied-link-event : Says calling.link_event.ended calling.link_event.Reads.Asked calling.link_event.Reads.Post (λ κs a r ws. ContinuesAlone a.0 (linkEvent a.1.0) r)
+pub tied-link-event : Says calling-said.link_event.ended calling.link_event.Reads.Asked calling.link_event.Reads.Post (λ κs a r ws. ContinuesAlone a.0 (linkEvent a.1.0) r)
 tied-link-event = say (λ κs a. tt) (λ κs a r ws p. p)
 
-pub tied-comreset : Says calling.comreset.ended calling.comreset.Reads.Asked calling.comreset.Reads.Post (λ κs a r ws. ContinuesReplying a.0 comReset a.1.0.now r ws.1.0)
+pub tied-comreset : Says calling-said.comreset.ended calling.comreset.Reads.Asked calling.comreset.Reads.Post (λ κs a r ws. ContinuesReplying a.0 comReset a.1.0.now r ws.1.0)
 tied-comreset = say (λ κs a. tt) (λ κs a r ws p. p)
 
-pub tied-first-link : Says calling.first_link.ended calling.first_link.Reads.Asked calling.first_link.Reads.Post (λ κs a r ws. FirstCall a.0 (linkEvent a.1.0) r)
+pub tied-first-link : Says calling-said.first_link.ended calling.first_link.Reads.Asked calling.first_link.Reads.Post (λ κs a r ws. FirstCall a.0 (linkEvent a.1.0) r)
 tied-first-link = say (λ κs a. tt) (λ κs a r ws p. p)
 
-pub tied-start-line : Says telling.start_line.ended telling.start_line.Reads.Asked telling.start_line.Reads.Post (λ κs a r ws. Started a.0 (start a.1.0.now a.1.1.0.now r ws.1.1.0))
+pub tied-start-line : Says telling-said.start_line.ended telling.start_line.Reads.Asked telling.start_line.Reads.Post (λ κs a r ws. Started a.0 (start a.1.0.now a.1.1.0.now r ws.1.1.0))
 tied-start-line = say (λ κs a. tt) (λ κs a r ws p. p)
 
-pub tied-play-line : Says telling.play_line.ended telling.play_line.Reads.Asked telling.play_line.Reads.Post
+pub tied-play-line : Says telling-said.play_line.ended telling.play_line.Reads.Asked telling.play_line.Reads.Post
     (λ κs a r ws. Played a.1.0 a.1.1.0 a.0 (play a.1.1.1.0.now a.1.1.1.1.0.now a.1.1.1.1.1.0.now a.1.1.1.1.1.1.0.now r ws.1.1.1.1.0 ws.1.1.1.1.1.0 ws.1.1.1.1.1.1.0))
 tied-play-line = say (λ κs a. tt) (λ κs a r ws p. p)

@@ -12,43 +12,45 @@ use mathlib.Core.Path.{◌≡◌, refl}
 use Rattle.bits.specs.Contract.{Tied}
 use Rattle.bits.proofs.Tying.{same, say, by, named}
 use Rattle.device.proofs.after
+use Rattle.device.specs.contracts.after as after-said
 use Rattle.device.proofs.state
+use Rattle.device.specs.contracts.state as state-said
 
-pub tied-after : Tied after.after.ended after.after.Reads.Asked after.after.Reads.Post (λ κs a r ws. r ≡ after_of a.0 a.1.0)
+pub tied-after : Tied after-said.after.ended after.after.Reads.Asked after.after.Reads.Post (λ κs a r ws. r ≡ after_of a.0 a.1.0)
 tied-after = named (say (λ κs a. tt) (λ κs a r ws p. p)) (λ κs a ws ws'. refl)
 
-pub tied-host-frame : Tied state.Device.host_frame.ended state.Device.host_frame.Reads.Asked state.Device.host_frame.Reads.Post (λ κs a r ws. Given a.0 (lent (hostFrame a.1.0.now) a.1.1.0.now a.1.1.1.0.now) (gave r ws.1.1.0 ws.1.1.1.0))
+pub tied-host-frame : Tied state-said.Device.host_frame.ended state.Device.host_frame.Reads.Asked state.Device.host_frame.Reads.Post (λ κs a r ws. Given a.0 (lent (hostFrame a.1.0.now) a.1.1.0.now a.1.1.1.0.now) (gave r ws.1.1.0 ws.1.1.1.0))
 tied-host-frame = by (say (λ κs a. tt) (λ κs a r ws p. p)) (λ κs a r r' ws ws' p q. let e = given-once _ _ r r' ws.1.1.0 ws'.1.1.0 ws.1.1.1.0 ws'.1.1.1.0 p q in (e.0, λ i. (tt, (tt, (e.1.0 i, (e.1.1 i, tt))))))
 
-pub tied-open : Tied state.Device.open.ended state.Device.open.Reads.Asked state.Device.open.Reads.Post (λ κs a r ws. Given a.0 (lent (openPhase a.1.0) [] a.1.1.0.now) (gave r [] ws.1.1.0))
+pub tied-open : Tied state-said.Device.open.ended state.Device.open.Reads.Asked state.Device.open.Reads.Post (λ κs a r ws. Given a.0 (lent (openPhase a.1.0) [] a.1.1.0.now) (gave r [] ws.1.1.0))
 tied-open = by (say (λ κs a. tt) (λ κs a r ws p. p)) (λ κs a r r' ws ws' p q. let e = given-once _ _ r r' [] [] ws.1.1.0 ws'.1.1.0 p q in (e.0, λ i. (tt, (tt, (e.1.1 i, tt)))))
 
-pub tied_send : Tied state.Device.send.ended state.Device.send.Reads.Asked state.Device.send.Reads.Post (λ κs a r ws. Given a.0 (lent sendData a.1.0.now a.1.1.0.now) (gave r a.1.0.now ws.1.1.0))
+pub tied_send : Tied state-said.Device.send.ended state.Device.send.Reads.Asked state.Device.send.Reads.Post (λ κs a r ws. Given a.0 (lent sendData a.1.0.now a.1.1.0.now) (gave r a.1.0.now ws.1.1.0))
 tied_send = by (say (λ κs a. tt) (λ κs a r ws p. p)) (λ κs a r r' ws ws' p q. let e = given-once _ _ r r' a.1.0.now a.1.0.now ws.1.1.0 ws'.1.1.0 p q in (e.0, λ i. (tt, (tt, (e.1.1 i, tt)))))
 
-pub tied-finish : Tied state.Device.finish.ended state.Device.finish.Reads.Asked state.Device.finish.Reads.Post (λ κs a r ws. Given a.0 (lent (finishTags a.1.0) [] a.1.1.0.now) (gave r [] ws.1.1.0))
+pub tied-finish : Tied state-said.Device.finish.ended state.Device.finish.Reads.Asked state.Device.finish.Reads.Post (λ κs a r ws. Given a.0 (lent (finishTags a.1.0) [] a.1.1.0.now) (gave r [] ws.1.1.0))
 tied-finish = by (say (λ κs a. tt) (λ κs a r ws p. p)) (λ κs a r r' ws ws' p q. let e = given-once _ _ r r' [] [] ws.1.1.0 ws'.1.1.0 p q in (e.0, λ i. (tt, (tt, (e.1.1 i, tt)))))
 
-pub tied-media-error : Tied state.Device.media_error.ended state.Device.media_error.Reads.Asked state.Device.media_error.Reads.Post (λ κs a r ws. Given a.0 (lent (mediaError a.1.0 a.1.1.0 a.1.1.1.0) [] a.1.1.1.1.0.now) (gave r [] ws.1.1.1.1.0))
+pub tied-media-error : Tied state-said.Device.media_error.ended state.Device.media_error.Reads.Asked state.Device.media_error.Reads.Post (λ κs a r ws. Given a.0 (lent (mediaError a.1.0 a.1.1.0 a.1.1.1.0) [] a.1.1.1.1.0.now) (gave r [] ws.1.1.1.1.0))
 tied-media-error = by (say (λ κs a. tt) (λ κs a r ws p. p)) (λ κs a r r' ws ws' p q. let e = given-once _ _ r r' [] [] ws.1.1.1.1.0 ws'.1.1.1.1.0 p q in (e.0, λ i. (tt, (tt, (tt, (tt, (e.1.1 i, tt)))))))
 
-pub tied-link-event : Tied state.Device.link_event.ended state.Device.link_event.Reads.Asked state.Device.link_event.Reads.Post (λ κs a r ws. Given a.0 (lent (linkEvent a.1.0) [] []) (gave r [] []))
+pub tied-link-event : Tied state-said.Device.link_event.ended state.Device.link_event.Reads.Asked state.Device.link_event.Reads.Post (λ κs a r ws. Given a.0 (lent (linkEvent a.1.0) [] []) (gave r [] []))
 tied-link-event = by (say (λ κs a. tt) (λ κs a r ws p. p)) (λ κs a r r' ws ws' p q. let e = given-once _ _ r r' [] [] [] [] p q in (e.0, λ i. (tt, (tt, tt))))
 
-pub tied-comreset : Tied state.Device.comreset.ended state.Device.comreset.Reads.Asked state.Device.comreset.Reads.Post (λ κs a r ws. Given a.0 (lent comReset [] a.1.0.now) (gave r [] ws.1.0))
+pub tied-comreset : Tied state-said.Device.comreset.ended state.Device.comreset.Reads.Asked state.Device.comreset.Reads.Post (λ κs a r ws. Given a.0 (lent comReset [] a.1.0.now) (gave r [] ws.1.0))
 tied-comreset = by (say (λ κs a. tt) (λ κs a r ws p. p)) (λ κs a r r' ws ws' p q. let e = given-once _ _ r r' [] [] ws.1.0 ws'.1.0 p q in (e.0, λ i. (tt, (e.1.1 i, tt))))
 
-pub tied-data-due : Tied state.Device.data_due.ended state.Device.data_due.Reads.Asked state.Device.data_due.Reads.Post (λ κs a r ws. r ≡ dataDue a.0)
+pub tied-data-due : Tied state-said.Device.data_due.ended state.Device.data_due.Reads.Asked state.Device.data_due.Reads.Post (λ κs a r ws. r ≡ dataDue a.0)
 tied-data-due = named (say (λ κs a. tt) (λ κs a r ws p. p)) (λ κs a ws ws'. refl)
 
-pub tied-counter : Tied state.Device.counter.ended state.Device.counter.Reads.Asked state.Device.counter.Reads.Post (λ κs a r ws. CounterGiven a.0 a.1.0 r)
+pub tied-counter : Tied state-said.Device.counter.ended state.Device.counter.Reads.Asked state.Device.counter.Reads.Post (λ κs a r ws. CounterGiven a.0 a.1.0 r)
 tied-counter = by (say (λ κs a. tt) (λ κs a r ws p. p)) (λ κs a r r' ws ws' p q. (same p.answer q.answer, refl))
 
-pub tied-outstanding-count : Tied state.Device.outstanding_count.ended state.Device.outstanding_count.Reads.Asked state.Device.outstanding_count.Reads.Post (λ κs a r ws. CountGiven a.0 r)
+pub tied-outstanding-count : Tied state-said.Device.outstanding_count.ended state.Device.outstanding_count.Reads.Asked state.Device.outstanding_count.Reads.Post (λ κs a r ws. CountGiven a.0 r)
 tied-outstanding-count = by (say (λ κs a. tt) (λ κs a r ws p. p)) (λ κs a r r' ws ws' p q. (same p.answer q.answer, refl))
 
-pub tied-power-on : Tied state.Device.power_on.ended state.Device.power_on.Reads.Asked state.Device.power_on.Reads.Post (λ κs a r ws. r ≡ powerOn a.0)
+pub tied-power-on : Tied state-said.Device.power_on.ended state.Device.power_on.Reads.Asked state.Device.power_on.Reads.Post (λ κs a r ws. r ≡ powerOn a.0)
 tied-power-on = named (say (λ κs a. tt) (λ κs a r ws p. p)) (λ κs a ws ws'. refl)
 
-pub tied-contradicts : Tied state.Device.contradicts.ended state.Device.contradicts.Reads.Asked state.Device.contradicts.Reads.Post (λ κs a r ws. r ≡ contradictoryDevice a.0)
+pub tied-contradicts : Tied state-said.Device.contradicts.ended state.Device.contradicts.Reads.Asked state.Device.contradicts.Reads.Post (λ κs a r ws. r ≡ contradictoryDevice a.0)
 tied-contradicts = named (say (λ κs a. tt) (λ κs a r ws p. p)) (λ κs a ws ws'. refl)

@@ -8,47 +8,50 @@ use mathlib.Core.Path.{◌≡◌, refl}
 use Rattle.bits.specs.Contract.{Tied}
 use Rattle.bits.proofs.Tying.{say, named}
 use Rattle.device_state.proofs.shapes
+use Rattle.device_state.specs.contracts.shapes as shapes-said
 use Rattle.device_state.proofs.status
+use Rattle.device_state.specs.contracts.status as status-said
 use Rattle.device_state.proofs.table
+use Rattle.device_state.specs.contracts.table as table-said
 
-pub tied-task-in : Tied shapes.task_in.ended shapes.task_in.Reads.Asked shapes.task_in.Reads.Post (λ κs a r ws. r ≡ taskIn a.0)
+pub tied-task-in : Tied shapes-said.task_in.ended shapes.task_in.Reads.Asked shapes.task_in.Reads.Post (λ κs a r ws. r ≡ taskIn a.0)
 tied-task-in = named (say (λ κs a. tt) (λ κs a r ws p. p)) (λ κs a ws ws'. refl)
 
-pub tied-echo-of : Tied shapes.echo_of.ended shapes.echo_of.Reads.Asked shapes.echo_of.Reads.Post (λ κs a r ws. r ≡ echoOf a.0)
+pub tied-echo-of : Tied shapes-said.echo_of.ended shapes.echo_of.Reads.Asked shapes.echo_of.Reads.Post (λ κs a r ws. r ≡ echoOf a.0)
 tied-echo-of = named (say (λ κs a. tt) (λ κs a r ws p. p)) (λ κs a ws ws'. refl)
 
-pub tied-whole-of : Tied shapes.whole_of.ended shapes.whole_of.Reads.Asked shapes.whole_of.Reads.Post (λ κs a r ws. r ≡ whole_of a.0)
+pub tied-whole-of : Tied shapes-said.whole_of.ended shapes.whole_of.Reads.Asked shapes.whole_of.Reads.Post (λ κs a r ws. r ≡ whole_of a.0)
 tied-whole-of = named (say (λ κs a. tt) (λ κs a r ws p. p)) (λ κs a ws ws'. refl)
 
-pub tied-idle-entry : Tied shapes.idle_entry.ended shapes.idle_entry.Reads.Asked shapes.idle_entry.Reads.Post (λ κs a r ws. r ≡ zeroEntry)
+pub tied-idle-entry : Tied shapes-said.idle_entry.ended shapes.idle_entry.Reads.Asked shapes.idle_entry.Reads.Post (λ κs a r ws. r ≡ zeroEntry)
 tied-idle-entry = named (say (λ κs a. tt) (λ κs a r ws p. p)) (λ κs a ws ws'. refl)
 
-pub tied-no-record : Tied shapes.no_record.ended shapes.no_record.Reads.Asked shapes.no_record.Reads.Post (λ κs a r ws. r ≡ blankRecord)
+pub tied-no-record : Tied shapes-said.no_record.ended shapes.no_record.Reads.Asked shapes.no_record.Reads.Post (λ κs a r ws. r ≡ blankRecord)
 tied-no-record = named (say (λ κs a. tt) (λ κs a r ws p. p)) (λ κs a ws ws'. refl)
 
-pub tied-entry-of : Tied table.entry_of.ended table.entry_of.Reads.Asked table.entry_of.Reads.Post (λ κs a r ws. r ≡ entry_of a.0 a.1.0)
+pub tied-entry-of : Tied table-said.entry_of.ended table.entry_of.Reads.Asked table.entry_of.Reads.Post (λ κs a r ws. r ≡ entry_of a.0 a.1.0)
 tied-entry-of = named (say (λ κs a. tt) (λ κs a r ws p. p)) (λ κs a ws ws'. refl)
 
-pub tied-with-entry : Tied table.with_entry.ended table.with_entry.Reads.Asked table.with_entry.Reads.Post (λ κs a r ws. r ≡ placed a.0 a.1.0 a.1.1.0)
+pub tied-with-entry : Tied table-said.with_entry.ended table.with_entry.Reads.Asked table.with_entry.Reads.Post (λ κs a r ws. r ≡ placed a.0 a.1.0 a.1.1.0)
 tied-with-entry = named (say (λ κs a. tt) (λ κs a r ws p. p)) (λ κs a ws ws'. refl)
 
-pub tied-cleared : Tied table.cleared.ended table.cleared.Reads.Asked table.cleared.Reads.Post (λ κs a r ws. r ≡ cleared a.0 a.1.0)
+pub tied-cleared : Tied table-said.cleared.ended table.cleared.Reads.Asked table.cleared.Reads.Post (λ κs a r ws. r ≡ cleared a.0 a.1.0)
 tied-cleared = named (say (λ κs a. tt) (λ κs a r ws p. p)) (λ κs a ws ws'. refl)
 
-pub tied-idle : Tied status.idle.ended status.idle.Reads.Asked status.idle.Reads.Post (λ κs a r ws. r ≡ noneUnderWay false false)
+pub tied-idle : Tied status-said.idle.ended status.idle.Reads.Asked status.idle.Reads.Post (λ κs a r ws. r ≡ noneUnderWay false false)
 tied-idle = named (say (λ κs a. tt) (λ κs a r ws p. p)) (λ κs a ws ws'. refl)
 
-pub tied-halted : Tied status.halted.ended status.halted.Reads.Asked status.halted.Reads.Post (λ κs a r ws. r ≡ noneUnderWay true false)
+pub tied-halted : Tied status-said.halted.ended status.halted.Reads.Asked status.halted.Reads.Post (λ κs a r ws. r ≡ noneUnderWay true false)
 tied-halted = named (say (λ κs a. tt) (λ κs a r ws p. p)) (λ κs a ws ws'. refl)
 
-pub tied-held : Tied status.held.ended status.held.Reads.Asked status.held.Reads.Post (λ κs a r ws. r ≡ noneUnderWay false true)
+pub tied-held : Tied status-said.held.ended status.held.Reads.Asked status.held.Reads.Post (λ κs a r ws. r ≡ noneUnderWay false true)
 tied-held = named (say (λ κs a. tt) (λ κs a r ws p. p)) (λ κs a ws ws'. refl)
 
-pub tied-with-tag : Tied status.with_tag.ended status.with_tag.Reads.Asked status.with_tag.Reads.Post (λ κs a r ws. r ≡ with_tag a.0 a.1.0)
+pub tied-with-tag : Tied status-said.with_tag.ended status.with_tag.Reads.Asked status.with_tag.Reads.Post (λ κs a r ws. r ≡ with_tag a.0 a.1.0)
 tied-with-tag = named (say (λ κs a. tt) (λ κs a r ws p. p)) (λ κs a ws ws'. refl)
 
-pub tied-without-tags : Tied status.without_tags.ended status.without_tags.Reads.Asked status.without_tags.Reads.Post (λ κs a r ws. r ≡ withoutTags a.0 a.1.0)
+pub tied-without-tags : Tied status-said.without_tags.ended status.without_tags.Reads.Asked status.without_tags.Reads.Post (λ κs a r ws. r ≡ withoutTags a.0 a.1.0)
 tied-without-tags = named (say (λ κs a. tt) (λ κs a r ws p. p)) (λ κs a ws ws'. refl)
 
-pub tied_below : Tied status.below.ended status.below.Reads.Asked status.below.Reads.Post (λ κs a r ws. r ≡ a.0 - 1)
+pub tied_below : Tied status-said.below.ended status.below.Reads.Asked status.below.Reads.Post (λ κs a r ws. r ≡ a.0 - 1)
 tied_below = named (say (λ κs a. tt) (λ κs a r ws p. p)) (λ κs a ws ws'. refl)

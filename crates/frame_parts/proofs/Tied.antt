@@ -10,51 +10,55 @@ use Rattle.bits.specs.Contract.{Tied}
 use Rattle.bits.proofs.Tying.{say, by, named}
 use Rattle.frame_parts.proofs.EmitLaws.{emitted-once}
 use Rattle.frame_parts.proofs.cutting
+use Rattle.frame_parts.specs.contracts.cutting as cutting-said
 use Rattle.frame_parts.proofs.emitting
+use Rattle.frame_parts.specs.contracts.emitting as emitting-said
 use Rattle.frame_parts.proofs.shared
+use Rattle.frame_parts.specs.contracts.shared as shared-said
 use Rattle.frame_parts.proofs.sizes
+use Rattle.frame_parts.specs.contracts.sizes as sizes-said
 
-pub tied-cut-first : Tied cutting.cut_first.ended cutting.cut_first.Reads.Asked cutting.cut_first.Reads.Post (λ κs a r ws. r ≡ firstLength a.0.now)
+pub tied-cut-first : Tied cutting-said.cut_first.ended cutting.cut_first.Reads.Asked cutting.cut_first.Reads.Post (λ κs a r ws. r ≡ firstLength a.0.now)
 tied-cut-first = named (say (λ κs a. tt) (λ κs a r ws p. p)) (λ κs a ws ws'. refl)
 
-pub tied-emit : Tied emitting.emit.ended emitting.emit.Reads.Asked emitting.emit.Reads.Post (λ κs a r ws. WriteGiven a.1.0 a.1.1.0.now a.0.now r ws.0)
+pub tied-emit : Tied emitting-said.emit.ended emitting.emit.Reads.Asked emitting.emit.Reads.Post (λ κs a r ws. WriteGiven a.1.0 a.1.1.0.now a.0.now r ws.0)
 tied-emit = by (say (λ κs a. tt) (λ κs a r ws p. p)) (λ κs a r r' ws ws' p q. let e = emitted-once _ _ _ r r' ws.0 ws'.0 p q in (e.0, λ i. (e.1 i, (tt, (tt, tt)))))
 
-pub tied-byte-of : Tied shared.byte_of.ended shared.byte_of.Reads.Asked shared.byte_of.Reads.Post (λ κs a r ws. r ≡ get_or a.0.now a.1.0 0)
+pub tied-byte-of : Tied shared-said.byte_of.ended shared.byte_of.Reads.Asked shared.byte_of.Reads.Post (λ κs a r ws. r ≡ get_or a.0.now a.1.0 0)
 tied-byte-of = named (say (λ κs a. tt) (λ κs a r ws p. p)) (λ κs a ws ws'. refl)
 
-pub tied-flag : Tied shared.flag.ended shared.flag.Reads.Asked shared.flag.Reads.Post (λ κs a r ws. r ≡ bitIn 8 a.0 a.1.0)
+pub tied-flag : Tied shared-said.flag.ended shared.flag.Reads.Asked shared.flag.Reads.Post (λ κs a r ws. r ≡ bitIn 8 a.0 a.1.0)
 tied-flag = named (say (λ κs a. tt) (λ κs a r ws p. p)) (λ κs a ws ws'. refl)
 
-pub tied-srst : Tied shared.srst.ended shared.srst.Reads.Asked shared.srst.Reads.Post (λ κs a r ws. r ≡ srstOf a.0)
+pub tied-srst : Tied shared-said.srst.ended shared.srst.Reads.Asked shared.srst.Reads.Post (λ κs a r ws. r ≡ srstOf a.0)
 tied-srst = named (say (λ κs a. tt) (λ κs a r ws p. p)) (λ κs a ws ws'. refl)
 
-pub tied-flags : Tied shared.flags.ended shared.flags.Reads.Asked shared.flags.Reads.Post (λ κs a r ws. r ≡ flags_of a.0 a.1.0 a.1.1.0)
+pub tied-flags : Tied shared-said.flags.ended shared.flags.Reads.Asked shared.flags.Reads.Post (λ κs a r ws. r ≡ flags_of a.0 a.1.0 a.1.1.0)
 tied-flags = named (say (λ κs a. tt) (λ κs a r ws p. p)) (λ κs a ws ws'. refl)
 
-pub tied-halves : Tied shared.halves.ended shared.halves.Reads.Asked shared.halves.Reads.Post (λ κs a r ws. r ≡ halvesOf a.0)
+pub tied-halves : Tied shared-said.halves.ended shared.halves.Reads.Asked shared.halves.Reads.Post (λ κs a r ws. r ≡ halvesOf a.0)
 tied-halves = named (say (λ κs a. tt) (λ κs a r ws p. p)) (λ κs a ws ws'. refl)
 
-pub tied-task-of : Tied shared.task_of.ended shared.task_of.Reads.Asked shared.task_of.Reads.Post (λ κs a r ws. r ≡ task_of a.0.now)
+pub tied-task-of : Tied shared-said.task_of.ended shared.task_of.Reads.Asked shared.task_of.Reads.Post (λ κs a r ws. r ≡ task_of a.0.now)
 tied-task-of = named (say (λ κs a. tt) (λ κs a r ws p. p)) (λ κs a ws ws'. refl)
 
-pub tied-tag-of : Tied shared.tag_of.ended shared.tag_of.Reads.Asked shared.tag_of.Reads.Post (λ κs a r ws. r ≡ tag_of a.0)
+pub tied-tag-of : Tied shared-said.tag_of.ended shared.tag_of.Reads.Asked shared.tag_of.Reads.Post (λ κs a r ws. r ≡ tag_of a.0)
 tied-tag-of = named (say (λ κs a. tt) (λ κs a r ws p. p)) (λ κs a ws ws'. refl)
 
-pub tied-sectors-of : Tied shared.sectors_of.ended shared.sectors_of.Reads.Asked shared.sectors_of.Reads.Post (λ κs a r ws. r ≡ sectorsOf a.0 a.1.0)
+pub tied-sectors-of : Tied shared-said.sectors_of.ended shared.sectors_of.Reads.Asked shared.sectors_of.Reads.Post (λ κs a r ws. r ≡ sectorsOf a.0 a.1.0)
 tied-sectors-of = named (say (λ κs a. tt) (λ κs a r ws p. p)) (λ κs a ws ws'. refl)
 
-pub tied-register-bytes : Tied shared.register_bytes.ended shared.register_bytes.Reads.Asked shared.register_bytes.Reads.Post (λ κs a r ws. r ≡ registerBytes a.0 a.1.0 a.1.1.0 a.1.1.1.0 a.1.1.1.1.0 a.1.1.1.1.1.0 a.1.1.1.1.1.1.0 a.1.1.1.1.1.1.1.0)
+pub tied-register-bytes : Tied shared-said.register_bytes.ended shared.register_bytes.Reads.Asked shared.register_bytes.Reads.Post (λ κs a r ws. r ≡ registerBytes a.0 a.1.0 a.1.1.0 a.1.1.1.0 a.1.1.1.1.0 a.1.1.1.1.1.0 a.1.1.1.1.1.1.0 a.1.1.1.1.1.1.1.0)
 tied-register-bytes = named (say (λ κs a. tt) (λ κs a r ws p. p)) (λ κs a ws ws'. refl)
 
-pub tied-task-fits : Tied shared.task_fits.ended shared.task_fits.Reads.Asked shared.task_fits.Reads.Post (λ κs a r ws. r ≡ taskFits a.0)
+pub tied-task-fits : Tied shared-said.task_fits.ended shared.task_fits.Reads.Asked shared.task_fits.Reads.Post (λ κs a r ws. r ≡ taskFits a.0)
 tied-task-fits = named (say (λ κs a. tt) (λ κs a r ws p. p)) (λ κs a ws ws'. refl)
 
-pub tied-fixed-size : Tied sizes.fixed_size.ended sizes.fixed_size.Reads.Asked sizes.fixed_size.Reads.Post (λ κs a r ws. r ≡ fixedSize a.0)
+pub tied-fixed-size : Tied sizes-said.fixed_size.ended sizes.fixed_size.Reads.Asked sizes.fixed_size.Reads.Post (λ κs a r ws. r ≡ fixedSize a.0)
 tied-fixed-size = named (say (λ κs a. tt) (λ κs a r ws p. p)) (λ κs a ws ws'. refl)
 
-pub tied-payload-size : Tied sizes.payload_size.ended sizes.payload_size.Reads.Asked sizes.payload_size.Reads.Post (λ κs a r ws. r ≡ payloadSize a.0)
+pub tied-payload-size : Tied sizes-said.payload_size.ended sizes.payload_size.Reads.Asked sizes.payload_size.Reads.Post (λ κs a r ws. r ≡ payloadSize a.0)
 tied-payload-size = named (say (λ κs a. tt) (λ κs a r ws p. p)) (λ κs a ws ws'. refl)
 
-pub tied-is-readable : Tied sizes.is_readable.ended sizes.is_readable.Reads.Asked sizes.is_readable.Reads.Post (λ κs a r ws. r ≡ readable a.0 a.1.0)
+pub tied-is-readable : Tied sizes-said.is_readable.ended sizes.is_readable.Reads.Asked sizes.is_readable.Reads.Post (λ κs a r ws. r ≡ readable a.0 a.1.0)
 tied-is-readable = named (say (λ κs a. tt) (λ κs a r ws p. p)) (λ κs a ws ws'. refl)

@@ -7,31 +7,33 @@ use Rattle.bits.specs.Contract.{Tied}
 use Rattle.bits.proofs.Tying.{same, say, by}
 use Rattle.frame_parts.proofs.EmitLaws.{emitted-once}
 use Rattle.frames.proofs.reading
+use Rattle.frames.specs.contracts.reading as reading-said
 use Rattle.frames.proofs.writing
+use Rattle.frames.specs.contracts.writing as writing-said
 
-pub tied-read-frame : Tied reading.read_frame.ended reading.read_frame.Reads.Asked reading.read_frame.Reads.Post (λ κs a r ws. FrameGiven a.0.now r)
+pub tied-read-frame : Tied reading-said.read_frame.ended reading.read_frame.Reads.Asked reading.read_frame.Reads.Post (λ κs a r ws. FrameGiven a.0.now r)
 tied-read-frame = by (say (λ κs a. tt) (λ κs a r ws p. p)) (λ κs a r r' ws ws' p q. (same p.answer q.answer, refl))
 
-pub tied-write-host : Tied writing.write_host.ended writing.write_host.Reads.Asked writing.write_host.Reads.Post (λ κs a r ws. FrameWriteGiven (host a.1.0) a.0.now r ws.0)
+pub tied-write-host : Tied writing-said.write_host.ended writing.write_host.Reads.Asked writing.write_host.Reads.Post (λ κs a r ws. FrameWriteGiven (host a.1.0) a.0.now r ws.0)
 tied-write-host = by (say (λ κs a. tt) (λ κs a r ws p. p)) (λ κs a r r' ws ws' p q. let e = emitted-once _ _ _ r r' ws.0 ws'.0 p q in (e.0, λ i. (e.1 i, (tt, tt))))
 
-pub tied-write-device : Tied writing.write_device.ended writing.write_device.Reads.Asked writing.write_device.Reads.Post (λ κs a r ws. FrameWriteGiven (device a.1.0) a.0.now r ws.0)
+pub tied-write-device : Tied writing-said.write_device.ended writing.write_device.Reads.Asked writing.write_device.Reads.Post (λ κs a r ws. FrameWriteGiven (device a.1.0) a.0.now r ws.0)
 tied-write-device = by (say (λ κs a. tt) (λ κs a r ws p. p)) (λ κs a r r' ws ws' p q. let e = emitted-once _ _ _ r r' ws.0 ws'.0 p q in (e.0, λ i. (e.1 i, (tt, tt))))
 
-pub tied-write-pio : Tied writing.write_pio.ended writing.write_pio.Reads.Asked writing.write_pio.Reads.Post (λ κs a r ws. FrameWriteGiven (pio a.1.0) a.0.now r ws.0)
+pub tied-write-pio : Tied writing-said.write_pio.ended writing.write_pio.Reads.Asked writing.write_pio.Reads.Post (λ κs a r ws. FrameWriteGiven (pio a.1.0) a.0.now r ws.0)
 tied-write-pio = by (say (λ κs a. tt) (λ κs a r ws p. p)) (λ κs a r r' ws ws' p q. let e = emitted-once _ _ _ r r' ws.0 ws'.0 p q in (e.0, λ i. (e.1 i, (tt, tt))))
 
-pub tied-write-bits : Tied writing.write_bits.ended writing.write_bits.Reads.Asked writing.write_bits.Reads.Post (λ κs a r ws. FrameWriteGiven (setBits a.1.0) a.0.now r ws.0)
+pub tied-write-bits : Tied writing-said.write_bits.ended writing.write_bits.Reads.Asked writing.write_bits.Reads.Post (λ κs a r ws. FrameWriteGiven (setBits a.1.0) a.0.now r ws.0)
 tied-write-bits = by (say (λ κs a. tt) (λ κs a r ws p. p)) (λ κs a r r' ws ws' p q. let e = emitted-once _ _ _ r r' ws.0 ws'.0 p q in (e.0, λ i. (e.1 i, (tt, tt))))
 
-pub tied-write-setup : Tied writing.write_setup.ended writing.write_setup.Reads.Asked writing.write_setup.Reads.Post (λ κs a r ws. FrameWriteGiven (setup a.1.0) a.0.now r ws.0)
+pub tied-write-setup : Tied writing-said.write_setup.ended writing.write_setup.Reads.Asked writing.write_setup.Reads.Post (λ κs a r ws. FrameWriteGiven (setup a.1.0) a.0.now r ws.0)
 tied-write-setup = by (say (λ κs a. tt) (λ κs a r ws p. p)) (λ κs a r r' ws ws' p q. let e = emitted-once _ _ _ r r' ws.0 ws'.0 p q in (e.0, λ i. (e.1 i, (tt, tt))))
 
-pub tied-write-activate : Tied writing.write_activate.ended writing.write_activate.Reads.Asked writing.write_activate.Reads.Post (λ κs a r ws. FrameWriteGiven activate a.0.now r ws.0)
+pub tied-write-activate : Tied writing-said.write_activate.ended writing.write_activate.Reads.Asked writing.write_activate.Reads.Post (λ κs a r ws. FrameWriteGiven activate a.0.now r ws.0)
 tied-write-activate = by (say (λ κs a. tt) (λ κs a r ws p. p)) (λ κs a r r' ws ws' p q. let e = emitted-once _ _ _ r r' ws.0 ws'.0 p q in (e.0, λ i. (e.1 i, tt)))
 
-pub tied-write-bist : Tied writing.write_bist.ended writing.write_bist.Reads.Asked writing.write_bist.Reads.Post (λ κs a r ws. FrameWriteGiven bist a.0.now r ws.0)
+pub tied-write-bist : Tied writing-said.write_bist.ended writing.write_bist.Reads.Asked writing.write_bist.Reads.Post (λ κs a r ws. FrameWriteGiven bist a.0.now r ws.0)
 tied-write-bist = by (say (λ κs a. tt) (λ κs a r ws p. p)) (λ κs a r r' ws ws' p q. let e = emitted-once _ _ _ r r' ws.0 ws'.0 p q in (e.0, λ i. (e.1 i, tt)))
 
-pub tied-write-data : Tied writing.write_data.ended writing.write_data.Reads.Asked writing.write_data.Reads.Post (λ κs a r ws. FrameWriteGiven (payload a.1.0.now) a.0.now r ws.0)
+pub tied-write-data : Tied writing-said.write_data.ended writing.write_data.Reads.Asked writing.write_data.Reads.Post (λ κs a r ws. FrameWriteGiven (payload a.1.0.now) a.0.now r ws.0)
 tied-write-data = by (say (λ κs a. tt) (λ κs a r ws p. p)) (λ κs a r r' ws ws' p q. let e = emitted-once _ _ _ r r' ws.0 ws'.0 p q in (e.0, λ i. (e.1 i, (tt, tt))))

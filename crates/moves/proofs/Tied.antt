@@ -5,25 +5,27 @@ use mathlib.Core.Path.{◌≡◌, refl}
 use Rattle.bits.specs.Contract.{Tied}
 use Rattle.bits.proofs.Tying.{same, say, by, named}
 use Rattle.moves.proofs.amounts
+use Rattle.moves.specs.contracts.amounts as amounts-said
 use Rattle.moves.proofs.medium
+use Rattle.moves.specs.contracts.medium as medium-said
 
-pub tied-left : Tied amounts.left.ended amounts.left.Reads.Asked amounts.left.Reads.Post (λ κs a r ws. r ≡ leftIn a.0 a.1.0)
+pub tied-left : Tied amounts-said.left.ended amounts.left.Reads.Asked amounts.left.Reads.Post (λ κs a r ws. r ≡ leftIn a.0 a.1.0)
 tied-left = named (say (λ κs a. tt) (λ κs a r ws p. p)) (λ κs a ws ws'. refl)
 
-pub tied-part : Tied amounts.part.ended amounts.part.Reads.Asked amounts.part.Reads.Post (λ κs a r ws. r ≡ partIn a.0 a.1.0 a.1.1.0)
+pub tied-part : Tied amounts-said.part.ended amounts.part.Reads.Asked amounts.part.Reads.Post (λ κs a r ws. r ≡ partIn a.0 a.1.0 a.1.1.0)
 tied-part = named (say (λ κs a. tt) (λ κs a r ws p. p)) (λ κs a ws ws'. refl)
 
-pub tied-is-last : Tied amounts.is_last.ended amounts.is_last.Reads.Asked amounts.is_last.Reads.Post (λ κs a r ws. r ≡ lastIn a.0 a.1.0 a.1.1.0)
+pub tied-is-last : Tied amounts-said.is_last.ended amounts.is_last.Reads.Asked amounts.is_last.Reads.Post (λ κs a r ws. r ≡ lastIn a.0 a.1.0 a.1.1.0)
 tied-is-last = named (say (λ κs a. tt) (λ κs a r ws p. p)) (λ κs a ws ws'. refl)
 
-pub tied-moved-on : Tied amounts.moved_on.ended amounts.moved_on.Reads.Asked amounts.moved_on.Reads.Post (λ κs a r ws. r ≡ movedOn a.1.0 (partIn a.0 a.1.0 a.1.1.0))
+pub tied-moved-on : Tied amounts-said.moved_on.ended amounts.moved_on.Reads.Asked amounts.moved_on.Reads.Post (λ κs a r ws. r ≡ movedOn a.1.0 (partIn a.0 a.1.0 a.1.1.0))
 tied-moved-on = named (say (λ κs a. tt) (λ κs a r ws p. p)) (λ κs a ws ws'. refl)
 
-pub tied-due : Tied amounts.due.ended amounts.due.Reads.Asked amounts.due.Reads.Post (λ κs a r ws. r ≡ dueIn a.0 a.1.0)
+pub tied-due : Tied amounts-said.due.ended amounts.due.Reads.Asked amounts.due.Reads.Post (λ κs a r ws. r ≡ dueIn a.0 a.1.0)
 tied-due = named (say (λ κs a. tt) (λ κs a r ws p. p)) (λ κs a ws ws'. refl)
 
-pub tied-place : Tied medium.place.ended medium.place.Reads.Asked medium.place.Reads.Post (λ κs a r ws. r ≡ place_in a.0 a.1.0)
+pub tied-place : Tied medium-said.place.ended medium.place.Reads.Asked medium.place.Reads.Post (λ κs a r ws. r ≡ place_in a.0 a.1.0)
 tied-place = named (say (λ κs a. tt) (λ κs a r ws p. p)) (λ κs a ws ws'. refl)
 
-pub tied-store : Tied medium.store.ended medium.store.Reads.Asked medium.store.Reads.Post (λ κs a r ws. ws.0 ≡ stored a.1.0 a.1.1.0.now a.0.now)
+pub tied-store : Tied medium-said.store.ended medium.store.Reads.Asked medium.store.Reads.Post (λ κs a r ws. ws.0 ≡ stored a.1.0 a.1.1.0.now a.0.now)
 tied-store = by (say (λ κs a. tt) (λ κs a r ws p. p)) (λ κs a r r' ws ws' p q. (refl, λ i. (same p q i, (tt, (tt, tt)))))

@@ -6,16 +6,18 @@ use Rattle.bits.specs.Contract.{Tied}
 use Rattle.bits.proofs.Tying.{same, say, by, named}
 use Rattle.frame_parts.proofs.EmitLaws.{emitted-once}
 use Rattle.page_10h.proofs.page10
+use Rattle.page_10h.specs.contracts.page10 as page10-said
 use Rattle.page_10h.proofs.writing
+use Rattle.page_10h.specs.contracts.writing as writing-said
 
-pub tied-log-fits : Tied page10.log_fits.ended page10.log_fits.Reads.Asked page10.log_fits.Reads.Post (λ κs a r ws. r ≡ fits10 a.0)
+pub tied-log-fits : Tied page10-said.log_fits.ended page10.log_fits.Reads.Asked page10.log_fits.Reads.Post (λ κs a r ws. r ≡ fits10 a.0)
 tied-log-fits = named (say (λ κs a. tt) (λ κs a r ws p. p)) (λ κs a ws ws'. refl)
 
-pub tied-page10-bytes : Tied page10.page10_bytes.ended page10.page10_bytes.Reads.Asked page10.page10_bytes.Reads.Post (λ κs a r ws. r ≡ page10 a.0)
+pub tied-page10-bytes : Tied page10-said.page10_bytes.ended page10.page10_bytes.Reads.Asked page10.page10_bytes.Reads.Post (λ κs a r ws. r ≡ page10 a.0)
 tied-page10-bytes = named (say (λ κs a. tt) (λ κs a r ws p. p)) (λ κs a ws ws'. refl)
 
-pub tied-read-log : Tied page10.read_log.ended page10.read_log.Reads.Asked page10.read_log.Reads.Post (λ κs a r ws. LogGiven a.0.now r)
+pub tied-read-log : Tied page10-said.read_log.ended page10.read_log.Reads.Asked page10.read_log.Reads.Post (λ κs a r ws. LogGiven a.0.now r)
 tied-read-log = by (say (λ κs a. tt) (λ κs a r ws p. p)) (λ κs a r r' ws ws' p q. (same p.answer q.answer, refl))
 
-pub tied-write-log : Tied writing.write_log.ended writing.write_log.Reads.Asked writing.write_log.Reads.Post (λ κs a r ws. WriteGiven (fits10 a.1.0) (page10 a.1.0) a.0.now r ws.0)
+pub tied-write-log : Tied writing-said.write_log.ended writing.write_log.Reads.Asked writing.write_log.Reads.Post (λ κs a r ws. WriteGiven (fits10 a.1.0) (page10 a.1.0) a.0.now r ws.0)
 tied-write-log = by (say (λ κs a. tt) (λ κs a r ws p. p)) (λ κs a r r' ws ws' p q. let e = emitted-once _ _ _ r r' ws.0 ws'.0 p q in (e.0, λ i. (e.1 i, (tt, tt))))

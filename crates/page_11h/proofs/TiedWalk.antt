@@ -17,6 +17,7 @@ use Rattle.page_11h.specs.WalkStep.{stepAt}
 use Rattle.page_11h.specs.declared.walk.WalkStep.{WalkStep}
 use Rattle.page_11h.specs.declared.walk.Walk.{Walk}
 use Rattle.page_11h.proofs.walk
+use Rattle.page_11h.specs.contracts.walk as walk-said
 
 -- what `Walk::from` says: the walk holds just this page and this place
 abbrev pub Begun : Bor (List ℕ) → ℕ → Walk → Type 0
@@ -30,10 +31,10 @@ pub begun-once : (p : Bor (List ℕ)) (at : ℕ) (r r' : Walk) → Begun p at r 
 begun-once p at r r' e f = same-walk (same e.0 f.0) (same e.1 f.1)
 
 module _ {M : Type 1} {𝓤 : Ura M} (𝓛 : Logic 𝓤) (mem : Memory → SProp 𝓤) (run : Routine → Fun 𝓤) (κs : Lfts 1) where
-  pub tied-from : (p : Bor (List ℕ)) (at : ℕ) (r : Walk) (s : AtExit walk.Walk.from.ended κs) → (walk.Walk.from.clauses 𝓛 mem run κs (p, (at, tt))).ensures tt r s ≡ (connectives 𝓤).⌜◌⌝ (Begun p at r)
+  pub tied-from : (p : Bor (List ℕ)) (at : ℕ) (r : Walk) (s : AtExit walk-said.Walk.from.ended κs) → (walk.Walk.from.clauses 𝓛 mem run κs (p, (at, tt))).ensures tt r s ≡ (connectives 𝓤).⌜◌⌝ (Begun p at r)
   tied-from p at r s = refl
 
-  pub tied-step : (w : Walk) (r : WalkStep) (s : AtExit walk.Walk.step.ended κs) → (walk.Walk.step.clauses 𝓛 mem run κs (w, tt)).ensures tt r s ≡ (connectives 𝓤).⌜◌⌝ (r ≡ stepAt w.page.now w.at)
+  pub tied-step : (w : Walk) (r : WalkStep) (s : AtExit walk-said.Walk.step.ended κs) → (walk.Walk.step.clauses 𝓛 mem run κs (w, tt)).ensures tt r s ≡ (connectives 𝓤).⌜◌⌝ (r ≡ stepAt w.page.now w.at)
   tied-step w r s = refl
 
   -- and they ask nothing of their caller

@@ -4,9 +4,10 @@ use mathlib.Core.Path.{◌≡◌, refl}
 use Rattle.bits.specs.Contract.{Tied}
 use Rattle.bits.proofs.Tying.{say, named}
 use Rattle.page_sum.proofs.sums
+use Rattle.page_sum.specs.contracts.sums as sums-said
 
-pub tied-byte-sum : Tied sums.byte_sum.ended sums.byte_sum.Reads.Asked sums.byte_sum.Reads.Post (λ κs a r ws. r ≡ sum256 a.0.now)
+pub tied-byte-sum : Tied sums-said.byte_sum.ended sums.byte_sum.Reads.Asked sums.byte_sum.Reads.Post (λ κs a r ws. r ≡ sum256 a.0.now)
 tied-byte-sum = named (say (λ κs a. tt) (λ κs a r ws p. p)) (λ κs a ws ws'. refl)
 
-pub tied-sum-byte : Tied sums.sum_byte.ended sums.sum_byte.Reads.Asked sums.sum_byte.Reads.Post (λ κs a r ws. r ≡ sumByte a.0.now)
+pub tied-sum-byte : Tied sums-said.sum_byte.ended sums.sum_byte.Reads.Asked sums.sum_byte.Reads.Post (λ κs a r ws. r ≡ sumByte a.0.now)
 tied-sum-byte = named (say (λ κs a. tt) (λ κs a r ws p. p)) (λ κs a ws ws'. refl)

@@ -9,45 +9,49 @@ use mathlib.Core.Path.{◌≡◌, refl}
 use Rattle.bits.specs.Contract.{Tied}
 use Rattle.bits.proofs.Tying.{same, say, by, named}
 use Rattle.rules.proofs.decide
+use Rattle.rules.specs.contracts.decide as decide-said
 use Rattle.rules.proofs.device_events
+use Rattle.rules.specs.contracts.device_events as device_events-said
 use Rattle.rules.proofs.facts
+use Rattle.rules.specs.contracts.facts as facts-said
 use Rattle.rules.proofs.medium
+use Rattle.rules.specs.contracts.medium as medium-said
 
-pub tied-frame-act : Tied decide.frame_act.ended decide.frame_act.Reads.Asked decide.frame_act.Reads.Post (λ κs a r ws. r ≡ heardAct a.0 a.1.0)
+pub tied-frame-act : Tied decide-said.frame_act.ended decide.frame_act.Reads.Asked decide.frame_act.Reads.Post (λ κs a r ws. r ≡ heardAct a.0 a.1.0)
 tied-frame-act = named (say (λ κs a. tt) (λ κs a r ws p. p)) (λ κs a ws ws'. refl)
 
-pub tied-open-act : Tied device_events.open_act.ended device_events.open_act.Reads.Asked device_events.open_act.Reads.Post (λ κs a r ws. r ≡ act a.0 (openPhase a.1.0))
+pub tied-open-act : Tied device_events-said.open_act.ended device_events.open_act.Reads.Asked device_events.open_act.Reads.Post (λ κs a r ws. r ≡ act a.0 (openPhase a.1.0))
 tied-open-act = named (say (λ κs a. tt) (λ κs a r ws p. p)) (λ κs a ws ws'. refl)
 
-pub tied-send-act : Tied device_events.send_act.ended device_events.send_act.Reads.Asked device_events.send_act.Reads.Post (λ κs a r ws. r ≡ act a.0 sendData)
+pub tied-send-act : Tied device_events-said.send_act.ended device_events.send_act.Reads.Asked device_events.send_act.Reads.Post (λ κs a r ws. r ≡ act a.0 sendData)
 tied-send-act = named (say (λ κs a. tt) (λ κs a r ws p. p)) (λ κs a ws ws'. refl)
 
-pub tied-finish-act : Tied device_events.finish_act.ended device_events.finish_act.Reads.Asked device_events.finish_act.Reads.Post (λ κs a r ws. r ≡ act a.0 (finishTags a.1.0))
+pub tied-finish-act : Tied device_events-said.finish_act.ended device_events.finish_act.Reads.Asked device_events.finish_act.Reads.Post (λ κs a r ws. r ≡ act a.0 (finishTags a.1.0))
 tied-finish-act = named (say (λ κs a. tt) (λ κs a r ws p. p)) (λ κs a ws ws'. refl)
 
-pub tied-media-act : Tied device_events.media_act.ended device_events.media_act.Reads.Asked device_events.media_act.Reads.Post (λ κs a r ws. r ≡ act a.0 (mediaError a.1.0 a.1.1.0 a.1.1.1.0))
+pub tied-media-act : Tied device_events-said.media_act.ended device_events.media_act.Reads.Asked device_events.media_act.Reads.Post (λ κs a r ws. r ≡ act a.0 (mediaError a.1.0 a.1.1.0 a.1.1.1.0))
 tied-media-act = named (say (λ κs a. tt) (λ κs a r ws p. p)) (λ κs a ws ws'. refl)
 
-pub tied-link-act : Tied device_events.link_act.ended device_events.link_act.Reads.Asked device_events.link_act.Reads.Post (λ κs a r ws. r ≡ act a.0 (linkEvent a.1.0))
+pub tied-link-act : Tied device_events-said.link_act.ended device_events.link_act.Reads.Asked device_events.link_act.Reads.Post (λ κs a r ws. r ≡ act a.0 (linkEvent a.1.0))
 tied-link-act = named (say (λ κs a. tt) (λ κs a r ws p. p)) (λ κs a ws ws'. refl)
 
-pub tied-comreset-act : Tied device_events.comreset_act.ended device_events.comreset_act.Reads.Asked device_events.comreset_act.Reads.Post (λ κs a r ws. r ≡ act a.0 comReset)
+pub tied-comreset-act : Tied device_events-said.comreset_act.ended device_events.comreset_act.Reads.Asked device_events.comreset_act.Reads.Post (λ κs a r ws. r ≡ act a.0 comReset)
 tied-comreset-act = named (say (λ κs a. tt) (λ κs a r ws p. p)) (λ κs a ws ws'. refl)
 
-pub tied-some-unready : Tied device_events.some_unready.ended device_events.some_unready.Reads.Asked device_events.some_unready.Reads.Post (λ κs a r ws. r ≡ someUnready a.0 a.1.0 a.1.1.0)
+pub tied-some-unready : Tied device_events-said.some_unready.ended device_events.some_unready.Reads.Asked device_events.some_unready.Reads.Post (λ κs a r ws. r ≡ someUnready a.0 a.1.0 a.1.1.0)
 tied-some-unready = named (say (λ κs a. tt) (λ κs a r ws p. p)) (λ κs a ws ws'. refl)
 
-pub tied-left-of : Tied facts.left_of.ended facts.left_of.Reads.Asked facts.left_of.Reads.Post (λ κs a r ws. r ≡ left_of a.0)
+pub tied-left-of : Tied facts-said.left_of.ended facts.left_of.Reads.Asked facts.left_of.Reads.Post (λ κs a r ws. r ≡ left_of a.0)
 tied-left-of = named (say (λ κs a. tt) (λ κs a r ws p. p)) (λ κs a ws ws'. refl)
 
-pub tied-next-move : Tied facts.next_move.ended facts.next_move.Reads.Asked facts.next_move.Reads.Post (λ κs a r ws. r ≡ move_of a.0 a.1.0 a.1.1.0)
+pub tied-next-move : Tied facts-said.next_move.ended facts.next_move.Reads.Asked facts.next_move.Reads.Post (λ κs a r ws. r ≡ move_of a.0 a.1.0 a.1.1.0)
 tied-next-move = named (say (λ κs a. tt) (λ κs a r ws p. p)) (λ κs a ws ws'. refl)
 
-pub tied-number-of : Tied medium.number_of.ended medium.number_of.Reads.Asked medium.number_of.Reads.Post (λ κs a r ws. r ≡ number_of a.0)
+pub tied-number-of : Tied medium-said.number_of.ended medium.number_of.Reads.Asked medium.number_of.Reads.Post (λ κs a r ws. r ≡ number_of a.0)
 tied-number-of = named (say (λ κs a. tt) (λ κs a r ws p. p)) (λ κs a ws ws'. refl)
 
-pub tied-span-of : Tied medium.span_of.ended medium.span_of.Reads.Asked medium.span_of.Reads.Post (λ κs a r ws. r ≡ span_of a.0)
+pub tied-span-of : Tied medium-said.span_of.ended medium.span_of.Reads.Asked medium.span_of.Reads.Post (λ κs a r ws. r ≡ span_of a.0)
 tied-span-of = named (say (λ κs a. tt) (λ κs a r ws p. p)) (λ κs a ws ws'. refl)
 
-pub tied-store-data : Tied medium.store_data.ended medium.store_data.Reads.Asked medium.store_data.Reads.Post (λ κs a r ws. ws.0 ≡ mediumAfter a.1.0 a.1.1.0.now a.0.now)
+pub tied-store-data : Tied medium-said.store_data.ended medium.store_data.Reads.Asked medium.store_data.Reads.Post (λ κs a r ws. ws.0 ≡ mediumAfter a.1.0 a.1.1.0.now a.0.now)
 tied-store-data = by (say (λ κs a. tt) (λ κs a r ws p. p)) (λ κs a r r' ws ws' p q. (refl, λ i. (same p q i, (tt, (tt, tt)))))

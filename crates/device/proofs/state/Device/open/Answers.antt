@@ -1,0 +1,19 @@
+use mathlib.Core.Path.{refl}
+use mathlib.Core.List.{[]}
+use Rattle.rules.specs.Call.{openPhase}
+use Rattle.device.specs.Lent.{lent}
+use Rattle.device.proofs.Doing.{has_room, given-without, plain-act}
+use Rattle.device.proofs.state.Device.open.Goals as goal
+
+pub done-requires : goal.done-requires
+done-requires c κs =
+    let a = c.args in
+    let e = plain-act a.self (openPhase a.tag) a.reply.now c.facts-facts.result c.open_act-act.result refl refl c.facts-facts.ensures c.open_act-act.ensures in
+    has_room a.self (lent (openPhase a.tag) [] a.reply.now) c.open_act-act.result refl e
+
+pub returns : goal.returns
+returns c =
+    let a = c.args in
+    let e = plain-act a.self (openPhase a.tag) a.reply.now c.facts-facts.result c.open_act-act.result refl refl c.facts-facts.ensures c.open_act-act.ensures in
+    let w = c.done.ensures in
+    given-without a.self (openPhase a.tag) a.reply.now c.open_act-act.result c.done.new.1.0 c.done.result refl e w.0 w.1.0 w.1.1

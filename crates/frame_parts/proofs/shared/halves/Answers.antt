@@ -1,0 +1,12 @@
+use mathlib.Core.Path.{ap₂, ◌∙◌}
+use Prim.Native.Nat.{ℕ, ◌+◌, ◌*◌, ◌/◌, ◌%◌}
+use native.Mathlib.Omega.{arith}
+use lib.Bits.{and_mask}
+use lib.Dec.{lit<}
+use Rattle.bits.proofs.Masks.{and-two}
+use Rattle.frame_parts.proofs.shared.halves.Goals as goal
+
+pub returns : goal.returns
+returns c =
+    let b = c.args.b in
+    and-two b 4 7 7 (lit< tt) ∙ ap₂ (λ (x y : ℕ). x * 16 + y) (and_mask (b / 16) 3) (and_mask (b % 16) 3) ∙ omega arith

@@ -1,0 +1,10 @@
+use borrow.Author.Tests.{lt-ltb}
+use Rattle.frames.specs.Write.{fits}
+use borrow.Author.Rules.{rules}
+use Rattle.frames.proofs.writing.host_fits.Goals as goal
+
+pub returns : goal.returns
+unfolding fits
+returns c =
+    let f = c.args.f in
+    rw (lt-ltb f.command 256 (search rules), lt-ltb f.features 256 (search rules), lt-ltb f.features_high 256 (search rules), lt-ltb f.control 256 (search rules)) c.task_fits.ensures

@@ -1,0 +1,15 @@
+use mathlib.Core.Path.{refl, ap, ◌∙◌}
+use Prim.Native.Nat.{ℕ}
+use mathlib.Core.List.{List}
+use lib.ListN.{replicate}
+use Rattle.bits.specs.Laid.{over}
+use Rattle.frame_parts.specs.Shared.{registerBytes}
+use Rattle.page_10h.specs.Page10.{page10}
+use Rattle.page_10h.proofs.Laws10.{made}
+use Rattle.page_10h.proofs.page10.page10_bytes.Goals as goal
+
+pub returns : goal.returns
+unfolding page10 registerBytes
+returns c =
+    let h = rw c.first_byte-first.ensures at c.register_bytes-head.ensures in
+    made _ c.lay.new.d c.sum_byte.result refl (c.lay.ensures.1 ∙ ap (λ (x : List ℕ). over x (replicate 512 0)) h) c.sum_byte.ensures

@@ -1,0 +1,12 @@
+use native.Mathlib.Omega.{arith}
+use Rattle.frames.specs.Write.{payload}
+use Rattle.frames.proofs.WriteLaws.{length-payload}
+use Rattle.replies.proofs.Sending.{sends-one, one-most}
+use Rattle.replies.proofs.emitting.put_data.Goals as goal
+
+pub returns : goal.returns
+returns c =
+    let w = c.write_data-w in
+    let a = c.args in
+    let l = length-payload a.p.now in
+    (sends-one (payload a.p.now) a.reply.now w.result w.new.buf w.ensures (omega arith), omega (arith, one-most (payload a.p.now) a.reply.now w.result w.new.buf w.ensures (omega arith)))

@@ -1,0 +1,10 @@
+use Rattle.replies.specs.Replies.{register}
+use native.Mathlib.Omega.{arith}
+use Rattle.replies.proofs.Sending.{sends-one, length-register}
+use Rattle.replies.proofs.emitting.put_register.Goals as goal
+
+pub returns : goal.returns
+returns c =
+    let a = c.args in
+    let l = length-register a.interrupt a.status a.error a.task in
+    sends-one (register a.interrupt a.status a.error a.task) a.reply.now c.write_device-w.result c.write_device-w.new.buf c.write_device-w.ensures (omega arith)

@@ -1,0 +1,15 @@
+use mathlib.Core.Path.{◌≡◌}
+use lib.ListN.{length}
+use Rattle.frames.specs.Write.{encode}
+use native.Mathlib.Omega.{arith}
+use Rattle.replies.specs.Replies.{setupReply}
+use Rattle.replies.proofs.Sending.{sends-one, one-most, length-setup}
+use Rattle.replies.proofs.emitting.put_setup.Goals as goal
+
+pub returns : goal.returns
+returns c =
+    let w = c.write_setup-w in
+    let a = c.args in
+    let l : length (encode (setupReply a.q)) ≡ 28 = length-setup _ in
+    let e = rw c.whole_of.ensures at w.ensures in
+    (sends-one (setupReply a.q) a.reply.now w.result w.new.buf e (omega arith), omega (arith, one-most (setupReply a.q) a.reply.now w.result w.new.buf e (omega arith)))

@@ -1,0 +1,4 @@
+use Rattle.verdicts.proofs.moving.not_ready.Goals as goal
+
+pub returns : goal.returns
+returns c = rw c.wholly.ensures
