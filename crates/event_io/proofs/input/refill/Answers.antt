@@ -13,10 +13,10 @@ pub returns-then-kept-ge-LONGEST : goal.returns-then-kept-ge-LONGEST
 returns-then-kept-ge-LONGEST c = refilled-inside c.args.last _ _ _ _ _ c.inside_of-window.ensures (refilled-none c.inside_of-window.result _ (inside-within c.args.last _ _ c.inside_of-window.ensures))
 
 pub move_to_front-requires : goal.move_to_front-requires
-move_to_front-requires c κs = let w = inside-within c.args.last _ _ c.inside_of-window.ensures in (w.order, (w.bound, omega arith))
+move_to_front-requires c = let w = inside-within c.args.last _ _ c.inside_of-window.ensures in (w.order, (w.bound, omega arith))
 
 pub read_event-requires : goal.read_event-requires
-read_event-requires c κs = let w = inside-within c.args.last _ _ c.inside_of-window.ensures in omega (arith, w.order, w.bound, c.move_to_front.auto.0)
+read_event-requires c = let w = inside-within c.args.last _ _ c.inside_of-window.ensures in omega (arith, w.order, w.bound, c.move_to_front.auto.0)
 
 pub returns : goal.returns
 returns c =

@@ -15,7 +15,7 @@ pub shape_of-input-then-medium-size : goal.shape_of-input-then-medium-size
 shape_of-input-then-medium-size c = c.refill-arg-1.auto.1.0
 
 pub play_on-requires : goal.play_on-requires
-play_on-requires c κs = record { order = part-fits _ c.refill-arg-1.new.1.0 c.refill-arg-1.result.at c.refill-arg-1.result.end c.n-1.given.0.0 _ c.refill-arg-1.ensures.within.order c.refill-arg-1.ensures.within.bound c.next_event-arg-1.ensures c.n-1.given.1; bound = c.refill-arg-1.ensures.within.bound }
+play_on-requires c = record { order = part-fits _ c.refill-arg-1.new.1.0 c.refill-arg-1.result.at c.refill-arg-1.result.end c.n-1.given.0.0 _ c.refill-arg-1.ensures.within.order c.refill-arg-1.ensures.within.bound c.next_event-arg-1.ensures c.n-1.given.1; bound = c.refill-arg-1.ensures.within.bound }
 
 pub shape_of-input : goal.shape_of-input
 shape_of-input c = c.play_on.auto.1.1.1.1.0 ∙ c.refill-arg-1.auto.1.0

@@ -2,7 +2,7 @@ use Rattle.events.proofs.Telling.{reply-fits, tells-step}
 use Rattle.events.proofs.tells.play_line.Goals as goal
 
 pub tell-requires : goal.tell-requires
-tell-requires c κs = reply-fits _ _ _ c.play-arg-2-1.ensures
+tell-requires c = reply-fits _ _ _ c.play-arg-2-1.ensures
 
 pub returns : goal.returns
 returns c =

@@ -24,7 +24,7 @@ slice_bounds-put_log-end c =
     sym (length-take-le w.result.len w.new.buf (omega arith))
 
 pub put_log-requires : goal.put_log-requires
-put_log-requires c κs =
+put_log-requires c =
     let w = c.write_log-w in
     let f = c.log_of-f.result in
     let l = length-10 f in

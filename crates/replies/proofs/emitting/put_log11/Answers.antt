@@ -25,7 +25,7 @@ slice_bounds-put_log-end c =
     sym (length-take-le w.result.len w.new.buf (omega arith))
 
 pub put_log-requires : goal.put_log-requires
-put_log-requires c κs =
+put_log-requires c =
     let w = c.write_counters-w in
     let a = c.args in
     let l = page-length a.mask a.values in

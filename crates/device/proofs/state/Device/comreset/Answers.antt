@@ -6,7 +6,7 @@ use Rattle.device.proofs.Doing.{has_room, given-without, plain-act}
 use Rattle.device.proofs.state.Device.comreset.Goals as goal
 
 pub done-requires : goal.done-requires
-done-requires c κs =
+done-requires c =
     let a = c.args in
     let e = plain-act a.self comReset a.reply.now c.facts-facts.result c.comreset_act-act.result refl refl c.facts-facts.ensures c.comreset_act-act.ensures in
     has_room a.self (lent comReset [] a.reply.now) c.comreset_act-act.result refl e

@@ -6,7 +6,7 @@ use Rattle.device.proofs.Doing.{has_room, given-without, unlent-act}
 use Rattle.device.proofs.state.Device.finish.Goals as goal
 
 pub done-requires : goal.done-requires
-done-requires c κs =
+done-requires c =
     let a = c.args in
     let e = unlent-act a.self (finishTags a.set) a.reply.now c.some_unready-some.result c.facts-facts.result c.finish_act-act.result refl c.some_unready-some.ensures c.facts-facts.ensures c.finish_act-act.ensures in
     has_room a.self (lent (finishTags a.set) [] a.reply.now) c.finish_act-act.result refl e

@@ -8,7 +8,7 @@ use Rattle.device.proofs.Doing.{has_room, given_by, host-unsent, host-act}
 use Rattle.device.proofs.state.Device.host_frame.Goals as goal
 
 pub done-requires : goal.done-requires
-done-requires c κs =
+done-requires c =
     let a = c.args in
     let e = host-act a.self a.frame.now a.medium.now a.reply.now c.open_tag-tag.result c.medium_wrong-wrong.result c.facts-facts.result c.read_frame-f.result c.frame_act-act.result c.open_tag-tag.ensures c.medium_wrong-wrong.ensures c.facts-facts.ensures c.read_frame-f.ensures.answer c.frame_act-act.ensures in
     has_room a.self (lent (hostFrame a.frame.now) a.medium.now a.reply.now) c.frame_act-act.result refl e

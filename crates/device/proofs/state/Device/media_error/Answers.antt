@@ -6,7 +6,7 @@ use Rattle.device.proofs.Doing.{has_room, given-without, plain-act}
 use Rattle.device.proofs.state.Device.media_error.Goals as goal
 
 pub done-requires : goal.done-requires
-done-requires c κs =
+done-requires c =
     let a = c.args in
     let e = plain-act a.self (mediaError a.tag a.error a.sector) a.reply.now c.facts-facts.result c.media_act-act.result refl refl c.facts-facts.ensures c.media_act-act.ensures in
     has_room a.self (lent (mediaError a.tag a.error a.sector) [] a.reply.now) c.media_act-act.result refl e

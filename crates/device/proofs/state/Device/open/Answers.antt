@@ -6,7 +6,7 @@ use Rattle.device.proofs.Doing.{has_room, given-without, plain-act}
 use Rattle.device.proofs.state.Device.open.Goals as goal
 
 pub done-requires : goal.done-requires
-done-requires c κs =
+done-requires c =
     let a = c.args in
     let e = plain-act a.self (openPhase a.tag) a.reply.now c.facts-facts.result c.open_act-act.result refl refl c.facts-facts.ensures c.open_act-act.ensures in
     has_room a.self (lent (openPhase a.tag) [] a.reply.now) c.open_act-act.result refl e

@@ -23,7 +23,7 @@ slice_bounds-done-end c =
     search (rules, h)
 
 pub done-requires : goal.done-requires
-done-requires c κs =
+done-requires c =
     let a = c.args in
     let e = send-act a.self a.medium.now a.reply.now c.open_tag-tag.result c.medium_wrong-wrong.result c.facts-facts.result c.send_act-act.result c.open_tag-tag.ensures c.medium_wrong-wrong.ensures c.facts-facts.ensures c.send_act-act.ensures in
     has_room a.self (lent sendData a.medium.now a.reply.now) c.send_act-act.result refl e
