@@ -31,15 +31,15 @@ pub begun-once : (p : Bor (List ℕ)) (at : ℕ) (r r' : Walk) → Begun p at r 
 begun-once p at r r' e f = same-walk (same e.0 f.0) (same e.1 f.1)
 
 module _ {M : Type 1} {𝓤 : Ura M} (𝓛 : Logic 𝓤) (mem : Memory → SProp 𝓤) (run : Routine → Fun 𝓤) (κs : Lfts 1) where
-  pub tied-from : (p : Bor (List ℕ)) (at : ℕ) (r : Walk) (s : AtExit walk-said.Walk.from.ended κs) → (walk.Walk.from.clauses 𝓛 mem run κs (p, (at, tt))).ensures tt r s ≡ (connectives 𝓤).⌜◌⌝ (Begun p at r)
+  pub tied-from : (p : Bor (List ℕ)) (at : ℕ) (r : Walk) (s : AtExit walk-said.Walk.from.ended κs) → (walk-said.Walk.from.clauses 𝓛 mem run κs (p, (at, tt))).ensures tt r s ≡ (connectives 𝓤).⌜◌⌝ (Begun p at r)
   tied-from p at r s = refl
 
-  pub tied-step : (w : Walk) (r : WalkStep) (s : AtExit walk-said.Walk.step.ended κs) → (walk.Walk.step.clauses 𝓛 mem run κs (w, tt)).ensures tt r s ≡ (connectives 𝓤).⌜◌⌝ (r ≡ stepAt w.page.now w.at)
+  pub tied-step : (w : Walk) (r : WalkStep) (s : AtExit walk-said.Walk.step.ended κs) → (walk-said.Walk.step.clauses 𝓛 mem run κs (w, tt)).ensures tt r s ≡ (connectives 𝓤).⌜◌⌝ (r ≡ stepAt w.page.now w.at)
   tied-step w r s = refl
 
   -- and they ask nothing of their caller
-  pub free-from : (p : Bor (List ℕ)) (at : ℕ) → (walk.Walk.from.clauses 𝓛 mem run κs (p, (at, tt))).requires tt ≡ (connectives 𝓤).⊤ₛ
+  pub free-from : (p : Bor (List ℕ)) (at : ℕ) → (walk-said.Walk.from.clauses 𝓛 mem run κs (p, (at, tt))).requires tt ≡ (connectives 𝓤).⊤ₛ
   free-from p at = refl
 
-  pub free_step : (w : Walk) → (walk.Walk.step.clauses 𝓛 mem run κs (w, tt)).requires tt ≡ (connectives 𝓤).⊤ₛ
+  pub free_step : (w : Walk) → (walk-said.Walk.step.clauses 𝓛 mem run κs (w, tt)).requires tt ≡ (connectives 𝓤).⊤ₛ
   free_step w = refl

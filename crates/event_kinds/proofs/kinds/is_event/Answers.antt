@@ -12,7 +12,7 @@ returns-in_default c = rw (sym (ap bodyLength c.byte_of.ensures) ∙ sym c.body_
 
 pub returns-then-event-n : goal.returns-then-event-n
 unfolding isEvent fitsLength
-returns-then-event-n c = rw (sym (ap bodyLength c.byte_of.ensures) ∙ sym c.body_length.ensures ∙ c.in-Bytes.is, ne_eqb (length (now c.args.event)) (c.in-Bytes.n + 1) (λ (q : length (now c.args.event) ≡ c.in-Bytes.n + 1). omega arith))
+returns-then-event-n c = rw (sym (ap bodyLength c.byte_of.ensures) ∙ sym c.body_length.ensures ∙ c.in-Bytes.is, ne_eqb (length c.args.event.now) (c.in-Bytes.n + 1) (λ (q : length c.args.event.now ≡ c.in-Bytes.n + 1). omega arith))
 
 pub returns : goal.returns
 unfolding isEvent fitsLength
