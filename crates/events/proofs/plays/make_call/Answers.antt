@@ -13,7 +13,7 @@ returns-in-OpenPhase c = rw c.in-OpenPhase.is (unlent _ (openPhase _) _ _ _ _ re
 
 pub returns-in-SendData : goal.returns-in-SendData
 unfolding calls_of stepFor
-returns-in-SendData c = rw c.enum_told-1.given.1 c.send.ensures
+returns-in-SendData c = rw c.in-SendData.is c.send.ensures
 
 pub returns-in-FinishTags : goal.returns-in-FinishTags
 unfolding calls_of stepFor

@@ -8,7 +8,7 @@ returns-in-Value c = rw (sym c.read_counter.ensures.answer ∙ c.in-Value.is) (r
 
 pub returns-in-Absent : goal.returns-in-Absent
 unfolding answerLine
-returns-in-Absent c = rw (sym c.read_counter.ensures.answer ∙ c.enum_told-1.given.1) c.put.ensures
+returns-in-Absent c = rw (sym c.read_counter.ensures.answer ∙ c.in-Absent.is) c.put.ensures
 
 pub returns-in-Refused : goal.returns-in-Refused
 unfolding answerLine

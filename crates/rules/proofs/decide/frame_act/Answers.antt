@@ -8,7 +8,7 @@ pub returns-then-not-lent : goal.returns-then-not-lent
 returns-then-not-lent c = lent-refused _ _ _ c.lent_number-lent.ensures c.if-not-lent.true-raw
 
 pub returns-in_default-f-2 : goal.returns-in_default-f-2
-returns-in_default-f-2 c = else-kind _ _ c.in_default.in_default-own.keys2 c.in_default-f.in_default-f-own.keys2 c.in_default-f-2.in_default-f-2-own.keys2 ∙ lent-passed _ _ _ c.lent_number-lent.ensures c.if-not-lent.false-raw
+returns-in_default-f-2 c = else-kind _ _ c.in_default.not-Host c.in_default-f.not-Data c.in_default-f-2.not-Bist ∙ lent-passed _ _ _ c.lent_number-lent.ensures c.if-not-lent.false-raw
 
 pub returns-in_default-f : goal.returns-in_default-f
 returns-in_default-f c = c.bist_act.ensures ∙ sym (ap (kindAct _) c.in-Bist.is) ∙ lent-passed _ _ _ c.lent_number-lent.ensures c.if-not-lent.false-raw
