@@ -8,11 +8,14 @@ use Rattle.replies.proofs.emitting.put_activate_if.Goals as goal
 
 pub returns-then-not-on : goal.returns-then-not-on
 unfolding pick
-returns-then-not-on c = (rw (not-true c.args.on c.if-not-on.true-raw) (sends_none c.args.reply.now), search rules)
+returns-then-not-on c = record { bytes = rw (not-true c.args.on c.if-not-on.true-raw) (sends_none c.args.reply.now); most = search rules }
 
 pub returns : goal.returns
 unfolding pick
 returns c =
     let a = c.args in
     let w = c.write_activate-w in
-    (rw (not-false a.on c.if-not-on.false-raw) (sends-one activate a.reply.now w.result w.new.buf w.ensures (omega (arith, length-activate))), omega (arith, length-activate, one-most activate a.reply.now w.result w.new.buf w.ensures (omega (arith, length-activate))))
+    record {
+      bytes = rw (not-false a.on c.if-not-on.false-raw) (sends-one activate a.reply.now w.result w.new.buf w.ensures (omega (arith, length-activate)));
+      most = omega (arith, length-activate, one-most activate a.reply.now w.result w.new.buf w.ensures (omega (arith, length-activate)));
+    }

@@ -9,4 +9,7 @@ returns c =
     let w = c.write_data-w in
     let a = c.args in
     let l = length-payload a.p.now in
-    (sends-one (payload a.p.now) a.reply.now w.result w.new.buf w.ensures (omega arith), omega (arith, one-most (payload a.p.now) a.reply.now w.result w.new.buf w.ensures (omega arith)))
+    record {
+      bytes = sends-one (payload a.p.now) a.reply.now w.result w.new.buf w.ensures (omega arith);
+      most = omega (arith, one-most (payload a.p.now) a.reply.now w.result w.new.buf w.ensures (omega arith));
+    }

@@ -13,6 +13,6 @@ returns c =
     let a = c.put_sweep_if-first in
     let b = c.put_pio-second in
     let d = c.put_data-third in
-    let two = sends-next (sweepIf s.sweep) (pioReply s.task ∷ []) s.reply.now a.new.reply b.new.reply a.result b.result a.ensures.0 b.ensures.0 in
+    let two = sends-next (sweepIf s.sweep) (pioReply s.task ∷ []) s.reply.now a.new.reply b.new.reply a.result b.result a.ensures.bytes b.ensures.bytes in
     sends-three (sweepIf s.sweep) (pioReply s.task ∷ []) (payload s.page.now ∷ []) s.reply.now _ _
-    (sends-next (sweepIf s.sweep ++ pioReply s.task ∷ []) (payload s.page.now ∷ []) s.reply.now (put_mid a.result (length a.new.reply - a.result) a.new.reply b.new.reply) d.new.reply (a.result + b.result) d.result two d.ensures.0)
+    (sends-next (sweepIf s.sweep ++ pioReply s.task ∷ []) (payload s.page.now ∷ []) s.reply.now (put_mid a.result (length a.new.reply - a.result) a.new.reply b.new.reply) d.new.reply (a.result + b.result) d.result two d.ensures.bytes)

@@ -5,4 +5,4 @@ pub returns-then-part-gt-FRAME_SIZE : goal.returns-then-part-gt-FRAME_SIZE
 returns-then-part-gt-FRAME_SIZE c = sends-long _ _ c.if-part-gt-FRAME_SIZE.true
 
 pub returns : goal.returns
-returns c = c.put_data.ensures.0
+returns c = c.put_data.ensures.bytes

@@ -8,4 +8,7 @@ returns c =
     let w = c.write_pio-w in
     let a = c.args in
     let l = length-pio a.task in
-    (sends-one (pioReply a.task) a.reply.now w.result w.new.buf w.ensures (omega arith), omega (arith, one-most (pioReply a.task) a.reply.now w.result w.new.buf w.ensures (omega arith)))
+    record {
+      bytes = sends-one (pioReply a.task) a.reply.now w.result w.new.buf w.ensures (omega arith);
+      most = omega (arith, one-most (pioReply a.task) a.reply.now w.result w.new.buf w.ensures (omega arith));
+    }

@@ -12,4 +12,7 @@ returns c =
     let a = c.args in
     let l : length (encode (setupReply a.q)) ≡ 28 = length-setup _ in
     let e = rw c.whole_of.ensures at w.ensures in
-    (sends-one (setupReply a.q) a.reply.now w.result w.new.buf e (omega arith), omega (arith, one-most (setupReply a.q) a.reply.now w.result w.new.buf e (omega arith)))
+    record {
+      bytes = sends-one (setupReply a.q) a.reply.now w.result w.new.buf e (omega arith);
+      most = omega (arith, one-most (setupReply a.q) a.reply.now w.result w.new.buf e (omega arith));
+    }

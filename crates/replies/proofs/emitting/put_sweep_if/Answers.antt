@@ -7,7 +7,7 @@ use Rattle.replies.proofs.emitting.put_sweep_if.Goals as goal
 
 pub returns-then-not-on : goal.returns-then-not-on
 unfolding pick
-returns-then-not-on c = rw (not-true c.args.on c.if-not-on.true-raw) (sends_none c.args.reply.now, omega arith)
+returns-then-not-on c = rw (not-true c.args.on c.if-not-on.true-raw) (record { bytes = sends_none c.args.reply.now; most = omega arith })
 
 pub returns : goal.returns
 unfolding pick
@@ -16,4 +16,4 @@ returns c =
     let d = c.args.reply.now in
     let l = length-sweep in
     rw (not-false c.args.on c.if-not-on.false-raw)
-    (sends-one sweep d w.result w.new.buf w.ensures (omega arith), omega (arith, one-most sweep d w.result w.new.buf w.ensures (omega arith)))
+    (record { bytes = sends-one sweep d w.result w.new.buf w.ensures (omega arith); most = omega (arith, one-most sweep d w.result w.new.buf w.ensures (omega arith)) })

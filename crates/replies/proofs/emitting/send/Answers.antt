@@ -44,7 +44,7 @@ returns-in-ZeroCounters c = rw c.in-ZeroCounters.is (sends_none c.args.reply.now
 
 pub returns-in-Store : goal.returns-in-Store
 unfolding repliesOf
-returns-in-Store c = rw c.in-Store.is c.put_activate_if.ensures.0
+returns-in-Store c = rw c.in-Store.is c.put_activate_if.ensures.bytes
 
 pub returns-in-Open : goal.returns-in-Open
 unfolding repliesOf
