@@ -95,6 +95,7 @@ ruled-unsent : (v : Facts) (m : List ℕ) {f : List ℕ} {a : Act} → by.Ruled 
 unfolding touch_of
 ruled-unsent v m (by.refused c n h e) = refl
 ruled-unsent v m (by.host f a g w s h) = heard-unsent v m h
+ruled-unsent v m {f = f} {a = a} (by.own x) = elim x [ ]
 
 pub host-unsent : (d : Device) (f m b : List ℕ) → [] ≡ part_of (span_of (actOf d (lent (hostFrame f) m b))) m
 unfolding actOf

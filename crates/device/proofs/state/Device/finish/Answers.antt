@@ -16,4 +16,4 @@ returns c =
     let a = c.args in
     let e = unlent-act a.self (finishTags a.set) a.reply.now c.some_unready-some.result c.facts-facts.result c.finish_act-act.result refl c.some_unready-some.ensures c.facts-facts.ensures c.finish_act-act.ensures in
     let w = c.done.ensures in
-    given-without a.self (finishTags a.set) a.reply.now c.finish_act-act.result c.done.new.1.0 c.done.result refl e w.0 w.1.0 w.1.1
+    given-without a.self (finishTags a.set) a.reply.now c.finish_act-act.result c.done.new.reply c.done.result refl e w.state w.refusal w.reply

@@ -18,4 +18,4 @@ returns c =
     let a = c.args in
     let e = host-act a.self a.frame.now a.medium.now a.reply.now c.open_tag-tag.result c.medium_wrong-wrong.result c.facts-facts.result c.read_frame-f.result c.frame_act-act.result c.open_tag-tag.ensures c.medium_wrong-wrong.ensures c.facts-facts.ensures c.read_frame-f.ensures.answer c.frame_act-act.ensures in
     let w = c.done.ensures in
-    given_by a.self (lent (hostFrame a.frame.now) a.medium.now a.reply.now) c.frame_act-act.result [] c.store_data.new.medium c.done.new.1.0 c.done.result e (host-unsent a.self a.frame.now a.medium.now a.reply.now ∙ ap (λ (x : Act). part_of (span_of x) a.medium.now) (sym e)) c.store_data.ensures w.0 w.1.0 w.1.1
+    given_by a.self (lent (hostFrame a.frame.now) a.medium.now a.reply.now) c.frame_act-act.result [] c.store_data.new.medium c.done.new.reply c.done.result e (host-unsent a.self a.frame.now a.medium.now a.reply.now ∙ ap (λ (x : Act). part_of (span_of x) a.medium.now) (sym e)) c.store_data.ensures w.state w.refusal w.reply

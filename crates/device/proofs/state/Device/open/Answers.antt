@@ -16,4 +16,4 @@ returns c =
     let a = c.args in
     let e = plain-act a.self (openPhase a.tag) a.reply.now c.facts-facts.result c.open_act-act.result refl refl c.facts-facts.ensures c.open_act-act.ensures in
     let w = c.done.ensures in
-    given-without a.self (openPhase a.tag) a.reply.now c.open_act-act.result c.done.new.1.0 c.done.result refl e w.0 w.1.0 w.1.1
+    given-without a.self (openPhase a.tag) a.reply.now c.open_act-act.result c.done.new.reply c.done.result refl e w.state w.refusal w.reply

@@ -33,4 +33,4 @@ returns c =
     let a = c.args in
     let e = send-act a.self a.medium.now a.reply.now c.open_tag-tag.result c.medium_wrong-wrong.result c.facts-facts.result c.send_act-act.result c.open_tag-tag.ensures c.medium_wrong-wrong.ensures c.facts-facts.ensures c.send_act-act.ensures in
     let w = c.done.ensures in
-    given_by a.self (lent sendData a.medium.now a.reply.now) c.send_act-act.result _ a.medium.now c.done.new.1.0 c.done.result e (sent-part a.medium.now c.send_act-act.result c.span_of-span.result c.span_of-span.ensures) (send-left a.self a.medium.now a.reply.now ∙ ap (λ (x : Act). mediumAfter x [] a.medium.now) (sym e)) w.0 w.1.0 w.1.1
+    given_by a.self (lent sendData a.medium.now a.reply.now) c.send_act-act.result _ a.medium.now c.done.new.reply c.done.result e (sent-part a.medium.now c.send_act-act.result c.span_of-span.result c.span_of-span.ensures) (send-left a.self a.medium.now a.reply.now ∙ ap (λ (x : Act). mediumAfter x [] a.medium.now) (sym e)) w.state w.refusal w.reply
