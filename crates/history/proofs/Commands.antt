@@ -1,5 +1,5 @@
 -- Laws of the commands of a history: what one more event does to all of them, and to how many are outstanding. Assumes nothing.
-use mathlib.Core.Path.{◌≡◌, refl, sym, ap, ap₂, ◌∙◌}
+use mathlib.Core.Path.{◌≡◌, refl, sym, ap, ap₂, ◌∙◌, subst}
 use mathlib.Core.Bool.{Bool, true, false, not, ◌&&◌}
 use mathlib.Core.List.{List, [], ◌∷◌, map}
 use mathlib.Core.Logic.{⊎_elim}
@@ -20,14 +20,16 @@ use Rattle.history.proofs.Alls.{all-step}
 abbrev isOut : ℕ → Command → Bool
 isOut t c = eqb (ownTag c) t && outstanding c
 
--- an event that ends tag t leaves none of that tag outstanding, any other leaves all: of one command more
-out_one : (t : ℕ) (e : Seen) (c : Command) (n : ℕ) → one (isOut t (later e c)) + pick (ends t e) 0 n ≡ pick (ends t e) 0 (one (isOut t c) + n)
+-- of one command more, by its tag u and what came after it: an event that ends tag t leaves none of that tag outstanding, any other leaves all
+out_at : (t : ℕ) (e : Seen) (n u : ℕ) (a : List Seen) → one (eqb u t && outstandingAt u (e ∷ a)) + pick (ends t e) 0 n ≡ pick (ends t e) 0 (one (eqb u t && outstandingAt u a) + n)
 unfolding pick outstandingAt
-out_one t e c n =
+out_at t e n u a =
     ⊎_elim
-    (λ (x : eqb (ownTag c) t ≡ true). rw (x, eqb-true (ownTag c) t x) (go (outstandingAt t c.after) (ends t e)))
-    (λ (x : eqb (ownTag c) t ≡ false). rw x (none (ends t e)))
-    (tested (eqb (ownTag c) t))
+    (λ (x : eqb u t ≡ true).
+    subst (λ (w : ℕ). one (eqb w t && outstandingAt w (e ∷ a)) + pick (ends t e) 0 n ≡ pick (ends t e) 0 (one (eqb w t && outstandingAt w a) + n)) (sym (eqb-true u t x))
+    (rw (eq-eqb t t refl) (go (outstandingAt t a) (ends t e))))
+    (λ (x : eqb u t ≡ false). rw x (none (ends t e)))
+    (tested (eqb u t))
   where
     go : (o d : Bool) → ◌≡◌ {A = ℕ} (one (o && not d) + pick d 0 n) (pick d 0 (one o + n))
     go true true = refl
@@ -38,6 +40,9 @@ out_one t e c n =
     none : (d : Bool) → ◌≡◌ {A = ℕ} (0 + pick d 0 n) (pick d 0 (0 + n))
     none true = refl
     none false = refl
+
+out_one : (t : ℕ) (e : Seen) (c : Command) (n : ℕ) → one (isOut t (later e c)) + pick (ends t e) 0 n ≡ pick (ends t e) 0 (one (isOut t c) + n)
+out_one t e c n = out_at t e n (ownTag c) c.after
 
 -- of all commands of a list
 out-map : (t : ℕ) (e : Seen) (cs : List Command) → howMany (isOut t) (map (later e) cs) ≡ pick (ends t e) 0 (howMany (isOut t) cs)

@@ -10,6 +10,7 @@ use Rattle.device_state.specs.declared.shapes.Settings.{Settings}
 use Rattle.device.specs.Device.{contradictoryDevice, powerOn, zeroDevice}
 use Rattle.device.specs.declared.state.Device.{Device}
 use Rattle.device.proofs.state.Device as calls
+use Rattle.device.specs.contracts.state.Device as said
 use Rattle.history.specs.Event.{Event}
 use Rattle.history.specs.Seen.{seen}
 use Rattle.history.specs.Fates.{one, total, totalWith}
@@ -30,7 +31,7 @@ AgreesCounters d h = (row : ℕ) → row < 16 → get_or d.values row 0 ≡ told
 
 -- and so is every answer that the contract of `Device::counter` allows for its number, where it is not refused
 abbrev pub AgreesAsked : ℕ → Device → List Event → Type 0
-AgreesAsked mask d h = (number : ℕ) (c : Counter) → Allows calls.counter.ended calls.counter.Reads.Post tt (d, (number, tt)) c (tt, (tt, tt)) → (counterAnswer c).number ≡ 0 → c ≡ toldFor mask h number
+AgreesAsked mask d h = (number : ℕ) (c : Counter) → Allows said.counter.ended calls.counter.Reads.Post tt (d, (number, tt)) c (tt, (tt, tt)) → (counterAnswer c).number ≡ 0 → c ≡ toldFor mask h number
 
 -- the ones of the mask are the commands outstanding, at most the depth
 pub record AgreesDepth (depth : ℕ) (d : Device) (h : List Event) : Type 0 where
@@ -39,7 +40,7 @@ pub record AgreesDepth (depth : ℕ) (d : Device) (h : List Event) : Type 0 wher
 
 -- and so is every answer that the contract of `Device::outstanding_count` allows, after a power-on that was taken
 abbrev pub AgreesCount : Settings → Device → List Event → Type 0
-AgreesCount s d h = (powerOn s).refusal ≡ 0 → (c : Counter) → Allows calls.outstanding_count.ended calls.outstanding_count.Reads.Post tt (d, tt) c (tt, tt) → c ≡ Value (total (map seen h))
+AgreesCount s d h = (powerOn s).refusal ≡ 0 → (c : Counter) → Allows said.outstanding_count.ended calls.outstanding_count.Reads.Post tt (d, tt) c (tt, tt) → c ≡ Value (total (map seen h))
 
 -- after a power-on that was taken the state does not contradict itself; after a refused one it is all zeros
 pub record AgreesConsistent (s : Settings) (d : Device) : Type 0 where
