@@ -6,8 +6,11 @@ use Rattle.device.specs.declared.state.Device.{Device}
 use Rattle.device.specs.declared.state.Outcome.{Outcome}
 use Rattle.device.specs.Lent.{Lent, Gave, Typed}
 use Rattle.history.specs.Run.{Done, done, AllTyped}
-use Rattle.history.specs.Allowed.{Allowed, Follows, final, lents, historyOf}
-use Rattle.history.proofs.Demand3.{demand3-code, told-code}
+use Rattle.device.specs.Step.{Given}
+use Rattle.history.specs.Follows.{FollowsBy, final, lents, historyOf}
+use Rattle.history.proofs.Allowed.{Allowed}
+use Rattle.history.proofs.Contracts.{allowed-given}
+use Rattle.history.proofs.Demand3.{demand3-given, told-given}
 use Rattle.caller.specs.Continued.{Reached, Holds, Continues}
 use Rattle.history.specs.StateAgrees.{StateAgrees}
 
@@ -15,13 +18,13 @@ use Rattle.history.specs.StateAgrees.{StateAgrees}
 pub holds : (s : Settings) (r : Outcome) (xs : List Done) (d : Device) → Reached s r xs d → Holds s r xs d
 holds s r xs d h = record {
   reached = h;
-  demand3 = demand3-code s r xs h.began h.typed;
-  told = subst (λ (e : Device). StateAgrees s e (historyOf xs)) h.last (told-code s r xs h.began h.typed);
+  demand3 = demand3-given s r xs h.began h.typed;
+  told = subst (λ (e : Device). StateAgrees s e (historyOf xs)) h.last (told-given s r xs h.began h.typed);
 }
 
 -- one more at the end
-follows-more : (xs : List Done) (d : Device) (x : Done) → Follows d xs → Allowed (final d xs) x.lent x.gave → Follows d (xs ++ x ∷ [])
-unfolding Follows final
+follows-more : (xs : List Done) (d : Device) (x : Done) → FollowsBy Given d xs → Given (final d xs) x.lent x.gave → FollowsBy Given d (xs ++ x ∷ [])
+unfolding FollowsBy final
 follows-more [] d x f a = (a, tt)
 follows-more (y ∷ xs) d x f a = (f.0, follows-more xs y.gave.outcome.state x f.1 a)
 
@@ -39,7 +42,7 @@ typed-more (y ∷ xs) x t u = (t.0, typed-more xs x t.1 u)
 pub continues : (d : Device) (a : Lent) (g : Gave) → Typed a.call → Allowed d a g → Continues d a g
 continues d a g t p s r xs h =
     holds s r (xs ++ done a g ∷ []) g.outcome.state (record {
-      began = record { power = h.began.power; follows = follows-more xs r.state (done a g) h.began.follows (subst (λ (e : Device). Allowed e a g) (sym h.last) p) };
+      began = record { power = h.began.power; follows = follows-more xs r.state (done a g) h.began.follows (subst (λ (e : Device). Given e a g) (sym h.last) (allowed-given p)) };
       typed = typed-more xs (done a g) h.typed t;
       last = final-more xs r.state (done a g);
     })

@@ -1,3 +1,4 @@
 pub mod Continuing
 pub mod Programs
+pub mod ProgramCode
 pub mod Tied

@@ -34,7 +34,7 @@ use Rattle.rules.specs.Call.{Call}
 use Rattle.device.specs.Lent.{lent}
 use Rattle.device.proofs.Typing.{none-typed, frame-typed, set_typed, error-typed}
 use Rattle.history.specs.Run.{AllTyped, result, Done, done, event, Run, run, run_from}
-use Rattle.history.specs.Allowed.{newestFirst, lents}
+use Rattle.history.specs.Follows.{newestFirst, lents}
 use Rattle.history.specs.Demand3.{Demand3}
 use Rattle.history.specs.StateAgrees.{StateAgrees}
 use Rattle.history.proofs.Demand3.{demand3, told}
@@ -109,9 +109,9 @@ module _ (traced : Bool) (number : ℕ) (d : Device) (p : Play) where
   one-call HostFrame = refl
   one-call Nothing = tt
 
--- what the contract of `play_line` says is told of its calls
+-- what `play_line` promises is told of its calls
 told-by : {traced : Bool} {number : ℕ} {d : Device} {p : Play} → Played traced number d p → Told-by traced number d p (callsFor d p.event)
-told-by (played κs e m b o t m' b' o' w q) = record { state = q.tells.state; refusal = q.tells.refusal; left = q.medium; after = q.reply; line = q.tells.line }
+told-by (played e m b o t m' b' o' w q) = record { state = q.tells.state; refusal = q.tells.refusal; left = q.medium; after = q.reply; line = q.tells.line }
 
 -- runs go on where they stand
 run_more : (xs ys : List Done) (d : Device) (h : List Done) → run d h (lents (xs ++ ys)) ≡ run (run d h (lents xs)).state (run d h (lents xs)).calls (lents ys)
@@ -181,7 +181,7 @@ typed-more d p [] ys t u = u
 typed-more d p (c ∷ cs) ys t u = (t.0, typed-more d p cs ys t.1 u)
 
 of-bytes : {traced : Bool} {number : ℕ} {d : Device} {p : Play} → Played traced number d p → Bytes p.event
-of-bytes (played κs e m b o t m' b' o' w q) = w
+of-bytes (played e m b o t m' b' o' w q) = w
 
 typed-run : (traced : Bool) (n : ℕ) (d : Device) (ps : List Play) → Plays traced n d ps → AllTyped (lents (donesAll d ps))
 unfolding Plays donesAll AllTyped
@@ -192,9 +192,9 @@ typed-run traced n d (p ∷ ps) q =
 -- ---- from power-on
 powered : {traced : Bool} {b : Start} → Started traced b → StartShown traced b
 unfolding start_of line_for sentAll joined
-powered (started κs e o t o' q) = record { state = q.state; refusal = q.refusal; line = q.line }
+powered (started e o t o' q) = record { state = q.state; refusal = q.refusal; line = q.line }
 
--- every sequence of results that the contracts of `start_line` and `play_line` allow, whatever its events, media and buffers
+-- every sequence of results as `start_line` and `play_line` promise them, whatever its events, media and buffers
 pub program-history : (traced : Bool) (b : Start) (ps : List Play) → Started traced b → Plays traced 1 b.told.state ps → IsHistory traced b ps
 program-history traced b ps g q =
     let s : Settings = asked_of b.event in

@@ -6,7 +6,7 @@ use Rattle.device.specs.declared.state.Outcome.{Outcome}
 use Rattle.rules.specs.Call.{Call}
 use Rattle.device.specs.Lent.{Lent, lent, Gave, gave}
 use Rattle.history.specs.Run.{Done, done, AllTyped}
-use Rattle.history.specs.Allowed.{final, lents, historyOf, Began}
+use Rattle.history.specs.Follows.{final, lents, historyOf, Began}
 use Rattle.history.specs.Demand3.{Demand3}
 use Rattle.history.specs.StateAgrees.{StateAgrees}
 

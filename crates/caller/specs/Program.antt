@@ -1,8 +1,5 @@
 -- What the event program is told event by event, and the calls of the device that are made. Assumes nothing.
 use Rattle.std.specs.Prelude.{◌≡◌, Bool, List, [], ◌∷◌, ◌++◌, map, ℕ, ◌+◌}
-use contract.Lifetimes.{Lfts}
-use Rattle.std.specs.Borrow.{Bor}
-use Rattle.bits.specs.Contract.{Allows}
 use Rattle.bits.specs.Little.{Bytes}
 use Rattle.text.specs.Sheet.{WholeTextGiven}
 use Rattle.device.specs.Device.{powerOn}
@@ -11,11 +8,10 @@ use Rattle.event_kinds.specs.Settings.{asked_of}
 use Rattle.event_lines.specs.Lines.{line_of}
 use Rattle.events.specs.Calls.{callsFor}
 use Rattle.events.specs.declared.tells.EventLine as tells
-use Rattle.events.proofs.play_line
-use Rattle.events.proofs.start_line
+use Rattle.events.specs.EventLine.{PlayTold, Tells, startStep}
 use Rattle.device.specs.Lent.{lent}
 use Rattle.history.specs.Run.{Done, done, result, event, run_from}
-use Rattle.history.specs.Allowed.{newestFirst, lents, historyOf}
+use Rattle.history.specs.Follows.{newestFirst, lents, historyOf}
 use Rattle.history.specs.Demand3.{Demand3}
 use Rattle.history.specs.StateAgrees.{StateAgrees}
 
@@ -34,11 +30,9 @@ pub record Play : Type 0 where
 abbrev pub play : List ℕ → List ℕ → List ℕ → List ℕ → tells.EventLine → List ℕ → List ℕ → List ℕ → Play
 play e m b o t m' b' o' = record { event = e; medium = m; buffer = b; line = o; told = t; left = m'; after = b'; written = o' }
 
--- what the contract of `play_line` allows in the state d; an event is of bytes, as what stands in a slice of them always is
+-- what `play_line` promises in the state d; an event is of bytes, as what stands in a slice of them always is
 pub data Played (traced : Bool) (number : ℕ) (d : Device) : Play → Type 0 where
-  played : (κs : Lfts 4) (e m b o : Bor (List ℕ)) (t : tells.EventLine) (m' b' o' : List ℕ) → Bytes e.now
-      → Allows play_line.ended play_line.Reads.Post κs (d, (traced, (number, (e, (m, (b, (o, tt))))))) t (tt, (tt, (tt, (tt, (m', (b', (o', tt)))))))
-      → Played traced number d (play e.now m.now b.now o.now t m' b' o')
+  played : (e m b o : List ℕ) (t : tells.EventLine) (m' b' o' : List ℕ) → Bytes e → PlayTold d traced number e m b o t m' b' o' → Played traced number d (play e m b o t m' b' o')
 
 -- the settings record as it was taken: its bytes, the line buffer, what was answered, and what the buffer then held
 pub record Start : Type 0 where
@@ -51,10 +45,9 @@ pub record Start : Type 0 where
 abbrev pub start : List ℕ → List ℕ → tells.EventLine → List ℕ → Start
 start e o t o' = record { event = e; line = o; told = t; written = o' }
 
--- what the contract of `start_line` allows
+-- what `start_line` promises
 pub data Started (traced : Bool) : Start → Type 0 where
-  started : (κs : Lfts 2) (e o : Bor (List ℕ)) (t : tells.EventLine) (o' : List ℕ)
-      → Allows start_line.ended start_line.Reads.Post κs (traced, (e, (o, tt))) t (tt, (tt, (o', tt))) → Started traced (start e.now o.now t o')
+  started : (e o : List ℕ) (t : tells.EventLine) (o' : List ℕ) → Tells traced 0 (startStep e) o t o' → Started traced (start e o t o')
 
 -- one event after the other, numbered on, each given the state that the last one left, and any medium and buffers
 unfoldable pub Plays : Bool → ℕ → Device → List Play → Type 0

@@ -11,7 +11,10 @@ use Rattle.device.specs.declared.state.Outcome.{Outcome}
 use Rattle.history.specs.Event.{Event}
 use Rattle.device.specs.Lent.{Lent, Gave}
 use Rattle.history.specs.Run.{result, Done, done, event, Run, run, run_from, history}
-use Rattle.history.specs.Allowed.{Allowed, hosted, opened, sent, finished, failed, linked, reset, Follows, newestFirst, final, lents, historyOf, Began}
+use Rattle.device.specs.Counter.{CounterGiven, CountGiven}
+use Rattle.page_rows.specs.declared.shown.Counter.{Counter}
+use Rattle.history.specs.Follows.{FollowsBy, newestFirst, final, lents, historyOf, Began}
+use Rattle.history.proofs.Allowed.{Allowed, hosted, opened, sent, finished, failed, linked, reset, BeganCode, CounterCode, CountCode}
 
 same-gave : {d d' : Device} {n n' l l' : ℕ} {m m' b b' : List ℕ} → d ≡ d' → n ≡ n' → l ≡ l' → m ≡ m' → b ≡ b'
     → ◌≡◌ {A = Gave} (record { outcome = record { state = d; refusal = n; len = l }; medium = m; buffer = b }) (record { outcome = record { state = d'; refusal = n'; len = l' }; medium = m'; buffer = b' })
@@ -31,16 +34,33 @@ allowed-given {d} (failed κs t e s b r m b' p) = unlent d (mediaError t e s) m 
 allowed-given {d} (linked row r m b p) = unlent-both d (linkEvent row) m b r refl refl p
 allowed-given {d} (reset κs b r m b' p) = unlent d comReset m b.now b' r refl p
 
+-- a sequence that the contracts allow is one of results as the one contract promises them
+allowed-follows : (xs : List Done) (d : Device) → FollowsBy Allowed d xs → FollowsBy Given d xs
+unfolding FollowsBy
+allowed-follows [] d f = tt
+allowed-follows (x ∷ xs) d f = (allowed-given f.0, allowed-follows xs x.gave.outcome.state f.1)
+
+-- and so from power-on
+pub began-code : (s : Settings) (r : Outcome) (xs : List Done) → BeganCode s r xs → Began s r xs
+began-code s r xs b = record { power = b.power; follows = allowed-follows xs r.state b.follows }
+
+-- the contracts of the two calls that leave the state promise their answers
+pub counter-code : (d : Device) (number : ℕ) (c : Counter) → CounterCode d number c → CounterGiven d number c
+counter-code d number c p = p
+
+pub count-code : (d : Device) (c : Counter) → CountCode d c → CountGiven d c
+count-code d c p = p
+
 -- a contract allows just what the definitions give
 pub only : {d : Device} {l : Lent} {g : Gave} → Allowed d l g → g ≡ result d l
 only {d} {l} {g} a = given-only d l g (allowed-given a)
 
--- a sequence that the contracts allow is the run of the definitions over what was lent
-pub follows-run : (xs : List Done) (d : Device) (h : List Done) → Follows d xs → run d h (lents xs) ≡ record { state = final d xs; calls = newestFirst h xs }
-unfolding Follows run final newestFirst
+-- a sequence of such results is the run of the definitions over what was lent
+pub follows-run : (xs : List Done) (d : Device) (h : List Done) → FollowsBy Given d xs → run d h (lents xs) ≡ record { state = final d xs; calls = newestFirst h xs }
+unfolding FollowsBy run final newestFirst
 follows-run [] d h f = refl
 follows-run (x ∷ xs) d h f =
-    let e : x.gave ≡ result d x.lent = only f.0 in
+    let e : x.gave ≡ result d x.lent = given-only d x.lent x.gave f.0 in
     ap (λ (g : Gave). run g.outcome.state (done x.lent g ∷ h) (lents xs)) (sym e) ∙ follows-run xs x.gave.outcome.state (x ∷ h) f.1
 
 module _ (s : Settings) (r : Outcome) (xs : List Done) (b : Began s r xs) where

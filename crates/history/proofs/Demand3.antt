@@ -8,11 +8,22 @@ use Rattle.history.specs.Demand3.{Demand3}
 use Rattle.history.specs.StateAgrees.{StateAgrees}
 use Rattle.device.specs.Lent.{Lent}
 use Rattle.history.specs.Run.{Done, AllTyped, run_from, history}
-use Rattle.history.specs.Allowed.{final, lents, historyOf, Began}
+use Prim.Native.Nat.{ℕ}
+use mathlib.Core.Path.{◌≡◌}
+use mathlib.Core.List.{map}
+use Rattle.device.specs.Device.{powerOn}
+use Rattle.page_11h.specs.Page11.{counterAnswer}
+use Rattle.page_rows.specs.declared.shown.Counter.{Counter}
+use Rattle.page_rows.specs.declared.shown.Counter.TheVariants.{Value}
+use Rattle.history.specs.Seen.{seen}
+use Rattle.history.specs.Fates.{total}
+use Rattle.history.specs.Counted.{toldFor}
+use Rattle.history.specs.Follows.{final, lents, historyOf, Began}
+use Rattle.history.proofs.Allowed.{BeganCode, CounterCode, CountCode}
 use Rattle.history.proofs.Counters.{counters-tell}
 use Rattle.history.proofs.Runs.{demand3-fates, demand3-data, demand3-sactive, demand3-waiting, demand3-depth, demand3-single, demand3-reply-rules}
 use Rattle.history.proofs.StateAgrees.{told-outstanding, told-waits, told-counters, told-asked, told-depth, told-count, told-consistent}
-use Rattle.history.proofs.Contracts.{for-all}
+use Rattle.history.proofs.Contracts.{for-all, began-code, counter-code, count-code}
 
 -- any settings, any calls with anything lent to them, refused ones included
 pub demand3 : (s : Settings) (as' : List Lent) → AllTyped as' → Demand3 s.depth s.mask (history s as')
@@ -40,10 +51,26 @@ told s as' t = record {
   consistent = told-consistent s as' t;
 }
 
--- the same of the code: of every sequence of results that the contracts allow, each call given the state that the last one returned
-pub demand3-code : (s : Settings) (r : Outcome) (xs : List Done) → Began s r xs → AllTyped (lents xs) → Demand3 s.depth s.mask (historyOf xs)
-demand3-code s r xs b t = for-all s r xs b (λ (d : Device) (h : List Event). Demand3 s.depth s.mask h) (demand3 s (lents xs) t)
+-- the same of every sequence of results that are as the one contract promises them, each call given the state that the last one returned
+pub demand3-given : (s : Settings) (r : Outcome) (xs : List Done) → Began s r xs → AllTyped (lents xs) → Demand3 s.depth s.mask (historyOf xs)
+demand3-given s r xs b t = for-all s r xs b (λ (d : Device) (h : List Event). Demand3 s.depth s.mask h) (demand3 s (lents xs) t)
 
 -- and their last state is what their history tells
-pub told-code : (s : Settings) (r : Outcome) (xs : List Done) → Began s r xs → AllTyped (lents xs) → StateAgrees s (final r.state xs) (historyOf xs)
-told-code s r xs b t = for-all s r xs b (StateAgrees s) (told s (lents xs) t)
+pub told-given : (s : Settings) (r : Outcome) (xs : List Done) → Began s r xs → AllTyped (lents xs) → StateAgrees s (final r.state xs) (historyOf xs)
+told-given s r xs b t = for-all s r xs b (StateAgrees s) (told s (lents xs) t)
+
+-- the same of the code: of every sequence of results that the contracts of power-on and of the calls allow
+pub demand3-code : (s : Settings) (r : Outcome) (xs : List Done) → BeganCode s r xs → AllTyped (lents xs) → Demand3 s.depth s.mask (historyOf xs)
+demand3-code s r xs b = demand3-given s r xs (began-code s r xs b)
+
+-- what the history h tells of the state d, and of each answer about it that the contracts of `Device::counter` and `Device::outstanding_count` allow
+pub record CodeAgrees (s : Settings) (d : Device) (h : List Event) : Type 0 where
+  pub agrees : StateAgrees s d h
+  pub asked : (number : ℕ) (c : Counter) → CounterCode d number c → (counterAnswer c).number ≡ 0 → c ≡ toldFor s.mask h number
+  pub count : (powerOn s).refusal ≡ 0 → (c : Counter) → CountCode d c → c ≡ Value (total (map seen h))
+
+-- and their last state, and every answer about it, is what their history tells
+pub told-code : (s : Settings) (r : Outcome) (xs : List Done) → BeganCode s r xs → AllTyped (lents xs) → CodeAgrees s (final r.state xs) (historyOf xs)
+told-code s r xs b t =
+    let a = told-given s r xs (began-code s r xs b) t in
+    record { agrees = a; asked = λ number c p z. a.asked number c (counter-code _ number c p) z; count = λ z c p. a.count z c (count-code _ c p) }

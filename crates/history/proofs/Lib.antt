@@ -47,5 +47,6 @@ pub mod ReplyRules
 pub mod Soundness
 pub mod Runs
 pub mod StateAgrees
+pub mod Allowed
 pub mod Contracts
 pub mod Demand3

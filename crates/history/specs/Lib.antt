@@ -14,5 +14,5 @@ pub mod ReplyRules
 pub mod Counted
 pub mod Demand3
 pub mod Run
-pub mod Allowed
+pub mod Follows
 pub mod StateAgrees

@@ -2,15 +2,13 @@
 use Rattle.std.specs.Prelude.{◌≡◌, false, List, map, ℕ, ◌≤◌, ◌<◌, get_or}
 use Rattle.std.specs.Int.Count.{ones}
 use Rattle.bits.specs.Bit.{bitIn}
-use Rattle.bits.specs.Contract.{Allows}
 use Rattle.page_11h.specs.Page11.{counterAnswer}
 use Rattle.page_rows.specs.declared.shown.Counter.{Counter}
 use Rattle.page_rows.specs.declared.shown.Counter.TheVariants.{Value}
 use Rattle.device_state.specs.declared.shapes.Settings.{Settings}
+use Rattle.device.specs.Counter.{CounterGiven, CountGiven}
 use Rattle.device.specs.Device.{contradictoryDevice, powerOn, zeroDevice}
 use Rattle.device.specs.declared.state.Device.{Device}
-use Rattle.device.proofs.state.Device as calls
-use Rattle.device.specs.contracts.state.Device as said
 use Rattle.history.specs.Event.{Event}
 use Rattle.history.specs.Seen.{seen}
 use Rattle.history.specs.Fates.{one, total, totalWith}
@@ -29,18 +27,18 @@ AgreesWaits d h = waits (map seen h) ≡ d.status.halted
 abbrev pub AgreesCounters : Device → List Event → Type 0
 AgreesCounters d h = (row : ℕ) → row < 16 → get_or d.values row 0 ≡ told row h
 
--- and so is every answer that the contract of `Device::counter` allows for its number, where it is not refused
+-- and so is every answer that `Device::counter` promises for its number, where it is not refused
 abbrev pub AgreesAsked : ℕ → Device → List Event → Type 0
-AgreesAsked mask d h = (number : ℕ) (c : Counter) → Allows said.counter.ended calls.counter.Reads.Post tt (d, (number, tt)) c (tt, (tt, tt)) → (counterAnswer c).number ≡ 0 → c ≡ toldFor mask h number
+AgreesAsked mask d h = (number : ℕ) (c : Counter) → CounterGiven d number c → (counterAnswer c).number ≡ 0 → c ≡ toldFor mask h number
 
 -- the ones of the mask are the commands outstanding, at most the depth
 pub record AgreesDepth (depth : ℕ) (d : Device) (h : List Event) : Type 0 where
   pub counted : ones d.status.outstanding ≡ total (map seen h)
   pub most : ones d.status.outstanding ≤ depth
 
--- and so is every answer that the contract of `Device::outstanding_count` allows, after a power-on that was taken
+-- and so is every answer that `Device::outstanding_count` promises, after a power-on that was taken
 abbrev pub AgreesCount : Settings → Device → List Event → Type 0
-AgreesCount s d h = (powerOn s).refusal ≡ 0 → (c : Counter) → Allows said.outstanding_count.ended calls.outstanding_count.Reads.Post tt (d, tt) c (tt, tt) → c ≡ Value (total (map seen h))
+AgreesCount s d h = (powerOn s).refusal ≡ 0 → (c : Counter) → CountGiven d c → c ≡ Value (total (map seen h))
 
 -- after a power-on that was taken the state does not contradict itself; after a refused one it is all zeros
 pub record AgreesConsistent (s : Settings) (d : Device) : Type 0 where

@@ -1,4 +1,4 @@
-use Rattle.history.specs.Allowed.{reset}
+use Rattle.history.proofs.Allowed.{reset}
 use Rattle.device.proofs.Typing.{none-typed}
 use Rattle.caller.proofs.Continuing.{continues}
 use Rattle.caller.proofs.calling.comreset.Goals as goal

@@ -1,5 +1,5 @@
 use native.Mathlib.Omega.{arith}
-use Rattle.history.specs.Allowed.{finished}
+use Rattle.history.proofs.Allowed.{finished}
 use Rattle.device.proofs.Typing.{set_typed}
 use Rattle.caller.proofs.Continuing.{continues}
 use Rattle.caller.proofs.calling.finish.Goals as goal

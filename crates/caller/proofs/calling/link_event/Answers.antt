@@ -1,4 +1,4 @@
-use Rattle.history.specs.Allowed.{linked}
+use Rattle.history.proofs.Allowed.{linked}
 use Rattle.device.proofs.Typing.{none-typed}
 use Rattle.caller.proofs.Continuing.{continues}
 use Rattle.caller.proofs.calling.link_event.Goals as goal

@@ -1,5 +1,5 @@
 use native.Mathlib.Omega.{arith}
-use Rattle.history.specs.Allowed.{failed}
+use Rattle.history.proofs.Allowed.{failed}
 use Rattle.device.proofs.Typing.{error-typed}
 use Rattle.caller.proofs.Continuing.{continues}
 use Rattle.caller.proofs.calling.media_error.Goals as goal

@@ -1,4 +1,4 @@
-use Rattle.history.specs.Allowed.{opened}
+use Rattle.history.proofs.Allowed.{opened}
 use Rattle.device.proofs.Typing.{none-typed}
 use Rattle.caller.proofs.Continuing.{continues}
 use Rattle.caller.proofs.calling.open.Goals as goal

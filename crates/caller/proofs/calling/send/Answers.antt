@@ -1,4 +1,4 @@
-use Rattle.history.specs.Allowed.{sent}
+use Rattle.history.proofs.Allowed.{sent}
 use Rattle.device.proofs.Typing.{none-typed}
 use Rattle.caller.proofs.Continuing.{continues}
 use Rattle.caller.proofs.calling.send.Goals as goal

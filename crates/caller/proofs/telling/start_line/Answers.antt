@@ -2,4 +2,4 @@ use Rattle.caller.specs.Program.{started}
 use Rattle.caller.proofs.telling.start_line.Goals as goal
 
 pub returns : goal.returns
-returns c = started c.lifetimes c.args.event c.args.line _ _ c.start_line.ensures
+returns c = started c.args.event.now c.args.line.now _ _ c.start_line.ensures

@@ -1,5 +1,5 @@
--- Sequences of results that the device's own contracts allow: what is said of the code. Assumes nothing.
-use Rattle.std.specs.Prelude.{List, [], ◌∷◌, map, ℕ}
+-- What the device's own contracts allow, and sequences of such results: what is said of the code. Assumes nothing.
+use Rattle.std.specs.Prelude.{List, ℕ}
 use contract.Lifetimes.{Lfts}
 use Rattle.std.specs.Borrow.{Bor, MutBor}
 use Rattle.bits.specs.Contract.{Allows}
@@ -9,9 +9,10 @@ use Rattle.device.specs.declared.state.Outcome.{Outcome}
 use Rattle.device.proofs.state.Device as calls
 use Rattle.device.specs.contracts.state.Device as said
 use Rattle.rules.specs.Call.{hostFrame, openPhase, sendData, finishTags, mediaError, linkEvent, comReset}
-use Rattle.history.specs.Event.{Event}
 use Rattle.device.specs.Lent.{Lent, lent, Gave, gave}
-use Rattle.history.specs.Run.{Done, event}
+use Rattle.history.specs.Run.{Done}
+use Rattle.history.specs.Follows.{FollowsBy}
+use Rattle.page_rows.specs.declared.shown.Counter.{Counter}
 
 -- one call of the state d, as it may go: each case is a public function of the device, and what it holds is that function's own contract, its `Post`; what the function is not lent stays as it was
 pub data Allowed (d : Device) : Lent → Gave → Type 0 where
@@ -30,30 +31,15 @@ pub data Allowed (d : Device) : Lent → Gave → Type 0 where
   reset : (κs : Lfts 1) (b : MutBor (List ℕ)) (r : Outcome) (m b' : List ℕ)
       → Allows said.comreset.ended calls.comreset.Reads.Post κs (d, (b, tt)) r (tt, (b', tt)) → Allowed d (lent comReset m b.now) (gave r m b')
 
--- a sequence of results, the oldest first, each allowed by its call's contract, each given the state that the last returned
-unfoldable pub Follows : Device → List Done → Type 0
-Follows d [] = Unit
-Follows d (x ∷ xs) = Allowed d x.lent x.gave × Follows x.gave.outcome.state xs
-
--- the same sequence with the newest first
-unfoldable pub newestFirst : List Done → List Done → List Done
-newestFirst h [] = h
-newestFirst h (x ∷ xs) = newestFirst (x ∷ h) xs
-
--- and the state that its last call returned
-unfoldable pub final : Device → List Done → Device
-final d [] = d
-final d (x ∷ xs) = final x.gave.outcome.state xs
-
--- what was lent, call by call
-abbrev pub lents : List Done → List Lent
-lents xs = map (λ x. x.lent) xs
-
--- its history
-abbrev pub historyOf : List Done → List Event
-historyOf xs = map event (newestFirst [] xs)
-
--- from power-on: its outcome as the contract allows it, and a sequence from the state that it returned
-pub record Began (s : Settings) (r : Outcome) (xs : List Done) : Type 0 where
+-- from power-on: its outcome as its contract allows it, and a sequence of results from the state that it returned, each allowed by its call's contract
+pub record BeganCode (s : Settings) (r : Outcome) (xs : List Done) : Type 0 where
   pub power : Allows said.power_on.ended calls.power_on.Reads.Post tt (s, tt) r (tt, tt)
-  pub follows : Follows r.state xs
+  pub follows : FollowsBy Allowed r.state xs
+
+-- an answer that the contract of `Device::counter` allows
+abbrev pub CounterCode : Device → ℕ → Counter → Type 0
+CounterCode d number c = Allows said.counter.ended calls.counter.Reads.Post tt (d, (number, tt)) c (tt, (tt, tt))
+
+-- an answer that the contract of `Device::outstanding_count` allows
+abbrev pub CountCode : Device → Counter → Type 0
+CountCode d c = Allows said.outstanding_count.ended calls.outstanding_count.Reads.Post tt (d, tt) c (tt, tt)
