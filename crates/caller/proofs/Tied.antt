@@ -20,8 +20,8 @@ tied-host-frame = say (λ κs a. tt) (λ κs a r ws p. p)
 pub tied-open : Says calling-said.open.ended calling.open.Reads.Asked calling.open.Reads.Post (λ κs a r ws. ContinuesReplying a.0 (openPhase a.1.0) a.1.1.0.now r ws.1.1.0)
 tied-open = say (λ κs a. tt) (λ κs a r ws p. p)
 
-pub tied_send : Says calling-said.send.ended calling.send.Reads.Asked calling.send.Reads.Post (λ κs a r ws. Continues a.0 (lent sendData a.1.0.now a.1.1.0.now) (gave r a.1.0.now ws.1.1.0))
-tied_send = say (λ κs a. tt) (λ κs a r ws p. p)
+pub tied-send : Says calling-said.send.ended calling.send.Reads.Asked calling.send.Reads.Post (λ κs a r ws. Continues a.0 (lent sendData a.1.0.now a.1.1.0.now) (gave r a.1.0.now ws.1.1.0))
+tied-send = say (λ κs a. tt) (λ κs a r ws p. p)
 
 pub tied-finish : Says calling-said.finish.ended calling.finish.Reads.Asked calling.finish.Reads.Post (λ κs a r ws. ContinuesReplying a.0 (finishTags a.1.0) a.1.1.0.now r ws.1.1.0)
 tied-finish = say (λ κs a. tt) (λ κs a r ws p. p)

@@ -25,8 +25,8 @@ tied-host-frame = by (say (λ κs a. tt) (λ κs a r ws p. p)) (λ κs a r r' ws
 pub tied-open : Tied state-said.Device.open.ended state.Device.open.Reads.Asked state.Device.open.Reads.Post (λ κs a r ws. Given a.0 (lent (openPhase a.1.0) [] a.1.1.0.now) (gave r [] ws.1.1.0))
 tied-open = by (say (λ κs a. tt) (λ κs a r ws p. p)) (λ κs a r r' ws ws' p q. let e = given-once _ _ r r' [] [] ws.1.1.0 ws'.1.1.0 p q in (e.0, λ i. (tt, (tt, (e.1.1 i, tt)))))
 
-pub tied_send : Tied state-said.Device.send.ended state.Device.send.Reads.Asked state.Device.send.Reads.Post (λ κs a r ws. Given a.0 (lent sendData a.1.0.now a.1.1.0.now) (gave r a.1.0.now ws.1.1.0))
-tied_send = by (say (λ κs a. tt) (λ κs a r ws p. p)) (λ κs a r r' ws ws' p q. let e = given-once _ _ r r' a.1.0.now a.1.0.now ws.1.1.0 ws'.1.1.0 p q in (e.0, λ i. (tt, (tt, (e.1.1 i, tt)))))
+pub tied-send : Tied state-said.Device.send.ended state.Device.send.Reads.Asked state.Device.send.Reads.Post (λ κs a r ws. Given a.0 (lent sendData a.1.0.now a.1.1.0.now) (gave r a.1.0.now ws.1.1.0))
+tied-send = by (say (λ κs a. tt) (λ κs a r ws p. p)) (λ κs a r r' ws ws' p q. let e = given-once _ _ r r' a.1.0.now a.1.0.now ws.1.1.0 ws'.1.1.0 p q in (e.0, λ i. (tt, (tt, (e.1.1 i, tt)))))
 
 pub tied-finish : Tied state-said.Device.finish.ended state.Device.finish.Reads.Asked state.Device.finish.Reads.Post (λ κs a r ws. Given a.0 (lent (finishTags a.1.0) [] a.1.1.0.now) (gave r [] ws.1.1.0))
 tied-finish = by (say (λ κs a. tt) (λ κs a r ws p. p)) (λ κs a r r' ws ws' p q. let e = given-once _ _ r r' [] [] ws.1.1.0 ws'.1.1.0 p q in (e.0, λ i. (tt, (tt, (e.1.1 i, tt)))))

@@ -53,5 +53,5 @@ tied-with-tag = named (say (λ κs a. tt) (λ κs a r ws p. p)) (λ κs a ws ws'
 pub tied-without-tags : Tied status-said.without_tags.ended status.without_tags.Reads.Asked status.without_tags.Reads.Post (λ κs a r ws. r ≡ withoutTags a.0 a.1.0)
 tied-without-tags = named (say (λ κs a. tt) (λ κs a r ws p. p)) (λ κs a ws ws'. refl)
 
-pub tied_below : Tied status-said.below.ended status.below.Reads.Asked status.below.Reads.Post (λ κs a r ws. r ≡ a.0 - 1)
-tied_below = named (say (λ κs a. tt) (λ κs a r ws p. p)) (λ κs a ws ws'. refl)
+pub tied-below : Tied status-said.below.ended status.below.Reads.Asked status.below.Reads.Post (λ κs a r ws. r ≡ a.0 - 1)
+tied-below = named (say (λ κs a. tt) (λ κs a r ws p. p)) (λ κs a ws ws'. refl)
