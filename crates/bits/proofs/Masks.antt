@@ -8,7 +8,7 @@ use native.Mathlib.Omega.{arith}
 use lib.Dec.{ltb}
 use borrow.Author.Tests.{ltb-true, ltb-false}
 use mathlib.Core.Bool.{Bool, true, false}
-use lib.Pow.{ones_sub-lt, pow_pos, pow-lt, pow-add, shr-shr, shl-shr, shl_exact, low, split}
+use lib.Pow.{ones_sub-lt, pow_pos, pow-lt, pow-add, shr-shr, shl-shr, shl_exact, split}
 use lib.Bits.{bit_and, bit_or, and_lt, and_block, and_shr, and_mod, or_shr, or_mod, or_shifted}
 
 -- ---- what `|` and `&` do to one bit

@@ -2,7 +2,7 @@
 use mathlib.Core.Path.{◌≡◌, ◌∙◌}
 use mathlib.Core.Bool.{Bool, true, false}
 use mathlib.Core.List.{List, ◌++◌}
-use Prim.Native.Nat.{ℕ, ◌+◌, ◌*◌, ◌%◌, ◌≤◌}
+use Prim.Native.Nat.{ℕ, ◌*◌, ◌%◌}
 use native.Mathlib.Omega.{arith}
 use lib.Bits.{bit_and, bit_or, and_mask, or_shifted}
 use lib.Dec.{lit≤}

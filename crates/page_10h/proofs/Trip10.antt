@@ -11,7 +11,6 @@ use borrow.Author.Tests.{ltb-true, eq-eqb, ne_eqb, eqb-true}
 use Rattle.bits.specs.Pick.{pick}
 use Rattle.bits.specs.Bit.{bitIn}
 use Rattle.bits.specs.First.{first_of}
-use Rattle.bits.proofs.Firsts as firsts
 use Rattle.frame_parts.specs.Shared.{registerBytes, below, taskFits}
 use Rattle.frame_parts.specs.Emit.{WriteGiven}
 use Rattle.frame_parts.specs.declared.shared.Task.{Task}

@@ -1,5 +1,4 @@
 use mathlib.Core.Path.{◌∙◌, sym}
-use Prim.Native.Nat.{◌-◌}
 use native.Mathlib.Omega.{arith}
 use Rattle.page_11h.proofs.Walking.{walk-starts, walk_end, walk-done, walk-next, next-forward}
 use Rattle.page_11h.proofs.page11.walk_page.Goals as goal

@@ -1,6 +1,6 @@
 use Rattle.page_rows.proofs.RowLaws.{id-small}
 use mathlib.Core.Path.{refl, sym, ap, ◌∙◌}
-use Prim.Native.Nat.{ℕ, ◌-◌, ◌<◌}
+use Prim.Native.Nat.{ℕ, ◌<◌}
 use lib.ListN.{get_or}
 use Rattle.page_rows.specs.Made11.{rowBytes}
 use native.Mathlib.Omega.{arith}

@@ -1,4 +1,4 @@
-use borrow.Author.Tests.{not-true, not-false, le-ltb}
+use borrow.Author.Tests.{not-true, not-false}
 use Rattle.bits.specs.Pick.{pick}
 use Rattle.page_rows.specs.Made11.{onRow}
 use Rattle.page_rows.proofs.shown.shown_at.Goals as goal
@@ -10,10 +10,6 @@ returns-in_default c = rw c.in_default.is
 pub returns-then-not-kept : goal.returns-then-not-kept
 unfolding onRow pick
 returns-then-not-kept c = rw (c.in-Row.is, ← c.is_kept-kept.ensures, not-true c.is_kept-kept.result c.if-not-kept.true-raw)
-
-pub returns-then-row-ge16 : goal.returns-then-row-ge16
-unfolding onRow pick
-returns-then-row-ge16 c = rw (c.in-Row.is, le-ltb _ 16 c.if-row-ge16.true)
 
 pub returns : goal.returns
 unfolding onRow pick

@@ -1,6 +1,6 @@
 use lib.ListN.{get_or}
 use mathlib.Core.Path.{◌≡◌, ◌∙◌, ap}
-use Prim.Native.Nat.{ℕ, ◌+◌, ◌-◌, ◌%◌}
+use Prim.Native.Nat.{ℕ, ◌+◌, ◌%◌}
 use native.Mathlib.Omega.{arith}
 use native.Mathlib.Numerals.{add-one}
 use lib.Bits.{and_mask}
@@ -13,29 +13,11 @@ pub loop-i-init : goal.loop-i-init
 unfolding sum_to
 loop-i-init c = search rules
 
-pub bounds-s-i : goal.bounds-s-i
-bounds-s-i c = omega arith
-
-pub overflow_cast-sum : goal.overflow_cast-sum
-overflow_cast-sum c = omega (arith, c.shared_slice_known-1.given c.loop-i.i)
-
-pub overflow_add-sum : goal.overflow_add-sum
-overflow_add-sum c = omega (arith, c.shared_slice_known-1.given c.loop-i.i)
-
-pub overflow_add-i : goal.overflow_add-i
-overflow_add-i c = omega arith
-
-pub loop-i-smaller : goal.loop-i-smaller
-loop-i-smaller c = omega arith
-
 pub loop-i-preserved : goal.loop-i-preserved
 unfolding sum_to
 loop-i-preserved c =
     let l = c.loop-i in
     (omega arith, rw add-one (and_mask (l.sum + get_or c.args.s.now l.i 0) 8 ∙ omega arith))
-
-pub overflow_cast-result : goal.overflow_cast-result
-overflow_cast-result c = omega arith
 
 pub returns : goal.returns
 unfolding sum256
