@@ -1,1 +1,2 @@
 pub mod Bounds
+pub mod Over

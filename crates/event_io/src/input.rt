@@ -2,6 +2,8 @@
 ghost use Rattle.std.specs.Prelude.{◌≡◌, ◌-◌, ◌≤◌, min, length, take, drop};
 ghost use Rattle.event_io.specs.Bounds.{nothingRead, inside, Behind, RefillGiven};
 
+use std::io::Read;
+
 // The most bytes that an event has: a frame of 27h.
 const LONGEST: usize = 20;
 
@@ -44,36 +46,42 @@ fn move_to_front(input: &mut [u8], at: usize, end: usize)
     bits::lay(input, &small[..n]);
 }
 
-// One read behind what is there. A read that fails is told from an end, since it keeps bytes from us.
-fn read_more(fd: i32, input: &mut [u8], from: usize) -> Window
+// One read behind what is there. A read that fails, be it that a signal broke it off, is told from an end, since it keeps
+// bytes from us.
+fn read_more<R: Read>(reader: &mut R, input: &mut [u8], from: usize) -> Window
     requires { from ≤ length input.old }
     ensures { Behind from input.old result input.new }
 {
-    let got = libc::read(fd, &mut input[from..]);
-    let n = io::count(got, &input[from..]);
-    let end = from + n;
-    Window {
-        at: 0,
-        end,
-        ended: got <= 0,
-        failed: got < 0,
+    match reader.read(&mut input[from..]) {
+        Ok(n) => Window {
+            at: 0,
+            end: from + n,
+            ended: n == 0,
+            failed: false,
+        },
+        Err(_) => Window {
+            at: 0,
+            end: from,
+            ended: true,
+            failed: true,
+        },
     }
 }
 
 // Reads until a whole event is there, of whatever kind, or nothing more comes. Each read that is no end brings a byte, so
 // that no more reads are needed than an event has bytes.
-fn read_event(fd: i32, input: &mut [u8], kept: usize) -> Window
+fn read_event<R: Read>(reader: &mut R, input: &mut [u8], kept: usize) -> Window
     requires { kept ≤ length input.old }
     ensures { Behind kept input.old result input.new }
 {
-    let mut window = read_more(fd, input, kept);
+    let mut window = read_more(reader, input, kept);
     let mut turns: usize = LONGEST;
     while 0 < turns {
         let end = window.end;
         if window.ended | (LONGEST <= end) {
             return window;
         }
-        let more = read_more(fd, input, end);
+        let more = read_more(reader, input, end);
         window = more;
         turns -= 1;
     }
@@ -95,7 +103,7 @@ fn inside_of(last: Window, n: usize) -> Window
 }
 
 // The same window where it has a whole event, or else another, with what was left and what is read behind it.
-pub fn refill(fd: i32, input: &mut [u8], last: Window) -> Window
+pub fn refill<R: Read>(reader: &mut R, input: &mut [u8], last: Window) -> Window
     ensures { RefillGiven (inside last (length input.old)) input.old result input.new }
 {
     let window = inside_of(last, input.len());
@@ -109,5 +117,5 @@ pub fn refill(fd: i32, input: &mut [u8], last: Window) -> Window
         return window;
     }
     move_to_front(input, at, end);
-    read_event(fd, input, kept)
+    read_event(reader, input, kept)
 }

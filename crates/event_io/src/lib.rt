@@ -1,4 +1,4 @@
-// An event file read and its lines written, in large pieces: a window over a descriptor, and the output. No public function has a `requires`.
+// An event file read and its lines written, in large pieces: a window over a reader, and the output. No public function has a `requires`.
 #![tactic(auto)]
 
 mod input;

@@ -3,7 +3,7 @@ ghost use Rattle.std.specs.Prelude.{◌≡◌, ◌+◌, ◌-◌, ◌≤◌, min,
 ghost use Rattle.bits.specs.Pick.{pick};
 
 use crate::input::least;
-use libc::{STDERR_FILENO, STDOUT_FILENO};
+use std::io::Write;
 
 // More than the longest line: a traced data frame has 8,196 bytes, two digits each.
 const ROOM: usize = 32768;
@@ -16,17 +16,16 @@ pub struct LinePlace {
 }
 
 // Behind the other lines, or in front again once these are written.
-pub fn next_place(output: &[u8], filled: usize) -> LinePlace
+pub fn next_place<W: Write>(out: &mut W, output: &[u8], filled: usize) -> LinePlace
     ensures { result.at ≤ length output.now }
 {
     let n = least(filled, output.len());
     if ROOM <= output.len() - n {
         return LinePlace { at: n, lost: false };
     }
-    let written = io::write_all(STDOUT_FILENO, &output[0..n]);
     LinePlace {
         at: 0,
-        lost: !written,
+        lost: out.write_all(&output[0..n]).is_err(),
     }
 }
 
@@ -42,18 +41,18 @@ pub fn behind(from: usize, n: usize, size: usize) -> usize
 }
 
 // Lines that are missing are no good news: a run whose output fails says so where it still can, and ends.
-pub fn complain() {
-    io::write_all(STDERR_FILENO, b"output failed: lines are missing\n");
+pub fn complain<E: Write>(errors: &mut E) {
+    let _ = errors.write_all(b"output failed: lines are missing\n");
 }
 
-// What is left is written, and `stop` where the run ends so.
-pub fn close(output: &[u8], filled: usize, stop: bool) {
+// What is left is written, and `stop` where the run ends so. Whether all of it could be.
+pub fn close<W: Write>(out: &mut W, output: &[u8], filled: usize, stop: bool) -> bool {
     let n = least(filled, output.len());
-    let mut written = io::write_all(STDOUT_FILENO, &output[0..n]);
-    if written & stop {
-        written = io::write_all(STDOUT_FILENO, b"stop\n");
+    if out.write_all(&output[0..n]).is_err() {
+        return false;
     }
-    if !written {
-        complain();
+    if stop {
+        return out.write_all(b"stop\n").is_ok();
     }
+    true
 }

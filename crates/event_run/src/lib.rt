@@ -1,4 +1,4 @@
-// The run of an event file, from a descriptor to standard output: one event after the other.
+// The run of an event file, from a reader to a writer: one event after the other.
 #![tactic(auto)]
 
 mod running;

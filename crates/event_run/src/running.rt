@@ -6,6 +6,7 @@ ghost use Rattle.event_io.specs.Bounds.{WithinBuffer};
 use device::Device;
 use event_io::{Window, behind, close, complain, next_place, refill, unread};
 use event_kinds::Next;
+use std::io::{Read, Write};
 
 // The device between two events, and how far the output buffer is filled.
 #[derive(Clone, Copy)]
@@ -47,9 +48,11 @@ fn one(
     }
 }
 
-// The events behind the settings record. A proved loop has to end: this one does at the last line number that 64 bits hold.
-fn play_on(
-    fd: i32,
+// The events behind the settings record, and whether all of their lines could be written. A proved loop has to end: this one does at the
+// last line number that 64 bits hold.
+fn play_on<R: Read, W: Write>(
+    reader: &mut R,
+    out: &mut W,
     traced: bool,
     first: Step,
     rest: Window,
@@ -57,23 +60,22 @@ fn play_on(
     medium: &mut [u8],
     reply: &mut [u8],
     output: &mut [u8],
-)
+) -> bool
     requires { WithinBuffer rest (length input.old) }
 {
     let mut step = first;
     let mut window = rest;
     let mut number: u64 = 1;
     while number < u64::MAX {
-        let more = refill(fd, input, window);
+        let more = refill(reader, input, window);
         let at = more.at;
         let end = more.end;
         let filled = step.filled;
         match event_kinds::next_event(false, &input[at..end]) {
             Next::Whole(n) => {
-                let place = next_place(output, filled);
+                let place = next_place(out, output, filled);
                 if place.lost {
-                    complain();
-                    return;
+                    return false;
                 }
                 let from = place.at;
                 let to = at + n;
@@ -97,34 +99,33 @@ fn play_on(
                 };
             }
             Next::Stop => {
-                close(output, filled, true);
-                return;
+                return close(out, output, filled, true);
             }
             Next::End => {
-                close(output, filled, more.failed);
-                return;
+                return close(out, output, filled, more.failed);
             }
         }
         number += 1;
     }
     let filled = step.filled;
-    close(output, filled, true);
+    close(out, output, filled, true)
 }
 
-fn run_over(
-    fd: i32,
+// The settings record and what follows, and whether all lines could be written.
+fn run_over<R: Read, W: Write>(
+    reader: &mut R,
+    out: &mut W,
     traced: bool,
     input: &mut [u8],
     medium: &mut [u8],
     reply: &mut [u8],
     output: &mut [u8],
-) {
-    let window = refill(fd, input, unread());
+) -> bool {
+    let window = refill(reader, input, unread());
     let at = window.at;
     let end = window.end;
     let Next::Whole(n) = event_kinds::next_event(true, &input[at..end]) else {
-        close(output, 0, true);
-        return;
+        return close(out, output, 0, true);
     };
     let to = at + n;
     let room = output.len();
@@ -134,13 +135,11 @@ fn run_over(
     let refusal = told.refusal;
     let state = told.state;
     if refusal != 0 {
-        close(output, filled, false);
-        return;
+        return close(out, output, filled, false);
     }
     let size = Device::SECTOR_SIZE * (state.settings.capacity as usize);
     if medium.len() < size {
-        close(output, filled, true);
-        return;
+        return close(out, output, filled, true);
     }
     let rest = Window {
         at: to,
@@ -150,7 +149,8 @@ fn run_over(
     };
     let first = Step { state, filled };
     play_on(
-        fd,
+        reader,
+        out,
         traced,
         first,
         rest,
@@ -158,26 +158,47 @@ fn run_over(
         &mut medium[0..size],
         reply,
         output,
-    );
+    )
 }
 
-// All events of a descriptor, each with its line on standard output, read by way of the buffer lent.
-fn run_by(fd: i32, traced: bool, input: &mut [u8]) {
-    let mut output = io::large_buffer();
+// All events of a reader, each with its line to a writer, read by way of the buffer lent. Lines that are missing are told.
+fn run_by<R: Read, W: Write, E: Write>(
+    reader: &mut R,
+    out: &mut W,
+    errors: &mut E,
+    traced: bool,
+    input: &mut [u8],
+) {
+    let mut output = [0u8; 65536];
     // at most 64 sectors, zeros at the start
     let mut medium = [0u8; 32768];
     let mut reply = [0u8; 8196];
-    run_over(fd, traced, input, &mut medium, &mut reply, &mut output);
+    if !run_over(
+        reader,
+        out,
+        traced,
+        input,
+        &mut medium,
+        &mut reply,
+        &mut output,
+    ) {
+        complain(errors);
+    }
 }
 
-// All events of a descriptor, each with its line on standard output.
-pub fn run(fd: i32, traced: bool) {
-    let mut input = io::large_buffer();
-    run_by(fd, traced, &mut input);
+// All events of a reader, each with its line to a writer.
+pub fn run<R: Read, W: Write, E: Write>(reader: &mut R, out: &mut W, errors: &mut E, traced: bool) {
+    let mut input = [0u8; 65536];
+    run_by(reader, out, errors, traced, &mut input);
 }
 
 // The same by way of a buffer that hardly holds an event, so that most events are put together from two reads.
-pub fn run_in_pieces(fd: i32, traced: bool) {
+pub fn run_in_pieces<R: Read, W: Write, E: Write>(
+    reader: &mut R,
+    out: &mut W,
+    errors: &mut E,
+    traced: bool,
+) {
     let mut input = [0u8; 23];
-    run_by(fd, traced, &mut input);
+    run_by(reader, out, errors, traced, &mut input);
 }

@@ -9,7 +9,10 @@ ghost use Rattle.read_page.specs.Lines.{pageText, PageTextGiven};
 mod input;
 mod output;
 
-use output::show;
+use output::{complain, show};
+use std::io;
+use std::io::{Read, Write};
+use std::rt::Env;
 
 #[derive(Clone, Copy)]
 enum Page {
@@ -28,22 +31,21 @@ fn put_page(out: &mut [u8], which: Page, page: &[u8]) -> usize
     }
 }
 
-fn show_page(which: Page, page: &[u8]) {
-    let mut out = [0u8; 1024];
-    let n = put_page(&mut out, which, page);
-    show(&out[0..n]);
+fn show_page<W: Write>(out: &mut W, which: Page, page: &[u8]) -> io::Result<()> {
+    let mut text = [0u8; 1024];
+    let n = put_page(&mut text, which, page);
+    show(out, &text[0..n])
 }
 
 // Of a page that is not 512 bytes long one byte more shows that it is too long.
-fn answer_page(which: Page) {
+fn answer_page<R: Read, W: Write>(reader: &mut R, out: &mut W, which: Page) -> io::Result<()> {
     let mut page = [0u8; 513];
-    let input = input::read_all(libc::STDIN_FILENO, &mut page);
+    let input = input::read_all(reader, &mut page);
     if input.failed {
-        show(b"stop\n");
-        return;
+        return show(out, b"stop\n");
     }
     let n = input.len;
-    show_page(which, &page[0..n]);
+    show_page(out, which, &page[0..n])
 }
 
 // Whether two words of at most eight bytes are the same, as the names of the pages are.
@@ -52,21 +54,25 @@ fn is_word(s: &[u8], w: &[u8]) -> bool {
     same & (s.len() == w.len())
 }
 
-// The word is looked at before anything is read: without a page's name nobody waits for one.
-fn answer(word: &[u8]) {
+// The word is looked at before anything is read: without a page's name nobody waits for one. The one error is of a write.
+fn answer<R: Read, W: Write>(reader: &mut R, out: &mut W, word: &[u8]) -> io::Result<()> {
     if is_word(word, b"10") {
-        answer_page(Page::Errors);
-        return;
+        return answer_page(reader, out, Page::Errors);
     }
     if is_word(word, b"11") {
-        answer_page(Page::Counters);
-        return;
+        return answer_page(reader, out, Page::Counters);
     }
-    show(b"page 10 or 11?\n");
+    show(out, b"page 10 or 11?\n")
 }
 
-fn main() {
-    let mut word = io::buffer();
-    let n = os::arg(1, &mut word);
-    answer(&word[0..n]);
+// No argument, or one that no buffer of this size holds, names no page.
+fn main(rt: HostRuntime) {
+    let mut word = [0u8; 4096];
+    let n = match rt.arg(1, &mut word) {
+        Ok(n) => n,
+        Err(_) => 0,
+    };
+    if answer(&mut rt.stdin(), &mut rt.stdout(), &word[0..n]).is_err() {
+        complain(&mut rt.stderr());
+    }
 }

@@ -1,13 +1,12 @@
 // Output in one piece, which is there as a whole or is missed aloud.
-use libc::{STDERR_FILENO, STDOUT_FILENO};
+use std::io;
+use std::io::Write;
 
 // Lines that are missing are no good news: a run whose output fails says so where it still can.
-fn complain() {
-    io::write_all(STDERR_FILENO, b"output failed: lines are missing\n");
+pub fn complain<E: Write>(errors: &mut E) {
+    let _ = errors.write_all(b"output failed: lines are missing\n");
 }
 
-pub fn show(text: &[u8]) {
-    if !io::write_all(STDOUT_FILENO, text) {
-        complain();
-    }
+pub fn show<W: Write>(out: &mut W, text: &[u8]) -> io::Result<()> {
+    out.write_all(text)
 }

@@ -1,6 +1,6 @@
 // Runs an event file: standard input to standard output, one line an event.
 #![tactic(auto)]
 
-fn main() {
-    event_run::run(libc::STDIN_FILENO, false);
+fn main(rt: HostRuntime) {
+    event_run::run(&mut rt.stdin(), &mut rt.stdout(), &mut rt.stderr(), false);
 }

@@ -4,12 +4,14 @@ ghost use Rattle.std.specs.Prelude.{◌≤◌};
 use crate::{fills, lines};
 use device::{Device, Outcome};
 use frame_parts::byte_of;
+use std::io;
+use std::io::Write;
 use vector_io::{four, two};
 
-fn too_long(state: Device) -> Device {
-    vector_io::word(b"too long");
-    vector_io::line();
-    state
+fn too_long<W: Write>(out: &mut W, state: Device) -> io::Result<Device> {
+    vector_io::word(out, b"too long")?;
+    vector_io::line(out)?;
+    Ok(state)
 }
 
 // How many bytes of the medium a call is lent, and how many its frame has.
@@ -48,26 +50,39 @@ fn called(op: u8, state: Device, r: &[u8], n: usize, medium: &mut [u8], reply: &
     }
 }
 
-fn call_with(op: u8, state: Device, r: &[u8], medium: &mut [u8], reply: &mut [u8]) -> Device {
+fn call_with<W: Write>(
+    out: &mut W,
+    op: u8,
+    state: Device,
+    r: &[u8],
+    medium: &mut [u8],
+    reply: &mut [u8],
+) -> io::Result<Device> {
     let room = two(r, 1) as usize;
     let m = medium_size(op, r);
     let n = frame_size(op, r);
     if reply.len() < room {
-        return too_long(state);
+        return too_long(out, state);
     }
     if medium.len() < m {
-        return too_long(state);
+        return too_long(out, state);
     }
     if 8300 < n {
-        return too_long(state);
+        return too_long(out, state);
     }
     // parts that name their start: their lengths then need no proof
-    let out = called(op, state, r, n, &mut medium[0..m], &mut reply[0..room]);
-    lines::say_long(op, out, medium, reply)
+    let answer = called(op, state, r, n, &mut medium[0..m], &mut reply[0..room]);
+    lines::say_long(out, op, answer, medium, reply)
 }
 
-pub fn call(op: u8, state: Device, r: &[u8], medium: &mut [u8]) -> Device {
+pub fn call<W: Write>(
+    out: &mut W,
+    op: u8,
+    state: Device,
+    r: &[u8],
+    medium: &mut [u8],
+) -> io::Result<Device> {
     // every byte is EEh, so that a byte that a call changed shows
     let mut reply = [0xEEu8; 8300];
-    call_with(op, state, r, medium, &mut reply)
+    call_with(out, op, state, r, medium, &mut reply)
 }

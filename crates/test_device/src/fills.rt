@@ -1,11 +1,10 @@
 // Bytes that a record does not hold, but says how they count up: the medium's, and those of a long frame.
-use std::num::wrapping_add_u8;
 
 // The byte at i, from the one before it: a step each time, and a jump more where a sector begins.
 fn next_byte(b: u8, i: usize, step: u8, jump: u8) -> u8 {
-    let next = wrapping_add_u8(b, step);
+    let next = b.wrapping_add(step);
     if i % 512 == 0 {
-        return wrapping_add_u8(next, jump);
+        return next.wrapping_add(jump);
     }
     next
 }

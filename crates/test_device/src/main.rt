@@ -9,22 +9,28 @@ mod fills;
 mod lines;
 mod parts;
 
-fn run(medium: &mut [u8]) {
+use std::io;
+use std::io::{BufReader, BufWriter, Read, Write};
+
+fn run<R: Read, W: Write>(input: &mut R, out: &mut W, medium: &mut [u8]) -> io::Result<()> {
     let mut state = parts::blank();
-    let mut turns: u64 = 1000000;
-    while turns > 0 {
+    for _ in 0..1000000u64 {
         let mut record = [0u8; 32];
-        if !vector_io::read_case(&mut record) {
-            return;
+        if !vector_io::read_case(input, out, &mut record)? {
+            return Ok(());
         }
-        let next = answers::answer(state, &record, medium);
-        state = next;
-        turns -= 1;
+        state = answers::answer(out, state, &record, medium)?;
     }
+    Ok(())
 }
 
-fn main() {
+fn main(rt: HostRuntime) -> io::Result<()> {
     // 512 sectors
     let mut medium = [0u8; 262144];
-    run(&mut medium);
+    let mut input = BufReader::new(rt.alloc(), rt.stdin())?;
+    let mut out = BufWriter::new(rt.alloc(), rt.stdout())?;
+    // what was answered is written, also before a read that fails
+    let ran = run(&mut input, &mut out, &mut medium);
+    out.flush()?;
+    ran
 }

@@ -2,7 +2,9 @@
 // with its input in pieces.
 #![tactic(auto)]
 
-use libc::STDOUT_FILENO;
+use std::io::{Read, Write};
+use std::rt::Env;
+use std::{fs, io};
 
 #[derive(Clone, Copy)]
 enum Way {
@@ -11,43 +13,56 @@ enum Way {
     Pieces,
 }
 
-fn run_by(fd: i32, way: Way) {
+fn run_by<F: Read>(rt: HostRuntime, file: &mut F, way: Way) {
+    let mut out = rt.stdout();
+    let mut errors = rt.stderr();
     match way {
-        Way::Lines => event_run::run(fd, false),
-        Way::Traced => event_run::run(fd, true),
-        Way::Pieces => event_run::run_in_pieces(fd, false),
+        Way::Lines => event_run::run(file, &mut out, &mut errors, false),
+        Way::Traced => event_run::run(file, &mut out, &mut errors, true),
+        Way::Pieces => event_run::run_in_pieces(file, &mut out, &mut errors, false),
     }
 }
 
 // A file that cannot be opened is told from one whose run stops.
-fn run_file(path: &[u8], way: Way) {
-    let fd = os::open_read(path);
-    if fd < 0 {
-        io::write_all(STDOUT_FILENO, b"cannot be opened\n");
-        return;
+fn run_file(rt: HostRuntime, path: &str, way: Way) -> io::Result<()> {
+    match fs::open(&rt, path) {
+        Ok(file) => {
+            let mut file = file;
+            run_by(rt, &mut file, way);
+            Ok(())
+        }
+        Err(_) => rt.stdout().write_all(b"cannot be opened\n"),
     }
-    run_by(fd, way);
-    libc::close(fd);
 }
 
 // One argument, and whether there was one.
-fn run_argument(k: usize) -> bool {
-    let mut path = io::buffer();
-    let n = os::arg(k, &mut path);
+fn run_argument(rt: HostRuntime, k: usize) -> io::Result<bool> {
+    let mut room = [0u8; 4096];
+    let n = match rt.arg(k, &mut room) {
+        Ok(n) => n,
+        Err(_) => 0,
+    };
     if n == 0 {
-        return false;
+        return Ok(false);
     }
-    io::write_all(STDOUT_FILENO, &path[0..n]);
-    io::write_all(STDOUT_FILENO, b"\n");
-    run_file(&path[0..n], Way::Lines);
-    run_file(&path[0..n], Way::Traced);
-    run_file(&path[0..n], Way::Pieces);
-    true
+    let mut out = rt.stdout();
+    out.write_all(&room[0..n])?;
+    out.write_all(b"\n")?;
+    let Ok(path) = str::from_utf8(&room[0..n]) else {
+        out.write_all(b"cannot be opened\n")?;
+        return Ok(true);
+    };
+    run_file(rt, path, Way::Lines)?;
+    run_file(rt, path, Way::Traced)?;
+    run_file(rt, path, Way::Pieces)?;
+    Ok(true)
 }
 
-fn main() {
-    let mut k: usize = 1;
-    while k < 100000 && run_argument(k) {
-        k += 1;
+fn main(rt: HostRuntime) -> io::Result<()> {
+    for k in 1..100000usize {
+        if !run_argument(rt, k)? {
+            return Ok(());
+        }
     }
+    Ok(())
 }

@@ -1,16 +1,19 @@
 // The reading ops: a frame, page 10h, page 11h, and the cut of several frames.
 use frames::{DevReg, DmaSetup, Frame, HostReg, PioSetup, SetBits};
 use page_10h::{ErrorLog, Page10};
+use std::io;
+use std::io::Write;
 use vector_io::{next, number, word};
 
 // 0 for a taken reading, and the first n of its fields.
-fn fields(n: usize, v: [u64; 12]) {
-    number(0);
+fn fields<W: Write>(out: &mut W, n: usize, v: [u64; 12]) -> io::Result<()> {
+    number(out, 0)?;
     let mut i: usize = 0;
     while i < 12 && i < n {
-        next(v[i]);
+        next(out, v[i])?;
         i += 1;
     }
+    Ok(())
 }
 
 // The kind and the fields of a frame, as numbers.
@@ -102,17 +105,17 @@ fn pio(f: PioSetup) -> [u64; 12] {
     ]
 }
 
-pub fn say_frame(s: &[u8]) {
+pub fn say_frame<W: Write>(out: &mut W, s: &[u8]) -> io::Result<()> {
     match frames::read_frame(s) {
-        Frame::Host(f) => fields(9, host(f)),
-        Frame::Device(f) => fields(7, device(f)),
-        Frame::Bits(f) => fields(5, set_bits(f)),
-        Frame::Setup(f) => fields(7, setup(f)),
-        Frame::Activate => fields(1, [57, 0, 0, 0, 0, 0, 0, 0, 0, 0, 0, 0]),
-        Frame::Data(n) => fields(2, [70, n as u64, 0, 0, 0, 0, 0, 0, 0, 0, 0, 0]),
-        Frame::Bist => fields(1, [88, 0, 0, 0, 0, 0, 0, 0, 0, 0, 0, 0]),
-        Frame::Pio(f) => fields(10, pio(f)),
-        Frame::Refused => number(24),
+        Frame::Host(f) => fields(out, 9, host(f)),
+        Frame::Device(f) => fields(out, 7, device(f)),
+        Frame::Bits(f) => fields(out, 5, set_bits(f)),
+        Frame::Setup(f) => fields(out, 7, setup(f)),
+        Frame::Activate => fields(out, 1, [57, 0, 0, 0, 0, 0, 0, 0, 0, 0, 0, 0]),
+        Frame::Data(n) => fields(out, 2, [70, n as u64, 0, 0, 0, 0, 0, 0, 0, 0, 0, 0]),
+        Frame::Bist => fields(out, 1, [88, 0, 0, 0, 0, 0, 0, 0, 0, 0, 0, 0]),
+        Frame::Pio(f) => fields(out, 10, pio(f)),
+        Frame::Refused => number(out, 24),
     }
 }
 
@@ -134,42 +137,42 @@ fn log(f: ErrorLog) -> [u64; 12] {
     ]
 }
 
-pub fn say_log(s: &[u8]) {
+pub fn say_log<W: Write>(out: &mut W, s: &[u8]) -> io::Result<()> {
     match page_10h::read_log(s) {
-        Page10::Fields(f) => fields(7, log(f)),
-        Page10::Refused(n) => number(n as u64),
+        Page10::Fields(f) => fields(out, 7, log(f)),
+        Page10::Refused(n) => number(out, n as u64),
     }
 }
 
-pub fn say_counter(s: &[u8], asked: u16) {
-    vector_io::counter(page_11h::read_counter(s, asked));
+pub fn say_counter<W: Write>(out: &mut W, s: &[u8], asked: u16) -> io::Result<()> {
+    vector_io::counter(out, page_11h::read_counter(s, asked))
 }
 
-fn say_piece(first: bool, kind: u8, n: usize) {
+fn say_piece<W: Write>(out: &mut W, first: bool, kind: u8, n: usize) -> io::Result<()> {
     if !first {
-        word(b" ");
+        word(out, b" ")?;
     }
-    number(kind as u64);
-    word(b":");
-    number(n as u64);
+    number(out, kind as u64)?;
+    word(out, b":")?;
+    number(out, n as u64)
 }
 
 // The pieces of s, each as its kind and its length.
-pub fn say_cut(s: &[u8]) {
+pub fn say_cut<W: Write>(out: &mut W, s: &[u8]) -> io::Result<()> {
     if s.len() == 0 {
-        word(b"none");
-        return;
+        return word(out, b"none");
     }
     let mut at: usize = 0;
     while at < s.len() {
         let n = frame_parts::cut_first(&s[at..]);
         if n == 0 {
-            return;
+            return Ok(());
         }
         if n > s.len() - at {
-            return;
+            return Ok(());
         }
-        say_piece(at == 0, s[at], n);
+        say_piece(out, at == 0, s[at], n)?;
         at += n;
     }
+    Ok(())
 }

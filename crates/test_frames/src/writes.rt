@@ -4,6 +4,8 @@ ghost use Rattle.std.specs.Prelude.{◌≡◌, ◌≤◌, ◌<◌, length};
 use frame_parts::{Task, Written};
 use frames::{DevReg, DmaSetup, HostReg, PioSetup, SetBits};
 use page_10h::ErrorLog;
+use std::io;
+use std::io::Write;
 use vector_io::{four, hex, next, number, two};
 
 // Room for the longest input and for the longest frame.
@@ -19,11 +21,11 @@ fn wide(b: u8) -> u32
     b as u32
 }
 
-fn say_written(w: Written, buf: &[u8]) {
-    number(w.number as u64);
-    next(w.len as u64);
-    next(vector_io::digest(0, buf, 31, 65521));
-    hex(buf, 32);
+fn say_written<W: Write>(out: &mut W, w: Written, buf: &[u8]) -> io::Result<()> {
+    number(out, w.number as u64)?;
+    next(out, w.len as u64)?;
+    next(out, vector_io::digest(0, buf, 31, 65521))?;
+    hex(out, buf, 32)
 }
 
 fn byte(s: &[u8], k: usize) -> u8 {
@@ -143,12 +145,19 @@ fn write_kind(buf: &mut [u8], kind: u8, s: &[u8], n: usize, first: u8) -> Writte
     }
 }
 
-pub fn say_frame(buf: &mut [u8], kind: u8, s: &[u8], n: usize, first: u8) {
+pub fn say_frame<W: Write>(
+    out: &mut W,
+    buf: &mut [u8],
+    kind: u8,
+    s: &[u8],
+    n: usize,
+    first: u8,
+) -> io::Result<()> {
     let w = write_kind(buf, kind, s, n, first);
-    say_written(w, buf);
+    say_written(out, w, buf)
 }
 
-pub fn say_log(buf: &mut [u8], s: &[u8]) {
+pub fn say_log<W: Write>(out: &mut W, buf: &mut [u8], s: &[u8]) -> io::Result<()> {
     let t = task(s, 4);
     let w = page_10h::write_log(
         buf,
@@ -160,10 +169,10 @@ pub fn say_log(buf: &mut [u8], s: &[u8]) {
             task: t,
         },
     );
-    say_written(w, buf);
+    say_written(out, w, buf)
 }
 
-pub fn say_counters(buf: &mut [u8], s: &[u8]) {
+pub fn say_counters<W: Write>(out: &mut W, buf: &mut [u8], s: &[u8]) -> io::Result<()> {
     let mut values = [0u32; 16];
     let mut row: usize = 0;
     while row < 16 {
@@ -171,5 +180,5 @@ pub fn say_counters(buf: &mut [u8], s: &[u8]) {
         row += 1;
     }
     let w = page_rows::write_counters(buf, two(s, 0), values);
-    say_written(w, buf);
+    say_written(out, w, buf)
 }

@@ -1,6 +1,6 @@
 // Runs an event file as run_events does, each reply with its bytes.
 #![tactic(auto)]
 
-fn main() {
-    event_run::run(libc::STDIN_FILENO, true);
+fn main(rt: HostRuntime) {
+    event_run::run(&mut rt.stdin(), &mut rt.stdout(), &mut rt.stderr(), true);
 }

@@ -1,4 +1,4 @@
-// What the programs of the vectors share: the cases that they read, and the numbers, words, bytes and digests that they print.
+// What the programs of the vectors share: the cases that they read, and the numbers, words, bytes and digests that they write.
 #![tactic(auto)]
 
 mod digests;

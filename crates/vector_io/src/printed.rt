@@ -1,43 +1,44 @@
-// Numbers, words and bytes on standard output.
+// Numbers, words and bytes, each to a writer. A write that fails is handed on to the caller.
 ghost use Rattle.std.specs.Prelude.{◌≤◌};
 
-use libc::STDOUT_FILENO;
 use page_rows::Counter;
+use std::io;
+use std::io::Write;
 
-pub fn line() {
-    io::write_all(STDOUT_FILENO, b"\n");
+pub fn line<W: Write>(out: &mut W) -> io::Result<()> {
+    out.write_all(b"\n")
 }
 
-pub fn word(s: &[u8]) {
-    io::write_all(STDOUT_FILENO, s);
+pub fn word<W: Write>(out: &mut W, s: &[u8]) -> io::Result<()> {
+    out.write_all(s)
 }
 
-pub fn number(n: u64) {
-    io::print_decimal(STDOUT_FILENO, n);
+pub fn number<W: Write>(out: &mut W, n: u64) -> io::Result<()> {
+    write!(out, "{n}")
 }
 
 // A blank, and a number.
-pub fn next(n: u64) {
-    io::write_all(STDOUT_FILENO, b" ");
-    io::print_decimal(STDOUT_FILENO, n);
+pub fn next<W: Write>(out: &mut W, n: u64) -> io::Result<()> {
+    write!(out, " {n}")
 }
 
-pub fn counter(c: Counter) {
+pub fn counter<W: Write>(out: &mut W, c: Counter) -> io::Result<()> {
     match c {
         Counter::Value(v) => {
-            word(b"0 value");
-            next(v);
+            word(out, b"0 value")?;
+            next(out, v)
         }
-        Counter::Absent => word(b"0 absent"),
-        Counter::Refused(n) => number(n as u64),
+        Counter::Absent => word(out, b"0 absent"),
+        Counter::Refused(n) => number(out, n as u64),
     }
 }
 
 // The text in front of a sheet, up to its end; one that was cut is not printed.
-fn sheet_to(sheet: &[u8], end: usize) {
+fn sheet_to<W: Write>(out: &mut W, sheet: &[u8], end: usize) -> io::Result<()> {
     if end <= sheet.len() {
-        io::write_all(STDOUT_FILENO, &sheet[0..end]);
+        return word(out, &sheet[0..end]);
     }
+    Ok(())
 }
 
 // The lower of two.
@@ -48,27 +49,27 @@ fn lower(a: usize, b: usize) -> usize
 }
 
 // The first bytes of s, at most `most` and 64, in lower-case hex.
-pub fn bytes(s: &[u8], most: usize) {
+pub fn bytes<W: Write>(out: &mut W, s: &[u8], most: usize) -> io::Result<()> {
     let mut sheet = [0u8; 128];
     let few = lower(most, 64);
     let n = lower(few, s.len());
     let end = text::put_hex(&mut sheet, 0, &s[0..n], false);
-    sheet_to(&sheet, end);
+    sheet_to(out, &sheet, end)
 }
 
 // The same behind a blank; of no bytes, nothing at all.
-pub fn hex(s: &[u8], most: usize) {
+pub fn hex<W: Write>(out: &mut W, s: &[u8], most: usize) -> io::Result<()> {
     if s.len() == 0 {
-        return;
+        return Ok(());
     }
-    word(b" ");
-    bytes(s, most);
+    word(out, b" ")?;
+    bytes(out, s, most)
 }
 
 // A blank, and the eight upper-case hex digits of n.
-pub fn upper(n: u32) {
+pub fn upper<W: Write>(out: &mut W, n: u32) -> io::Result<()> {
     let mut sheet = [0u8; 9];
     let mid = text::put_byte(&mut sheet, 0, b' ');
     let end = text::put_upper8(&mut sheet, mid, n);
-    sheet_to(&sheet, end);
+    sheet_to(out, &sheet, end)
 }

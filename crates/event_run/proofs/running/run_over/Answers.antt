@@ -1,21 +1,23 @@
-use mathlib.Core.Path.{◌∙◌}
-use native.Mathlib.Omega.{arith}
+use Rattle.std.proofs.Common.{arith}
+use mathlib.Core.Path.{refl}
 use Rattle.event_run.proofs.Fits.{part-fits}
 use Rattle.event_run.proofs.running.run_over.Goals as goal
 
+-- the settings record ends with what was read or before
 pub overflow_add-to : goal.overflow_add-to
-overflow_add-to c = let f = part-fits _ c.refill-arg-1.new.1.0 c.refill-arg-1.result.at c.refill-arg-1.result.end c.in-Whole.n _ c.refill-arg-1.ensures.within.order c.refill-arg-1.ensures.within.bound c.next_event.ensures c.in-Whole.is in omega arith
+overflow_add-to g c =
+    let w = c.refill-window.ensures.within in
+    let f = part-fits _ c.refill-window.new.input c.refill-window.result.at c.refill-window.result.end c.in-Whole.n _ w.order w.bound c.in-Whole.ensures refl in
+    omega (arith, f)
 
 pub slice_bounds-start_line-end : goal.slice_bounds-start_line-end
-slice_bounds-start_line-end c =
-    let f = part-fits _ c.refill-arg-1.new.1.0 c.refill-arg-1.result.at c.refill-arg-1.result.end c.n-1.given.0.0 _ c.refill-arg-1.ensures.within.order c.refill-arg-1.ensures.within.bound c.next_event-arg-1.ensures c.n-1.given.1 in
-    omega (arith, c.refill-arg-1.ensures.within.bound)
-
-pub shape_of-input-then-medium-size : goal.shape_of-input-then-medium-size
-shape_of-input-then-medium-size c = c.refill-arg-1.auto.1.0
+slice_bounds-start_line-end g c =
+    let w = c.refill-window.ensures.within in
+    let f = part-fits _ c.refill-window.new.input c.refill-window.result.at c.refill-window.result.end c.in-Whole.n _ w.order w.bound c.in-Whole.ensures refl in
+    omega (arith, f, w.bound)
 
 pub play_on-requires : goal.play_on-requires
-play_on-requires c = record { order = part-fits _ c.refill-arg-1.new.1.0 c.refill-arg-1.result.at c.refill-arg-1.result.end c.n-1.given.0.0 _ c.refill-arg-1.ensures.within.order c.refill-arg-1.ensures.within.bound c.next_event-arg-1.ensures c.n-1.given.1; bound = c.refill-arg-1.ensures.within.bound }
-
-pub shape_of-input : goal.shape_of-input
-shape_of-input c = c.play_on.auto.1.1.1.1.0 ∙ c.refill-arg-1.auto.1.0
+play_on-requires g c =
+    let w = c.refill-window.ensures.within in
+    let f = part-fits _ c.refill-window.new.input c.refill-window.result.at c.refill-window.result.end c.in-Whole.n _ w.order w.bound c.in-Whole.ensures refl in
+    record { order = f; bound = w.bound }

@@ -1,11 +1,7 @@
-use mathlib.Core.Path.{sym, refl}
+use mathlib.Core.Path.{sym}
 use native.Mathlib.Omega.{arith}
 use lib.Seq.{length-take-le}
 use Rattle.test_frames.proofs.answers.write_case.Goals as goal
 
--- LOST slice-aggregate-word
--- slice-aggregate-word : tie.Need-slice-aggregate-word
--- slice-aggregate-word c = refl
-
 pub slice_bounds-buf-end : goal.slice_bounds-buf-end
-slice_bounds-buf-end c = sym (length-take-le c.args.n c.filled-room.result (omega arith))
+slice_bounds-buf-end g c = sym (length-take-le c.args.n c.filled-room.result (omega arith))

@@ -2,7 +2,7 @@ use Prim.Native.Nat.{◌-◌, ◌≤◌}
 use Rattle.test_frames.proofs.reads.fields.Given as goal
 
 abbrev pub invariant-loop-i : goal.invariant-loop-i
-invariant-loop-i l = l.i ≤ 12
+invariant-loop-i g l = l.i ≤ 12
 
 abbrev pub decreases-loop-i : goal.decreases-loop-i
-decreases-loop-i l = 12 - l.i
+decreases-loop-i g l = 12 - l.i
