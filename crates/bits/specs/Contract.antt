@@ -34,3 +34,8 @@ pub record Says (T : Ended) (Asked : Premise T) (Post : Contract T) (C : Claim T
 pub record Tied (T : Ended) (Asked : Premise T) (Post : Contract T) (C : Claim T) : Type 0 where
   pub promise : Says T Asked Post C
   pub single : Single T (Allows T Post)
+
+-- the same of a function over any type of reader or writer: it asks that what the type borrows is alive, as each call of such a function does, and nothing else; its contract says the claim
+pub record SaysOver (T : Ended) (Alive : Premise T) (Asked : Premise T) (Post : Contract T) (C : Claim T) : Type 0 where
+  pub free : (κs : Lfts T.signature.lifetimes) (a : Args T.signature κs) → Alive κs a → Asked κs a
+  pub says : (κs : Lfts T.signature.lifetimes) (a : Args T.signature κs) (r : Res T.signature κs) (ws : Lasts T κs a) → Allows T Post κs a r ws → C κs a r ws

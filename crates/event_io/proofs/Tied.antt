@@ -5,8 +5,7 @@ use Prim.Native.Nat.{ℕ, ◌+◌, ◌-◌, ◌≤◌, min}
 use lib.Dec.{eqb}
 use lib.ListN.{length}
 use Rattle.bits.specs.Pick.{pick}
-use Rattle.bits.specs.Contract.{Tied}
-use Rattle.event_io.specs.Over.{SaysOver}
+use Rattle.bits.specs.Contract.{SaysOver, Tied}
 use Rattle.bits.proofs.Tying.{say, named}
 use denote.RattleType.{RattleType}
 use denote.Param.Laws.{Laws}

@@ -1,2 +1,1 @@
 pub mod Bounds
-pub mod Over
