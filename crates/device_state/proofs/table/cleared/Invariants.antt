@@ -1,6 +1,6 @@
 use mathlib.Core.Path.{◌≡◌}
 use Prim.Native.Nat.{◌-◌, ◌≤◌}
-use lib.ListN.{length, set}
+use lib.ListN.{length}
 use Rattle.device_state.proofs.TableLaws.{partly, clearedAt}
 use Rattle.device_state.proofs.table.cleared.Given as goal
 

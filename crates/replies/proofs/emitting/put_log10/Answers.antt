@@ -23,16 +23,6 @@ slice_bounds-put_log-end c =
     let m = page-most (fits10 f) (page10 f) c.page_room-page.result w.result w.new.buf w.ensures (omega arith) in
     sym (length-take-le w.result.len w.new.buf (omega arith))
 
-pub put_log-requires : goal.put_log-requires
-put_log-requires c =
-    let w = c.write_log-w in
-    let f = c.log_of-f.result in
-    let l = length-10 f in
-    let d = c.page_room-page.ensures in
-    let m = page-most (fits10 f) (page10 f) c.page_room-page.result w.result w.new.buf w.ensures (omega arith) in
-    let t = length-take-le w.result.len w.new.buf (omega arith) in
-    omega arith
-
 pub returns : goal.returns
 returns c =
     let w = c.write_log-w in

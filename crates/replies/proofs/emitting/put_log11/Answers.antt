@@ -24,16 +24,6 @@ slice_bounds-put_log-end c =
     let m = page-most (keepsBoth a.mask) (page11 a.mask a.values) c.page_room-page.result w.result w.new.buf w.ensures (omega arith) in
     sym (length-take-le w.result.len w.new.buf (omega arith))
 
-pub put_log-requires : goal.put_log-requires
-put_log-requires c =
-    let w = c.write_counters-w in
-    let a = c.args in
-    let l = page-length a.mask a.values in
-    let d = c.page_room-page.ensures in
-    let m = page-most (keepsBoth a.mask) (page11 a.mask a.values) c.page_room-page.result w.result w.new.buf w.ensures (omega arith) in
-    let t = length-take-le w.result.len w.new.buf (omega arith) in
-    omega arith
-
 pub returns : goal.returns
 returns c =
     let w = c.write_counters-w in

@@ -3,6 +3,3 @@ use Rattle.replies.proofs.emitting.put_part.Goals as goal
 
 pub returns-then-part-gt-FRAME_SIZE : goal.returns-then-part-gt-FRAME_SIZE
 returns-then-part-gt-FRAME_SIZE c = sends-long _ _ c.if-part-gt-FRAME_SIZE.true
-
-pub returns : goal.returns
-returns c = c.put_data.ensures.bytes

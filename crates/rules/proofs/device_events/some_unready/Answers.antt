@@ -1,4 +1,3 @@
-use Prim.Native.Nat.{◌-◌}
 use native.Mathlib.Omega.{arith}
 use Rattle.rules.specs.Tests.{unreadyAt, someUnready}
 use Rattle.device_state.proofs.TableLaws.{some-none, some_turn, some_end}
