@@ -3,7 +3,6 @@ use mathlib.Core.Path.{◌≡◌}
 use mathlib.Core.Bool.{Bool, true, false, not, ◌&&◌, ◌||◌}
 use lib.Dec.{eqb, ltb}
 use Rattle.bits.specs.Pick.{pick}
-use Rattle.bits.proofs.Firsts as firsts
 use Rattle.bits.specs.Bit.{bitIn}
 use Rattle.contradictions.specs.Clauses.{statusBad, recordBad, phaseIdle, contradictory}
 use Rattle.bits.proofs.Picks.{by-test, or_right}

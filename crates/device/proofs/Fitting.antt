@@ -21,10 +21,8 @@ use Rattle.page_10h.specs.Page10.{fits10}
 use Rattle.page_10h.specs.declared.page10.ErrorLog.{ErrorLog}
 use Rattle.device_state.specs.State.{placedBytes, taskIn, echoOf}
 use Rattle.contradictions.specs.Clauses.{tagTooLarge, tagUnderNq, blankNotZero, recordBad}
-use Rattle.rules.proofs.Ruled as by
 use Rattle.replies.specs.Replies.{logOf}
 use Rattle.device.specs.Device.{contradictoryDevice}
-use Rattle.device.specs.Step.{shown}
 use Rattle.device.proofs.Sized.{SizedRecord}
 use Rattle.device.specs.declared.state.Device.{Device}
 use Rattle.device.proofs.Parts.{record-good}

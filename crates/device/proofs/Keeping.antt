@@ -9,7 +9,6 @@ use lib.ListN.{get_or, set}
 use lib.Seq.{get_or-set_other}
 use borrow.Author.Tests.{not-false, eqb-true, eqb-false}
 use Rattle.bits.specs.Pick.{pick}
-use Rattle.bits.proofs.Firsts as firsts
 use Rattle.bits.proofs.Picks.{tested, and_left, and_right, or_left, or_right}
 use Rattle.page_rows.specs.Rows.{kept, keepsBoth}
 use Rattle.counter_values.specs.Counts.{bumped}

@@ -28,7 +28,7 @@ use Rattle.replies.proofs.Fit.{Fit}
 use Rattle.device.specs.Device.{contradictoryDevice}
 use Rattle.device.specs.Lent.{Typed, lent}
 use Rattle.device.specs.FactsOf.{facts_of, factsWith, mediumWrong, openTag}
-use Rattle.device.specs.After.{after_of, movedBy, renewed}
+use Rattle.device.specs.After.{after_of, movedBy}
 use Rattle.device.specs.Step.{shown}
 use Rattle.device.specs.declared.state.Device.{Device}
 use Rattle.device.proofs.Effects.{traits, Puts}

@@ -1,7 +1,7 @@
 -- What a call replies stands in the buffer whole, frame by frame. Assumes nothing.
 use mathlib.Core.Path.{◌≡◌, subst}
 use mathlib.Core.List.{List, map}
-use Prim.Native.Nat.{ℕ, ◌-◌}
+use Prim.Native.Nat.{ℕ}
 use lib.ListN.{length, take}
 use Rattle.frame_parts.specs.Cut.{cut, joined}
 use Rattle.frames.proofs.ReadLaws.{read-data}

@@ -1,6 +1,6 @@
 -- What the types give of a device holds after every call: the error record and each command's bytes are bytes. Assumes nothing.
 use mathlib.Core.List.{List}
-use Prim.Native.Nat.{ℕ, ◌<◌}
+use Prim.Native.Nat.{ℕ}
 use lib.Dec.{eqb, lit<}
 use lib.ListN.{length}
 use Rattle.bits.proofs.Picks.{by-test}

@@ -1,4 +1,0 @@
-use Rattle.device.proofs.state.Device.emptied.Goals as goal
-
-pub returns : goal.returns
-returns c = rw c.idle_entry-e.ensures
