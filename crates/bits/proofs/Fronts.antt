@@ -1,25 +1,15 @@
--- A loop that copies s over the front of d. Assumes nothing.
-use mathlib.Core.Path.{◌≡◌, refl, sym, ap, ap₂, ◌∙◌}
-use mathlib.Core.List.{List, [], ◌∷◌, ◌++◌, append_assoc, append-nil}
-use Prim.Native.Nat.{ℕ, zero, suc, ◌+◌, ◌-◌, ◌≤◌, ◌<◌}
-use native.Mathlib.Nat.{not-suc-le-zero, le_of_suc-le-suc, le_of_eq}
-use native.Mathlib.Numerals.{add-one}
-use lib.ListN.{length, get_or, set, take, drop, length-append, length-drop, drop_of_length-le}
-use lib.Seq.{take-length, take_all, take_at, drop_at, drop-drop}
+-- Laws of bytes that are laid over the front of others. Assumes nothing.
+use mathlib.Core.Path.{◌≡◌, sym, ap, ap₂, ◌∙◌}
+use mathlib.Core.List.{List, ◌++◌, append_assoc, append-nil}
+use Prim.Native.Nat.{ℕ, ◌+◌, ◌-◌, ◌≤◌, ◌<◌}
+use native.Mathlib.Nat.{le_of_eq}
+use lib.ListN.{length, take, drop, length-append, length-drop, drop_of_length-le}
+use lib.Seq.{take_all, take_at, drop_at, drop-drop}
 use borrow.Rule.Slice.PartMut.{mid_of, put_mid}
 use lib.Dec.{leb}
 use borrow.Author.Tests.{le-leb, lt-leb}
 use Rattle.bits.specs.Laid.{laid, over}
 use Rattle.bits.proofs.Picks.{pick_yes, pick_no}
-
-front-suc : (i : ℕ) (s d : List ℕ) → i < length s → i < length d → set (take i s ++ drop i d) i (get_or s i 0) ≡ take (suc i) s ++ drop (suc i) d
-front-suc i [] d hs hd = absurd (not-suc-le-zero hs)
-front-suc i (a ∷ s) [] hs hd = absurd (not-suc-le-zero hd)
-front-suc zero (a ∷ s) (b ∷ d) hs hd = refl
-front-suc (suc i) (a ∷ s) (b ∷ d) hs hd = ap (λ (t : List ℕ). a ∷ t) (front-suc i s d (le_of_suc-le-suc hs) (le_of_suc-le-suc hd))
-
-pub front-more : (i : ℕ) (s d : List ℕ) → i < length s → i < length d → set (take i s ++ drop i d) i (get_or s i 0) ≡ take (i + 1) s ++ drop (i + 1) d
-front-more i s d hs hd = rw add-one (front-suc i s d hs hd)
 
 pub over_no : (s d : List ℕ) → length d < length s → over s d ≡ d
 unfolding over
@@ -28,10 +18,6 @@ over_no s d h = pick_no (leb (length s) (length d)) (laid s d) d (lt-leb (length
 pub over_yes : (s d : List ℕ) → length s ≤ length d → over s d ≡ laid s d
 unfolding over
 over_yes s d h = pick_yes (leb (length s) (length d)) (laid s d) d (le-leb (length s) (length d) h)
-
--- the loop's end: all of s is there
-pub front-all : (i : ℕ) (s d t : List ℕ) → i ≡ length s → length s ≤ length d → t ≡ take i s ++ drop i d → t ≡ over s d
-front-all i s d t e h q = q ∙ rw (e, take-length, over_yes s d h)
 
 -- the part from n on, and another list in its place
 pub rest_part : (n : ℕ) (l : List ℕ) → mid_of n (length l - n) l ≡ drop n l

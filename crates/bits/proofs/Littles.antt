@@ -2,12 +2,12 @@
 use mathlib.Core.Path.{◌≡◌, refl, sym, ap, ◌∙◌}
 use mathlib.Core.List.{List, ◌∷◌}
 use Prim.Native.Nat.{ℕ, zero, suc, ◌+◌, ◌-◌, ◌*◌, ◌/◌, ◌%◌, ◌^◌, ◌≤◌, ◌<◌}
-use native.Mathlib.Nat.{sub_self, sub-zero, add-zero, lt_of_lt_of_le, mod-one, div-one, div-eq_of_lt, mod-eq_of_lt, not-suc-le-zero, le_of_suc-le-suc}
+use native.Mathlib.Nat.{lt_of_lt_of_le, mod-one, div-one, div-eq_of_lt, mod-eq_of_lt, not-suc-le-zero, le_of_suc-le-suc}
 use native.Mathlib.Omega.{arith}
 use lib.Arith.{digits_lt}
 use lib.Bits.{bit_or}
 use lib.Dec.{lit≤, lit<}
-use lib.Pow.{pow-add, pow_mono, pow_pos, shr-shr, mod-pow-add}
+use lib.Pow.{pow-add, pow_mono, shr-shr, mod-pow-add}
 use lib.ListN.{get_or}
 use Rattle.bits.proofs.Masks.{shl-or}
 use Rattle.bits.specs.Little.{leAt, byte_of, bytesFrom, le_bytes, Bytes}
@@ -29,16 +29,6 @@ module _ (l : List ℕ) where
       let a : at + i ≡ suc (at + (i - 1)) = omega arith in
       let k : n - (i - 1) ≡ suc (n - i) = omega arith in
       rw k (more (at + (i - 1)) (n - i) x hb (omega arith) (rw a at ex) hx)
-
-  pub le-none : (at n : ℕ) → 0 ≡ leAt l (at + n) (n - n)
-  le-none at n = rw sub_self
-
-  pub le-none-lt : (n : ℕ) → 0 < 2 ^ (8 * (n - n))
-  le-none-lt n = pow_pos (8 * (n - n))
-
-  -- the loop's end
-  pub le-all : (at n i x : ℕ) → i ≡ 0 → x ≡ leAt l (at + i) (n - i) → x < 2 ^ (8 * (n - i)) → (x ≡ leAt l at n) × (x < 2 ^ (8 * n))
-  le-all at n i x e ex hx = (simp (e, sub-zero, add-zero) at ex, simp (e, sub-zero) at hx)
 
 -- ---- what is written is read again, over the width
 

@@ -1,4 +1,4 @@
-// The one loop that copies bytes.
+// The one place where bytes are copied.
 ghost use Rattle.std.specs.Prelude.{◌≡◌, length, leb};
 ghost use Rattle.bits.specs.Laid.{over};
 
@@ -10,10 +10,6 @@ pub fn lay(d: &mut [u8], s: &[u8]) -> bool
     if d.len() < n {
         return false;
     }
-    let mut i = 0;
-    while i < n {
-        d[i] = s[i];
-        i += 1;
-    }
+    d[..n].copy_from_slice(s);
     true
 }

@@ -32,10 +32,8 @@ fn at_most_8(n: usize) -> usize
 pub fn le(s: &[u8], at: usize, n: usize) -> u64
     ensures { NumberGiven s.now at (min n 8) result }
 {
-    let mut i = at_most_8(n);
     let mut x: u64 = 0;
-    while 0 < i {
-        i -= 1;
+    for i in (0..at_most_8(n)).rev() {
         x = (x << 8) | wide(byte_at(s, at, i));
     }
     x

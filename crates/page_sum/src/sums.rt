@@ -7,10 +7,8 @@ pub fn byte_sum(s: &[u8]) -> u8
     ensures { result ≡ sum256 s.now }
 {
     let mut sum: u32 = 0;
-    let mut i = 0;
-    while i < s.len() {
-        sum = (sum + s[i] as u32) & 0xff;
-        i += 1;
+    for b in s {
+        sum = (sum + *b as u32) & 0xff;
     }
     sum as u8
 }

@@ -11,5 +11,4 @@ loop-i-preserved c =
     let a = c.args in
     let e = c.wide.ensures.0 ∙ c.byte_at.ensures in
     let b : get_or a.s.now (a.at + (l.i - 1)) 0 < 256 = rw e at c.wide.ensures.1 in
-    let m = le-more a.s.now a.at (min a.n 8) l.i l.x (omega arith) (omega arith) (omega arith) b l.invariant.1 l.invariant.2 in
-    rw e (omega arith, m.0, m.1)
+    rw e (le-more a.s.now a.at (min a.n 8) l.i l.x (omega arith) (omega arith) (omega arith) b l.invariant.0 l.invariant.1)
