@@ -28,14 +28,12 @@ pub fn page11_bytes(mask: u16, values: [u32; 16]) -> [u8; 512]
 {
     let mut page = [0u8; 512];
     let mut at: usize = 4;
-    let mut row: usize = 0;
-    while row < 16 {
+    for row in 0..16 {
         if is_kept(mask, row) {
             let bytes = row_bytes(id_of(row), values[row]);
             bits::lay(&mut page[at..], &bytes);
             at += 6;
         }
-        row += 1;
     }
     page[511] = sum_byte(&page);
     page

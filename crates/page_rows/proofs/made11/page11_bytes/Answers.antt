@@ -21,10 +21,11 @@ loop-row-preserved c =
     let k = c.is_kept.ensures in
     let h : l.row < 16 = omega arith in
     elim c.if-is_kept.branch [
-      then-is_kept w ↦
+      | then-is_kept w ↦
           rw (w.page-is, w.at-is)
           (fill a.mask a.values l.page l.at l.row w.row_bytes-bytes.result w.lay.new.d _ h (sym k ∙ w.if-is_kept.true) (w.row_bytes-bytes.ensures ∙ ap (λ (i : ℕ). rowBytes i (get_or a.values l.row 0)) w.id_of.ensures) w.lay.ensures.1 refl l.invariant)
-    | else-is_kept w ↦ rw (w.page-is, w.at-is) (skip a.mask a.values l.page l.at l.row h (sym k ∙ w.if-is_kept.false) l.invariant) ]
+      | else-is_kept w ↦ rw (w.page-is, w.at-is) (skip a.mask a.values l.page l.at l.row h (sym k ∙ w.if-is_kept.false) l.invariant)
+    ]
 
 pub returns : goal.returns
 returns c =

@@ -1,9 +1,5 @@
-use Prim.Native.Nat.{◌-◌}
 use Rattle.page_rows.proofs.Filling.{Filled}
 use Rattle.page_rows.proofs.made11.page11_bytes.Given as goal
 
 abbrev pub invariant-loop-row : goal.invariant-loop-row
 invariant-loop-row l = Filled l.mask l.values l.page l.at l.row
-
-abbrev pub decreases-loop-row : goal.decreases-loop-row
-decreases-loop-row l = 16 - l.row
