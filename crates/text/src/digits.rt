@@ -24,12 +24,9 @@ pub fn put_hex(out: &mut [u8], at: usize, s: &[u8], upper: bool) -> usize
     ensures { TextGiven (hex upper s.now) at out.old result out.new }
 {
     let mut end = at;
-    let mut i: usize = 0;
-    while i < s.len() {
-        let b = s[i];
+    for &b in s {
         let mid = put_byte(out, end, digit(b / 16, upper));
         end = put_byte(out, mid, digit(b % 16, upper));
-        i += 1;
     }
     end
 }

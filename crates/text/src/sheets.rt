@@ -18,10 +18,8 @@ pub fn put(out: &mut [u8], at: usize, s: &[u8]) -> usize
     ensures { TextGiven s.now at out.old result out.new }
 {
     let mut end = at;
-    let mut i: usize = 0;
-    while i < s.len() {
-        end = put_byte(out, end, s[i]);
-        i += 1;
+    for &b in s {
+        end = put_byte(out, end, b);
     }
     end
 }

@@ -1,4 +1,4 @@
-use Prim.Native.Nat.{◌≤◌, ◌/◌, ◌-◌}
+use Prim.Native.Nat.{◌≤◌, ◌/◌}
 use mathlib.Core.Path.{◌≡◌}
 use mathlib.Core.List.{[], ◌++◌}
 use lib.Dec.{ltb}

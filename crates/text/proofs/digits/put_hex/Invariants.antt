@@ -1,12 +1,8 @@
-use Prim.Native.Nat.{◌≤◌, ◌-◌}
 use mathlib.Core.Path.{◌≡◌}
-use lib.ListN.{length, drop}
+use lib.ListN.{drop}
 use Rattle.text.specs.Sheet.{sheet, written}
 use Rattle.text.specs.Digits.{hex}
 use Rattle.text.proofs.digits.put_hex.Given as goal
 
-abbrev pub invariant-loop-i : goal.invariant-loop-i
-invariant-loop-i l = (l.i ≤ length l.s) × (length l.out ≡ length l.initial.out) × (written (hex l.upper (drop l.i l.s)) (sheet l.end l.out) ≡ written (hex l.upper l.s) (sheet l.at l.initial.out))
-
-abbrev pub decreases-loop-i : goal.decreases-loop-i
-decreases-loop-i l = length l.s - l.i
+abbrev pub invariant-loop-b : goal.invariant-loop-b
+invariant-loop-b l = written (hex l.upper (drop l.b-index l.s)) (sheet l.end l.out) ≡ written (hex l.upper l.s) (sheet l.at l.initial.out)
