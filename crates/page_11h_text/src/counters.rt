@@ -27,13 +27,11 @@ fn refusal_of(page: &[u8], number: u16) -> u8
 fn refusal(page: &[u8]) -> u8
     ensures { result ≡ refusalIn page.now ids }
 {
-    let mut row: usize = 0;
-    while row < 16 {
+    for row in 0..16 {
         let n = refusal_of(page, page_rows::id_of(row));
         if n != 0 {
             return n;
         }
-        row += 1;
     }
     0
 }
@@ -73,10 +71,8 @@ fn put_all(out: &mut [u8], page: &[u8]) -> usize
     ensures { TextGiven (counterLines page.now ids) 0 out.old result out.new }
 {
     let mut end: usize = 0;
-    let mut row: usize = 0;
-    while row < 16 {
+    for row in 0..16 {
         end = put_counter(out, end, page, page_rows::id_of(row));
-        row += 1;
     }
     end
 }

@@ -1,15 +1,9 @@
-use mathlib.Core.Path.{refl}
-use Prim.Native.Nat.{◌-◌}
 use native.Mathlib.Omega.{arith}
 use Rattle.page_11h_text.proofs.Telling.{lines-turn, lines_end}
-use borrow.Author.Rules.{rules}
 use Rattle.page_11h_text.proofs.counters.put_all.Goals as goal
 
-pub loop-row-init : goal.loop-row-init
-loop-row-init c = (omega arith, refl, refl)
-
 pub loop-row-preserved : goal.loop-row-preserved
-loop-row-preserved c = (omega arith, search rules, lines-turn c.args.page.now c.loop-row.row _ _ _ _ c.loop-row-test.true c.id_of.ensures c.loop-row.invariant.2 c.put_counter-end.ensures)
+loop-row-preserved c = lines-turn c.args.page.now c.loop-row.row _ _ _ _ c.loop-row-test.true c.id_of.ensures c.loop-row.invariant c.put_counter-end.ensures
 
 pub returns : goal.returns
-returns c = lines_end c.args.page.now c.loop-row.row _ _ (omega arith) c.loop-row.invariant.2
+returns c = lines_end c.args.page.now c.loop-row.row _ _ (omega arith) c.loop-row.invariant
