@@ -43,12 +43,11 @@ fn put_fields(out: &mut [u8], at: usize, reply: &[u8], traced: bool) -> usize
     ensures { TextGiven (fields_of traced (cut reply.now)) at out.old result out.new }
 {
     let mut end = at;
-    let mut from: usize = 0;
-    while from < reply.len() {
-        let n = frame_parts::cut_first(&reply[from..]);
-        let next = from + n;
-        end = put_field(out, end, &reply[from..next], traced);
-        from = next;
+    let mut rest = reply;
+    while !rest.is_empty() {
+        let (piece, more) = rest.split_at(frame_parts::cut_first(rest));
+        end = put_field(out, end, piece, traced);
+        rest = more;
     }
     end
 }
