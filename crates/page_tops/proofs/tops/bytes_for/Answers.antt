@@ -1,5 +1,4 @@
 use mathlib.Core.Path.{◌∙◌, sym}
-use Prim.Native.Nat.{◌-◌}
 use Rattle.page_11h.proofs.Walking.{id-read}
 use Rattle.page_tops.proofs.Widths.{width-starts, width-past, width-end, width-hit, width-stop, width-next}
 use Rattle.page_tops.proofs.tops.bytes_for.Goals as goal
