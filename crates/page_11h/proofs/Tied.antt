@@ -21,6 +21,3 @@ tied-is-vendor = named (say (λ κs a. tt) (λ κs a r ws p. p)) (λ κs a ws ws
 
 pub tied-entry-at : Tied walk-said.entry_at.ended walk.entry_at.Reads.Asked walk.entry_at.Reads.Post (λ κs a r ws. r ≡ stepAt a.0.now a.1.0)
 tied-entry-at = named (say (λ κs a. tt) (λ κs a r ws p. p)) (λ κs a ws ws'. refl)
-
-pub tied-walk-step : Tied walk-said.walk_step.ended walk.walk_step.Reads.Asked walk.walk_step.Reads.Post (λ κs a r ws. r ≡ stepAt a.0.now a.1.0)
-tied-walk-step = named (say (λ κs a. tt) (λ κs a r ws p. p)) (λ κs a ws ws'. refl)

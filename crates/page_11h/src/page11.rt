@@ -5,7 +5,7 @@ ghost use Rattle.page_11h.specs.Entries.{idAsked, entries};
 ghost use Rattle.page_11h.specs.Page11.{damaged, valueIn, PageCounterGiven};
 ghost use Rattle.page_11h.specs.WalkStep.{turn_of};
 
-use crate::walk::{WalkStep, is_vendor, number_in, walk_step};
+use crate::walk::{Walk, WalkStep, is_vendor, number_in};
 use page_rows::Counter;
 use page_sum::byte_sum;
 
@@ -27,10 +27,10 @@ fn is_asked(number: u16, id: u64) -> bool
 }
 
 // The walk goes on after a hit, since a fault or a second hit behind it refuses the page.
-fn take_turn(page: &[u8], number: u16, at: usize, found: Counter) -> Turn
-    ensures { result ≡ turn_of page.now number at found }
+fn take_turn(walk: Walk, number: u16, found: Counter) -> Turn
+    ensures { result ≡ turn_of walk.entry.page.now number walk.entry.at found }
 {
-    match walk_step(page, at) {
+    match walk.step() {
         WalkStep::End => Turn::Done(found),
         WalkStep::Fault => Turn::Done(Counter::Refused(22)),
         WalkStep::Row { id, start, len } => {
@@ -38,7 +38,7 @@ fn take_turn(page: &[u8], number: u16, at: usize, found: Counter) -> Turn
                 match found {
                     Counter::Absent => Turn::Next {
                         at: start + len,
-                        found: Counter::Value(bits::le(page, start, len)),
+                        found: Counter::Value(bits::le(walk.page, start, len)),
                     },
                     Counter::Value(_) => Turn::Done(Counter::Refused(22)),
                     Counter::Refused(_) => Turn::Done(Counter::Refused(22)),
@@ -57,18 +57,15 @@ fn take_turn(page: &[u8], number: u16, at: usize, found: Counter) -> Turn
 fn walk_page(page: &[u8], number: u16) -> Counter
     ensures { result ≡ pick (damaged number (entries page.now)) (Counter.Refused 22) (valueIn page.now number (entries page.now)) }
 {
-    let mut at: usize = 4;
+    let mut walk = Walk::from(page, 4);
     let mut found = Counter::Absent;
-    while at < 508 {
-        match take_turn(page, number, at, found) {
+    while walk.at < 508 {
+        match take_turn(walk, number, found) {
             Turn::Done(r) => {
                 return r;
             }
-            Turn::Next {
-                at: next,
-                found: more,
-            } => {
-                at = next;
+            Turn::Next { at, found: more } => {
+                walk.at = at;
                 found = more;
             }
         }

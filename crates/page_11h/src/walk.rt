@@ -95,10 +95,3 @@ impl<'a> Walk<'a> {
         entry_at(self.page, self.at)
     }
 }
-
-// One step of the walk, with plain parameters: whoever calls it needs no proof by hand.
-pub fn walk_step(page: &[u8], at: usize) -> WalkStep
-    ensures { result ≡ stepAt page.now at }
-{
-    Walk::from(page, at).step()
-}
