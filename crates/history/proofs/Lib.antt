@@ -49,4 +49,5 @@ pub mod Runs
 pub mod StateAgrees
 pub mod Allowed
 pub mod Contracts
+pub mod Knows
 pub mod Demand3

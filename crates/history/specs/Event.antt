@@ -2,10 +2,11 @@
 use Rattle.std.specs.Prelude.{Bool, List, ℕ, eqb}
 use Rattle.rules.specs.Call.{Call}
 
--- one call: the medium lent to it, its refusal (0 = taken), the bytes of its replies, and the medium as it left it
+-- one call: the medium lent to it, the length of the reply buffer lent to it, its refusal (0 = taken), the bytes of its replies, and the medium as it left it
 pub record Event : Type 0 where
   pub call : Call
   pub medium : List ℕ
+  pub room : ℕ
   pub refusal : ℕ
   pub reply : List ℕ
   pub left : List ℕ

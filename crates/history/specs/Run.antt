@@ -27,6 +27,7 @@ abbrev pub event : Done → Event
 event x = record {
   call = x.lent.call;
   medium = x.lent.medium;
+  room = length x.lent.buffer;
   refusal = x.gave.outcome.refusal;
   reply = take x.gave.outcome.len x.gave.buffer;
   left = x.gave.medium;

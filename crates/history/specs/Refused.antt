@@ -1,0 +1,98 @@
+-- What every event is turned down for, by the history before it: the table of refusals, written from calls, settings and lengths alone. Assumes nothing.
+use Rattle.std.specs.Prelude.{◌≡◌, Bool, true, false, not, ◌&&◌, ◌||◌, List, [], ◌∷◌, ℕ, zero, suc, ◌*◌, eqb, leb, ltb, length}
+use Rattle.bits.specs.Bit.{bitIn}
+use Rattle.bits.specs.First.{Rung, rung, first_of}
+use Rattle.frames.specs.Read.{readFrame}
+use Rattle.frames.specs.declared.shapes.Frame.{Frame}
+use Rattle.frames.specs.declared.shapes.Frame.TheVariants.{Host, Device, Bits, Setup, Activate, Data, Bist, Pio, Refused}
+use Rattle.rules.specs.Call.{Call, hostFrame, openPhase, sendData, finishTags, mediaError, linkEvent, comReset}
+use Rattle.history.specs.Event.{Event}
+use Rattle.history.specs.Seen.{Transfer, noTransfer, underWay}
+use Rattle.history.specs.ByHistory.{outstandingWith, isOut, whole, covers, underWayAfter, isOpen, leftOf, holding}
+
+-- 1: settings out of bounds: depth 1 to 32, capacity 1 to 65,536 sectors, rows 0 and 9 always kept
+abbrev pub outOfBounds : ℕ → ℕ → ℕ → Bool
+outOfBounds deep capacity mask = not (leb 1 deep && leb deep 32) || (not (leb 1 capacity && leb capacity 65536) || not (bitIn 16 mask 0 && bitIn 16 mask 9))
+
+-- 2: medium length wrong
+abbrev pub wrongMedium : ℕ → Event → Bool
+wrongMedium capacity e = not (eqb (length e.medium) (512 * capacity))
+
+-- 3: reply buffer under 8,196
+abbrev pub shortBuffer : Event → Bool
+shortBuffer e = ltb e.room 8196
+
+-- 4: frame type not 27h, 46h, 58h; or not read at all, for its length
+abbrev pub notHeard : Frame → Bool
+notHeard (Host h) = false
+notHeard (Device f) = true
+notHeard (Bits f) = true
+notHeard (Setup f) = true
+notHeard Activate = true
+notHeard (Data n) = false
+notHeard Bist = false
+notHeard (Pio f) = true
+notHeard Refused = true
+
+-- a write phase is open
+abbrev pub writing : Transfer → Bool
+writing noTransfer = false
+writing (underWay d t a z) = not d
+
+-- 5: command while reset is held or a phase is open; BIST while a phase is open; data with no write phase
+abbrev pub untimely : Frame → List Event → Bool
+untimely (Host f) h = f.command_bit && (holding h || isOpen (underWayAfter h))
+untimely (Device f) h = false
+untimely (Bits f) h = false
+untimely (Setup f) h = false
+untimely Activate h = false
+untimely (Data n) h = not (writing (underWayAfter h))
+untimely Bist h = isOpen (underWayAfter h)
+untimely (Pio f) h = false
+untimely Refused h = false
+
+-- 6: the payload is longer than what is left
+abbrev pub tooLong : Frame → List Event → Bool
+tooLong (Host f) h = false
+tooLong (Device f) h = false
+tooLong (Bits f) h = false
+tooLong (Setup f) h = false
+tooLong Activate h = false
+tooLong (Data n) h = ltb (leftOf false (underWayAfter h)) n
+tooLong Bist h = false
+tooLong (Pio f) h = false
+tooLong Refused h = false
+
+-- some tag below n is so
+unfoldable pub someTag : ℕ → (ℕ → Bool) → Bool
+someTag zero is = false
+someTag (suc n) is = is n || someTag n is
+
+-- 11: empty set, or a tag not outstanding or not wholly moved
+abbrev pub unfit : ℕ → List Event → Bool
+unfit s h = eqb s 0 || someTag 32 (λ t. bitIn 32 s t && not (outstandingWith t whole h))
+
+-- 12: byte 0, or a sector outside the command
+abbrev pub noError : ℕ → ℕ → ℕ → List Event → Bool
+noError t error sector h = eqb error 0 || not (outstandingWith t (covers sector) h)
+
+-- 13: row 0, row 9, above 15, or not kept
+abbrev pub noRow : ℕ → ℕ → Bool
+noRow mask r = eqb r 0 || (eqb r 9 || (ltb 15 r || not (bitIn 16 mask r)))
+
+-- 2 to 13 of each call, in the order of their numbers, after a history h
+unfoldable pub ownTests : ℕ → ℕ → Event → List Event → Call → List Rung
+ownTests capacity mask e h (hostFrame f) =
+    rung 2 (wrongMedium capacity e) ∷ rung 3 (shortBuffer e) ∷ rung 4 (notHeard (readFrame f)) ∷ rung 5 (untimely (readFrame f) h) ∷ rung 6 (tooLong (readFrame f) h) ∷ []
+ownTests capacity mask e h (openPhase t) =
+    rung 3 (shortBuffer e) ∷ rung 7 (not (isOut t h)) ∷ rung 8 (isOpen (underWayAfter h)) ∷ rung 9 (outstandingWith t whole h) ∷ []
+ownTests capacity mask e h sendData = rung 2 (wrongMedium capacity e) ∷ rung 3 (shortBuffer e) ∷ rung 10 (eqb (leftOf true (underWayAfter h)) 0) ∷ []
+ownTests capacity mask e h (finishTags s) = rung 3 (shortBuffer e) ∷ rung 8 (isOpen (underWayAfter h)) ∷ rung 11 (unfit s h) ∷ []
+ownTests capacity mask e h (mediaError t error sector) = rung 3 (shortBuffer e) ∷ rung 7 (not (isOut t h)) ∷ rung 12 (noError t error sector h) ∷ []
+ownTests capacity mask e h (linkEvent r) = rung 13 (noRow mask r) ∷ []
+ownTests capacity mask e h comReset = rung 3 (shortBuffer e) ∷ []
+
+-- every event is refused with the number of the first that holds, and taken where none does: so no event that should be heard is turned down
+unfoldable pub Refusals : ℕ → ℕ → ℕ → List Event → Type 0
+Refusals deep capacity mask [] = Unit
+Refusals deep capacity mask (e ∷ h) = (e.refusal ≡ first_of (rung 1 (outOfBounds deep capacity mask) ∷ ownTests capacity mask e h e.call)) × Refusals deep capacity mask h
