@@ -50,4 +50,5 @@ pub mod StateAgrees
 pub mod Allowed
 pub mod Contracts
 pub mod Knows
+pub mod Striking
 pub mod Demand3

@@ -15,6 +15,7 @@ pub mod Counted
 pub mod Demand3
 pub mod Run
 pub mod Follows
+pub mod Struck
 pub mod ByHistory
 pub mod Refused
 pub mod Answered
