@@ -75,7 +75,7 @@ seenAfter n = map seen (after n)
 
 -- the n-th call, from 1 on; of any other number one that nothing was seen of
 abbrev pub nth : ℕ → Event
-nth n = get_or (after n) 0 (record { call = comReset; medium = []; refusal = 1; reply = []; left = [] })
+nth n = get_or (after n) 0 (record { call = comReset; medium = []; room = 0; refusal = 1; reply = []; left = [] })
 
 -- every command of the run, the oldest first
 abbrev pub accepted : List Command
