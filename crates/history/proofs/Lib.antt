@@ -50,4 +50,6 @@ pub mod StateAgrees
 pub mod Allowed
 pub mod Contracts
 pub mod Knows
+pub mod Otherwise
+pub mod Answering
 pub mod Demand3
