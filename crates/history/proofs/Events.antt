@@ -72,7 +72,7 @@ sent-comes d part g p w l =
     carries t (min 8192 (left_of e)) (rw (w, ← l) (is-sent part)) (sent-unbegun quiet part) (carried-by d g p 8192 (lit< tt))
 
 -- the part of the medium that is sent is as long as it should be
-part-long : (m : List ℕ) (at size : ℕ) → at + size ≤ length m → length (part_of (record { at = at; size = size }) m) ≡ size
+pub part-long : (m : List ℕ) (at size : ℕ) → at + size ≤ length m → length (part_of (record { at = at; size = size }) m) ≡ size
 part-long m at size h = simp (length-take, length-drop) (omega arith)
 
 -- the entry of the open phase is that of its tag

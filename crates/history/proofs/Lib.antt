@@ -51,4 +51,6 @@ pub mod Allowed
 pub mod Contracts
 pub mod Knows
 pub mod Striking
+pub mod Otherwise
+pub mod Answering
 pub mod Demand3

@@ -1,0 +1,279 @@
+-- Every taken call is answered what the history before it says, over every run from power-on. Assumes nothing.
+use mathlib.Core.Path.{◌≡◌, refl, sym, ap, ap₂, subst, ◌∙◌}
+use mathlib.Core.Bool.{Bool, true, false, not, ◌&&◌, ◌||◌, false≢true}
+use mathlib.Core.List.{List, [], ◌∷◌, map}
+use mathlib.Core.Logic.{⊎_elim}
+use Prim.Native.Nat.{ℕ, ◌+◌, ◌-◌, ◌*◌, min}
+use native.Mathlib.Omega.{arith}
+use lib.Dec.{eqb, ltb, leb}
+use lib.ListN.{length}
+use borrow.Author.Tests.{eqb-true, eqb-false, lt-ltb, le-ltb, leb-true, leb-false}
+use Rattle.bits.specs.Pick.{pick}
+use Rattle.bits.specs.Bit.{bitIn}
+use Rattle.bits.proofs.Picks.{tested, pick_yes, pick_no, and_left, and_right}
+use Rattle.frame_parts.specs.Shared.{taskFits}
+use Rattle.frames.specs.Read.{readFrame}
+use Rattle.frames.specs.RoundTrip as trip
+use Rattle.frames.specs.declared.shapes.HostReg.{HostReg}
+use Rattle.frames.specs.declared.shapes.Frame.{Frame}
+use Rattle.frames.specs.declared.shapes.Frame.TheVariants as fs
+use Rattle.device_state.specs.Table.{entry_of}
+use Rattle.device_state.specs.declared.shapes.Entry.{Entry}
+use Rattle.device_state.specs.declared.shapes.Settings.{Settings}
+use Rattle.device_state.proofs.EchoLaws.{echo-task}
+use Rattle.rules.specs.Call.{Call, hostFrame}
+use Rattle.rules.specs.Decide.{tagAsked, otherAct, registerAct, frameAct}
+use Rattle.rules.specs.Act.{does, act}
+use Rattle.rules.specs.Number.{number_of}
+use Rattle.rules.specs.Positions.{left_of, move_of}
+use Rattle.rules.specs.Medium.{touch_of, span_of, part_of}
+use Rattle.rules.specs.declared.facts.Facts.{Facts}
+use Rattle.rules.specs.declared.acts.Act.{Act}
+use Rattle.rules.specs.declared.acts.Act.TheVariants.{Store, Open}
+use Rattle.rules.proofs.Ruled as by
+use Rattle.rules.proofs.Numbers.{not-refused, decided-is}
+use Rattle.replies.specs.Replies.{repliesOf, activateIf}
+use Rattle.replies.proofs.Fits.{page10-long, page11-long}
+use Rattle.device.specs.Device.{powerOn, contradictoryDevice}
+use Rattle.device.specs.Lent.{Lent, lent, Typed}
+use Rattle.device.specs.FactsOf.{facts_of, openTag}
+use Rattle.device.specs.Step.{shown, actOf, step}
+use Rattle.device.specs.declared.state.Device.{Device}
+use Rattle.device.proofs.Sized.{SizedRecord}
+use Rattle.device.proofs.Busy.{whole_is}
+use Rattle.device.proofs.Doing.{heard-unsent}
+use Rattle.device.proofs.Entering.{tag_small}
+use Rattle.device.proofs.Fitting.{ReadFits, read_fits, record-fits}
+use Rattle.device.proofs.Keeping.{both-kept}
+use Rattle.device.proofs.Rooms.{move-within}
+use Rattle.device.proofs.Tags.{busy-below}
+use Rattle.device.proofs.Zeros.{zeros}
+use Rattle.history.specs.Event.{Event, taken}
+use Rattle.history.specs.Replied.{frames, some}
+use Rattle.history.specs.Seen.{seen}
+use Rattle.history.specs.Fates.{Command, commands, ownTag, outstanding, total, All}
+use Rattle.history.specs.Run.{Done, result, done, event, AllTyped, run, run_from, history}
+use Rattle.history.specs.ByHistory.{isOut, underWayAfter, leftOf}
+use Rattle.history.specs.Answered.{hostReplies, openedBy, openReplies, repliesBy, Answers}
+use Rattle.history.proofs.Frames.{read-frames, read_step}
+use Rattle.history.proofs.Events.{part-long}
+use Rattle.history.proofs.CoreSteps.{ones-some}
+use Rattle.history.proofs.Core.{Inv, inv-total}
+use Rattle.history.proofs.Table.{Standing, Following, Tracked}
+use Rattle.history.proofs.Transfers.{transfer-open}
+use Rattle.history.proofs.Runs.{Held, held-step, held-power}
+use Rattle.history.proofs.Knows.{Known}
+use Rattle.history.proofs.Otherwise.{same-other, Paged, by-other, names-ten, names-eleven}
+
+-- a state and the history before it, as every run has them
+pub record Stands (d : Device) (h : List Event) : Type 0 where
+  pub sized : SizedRecord d
+  pub known : Known d h
+  pub inv : Inv d.status.outstanding d.status.halted (map seen h)
+  pub tracked : Tracked d (map seen h)
+
+-- the replies of an act, as the host reads them
+abbrev Reads : Device → List ℕ → Act → List Frame
+Reads d part a = map trip.readBack (repliesOf (shown d) part a)
+
+-- what a call is answered after h, with the settings of d
+abbrev By : Device → List Event → Call → List Frame
+By d h c = repliesBy d.settings.depth d.settings.capacity h c
+
+-- and a host frame
+abbrev ByHost : Device → List Event → Frame → List Frame
+ByHost d h f = hostReplies d.settings.depth d.settings.capacity h f
+
+-- an Activate, or none
+activates : (b : Bool) → map trip.readBack (activateIf b) ≡ pick b (fs.Activate ∷ []) []
+unfolding pick
+activates true = refl
+activates false = refl
+
+-- less than is not at most, the other way round
+not-leb : (l n : ℕ) → not (leb l n) ≡ ltb n l
+not-leb l n =
+    ⊎_elim (λ (y : leb l n ≡ true). rw (y, le-ltb n l (leb-true l n y)) refl) (λ (y : leb l n ≡ false). rw (y, lt-ltb n l (leb-false l n y)) refl) (tested (leb l n))
+
+module _ (d : Device) (h : List Event) (k : Stands d h) where
+  -- something is outstanding
+  busy_is : ltb 0 (total (map seen h)) ≡ not (eqb d.status.outstanding 0)
+  busy_is = ap (ltb 0) (inv-total k.inv) ∙ ones-some d.status.outstanding
+
+  -- what is left of the open phase, in its direction
+  left-is : contradictoryDevice d ≡ false → eqb d.status.phase 0 ≡ false → (b : Bool) → (entry_of d.entries (openTag d.status.phase)).write ≡ not b
+      → leftOf b (underWayAfter h) ≡ left_of (entry_of d.entries (openTag d.status.phase))
+  unfolding openTag pick
+  left-is g p b w =
+      let t : ℕ = d.status.phase - 1 in
+      let n = eqb-false d.status.phase 0 p in
+      let o : d.status.phase ≡ t + 1 = omega (arith, n) in
+      let q : openTag d.status.phase ≡ t = pick_no (eqb d.status.phase 0) 32 t p in
+      let e : Entry = entry_of d.entries t in
+      let way : leftOf b (underWayAfter h) ≡ pick (pick b (not e.write) (not (not e.write))) (512 * e.count - e.moved) 0 = ap (leftOf b) (k.tracked.under ∙ transfer-open d t o) in
+      let due : pick (pick b (not e.write) (not (not e.write))) (512 * e.count - e.moved) 0 ≡ left_of e =
+      in_way b e.write (512 * e.count - e.moved) (subst (λ (u : ℕ). (entry_of d.entries u).write ≡ not b) q w)
+      ∙ ap (λ (m : ℕ). m - e.moved) (sym (whole_is d t g (k.tracked.phased.busy t o))) in
+      way ∙ due ∙ ap (λ (u : ℕ). left_of (entry_of d.entries u)) (sym q)
+    where
+      in_way : (b w : Bool) (n : ℕ) → w ≡ not b → pick (pick b (not w) (not (not w))) n 0 ≡ n
+      in_way true w n e = rw e refl
+      in_way false w n e = rw e refl
+
+  -- ---- host frames
+
+  -- what a page answers is 512 bytes
+  pages : contradictoryDevice d ≡ false → Paged (shown d)
+  pages g = record { ten = page10-long d.errors (record-fits d k.sized g); eleven = page11-long d.settings.mask d.values (both-kept d g) }
+
+  -- a tag that is outstanding, by the history and by the state
+  used_is : (f : HostReg) → leb d.settings.depth (tagAsked f) || isOut (tagAsked f) h ≡ leb d.settings.depth (tagAsked f) || bitIn 32 d.status.outstanding (tagAsked f)
+  used_is f = ap (λ (b : Bool). leb d.settings.depth (tagAsked f) || b) (k.known.out (tagAsked f) (tag_small f.task.count))
+
+  -- a command that is not queued
+  others : (v : Facts) (f : HostReg) → v.status.halted ≡ d.status.halted → v.status.outstanding ≡ d.status.outstanding → contradictoryDevice d ≡ false → taskFits f.task ≡ true → by.TimelyCommand v f false
+      → Reads d [] (frameAct v (fs.Host f)) ≡ ByHost d h (fs.Host f)
+  unfolding frameAct registerAct otherAct pick
+  others v f x o g t c =
+      rw (c.command, c.kind)
+      (by-other v (shown d) [] f (sym x) t (pages g)
+      ∙ same-other v.status.halted _ f.task (x ∙ sym k.known.halted) (names-ten f t) (names-eleven f t) (ap (λ (n : ℕ). not (eqb n 0)) o ∙ sym busy_is))
+
+  -- host data
+  due-answers : (n : ℕ) → contradictoryDevice d ≡ false → eqb d.status.phase 0 ≡ false → (entry_of d.entries (openTag d.status.phase)).write ≡ true
+      → Reads d [] (Store (move_of d.status (entry_of d.entries (openTag d.status.phase)) n)) ≡ ByHost d h (fs.Data n)
+  unfolding repliesOf move_of
+  due-answers n g p w =
+      let l : ℕ = left_of (entry_of d.entries (openTag d.status.phase)) in
+      activates (not (leb l n)) ∙ ap (λ (b : Bool). pick b (fs.Activate ∷ []) []) (not-leb l n ∙ ap (ltb n) (sym (left-is g p false w)))
+
+  -- by the rule that holds
+  heard-answers : (x m b : List ℕ) {f : Frame} {a : Act} → contradictoryDevice d ≡ false → ReadFits f → by.Heard (facts_of d (lent (hostFrame x) m b)) f a → a ≡ frameAct (facts_of d (lent (hostFrame x) m b)) f
+      → Reads d [] a ≡ ByHost d h f
+  unfolding repliesOf ReadFits pick
+  heard-answers x m b g t (by.srst f c s) e = rw (c, s) refl
+  heard-answers x m b g t (by.release f c s y) e = rw (c, s, k.known.held, y) refl
+  heard-answers x m b g t (by.nothing f c s y) e = rw (c, s, k.known.held, y) refl
+  heard-answers x m b g t (by.rule1 f c y) e = rw (c.command, c.kind, k.known.halted, y) refl
+  heard-answers x m b g t (by.rule2 f c y u) e = rw (c.command, c.kind, k.known.halted, y, used_is f, u, echo-task f.task t) refl
+  heard-answers x m b g t (by.rule3 f c y u z) e = rw (c.command, c.kind, k.known.halted, y, used_is f, u, z, echo-task f.task t) refl
+  heard-answers x m b g t (by.rule4 f c y u z) e = rw (c.command, c.kind, k.known.halted, y, used_is f, u, z, echo-task f.task t) refl
+  heard-answers x m b g t (by.other-halted f c y) e = ap (Reads d []) e ∙ others _ f refl refl g t c
+  heard-answers x m b g t (by.other-busy f c y) e = ap (Reads d []) e ∙ others _ f refl refl g t c
+  heard-answers x m b g t (by.page10 f c y p) e = ap (Reads d []) e ∙ others _ f refl refl g t c
+  heard-answers x m b g t (by.page11 f c y z p) e = ap (Reads d []) e ∙ others _ f refl refl g t c
+  heard-answers x m b g t (by.other-bad f c y z) e = ap (Reads d []) e ∙ others _ f refl refl g t c
+  heard-answers x m b g t (by.due n p w y) e = due-answers n g p w
+  heard-answers x m b g t (by.bist y) e = refl
+
+  -- ---- device events
+
+  -- what opens a phase for tag t
+  abbrev opening : ℕ → List Frame
+  opening t =
+      let e : Entry = entry_of d.entries t in
+      fs.Setup (record { auto = false; interrupt = false; to_host = not e.write; tag = t; offset = 0; count = 512 * e.count }) ∷ pick e.write (fs.Activate ∷ []) []
+
+  -- the outstanding command of tag t asks for what its entry says
+  opened-by : (t : ℕ) (c : Command) → ownTag c ≡ t → Standing d c → openedBy t c ≡ opening t
+  opened-by t c e s =
+      let w : c.accepted.asks.write ≡ (entry_of d.entries t).write = sym s.write ∙ ap (λ (u : ℕ). (entry_of d.entries u).write) e in
+      let n : c.accepted.asks.count ≡ (entry_of d.entries t).count = sym s.count ∙ ap (λ (u : ℕ). (entry_of d.entries u).count) e in
+      ap₂ (λ (x : Bool) (m : ℕ). fs.Setup (record { auto = false; interrupt = false; to_host = not x; tag = t; offset = 0; count = 512 * m }) ∷ pick x (fs.Activate ∷ []) []) w n
+
+  -- and is found
+  found : (t : ℕ) (cs : List Command) → some (λ c. eqb (ownTag c) t && (outstanding c && true)) cs ≡ true → All (Following d) cs → openReplies t cs ≡ opening t
+  unfolding some openReplies All
+  found t [] e a = absurd (false≢true e)
+  found t (c ∷ cs) e a =
+      let o : Bool = eqb (ownTag c) t && outstanding c in
+      ⊎_elim
+      (λ (y : o ≡ true).
+      pick_yes o (openedBy t c) (openReplies t cs) y
+      ∙ opened-by t c (eqb-true (ownTag c) t (and_left (eqb (ownTag c) t) (outstanding c) y)) (a.0.stands (and_right (eqb (ownTag c) t) (outstanding c) y)))
+      (λ (y : o ≡ false).
+      pick_no o (openedBy t c) (openReplies t cs) y ∙ found t cs (in-rest (eqb (ownTag c) t) (outstanding c) _ y e) a.1)
+      (tested o)
+    where
+      in-rest : (x y r : Bool) → x && y ≡ false → (x && (y && true)) || r ≡ true → r ≡ true
+      in-rest true true r n e = absurd (false≢true (sym n))
+      in-rest true false r n e = e
+      in-rest false y r n e = e
+
+  -- open
+  open-answers : (t : ℕ) → contradictoryDevice d ≡ false → bitIn 32 d.status.outstanding t ≡ true → Reads d [] (Open (record { tag = t; entry = entry_of d.entries t })) ≡ openReplies t (commands (map seen h))
+  unfolding repliesOf
+  open-answers t g o =
+      let e : Entry = entry_of d.entries t in
+      ap₂ (λ (n : ℕ) (l : List Frame). fs.Setup (record { auto = false; interrupt = false; to_host = not e.write; tag = t; offset = 0; count = n }) ∷ l) (whole_is d t g o) (activates e.write)
+      ∙ sym (found t (commands (map seen h)) (k.known.out t (busy-below d.status.outstanding t o) ∙ o) k.tracked.commands)
+
+  -- by the event
+  own-answers : (m b : List ℕ) {c : Call} {a : Act} → by.Own (facts_of d (lent c m b)) c a → Reads d (part_of (span_of a) m) a ≡ By d h c
+  unfolding repliesOf repliesBy touch_of move_of
+  own-answers m b (by.opened t g s o p e) = open-answers t g o
+  own-answers m b (by.sent g w s p r) =
+      let e : Entry = entry_of d.entries (openTag d.status.phase) in
+      let y = move_of d.status e 8192 in
+      ap (λ (n : ℕ). fs.Data n ∷ []) (part-long m y.at y.size (move-within d g p 8192 (length m) w) ∙ ap (min 8192) (sym (left-is g p true r)))
+  own-answers m b (by.finished u g s p e r) = refl
+  own-answers m b (by.failed t e x g s o y w) = refl
+  own-answers m b (by.linked r g x) = refl
+  own-answers m b (by.renewed g s) = refl
+
+  -- a call that was decided, and is done
+  ruled-answers : (m b : List ℕ) {c : Call} {a : Act} → Typed c → by.Ruled (facts_of d (lent c m b)) c a → number_of a ≡ 0 → a ≡ does (facts_of d (lent c m b)) c → Reads d (part_of (span_of a) m) a ≡ By d h c
+  unfolding number_of does repliesBy
+  ruled-answers m b t (by.refused c n x e) z i = absurd (x z)
+  ruled-answers m b t (by.host f a g w s y) z i =
+      subst (λ (p : List ℕ). Reads d p a ≡ ByHost d h (readFrame f)) (heard-unsent (facts_of d (lent (hostFrame f) m b)) m y) (heard-answers f m b g (read_fits f t.0) y i)
+  ruled-answers m b t (by.own o) z i = own-answers m b o
+
+  -- every taken call
+  pub answers-here : (l : Lent) → Typed l.call → (step d l).refusal ≡ 0 → frames (event (done l (result d l))) ≡ By d h l.call
+  unfolding actOf act
+  answers-here l t z =
+      let v : Facts = facts_of d l in
+      read-frames (event (done l (result d l))) (step d l).frames (read_step d l t k.sized)
+      ∙ ruled-answers l.medium l.buffer t (by.ruled v l.call) z (decided-is _ (does v l.call) (not-refused _ (does v l.call) z))
+
+-- every taken call, with the settings that the device has
+pub answers-step : (d : Device) (l : Lent) (h : List Event) (deep cap : ℕ) → Typed l.call → Stands d h → d.settings.depth ≡ deep → d.settings.capacity ≡ cap → (step d l).refusal ≡ 0
+    → frames (event (done l (result d l))) ≡ repliesBy deep cap h l.call
+answers-step d l h deep cap t k x y z = answers-here d h k l t z ∙ ap₂ (λ (m n : ℕ). repliesBy m n h l.call) x y
+
+-- ---- runs
+
+-- what is known at the end of every run that goes on from here
+abbrev KnownOn : Device → List Done → Type 0
+KnownOn d h = (as' : List Lent) → AllTyped as' → Known (run d h as').state (map event (run d h as').calls)
+
+-- a taken call of a run
+taken-answers : (s : Settings) (d : Device) (h : List Event) (a : Lent) → Typed a.call → Held s d h → Known d h → taken (event (done a (result d a))) ≡ true
+    → frames (event (done a (result d a))) ≡ repliesBy s.depth s.capacity h a.call
+taken-answers s d h a t i w y =
+    let z : (step d a).refusal ≡ 0 = eqb-true (step d a).refusal 0 y in
+    ⊎_elim
+    (λ (x : eqb (powerOn s).refusal 0 ≡ true).
+    let e = i.sound.settings (eqb-true (powerOn s).refusal 0 x) in
+    answers-step d a h s.depth s.capacity t (record { sized = i.wide.sized; known = w; inv = i.inv; tracked = i.tracked }) (ap (λ (q : Settings). q.depth) e) (ap (λ (q : Settings). q.capacity) e) z)
+    (λ (x : eqb (powerOn s).refusal 0 ≡ false).
+    let e = i.sound.zeros (eqb-false (powerOn s).refusal 0 x) in
+    absurd (not-both _ z (ap (λ (q : Device). (step q a).refusal) e ∙ zeros a)))
+    (tested (eqb (powerOn s).refusal 0))
+  where
+    not-both : (n : ℕ) → n ≡ 0 → n ≡ 1 → ⊥
+    not-both n p q = omega arith
+
+-- a run
+answered-run : (s : Settings) (d : Device) (h : List Done) (as' : List Lent) → AllTyped as' → KnownOn d h → Held s d (map event h) → Answers s.depth s.capacity (map event h)
+    → Answers s.depth s.capacity (map event (run d h as').calls)
+unfolding run AllTyped Answers
+answered-run s d h [] t w i r = r
+answered-run s d h (a ∷ as') t w i r =
+    answered-run s (result d a).outcome.state (done a (result d a) ∷ h) as' t.1 (λ bs u. w (a ∷ bs) (t.0, u)) (held-step s d a (map event h) t.0 i) (taken-answers s d (map event h) a t.0 i (w [] tt), r)
+
+-- every taken call of every run from power-on is answered what the history before it says
+pub answered : (s : Settings) (as' : List Lent) → AllTyped as' → ((bs : List Lent) → AllTyped bs → Known (run_from s bs).state (history s bs)) → Answers s.depth s.capacity (history s as')
+unfolding Answers
+answered s as' t w = answered-run s (powerOn s).state [] as' t w (held-power s) tt
