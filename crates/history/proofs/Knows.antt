@@ -84,7 +84,7 @@ some-none p (c ∷ cs) a = ap₂ ◌||◌ a.0 (some-none p cs a.1)
 -- ---- sectors and bytes
 
 -- one test or the other holds
-below-not : (a b : ℕ) → ltb a b ≡ not (leb b a)
+pub below-not : (a b : ℕ) → ltb a b ≡ not (leb b a)
 below-not a b =
     ⊎_elim (λ (x : ltb a b ≡ true). let l = ltb-true a b x in x ∙ sym (ap not (lt-leb b a l)))
     (λ (x : ltb a b ≡ false). let l = ltb-false a b x in x ∙ sym (ap not (le-leb b a l))) (tested (ltb a b))

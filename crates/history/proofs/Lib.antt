@@ -48,6 +48,7 @@ pub mod Holding
 pub mod Knows
 -- demand 3: over every run from power-on, against the state, and of the code
 pub mod Soundness
+pub mod Refusing
 pub mod Runs
 pub mod StateAgrees
 pub mod Allowed
