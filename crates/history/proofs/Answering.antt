@@ -128,7 +128,7 @@ module _ (d : Device) (h : List Event) (k : Stands d h) where
 
   -- a tag that is outstanding, by the history and by the state
   used_is : (f : HostReg) → leb d.settings.depth (tagAsked f) || isOut (tagAsked f) h ≡ leb d.settings.depth (tagAsked f) || bitIn 32 d.status.outstanding (tagAsked f)
-  used_is f = ap (λ (b : Bool). leb d.settings.depth (tagAsked f) || b) (k.known.out (tagAsked f) (tag_small f.task.count))
+  used_is f = ap (λ (b : Bool). leb d.settings.depth (tagAsked f) || b) (k.known.out (tagAsked f))
 
   -- a command that is not queued
   others : (v : Facts) (f : HostReg) → v.status.halted ≡ d.status.halted → v.status.outstanding ≡ d.status.outstanding → contradictoryDevice d ≡ false → taskFits f.task ≡ true → by.TimelyCommand v f false
@@ -206,7 +206,7 @@ module _ (d : Device) (h : List Event) (k : Stands d h) where
   open-answers t g o =
       let e : Entry = entry_of d.entries t in
       ap₂ (λ (n : ℕ) (l : List Frame). fs.Setup (record { auto = false; interrupt = false; to_host = not e.write; tag = t; offset = 0; count = n }) ∷ l) (whole_is d t g o) (activates e.write)
-      ∙ sym (found t (commands (map seen h)) (k.known.out t (busy-below d.status.outstanding t o) ∙ o) k.tracked.commands)
+      ∙ sym (found t (commands (map seen h)) (k.known.out t ∙ o) k.tracked.commands)
 
   -- by the event
   own-answers : (m b : List ℕ) {c : Call} {a : Act} → by.Own (facts_of d (lent c m b)) c a → Reads d (part_of (span_of a) m) a ≡ By d h c

@@ -16,7 +16,6 @@ use Rattle.bits.specs.Pick.{pick}
 use Rattle.bits.specs.Bit.{bitIn}
 use Rattle.bits.proofs.Masks.{bit-lt, bit-suc}
 use Rattle.bits.proofs.Picks.{tested}
-use Rattle.history.specs.Asked.{asks}
 use Rattle.history.specs.Replied.{some}
 use Rattle.history.specs.Seen.{Seen}
 use Rattle.history.specs.Fates.{ends, one, total, totalWith}

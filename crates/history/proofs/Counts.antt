@@ -1,5 +1,5 @@
 -- Over every call the counters go on telling the events since their zeroing. Assumes nothing.
-use mathlib.Core.Path.{◌≡◌, ap, subst, subst⁻¹}
+use mathlib.Core.Path.{◌≡◌, ap, subst⁻¹}
 use mathlib.Core.Bool.{Bool, true, false}
 use mathlib.Core.List.{List, ◌∷◌}
 use mathlib.Core.Logic.{⊎_elim}

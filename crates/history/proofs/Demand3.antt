@@ -6,6 +6,9 @@ use Rattle.device.specs.declared.state.Outcome.{Outcome}
 use Rattle.history.specs.Event.{Event}
 use Rattle.history.specs.Demand3.{Demand3}
 use Rattle.history.specs.StateAgrees.{StateAgrees}
+use Rattle.history.specs.Refused.{Refusals}
+use Rattle.history.specs.Answered.{Answers}
+use Rattle.history.proofs.Answering.{answered}
 use Rattle.device.specs.Lent.{Lent}
 use Rattle.history.specs.Run.{Done, AllTyped, run_from, history}
 use Prim.Native.Nat.{ℕ}
@@ -21,7 +24,7 @@ use Rattle.history.specs.Counted.{toldFor}
 use Rattle.history.specs.Follows.{final, lents, historyOf, Began}
 use Rattle.history.proofs.Allowed.{BeganCode, CounterCode, CountCode}
 use Rattle.history.proofs.Counters.{counters-tell}
-use Rattle.history.proofs.Runs.{demand3-fates, demand3-data, demand3-sactive, demand3-waiting, demand3-depth, demand3-single, demand3-reply-rules}
+use Rattle.history.proofs.Runs.{demand3-fates, demand3-data, demand3-sactive, demand3-waiting, demand3-depth, demand3-single, demand3-reply-rules, refused-exactly, known}
 use Rattle.history.proofs.StateAgrees.{told-outstanding, told-waits, told-counters, told-asked, told-depth, told-count, told-consistent}
 use Rattle.history.proofs.Contracts.{for-all, began-code, counter-code, count-code}
 
@@ -62,6 +65,26 @@ told-given s r xs b t = for-all s r xs b (StateAgrees s) (told s (lents xs) t)
 -- the same of the code: of every sequence of results that the contracts of power-on and of the calls allow
 pub demand3-code : (s : Settings) (r : Outcome) (xs : List Done) → BeganCode s r xs → AllTyped (lents xs) → Demand3 s.depth s.mask (historyOf xs)
 demand3-code s r xs b = demand3-given s r xs (began-code s r xs b)
+
+-- every event is turned down for just what the table of refusals says, by the history before it: of such a sequence of results
+pub refused-given : (s : Settings) (r : Outcome) (xs : List Done) → Began s r xs → AllTyped (lents xs) → Refusals s.depth s.capacity s.mask (historyOf xs)
+refused-given s r xs b t = for-all s r xs b (λ (d : Device) (h : List Event). Refusals s.depth s.capacity s.mask h) (refused-exactly s (lents xs) t)
+
+-- and of the code
+pub refused-code : (s : Settings) (r : Outcome) (xs : List Done) → BeganCode s r xs → AllTyped (lents xs) → Refusals s.depth s.capacity s.mask (historyOf xs)
+refused-code s r xs b = refused-given s r xs (began-code s r xs b)
+
+-- every taken call is answered, frame by frame, as the history before it says: over every run
+pub answers : (s : Settings) (as' : List Lent) → AllTyped as' → Answers s.depth s.capacity (history s as')
+answers s as' t = answered s as' t (known s)
+
+-- of a sequence of results that are as the one contract promises them
+pub answers-given : (s : Settings) (r : Outcome) (xs : List Done) → Began s r xs → AllTyped (lents xs) → Answers s.depth s.capacity (historyOf xs)
+answers-given s r xs b t = for-all s r xs b (λ (d : Device) (h : List Event). Answers s.depth s.capacity h) (answers s (lents xs) t)
+
+-- and of the code
+pub answers-code : (s : Settings) (r : Outcome) (xs : List Done) → BeganCode s r xs → AllTyped (lents xs) → Answers s.depth s.capacity (historyOf xs)
+answers-code s r xs b = answers-given s r xs (began-code s r xs b)
 
 -- what the history h tells of the state d, and of each answer about it that the contracts of `Device::counter` and `Device::outstanding_count` allow
 pub record CodeAgrees (s : Settings) (d : Device) (h : List Event) : Type 0 where

@@ -32,7 +32,7 @@ use Rattle.device.proofs.Rooms.{move-within}
 use Rattle.device.proofs.Busy.{whole_is}
 use Rattle.history.specs.FrameAsks.{quiet, resetAsks}
 use Rattle.history.specs.Seen.{underWay}
-use Rattle.history.proofs.Class.{none, Class, Same, plain, halts, resets, opens, carries, ends}
+use Rattle.history.proofs.Class.{Class, Same, plain, halts, resets, opens, carries, ends}
 use Rattle.history.proofs.Sets.{no-busy, no_bits}
 use Rattle.history.proofs.Views.{view, is-silent, is-finish, is-failed, is-reset, is-setup, setup-begins, is-sent, silent-unbegun, answer-unbegun, bits-unbegun, sent-unbegun}
 use Rattle.history.proofs.Changes.{halted-empty, carried-by, unmoved, cleared-other}

@@ -1,32 +1,164 @@
--- What the device keeps of its business is what the history tells of it (ByHistory). Assumes nothing.
-use mathlib.Core.Path.{◌≡◌}
-use mathlib.Core.Bool.{Bool, true, false, not}
-use mathlib.Core.List.{List, map}
-use Prim.Native.Nat.{ℕ, ◌-◌, ◌*◌, ◌≤◌, ◌<◌}
-use lib.Dec.{eqb}
-use Rattle.bits.specs.Pick.{pick}
+-- What the device keeps of its business is what the history tells of it (ByHistory): the commands outstanding, what has moved of them, their ranges, and the open phase. Assumes nothing.
+use mathlib.Core.Path.{◌≡◌, refl, sym, ap, ap₂, ◌∙◌}
+use mathlib.Core.Bool.{Bool, true, false, not, ◌&&◌, ◌||◌, and-true}
+use mathlib.Core.List.{List, [], ◌∷◌, map}
+use mathlib.Core.Logic.{⊎_elim}
+use Prim.Native.Nat.{ℕ, zero, suc, ◌+◌, ◌*◌, ◌≤◌, ◌<◌}
+use native.Mathlib.Omega.{arith}
+use lib.Dec.{eqb, ltb, leb}
+use lib.ListN.{length}
+use borrow.Author.Tests.{eqb-true, ltb-true, ltb-false, lt-leb, le-leb, lt-ltb}
 use Rattle.bits.specs.Bit.{bitIn}
+use Rattle.bits.proofs.Picks.{tested}
 use Rattle.rules.specs.Tests.{outside}
-use Rattle.device_state.specs.Table.{entry_of}
 use Rattle.device.specs.declared.state.Device.{Device}
 use Rattle.history.specs.Event.{Event}
-use Rattle.history.specs.Seen.{seen, Transfer, noTransfer, underWay}
+use Rattle.history.specs.Replied.{some}
+use Rattle.history.specs.Seen.{seen}
+use Rattle.history.specs.Fates.{Command, commands, ownTag, outstanding, one, howMany, All, totalWith}
+use Rattle.history.specs.Carried.{span, base}
 use Rattle.history.specs.Waits.{waits}
 use Rattle.history.specs.ByHistory.{outstandingWith, isOut, whole, covers, underWayAfter, holding}
+use Rattle.history.proofs.Alls.{all-imp}
+use Rattle.history.proofs.Core.{Inv}
+use Rattle.history.proofs.Transfers.{transferOf}
+use Rattle.history.proofs.Moving.{deviceEntry, busyAt}
+use Rattle.history.proofs.Table.{Standing, Following, Tracked}
 
--- what the state says is under way: the open phase, from what has moved to the end of the command
-abbrev pub phaseOf : Device → Transfer
-phaseOf d =
-    let e = entry_of d.entries (d.status.phase - 1) in
-    pick (eqb d.status.phase 0) noTransfer (underWay (not e.write) (d.status.phase - 1) e.moved (512 * e.count))
-
--- the state d after the history h
+-- the state d after the history h; a tag of 32 or more is outstanding by neither
 pub record Known (d : Device) (h : List Event) : Type 0 where
-  pub out : (t : ℕ) → t < 32 → isOut t h ≡ bitIn 32 d.status.outstanding t
-  pub high : (t : ℕ) → 32 ≤ t → isOut t h ≡ false
-  pub moved : (t : ℕ) → t < 32 → bitIn 32 d.status.outstanding t ≡ true → outstandingWith t whole h ≡ eqb (entry_of d.entries t).moved (512 * (entry_of d.entries t).count)
-  pub idle : (t : ℕ) → t < 32 → bitIn 32 d.status.outstanding t ≡ false → (outstandingWith t whole h ≡ false)
-  pub ranged : (t sector : ℕ) → t < 32 → bitIn 32 d.status.outstanding t ≡ true → outstandingWith t (covers sector) h ≡ not (outside (entry_of d.entries t) sector)
-  pub phase : underWayAfter h ≡ phaseOf d
+  pub out : (t : ℕ) → isOut t h ≡ busyAt d t
+  pub moved : (t : ℕ) → outstandingWith t whole h ≡ (busyAt d t && eqb (deviceEntry d t).moved (512 * (deviceEntry d t).count))
+  pub ranged : (t sector : ℕ) → outstandingWith t (covers sector) h ≡ (busyAt d t && not (outside (deviceEntry d t) sector))
+  pub phase : underWayAfter h ≡ transferOf d
   pub held : holding h ≡ d.status.held
   pub halted : waits (map seen h) ≡ d.status.halted
+
+-- ---- some of a list
+
+-- some are so where more than none are
+some-many : (p : Command → Bool) (cs : List Command) → some p cs ≡ ltb 0 (howMany p cs)
+unfolding some howMany
+some-many p [] = refl
+some-many p (c ∷ cs) = ap (λ (b : Bool). p c || b) (some-many p cs) ∙ go (p c) (howMany p cs)
+  where
+    go : (b : Bool) (n : ℕ) → b || ltb 0 n ≡ ltb 0 (one b + n)
+    go true n = sym (lt-ltb 0 (1 + n) (omega arith))
+    go false n = ap (ltb 0) (let e : n ≡ 0 + n = omega arith in e)
+
+-- truth table: a test in front of two that agree where it holds
+agree : (t o x b : Bool) → (t ≡ true → o ≡ true → x ≡ b) → t && (o && x) ≡ (t && (o && true)) && b
+agree true true x b f = f refl refl
+agree true false x b f = refl
+agree false o x b f = refl
+
+-- truth table: one of two, in front of a test
+either : (a s b : Bool) → (a && b) || (s && b) ≡ (a || s) && b
+either true true true = refl
+either true true false = refl
+either true false true = refl
+either true false false = refl
+either false s b = refl
+
+-- where every outstanding command of tag t is so or not as b says, some is so where some is outstanding and b holds
+some-same : (t : ℕ) (is : Command → Bool) (b : Bool) (cs : List Command) → All (λ c. eqb (ownTag c) t ≡ true → outstanding c ≡ true → is c ≡ b) cs
+    → some (λ c. eqb (ownTag c) t && (outstanding c && is c)) cs ≡ some (λ c. eqb (ownTag c) t && (outstanding c && true)) cs && b
+unfolding some All
+some-same t is b [] a = refl
+some-same t is b (c ∷ cs) a =
+    ap₂ ◌||◌ (agree (eqb (ownTag c) t) (outstanding c) (is c) b a.0) (some-same t is b cs a.1)
+    ∙ either (eqb (ownTag c) t && (outstanding c && true)) (some (λ c. eqb (ownTag c) t && (outstanding c && true)) cs) b
+
+-- tests that agree of every command
+some-ext : (p q : Command → Bool) → ((c : Command) → p c ≡ q c) → (cs : List Command) → some p cs ≡ some q cs
+unfolding some
+some-ext p q e [] = refl
+some-ext p q e (c ∷ cs) = ap₂ ◌||◌ (e c) (some-ext p q e cs)
+
+-- none is so
+some-none : (p : Command → Bool) (cs : List Command) → All (λ c. p c ≡ false) cs → some p cs ≡ false
+unfolding some All
+some-none p [] a = refl
+some-none p (c ∷ cs) a = ap₂ ◌||◌ a.0 (some-none p cs a.1)
+
+-- ---- sectors and bytes
+
+-- one test or the other holds
+pub below-not : (a b : ℕ) → ltb a b ≡ not (leb b a)
+below-not a b =
+    ⊎_elim (λ (x : ltb a b ≡ true). let l = ltb-true a b x in x ∙ sym (ap not (lt-leb b a l)))
+    (λ (x : ltb a b ≡ false). let l = ltb-false a b x in x ∙ sym (ap not (le-leb b a l))) (tested (ltb a b))
+
+-- truth table: in the range is not outside
+in-out : (a b : Bool) → (a && not b) ≡ not (not a || b)
+in-out true b = refl
+in-out false b = refl
+
+-- a sector from `first` on and below its end is not outside
+covers-not : (first count sector : ℕ) → leb first sector && ltb sector (first + count) ≡ not (ltb sector first || leb (first + count) sector)
+covers-not first count sector = rw (below-not sector (first + count), below-not sector first) (in-out (leb first sector) (leb (first + count) sector))
+
+-- a span has its length
+span-length : (a n : ℕ) → length (span a n) ≡ n
+unfolding span
+span-length a zero = refl
+span-length a (suc n) = ap suc (span-length (suc a) n)
+
+-- ---- what is known
+
+module _ (d : Device) (c : Command) (s : Standing d c) where
+  -- an outstanding command is wholly carried where its entry says that all has moved
+  stands-whole : whole c ≡ eqb (deviceEntry d (ownTag c)).moved (512 * (deviceEntry d (ownTag c)).count)
+  stands-whole = ap₂ eqb (ap length s.bytes ∙ span-length (base c) (deviceEntry d (ownTag c)).moved) (ap (λ (n : ℕ). 512 * n) (sym s.count))
+
+  -- and its range is its entry's
+  stands-covers : (sector : ℕ) → covers sector c ≡ not (outside (deviceEntry d (ownTag c)) sector)
+  stands-covers sector = ap₂ (λ (a n : ℕ). leb a sector && ltb sector (a + n)) (sym s.first) (sym s.count) ∙ covers-not (deviceEntry d (ownTag c)).first (deviceEntry d (ownTag c)).count sector
+
+-- a set of 32 bits holds no tag of 32 or more
+high-bit : (m t : ℕ) → ltb t 32 ≡ false → bitIn 32 m t ≡ false
+high-bit m t x = rw x
+
+-- more than none, of one test
+one-test : (b : Bool) → ltb 0 (one b) ≡ b
+one-test true = refl
+one-test false = refl
+
+module _ (d : Device) (h : List Event) (i : Inv d.status.outstanding d.status.halted (map seen h)) where
+  -- a tag is outstanding by the history where it is by the state
+  known-out : (t : ℕ) → isOut t h ≡ busyAt d t
+  unfolding totalWith
+  known-out t =
+      ⊎_elim
+      (λ (x : ltb t 32 ≡ true).
+      some-ext _ _ (λ c. ap (λ (b : Bool). eqb (ownTag c) t && b) (and-true (outstanding c))) (commands (map seen h))
+      ∙ some-many (λ c. eqb (ownTag c) t && outstanding c) (commands (map seen h))
+      ∙ ap (ltb 0) (i.number t (ltb-true t 32 x)) ∙ one-test (busyAt d t))
+      (λ (x : ltb t 32 ≡ false).
+      some-none _ (commands (map seen h)) (all-imp (λ c. ownTag c < 32) _ (λ c l. high c l (ltb-false t 32 x)) (commands (map seen h)) i.tags)
+      ∙ sym (high-bit d.status.outstanding t x))
+      (tested (ltb t 32))
+    where
+      high : (c : Command) → ownTag c < 32 → 32 ≤ t → eqb (ownTag c) t && (outstanding c && true) ≡ false
+      high c l k =
+          ⊎_elim (λ (y : eqb (ownTag c) t ≡ true). let e = eqb-true (ownTag c) t y in absurd (omega arith))
+          (λ (y : eqb (ownTag c) t ≡ false). ap (λ (b : Bool). b && (outstanding c && true)) y) (tested (eqb (ownTag c) t))
+
+  -- a test of the outstanding command of a tag is one of its entry
+  known-with : Tracked d (map seen h) → (t : ℕ) (is : Command → Bool) (b : ℕ → Bool) → ((c : Command) → Standing d c → is c ≡ b (ownTag c))
+      → outstandingWith t is h ≡ busyAt d t && b t
+  known-with k t is b f =
+      some-same t is (b t) (commands (map seen h))
+      (all-imp (Following d) _ (λ c y u o. f c (y.stands o) ∙ ap b (eqb-true (ownTag c) t u)) (commands (map seen h)) k.commands)
+      ∙ ap (λ (x : Bool). x && b t) (known-out t)
+
+  -- all of it, given that reset is held by both or neither
+  pub knows : Tracked d (map seen h) → holding h ≡ d.status.held → Known d h
+  knows k e = record {
+    out = known-out;
+    moved = λ t. known-with k t whole (λ u. eqb (deviceEntry d u).moved (512 * (deviceEntry d u).count)) (stands-whole d);
+    ranged = λ t sector. known-with k t (covers sector) (λ u. not (outside (deviceEntry d u) sector)) (λ c s. stands-covers d c s sector);
+    phase = k.under;
+    held = e;
+    halted = i.waiting;
+  }

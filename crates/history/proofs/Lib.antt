@@ -43,13 +43,17 @@ pub mod Asked11
 -- replies: what each call may say, and what it must
 pub mod SeenRules
 pub mod ReplyRules
+-- what the device knows is what the history tells
+pub mod Holding
+pub mod Knows
 -- demand 3: over every run from power-on, against the state, and of the code
 pub mod Soundness
+pub mod Refusing
 pub mod Runs
 pub mod StateAgrees
 pub mod Allowed
 pub mod Contracts
-pub mod Knows
+-- what a history says of answers, and of refused calls
 pub mod Striking
 pub mod Otherwise
 pub mod Answering

@@ -1,5 +1,5 @@
 -- Every call says no more than it may, and what it must: as an event of the history. Assumes nothing.
-use mathlib.Core.Path.{◌≡◌, refl, sym, ap, subst, subst⁻¹, ◌∙◌}
+use mathlib.Core.Path.{◌≡◌, refl, sym, ap, subst⁻¹, ◌∙◌}
 use mathlib.Core.Bool.{Bool, true, false, ◌&&◌, false≢true}
 use mathlib.Core.List.{List, [], map}
 use mathlib.Core.Logic.{⊎_elim}

@@ -19,6 +19,7 @@ use Rattle.history.specs.Event.{Event}
 use Rattle.history.specs.Seen.{seen}
 use Rattle.history.specs.Fates.{one, total}
 use Rattle.history.specs.Demand3.{Fates, Ranges, Contents, Sactive, Waiting, Depth, OnePerTag, AllReplyRules}
+use Rattle.history.specs.Refused.{Refusals}
 use Rattle.device.specs.Lent.{Lent, Typed}
 use Rattle.history.specs.Run.{Done, done, event, result, AllTyped, run, run_from, history}
 use Rattle.history.proofs.Class.{Class}
@@ -31,6 +32,9 @@ use Rattle.history.proofs.ReplyRules.{reply-rules}
 use Rattle.history.proofs.Marked.{Marked, marked_start}
 use Rattle.device.proofs.Widths.{Wide}
 use Rattle.device.proofs.Widening.{wide_step, wide-start}
+use Rattle.history.proofs.Holding.{holding-step, holding-power}
+use Rattle.history.proofs.Knows.{Known, knows}
+use Rattle.history.proofs.Refusing.{refusing}
 use Rattle.history.proofs.Soundness.{Sound, sound-power, sound-step}
 
 -- the state and the history, held together
@@ -43,38 +47,50 @@ pub record Held (s : Settings) (d : Device) (h : List Event) : Type 0 where
   pub tracked : Tracked d (map seen h)
   pub contents : Contents h
   pub reply-rules : AllReplyRules h
+  pub knows : Known d h
+  pub refusals : Refusals s.depth s.capacity s.mask h
 
 -- one call more
 pub held-step : (s : Settings) (d : Device) (a : Lent) (h : List Event) → Typed a.call → Held s d h → Held s (result d a).outcome.state (event (done a (result d a)) ∷ h)
-unfolding Contents AllReplyRules
+unfolding Contents AllReplyRules Refusals
 held-step s d a h t i =
     let d' : Device = (result d a).outcome.state in
     let x : Event = event (done a (result d a)) in
     let c : Class d (seen x) d' = comes d a t i.wide.sized in
+    let v : Inv d'.status.outstanding d'.status.halted (seen x ∷ map seen h) = keeps d d' (seen x) (map seen h) i.inv c in
+    let k : Tracked d' (seen x ∷ map seen h) = tracked-step d d' (seen x) (map seen h) i.tracked c in
     record {
       wide = wide_step d a t i.wide;
       marked = marked_step d a i.marked;
       sound = sound-step s d a t i.sound;
-      inv = keeps d d' (seen x) (map seen h) i.inv c;
+      inv = v;
       lone = lone-step (seen x) (map seen h) (lone c) i.lone;
-      tracked = tracked-step d d' (seen x) (map seen h) i.tracked c;
+      tracked = k;
       contents = (moves d a (map seen h) t i.wide.sized i.tracked (inv-number i.inv), i.contents);
       reply-rules = (reply-rules d a (map seen h) t i.wide.sized i.marked i.inv, i.reply-rules);
+      knows = knows d' (x ∷ h) v k (holding-step d a h i.knows.held);
+      refusals = (refusing s d a h i.sound i.knows, i.refusals);
     }
 
 -- power-on
 pub held-power : (s : Settings) → Held s (powerOn s).state []
-unfolding powerOn freshDevice Contents AllReplyRules
-held-power s = record {
-  wide = wide-start s;
-  marked = marked_start s;
-  sound = sound-power s;
-  inv = by-test (λ (d : Device). Inv d.status.outstanding d.status.halted []) (eqb (powerNumber s) 0) (freshDevice s) zeroDevice (λ _. inv-start) (λ _. inv-start);
-  lone = lone-none;
-  tracked = tracked-start (powerOn s).state (by-test (λ (d : Device). d.status.phase ≡ 0) (eqb (powerNumber s) 0) (freshDevice s) zeroDevice (λ _. refl) (λ _. refl));
-  contents = tt;
-  reply-rules = tt;
-}
+unfolding powerOn freshDevice Contents AllReplyRules Refusals
+held-power s =
+    let d : Device = (powerOn s).state in
+    let v : Inv d.status.outstanding d.status.halted [] = by-test (λ (d : Device). Inv d.status.outstanding d.status.halted []) (eqb (powerNumber s) 0) (freshDevice s) zeroDevice (λ _. inv-start) (λ _. inv-start) in
+    let k : Tracked d [] = tracked-start d (by-test (λ (d : Device). d.status.phase ≡ 0) (eqb (powerNumber s) 0) (freshDevice s) zeroDevice (λ _. refl) (λ _. refl)) in
+    record {
+      wide = wide-start s;
+      marked = marked_start s;
+      sound = sound-power s;
+      inv = v;
+      lone = lone-none;
+      tracked = k;
+      contents = tt;
+      reply-rules = tt;
+      knows = knows d [] v k (holding-power s);
+      refusals = tt;
+    }
 
 -- a run
 pub held-run : (s : Settings) (d : Device) (h : List Done) (as' : List Lent) → AllTyped as' → Held s d (map event h) → Held s (run d h as').state (map event (run d h as').calls)
@@ -85,6 +101,14 @@ held-run s d h (a ∷ as') t i = held-run s (result d a).outcome.state (done a (
 -- a run from power-on
 pub held : (s : Settings) (as' : List Lent) → AllTyped as' → Held s (run_from s as').state (history s as')
 held s as' t = held-run s (powerOn s).state [] as' t (held-power s)
+
+-- what the device keeps of its business is what the history tells
+pub known : (s : Settings) (as' : List Lent) → AllTyped as' → Known (run_from s as').state (history s as')
+known s as' t = (held s as' t).knows
+
+-- every event is turned down for just what the table of refusals says, by the history before it
+pub refused-exactly : (s : Settings) (as' : List Lent) → AllTyped as' → Refusals s.depth s.capacity s.mask (history s as')
+refused-exactly s as' t = (held s as' t).refusals
 
 -- no more ones than the depth
 within-depth : (s : Settings) (d : Device) (h : List Event) → Held s d h → total (map seen h) ≤ s.depth

@@ -14,7 +14,6 @@ use Rattle.frames.specs.declared.shapes.Frame.{Frame}
 use Rattle.frames.specs.declared.shapes.Frame.TheVariants as fs
 use Rattle.page_10h.specs.Page10.{read_log}
 use Rattle.rules.specs.Call.{Call, hostFrame}
-use Rattle.device.specs.declared.state.Device.{Device}
 use Rattle.device.proofs.Never.{and-never}
 use Rattle.history.specs.FrameAsks.{Asked}
 use Rattle.history.specs.FrameReading.{frameAsks, frameReads}

@@ -9,7 +9,7 @@ use Rattle.rules.specs.Call.{Call, hostFrame, openPhase, sendData, finishTags, m
 use Rattle.history.specs.Event.{Event, taken}
 use Rattle.history.specs.Asked.{asks}
 use Rattle.history.specs.Replied.{some}
-use Rattle.history.specs.Seen.{Seen, seen, Transfer, noTransfer, underWay}
+use Rattle.history.specs.Seen.{seen, Transfer, noTransfer, underWay}
 use Rattle.history.specs.Fates.{Command, commands, ownTag, outstanding}
 use Rattle.history.specs.Carried.{transfer, carried, size}
 
