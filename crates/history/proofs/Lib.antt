@@ -43,12 +43,13 @@ pub mod Asked11
 -- replies: what each call may say, and what it must
 pub mod SeenRules
 pub mod ReplyRules
--- what the device knows is what the history tells
+-- what the device knows is what the history tells, and so what each call is turned down for
+pub mod Soundness
 pub mod Holding
 pub mod Knows
--- demand 3: over every run from power-on, against the state, and of the code
-pub mod Soundness
+pub mod RefusedTests
 pub mod Refusing
+-- demand 3: over every run from power-on, against the state, and of the code
 pub mod Runs
 pub mod StateAgrees
 pub mod Allowed

@@ -1,0 +1,229 @@
+-- Each test of the table of refusals, by the history (Refused) and by the state. Assumes nothing.
+use mathlib.Core.Path.{◌≡◌, refl, sym, ap, ap₂, ◌∙◌}
+use mathlib.Core.Bool.{Bool, true, false, not, ◌&&◌, ◌||◌, not-not}
+use mathlib.Core.List.{List}
+use mathlib.Core.Logic.{⊎_elim}
+use Prim.Native.Nat.{ℕ, zero, suc, ◌-◌, ◌*◌, ◌<◌}
+use native.Mathlib.Omega.{arith}
+use lib.Dec.{eqb, ltb, leb}
+use borrow.Author.Tests.{eqb-true, eqb-false, ne_eqb, not-false}
+use Rattle.bits.specs.Pick.{pick}
+use Rattle.bits.specs.Bit.{bitIn}
+use Rattle.bits.specs.First.{first_of}
+use Rattle.bits.proofs.Picks.{tested, pick_no, or_left, or_right}
+use Rattle.frames.specs.declared.shapes.Frame.{Frame}
+use Rattle.frames.specs.declared.shapes.Frame.TheVariants as fs
+use Rattle.device_state.specs.State.{whole_of}
+use Rattle.device_state.specs.Table.{someBelow}
+use Rattle.device_state.specs.declared.shapes.Settings.{Settings}
+use Rattle.contradictions.specs.Clauses.{settingsOut, rowRefused}
+use Rattle.rules.specs.Call.{hostFrame}
+use Rattle.rules.specs.Positions.{left_of}
+use Rattle.rules.specs.Tests.{wrongKind, wrongTime, wrongSize, allMoved, unreadyAt, someUnready, outside}
+use Rattle.device.specs.Device.{contradictoryDevice, powerOn}
+use Rattle.device.specs.DataDue.{phaseEntry}
+use Rattle.device.specs.FactsOf.{openTag, linkBusy, facts_of}
+use Rattle.device.specs.Lent.{lent}
+use Rattle.device.specs.declared.state.Device.{Device}
+use Rattle.device.proofs.Busy.{whole_is, moves-on}
+use Rattle.device.proofs.Parts.{status-good}
+use Rattle.device.proofs.StatusLaws.{phase-busy}
+use Rattle.history.specs.Event.{Event}
+use Rattle.history.specs.Seen.{Transfer, underWay}
+use Rattle.history.specs.ByHistory.{isOut, outstandingWith, whole, covers, isOpen, leftOf}
+use Rattle.history.specs.Refused.{outOfBounds, notHeard, writing, untimely, tooLong, someTag, unfit, noRow}
+use Rattle.history.proofs.Transfers.{transferOf, transfer-shut, transfer-open}
+use Rattle.history.proofs.Moving.{deviceEntry, busyAt}
+use Rattle.history.proofs.Knows.{Known, below-not}
+
+-- ---- settings
+
+-- truth table: out of bounds, as the state's rules put it
+bounds-test : (a b c d k : Bool) → not (not a && not b) || (not (not c && not d) || not k) ≡ ((a || b) || (c || d)) || not k
+bounds-test true b c d k = refl
+bounds-test false true c d k = refl
+bounds-test false false true d k = refl
+bounds-test false false false true k = refl
+bounds-test false false false false k = refl
+
+-- a number is at most another where that is not below it
+most-not : (a b : ℕ) → leb a b ≡ not (ltb b a)
+most-not a b = sym (not-not (leb a b)) ∙ ap not (sym (below-not b a))
+
+-- 1, of settings
+bounds-out : (s : Settings) → outOfBounds s.depth s.capacity s.mask ≡ settingsOut s
+unfolding settingsOut
+bounds-out s =
+    ap₂ ◌||◌ (ap₂ (λ (a b : Bool). not (a && b)) (most-not 1 s.depth) (most-not s.depth 32))
+    (ap₂ (λ (a b : Bool). not (a && b) || not (bitIn 16 s.mask 0 && bitIn 16 s.mask 9)) (most-not 1 s.capacity) (most-not s.capacity 65536))
+    ∙ bounds-test (ltb s.depth 1) (ltb 32 s.depth) (ltb s.capacity 1) (ltb 65536 s.capacity) (bitIn 16 s.mask 0 && bitIn 16 s.mask 9)
+
+-- power-on is refused where the settings are out of bounds
+power-out : (s : Settings) → (powerOn s).refusal ≡ pick (settingsOut s) 1 0
+unfolding powerOn first_of
+power-out s = refl
+
+-- so a power-on that was taken had settings within them
+pub power-taken : (s : Settings) → (powerOn s).refusal ≡ 0 → outOfBounds s.depth s.capacity s.mask ≡ false
+unfolding pick
+power-taken s z = go (settingsOut s) (bounds-out s) (sym (power-out s) ∙ z)
+  where
+    go : (b : Bool) → outOfBounds s.depth s.capacity s.mask ≡ b → ◌≡◌ {A = ℕ} (pick b 1 0) 0 → outOfBounds s.depth s.capacity s.mask ≡ false
+    go true e y = absurd (omega arith)
+    go false e y = e
+
+-- and one that was refused did not
+pub power-refused : (s : Settings) → ((powerOn s).refusal ≡ 0 → ⊥) → outOfBounds s.depth s.capacity s.mask ≡ true
+unfolding pick
+power-refused s n = go (settingsOut s) (bounds-out s) (power-out s)
+  where
+    go : (b : Bool) → outOfBounds s.depth s.capacity s.mask ≡ b → (powerOn s).refusal ≡ pick b 1 0 → outOfBounds s.depth s.capacity s.mask ≡ true
+    go true e y = e
+    go false e y = absurd (n y)
+
+-- 13
+pub row-same : (mask r : ℕ) → rowRefused mask r ≡ noRow mask r
+row-same mask r = go (eqb r 0) (eqb r 9) (ltb 15 r || not (bitIn 16 mask r))
+  where
+    go : (a b c : Bool) → (a || b) || c ≡ a || (b || c)
+    go true b c = refl
+    go false b c = refl
+
+-- ---- what is under way
+
+module _ (d : Device) where
+  -- the open phase, while one is open
+  phase-at : eqb d.status.phase 0 ≡ false → transferOf d ≡ underWay (not (phaseEntry d).write) (d.status.phase - 1) (phaseEntry d).moved (512 * (phaseEntry d).count)
+  unfolding openTag
+  phase-at n =
+      let q = eqb-false d.status.phase 0 n in
+      let t = d.status.phase - 1 in
+      rw (pick_no (eqb d.status.phase 0) 32 t n) (transfer-open d t (omega (arith, q)))
+
+  -- 5 and 8 of a phase
+  pub open-same : isOpen (transferOf d) ≡ linkBusy d
+  open-same =
+      ⊎_elim (λ (x : eqb d.status.phase 0 ≡ true). rw (x, transfer-shut d (eqb-true d.status.phase 0 x)))
+      (λ (x : eqb d.status.phase 0 ≡ false). rw (x, phase-at x)) (tested (eqb d.status.phase 0))
+
+  -- 5 of data: no write phase
+  writing-same : (eqb d.status.phase 0 || not (phaseEntry d).write) ≡ not (writing (transferOf d))
+  writing-same =
+      ⊎_elim (λ (x : eqb d.status.phase 0 ≡ true). rw (x, transfer-shut d (eqb-true d.status.phase 0 x)))
+      (λ (x : eqb d.status.phase 0 ≡ false). rw (x, phase-at x) (go (phaseEntry d).write)) (tested (eqb d.status.phase 0))
+    where
+      go : (w : Bool) → not w ≡ not (not (not w))
+      go true = refl
+      go false = refl
+
+  module _ (g : contradictoryDevice d ≡ false) where
+    -- all of the open phase's command
+    phase-whole : eqb d.status.phase 0 ≡ false → whole_of (phaseEntry d).count ≡ 512 * (phaseEntry d).count
+    unfolding openTag
+    phase-whole n =
+        let t = d.status.phase - 1 in
+        rw (pick_no (eqb d.status.phase 0) 32 t n) (whole_is d t g (phase-busy d.status d.errors.set (status-good d g) n))
+
+    -- 6: what is left of an open write phase
+    left-same : not (writing (transferOf d)) ≡ false → left_of (phaseEntry d) ≡ leftOf false (transferOf d)
+    unfolding pick
+    left-same y =
+        let z : (eqb d.status.phase 0 || not (phaseEntry d).write) ≡ false = writing-same ∙ y in
+        let n = or_left (eqb d.status.phase 0) (not (phaseEntry d).write) z in
+        let w = not-false (phaseEntry d).write (or_right (eqb d.status.phase 0) (not (phaseEntry d).write) z) in
+        rw (phase-at n, w, phase-whole n)
+
+    -- 10: no read phase
+    pub reading-same : (eqb d.status.phase 0 || (phaseEntry d).write) ≡ eqb (leftOf true (transferOf d)) 0
+    unfolding pick
+    reading-same =
+        ⊎_elim (λ (x : eqb d.status.phase 0 ≡ true). rw (x, transfer-shut d (eqb-true d.status.phase 0 x)))
+        (λ (x : eqb d.status.phase 0 ≡ false). rw (x, phase-at x) (go (phaseEntry d).write (phaseEntry d).moved (512 * (phaseEntry d).count) (let m = moves-on d g x in let e = phase-whole x in omega arith)))
+        (tested (eqb d.status.phase 0))
+      where
+        go : (w : Bool) (m a : ℕ) → m < a → w ≡ eqb (pick (pick true (not w) (not (not w))) (a - m) 0) 0
+        go true m a l = refl
+        go false m a l = sym (ne_eqb (a - m) 0 (λ e. absurd (omega arith)))
+
+-- ---- each call
+
+-- 4
+pub kind-same : (f : Frame) → wrongKind f ≡ notHeard f
+unfolding wrongKind
+kind-same (fs.Host f) = refl
+kind-same (fs.Device f) = refl
+kind-same (fs.Bits f) = refl
+kind-same (fs.Setup f) = refl
+kind-same fs.Activate = refl
+kind-same (fs.Data n) = refl
+kind-same fs.Bist = refl
+kind-same (fs.Pio f) = refl
+kind-same fs.Refused = refl
+
+-- some tag is so, whichever end it is looked for from
+some-same : (n : ℕ) (p q : ℕ → Bool) → ((t : ℕ) → p t ≡ q t) → someBelow n p ≡ someTag n q
+unfolding someBelow someTag
+some-same zero p q e = refl
+some-same (suc n) p q e = turn (someBelow n p) (p n) ∙ ap₂ ◌||◌ (e n) (some-same n p q e)
+  where
+    turn : (a b : Bool) → a || b ≡ b || a
+    turn true true = refl
+    turn true false = refl
+    turn false true = refl
+    turn false false = refl
+
+module _ (d : Device) (h : List Event) (k : Known d h) where
+  -- 5
+  pub time-same : (m b x : List ℕ) (f : Frame) → wrongTime (facts_of d (lent (hostFrame x) m b)) f ≡ untimely f h
+  unfolding wrongTime
+  time-same m b x (fs.Host r) = ap₂ (λ (u w : Bool). r.command_bit && (u || w)) (sym k.held) (sym (ap isOpen k.phase ∙ open-same d))
+  time-same m b x (fs.Device f) = refl
+  time-same m b x (fs.Bits f) = refl
+  time-same m b x (fs.Setup f) = refl
+  time-same m b x fs.Activate = refl
+  time-same m b x (fs.Data n) = writing-same d ∙ ap (λ (y : Transfer). not (writing y)) (sym k.phase)
+  time-same m b x fs.Bist = sym (ap isOpen k.phase ∙ open-same d)
+  time-same m b x (fs.Pio f) = refl
+  time-same m b x fs.Refused = refl
+
+  -- a tag that 7 lets pass is outstanding
+  pub passed : (t : ℕ) → not (isOut t h) ≡ false → busyAt d t ≡ true
+  passed t o = sym (k.out t) ∙ not-false (isOut t h) o
+
+  module _ (g : contradictoryDevice d ≡ false) where
+    -- 6, where 5 does not hold
+    pub size-same : (m b x : List ℕ) (f : Frame) → untimely f h ≡ false → wrongSize (facts_of d (lent (hostFrame x) m b)) f ≡ tooLong f h
+    unfolding wrongSize
+    size-same m b x (fs.Host r) y = refl
+    size-same m b x (fs.Device f) y = refl
+    size-same m b x (fs.Bits f) y = refl
+    size-same m b x (fs.Setup f) y = refl
+    size-same m b x fs.Activate y = refl
+    size-same m b x (fs.Data n) y =
+        ap (λ (z : ℕ). ltb z n) (left-same d g (ap (λ (z : Transfer). not (writing z)) (sym k.phase) ∙ y) ∙ ap (leftOf false) (sym k.phase))
+    size-same m b x fs.Bist y = refl
+    size-same m b x (fs.Pio f) y = refl
+    size-same m b x fs.Refused y = refl
+
+    -- 9, where 7 does not hold
+    pub moved-same : (t : ℕ) → busyAt d t ≡ true → allMoved (deviceEntry d t) ≡ outstandingWith t whole h
+    moved-same t o = ap (eqb (deviceEntry d t).moved) (whole_is d t g o) ∙ sym (k.moved t ∙ ap (λ (x : Bool). x && eqb (deviceEntry d t).moved (512 * (deviceEntry d t).count)) o)
+
+    -- 12, where 7 does not hold
+    pub sector-same : (t sector : ℕ) → busyAt d t ≡ true → outside (deviceEntry d t) sector ≡ not (outstandingWith t (covers sector) h)
+    sector-same t sector o = sym (ap not (k.ranged t sector ∙ ap (λ (x : Bool). x && not (outside (deviceEntry d t) sector)) o) ∙ not-not (outside (deviceEntry d t) sector))
+
+    -- 11, of one tag
+    tag-same : (set t : ℕ) → unreadyAt d.entries d.status.outstanding set t ≡ bitIn 32 set t && not (outstandingWith t whole h)
+    tag-same set t =
+        ap (λ (x : Bool). bitIn 32 set t && x)
+        (⊎_elim
+        (λ (o : busyAt d t ≡ true). ap (λ (x : Bool). not x || not (allMoved (deviceEntry d t))) o ∙ ap not (moved-same t o))
+        (λ (o : busyAt d t ≡ false). ap (λ (x : Bool). not x || not (allMoved (deviceEntry d t))) o
+            ∙ sym (ap not (k.moved t ∙ ap (λ (x : Bool). x && eqb (deviceEntry d t).moved (512 * (deviceEntry d t).count)) o)))
+        (tested (busyAt d t)))
+
+    -- 11
+    pub set-same : (set : ℕ) → (eqb set 0 || someUnready d.entries d.status.outstanding set) ≡ unfit set h
+    unfolding someUnready
+    set-same set = ap (λ (x : Bool). eqb set 0 || x) (some-same 32 _ _ (tag-same set))
