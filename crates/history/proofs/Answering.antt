@@ -42,11 +42,9 @@ use Rattle.device.specs.declared.state.Device.{Device}
 use Rattle.device.proofs.Sized.{SizedRecord}
 use Rattle.device.proofs.Busy.{whole_is}
 use Rattle.device.proofs.Doing.{heard-unsent}
-use Rattle.device.proofs.Entering.{tag_small}
 use Rattle.device.proofs.Fitting.{ReadFits, read_fits, record-fits}
 use Rattle.device.proofs.Keeping.{both-kept}
 use Rattle.device.proofs.Rooms.{move-within}
-use Rattle.device.proofs.Tags.{busy-below}
 use Rattle.device.proofs.Zeros.{zeros}
 use Rattle.history.specs.Event.{Event, taken}
 use Rattle.history.specs.Replied.{frames, some}

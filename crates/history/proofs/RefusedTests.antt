@@ -220,7 +220,7 @@ module _ (d : Device) (h : List Event) (k : Known d h) where
         (⊎_elim
         (λ (o : busyAt d t ≡ true). ap (λ (x : Bool). not x || not (allMoved (deviceEntry d t))) o ∙ ap not (moved-same t o))
         (λ (o : busyAt d t ≡ false). ap (λ (x : Bool). not x || not (allMoved (deviceEntry d t))) o
-            ∙ sym (ap not (k.moved t ∙ ap (λ (x : Bool). x && eqb (deviceEntry d t).moved (512 * (deviceEntry d t).count)) o)))
+        ∙ sym (ap not (k.moved t ∙ ap (λ (x : Bool). x && eqb (deviceEntry d t).moved (512 * (deviceEntry d t).count)) o)))
         (tested (busyAt d t)))
 
     -- 11

@@ -1,5 +1,5 @@
 -- Refused calls struck out of a sequence: a refused event counts as not having happened. Assumes nothing.
-use Rattle.std.specs.Prelude.{Bool, List, [], ◌∷◌, ℕ, eqb}
+use Rattle.std.specs.Prelude.{List, [], ◌∷◌, eqb}
 use Rattle.bits.specs.Pick.{pick}
 use Rattle.device.specs.Lent.{Lent}
 use Rattle.device.specs.declared.state.Device.{Device}
