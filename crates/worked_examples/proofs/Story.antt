@@ -49,7 +49,7 @@ use Rattle.history.specs.Seen.{seen, begun}
 use Rattle.history.specs.Waits.{waits, sactive, before, since}
 
 -- each of a list is a byte
-small : List ℕ → Bool
+unfoldable pub small : List ℕ → Bool
 small [] = true
 small (x ∷ l) = ltb x 256 && small l
 
@@ -61,7 +61,7 @@ bytes (x ∷ l) h zero = ltb-true x 256 (and_left (ltb x 256) (small l) h)
 bytes (x ∷ l) h (suc k) = bytes l (and_right (ltb x 256) (small l) h) k
 
 -- a call's arguments are of their types, as a test
-fine : Call → Bool
+unfoldable pub fine : Call → Bool
 fine c = small (handed c).frame && (ltb (handed c).set (2 ^ 32) && ltb (handed c).error 256)
 
 -- where the test holds, they are
@@ -76,12 +76,12 @@ fine-typed c h =
     )
 
 -- the same test of every call of a list
-allFine : List Lent → Bool
+unfoldable pub allFine : List Lent → Bool
 allFine [] = true
 allFine (a ∷ l) = fine a.call && allFine l
 
 -- where it holds, all of them are
-all_typed : (l : List Lent) → allFine l ≡ true → AllTyped l
+pub all_typed : (l : List Lent) → allFine l ≡ true → AllTyped l
 unfolding allFine AllTyped
 all_typed [] h = tt
 all_typed (a ∷ l) h = (fine-typed a.call (and_left (fine a.call) (allFine l) h), all_typed l (and_right (fine a.call) (allFine l) h))
