@@ -44,6 +44,7 @@ use Rattle.device.proofs.Busy.{whole_is}
 use Rattle.device.proofs.Doing.{heard-unsent}
 use Rattle.device.proofs.Fitting.{ReadFits, read_fits, record-fits}
 use Rattle.device.proofs.Keeping.{both-kept}
+use Rattle.device.proofs.Refusals.{refused-keeps}
 use Rattle.device.proofs.Rooms.{move-within}
 use Rattle.device.proofs.Zeros.{zeros}
 use Rattle.history.specs.Event.{Event, taken}
@@ -52,7 +53,7 @@ use Rattle.history.specs.Seen.{seen}
 use Rattle.history.specs.Fates.{Command, commands, ownTag, outstanding, total, All}
 use Rattle.history.specs.Run.{Done, result, done, event, AllTyped, run, run_from, history}
 use Rattle.history.specs.ByHistory.{isOut, underWayAfter, leftOf}
-use Rattle.history.specs.Answered.{hostReplies, openedBy, openReplies, repliesBy, Answers}
+use Rattle.history.specs.Answered.{hostReplies, openedBy, openedReplies, repliesBy, Answers}
 use Rattle.history.proofs.Frames.{read-frames, read_step}
 use Rattle.history.proofs.Events.{part-long}
 use Rattle.history.proofs.CoreSteps.{ones-some}
@@ -180,17 +181,17 @@ module _ (d : Device) (h : List Event) (k : Stands d h) where
       ap₂ (λ (x : Bool) (m : ℕ). fs.Setup (record { auto = false; interrupt = false; to_host = not x; tag = t; offset = 0; count = 512 * m }) ∷ pick x (fs.Activate ∷ []) []) w n
 
   -- and is found
-  found : (t : ℕ) (cs : List Command) → some (λ c. eqb (ownTag c) t && (outstanding c && true)) cs ≡ true → All (Following d) cs → openReplies t cs ≡ opening t
-  unfolding some openReplies All
+  found : (t : ℕ) (cs : List Command) → some (λ c. eqb (ownTag c) t && (outstanding c && true)) cs ≡ true → All (Following d) cs → openedReplies t cs ≡ opening t
+  unfolding some openedReplies All
   found t [] e a = absurd (false≢true e)
   found t (c ∷ cs) e a =
       let o : Bool = eqb (ownTag c) t && outstanding c in
       ⊎_elim
       (λ (y : o ≡ true).
-      pick_yes o (openedBy t c) (openReplies t cs) y
+      pick_yes o (openedBy t c) (openedReplies t cs) y
       ∙ opened-by t c (eqb-true (ownTag c) t (and_left (eqb (ownTag c) t) (outstanding c) y)) (a.0.stands (and_right (eqb (ownTag c) t) (outstanding c) y)))
       (λ (y : o ≡ false).
-      pick_no o (openedBy t c) (openReplies t cs) y ∙ found t cs (in-rest (eqb (ownTag c) t) (outstanding c) _ y e) a.1)
+      pick_no o (openedBy t c) (openedReplies t cs) y ∙ found t cs (in-rest (eqb (ownTag c) t) (outstanding c) _ y e) a.1)
       (tested o)
     where
       in-rest : (x y r : Bool) → x && y ≡ false → (x && (y && true)) || r ≡ true → r ≡ true
@@ -199,7 +200,7 @@ module _ (d : Device) (h : List Event) (k : Stands d h) where
       in-rest false y r n e = e
 
   -- open
-  open-answers : (t : ℕ) → contradictoryDevice d ≡ false → bitIn 32 d.status.outstanding t ≡ true → Reads d [] (Open (record { tag = t; entry = entry_of d.entries t })) ≡ openReplies t (commands (map seen h))
+  open-answers : (t : ℕ) → contradictoryDevice d ≡ false → bitIn 32 d.status.outstanding t ≡ true → Reads d [] (Open (record { tag = t; entry = entry_of d.entries t })) ≡ openedReplies t (commands (map seen h))
   unfolding repliesOf
   open-answers t g o =
       let e : Entry = entry_of d.entries t in
@@ -263,15 +264,28 @@ taken-answers s d h a t i w y =
     not-both : (n : ℕ) → n ≡ 0 → n ≡ 1 → ⊥
     not-both n p q = omega arith
 
+-- every call of a run, a refused one too: it sends nothing
+run-answers : (s : Settings) (d : Device) (h : List Event) (a : Lent) → Typed a.call → Held s d h → Known d h
+    → frames (event (done a (result d a))) ≡ pick (taken (event (done a (result d a)))) (repliesBy s.depth s.capacity h a.call) []
+run-answers s d h a t i w =
+    let e : Event = event (done a (result d a)) in
+    let r : List Frame = repliesBy s.depth s.capacity h a.call in
+    ⊎_elim (λ (y : taken e ≡ true). taken-answers s d h a t i w y ∙ sym (pick_yes (taken e) r [] y))
+    (λ (n : taken e ≡ false).
+    read-frames e (step d a).frames (read_step d a t i.wide.sized)
+    ∙ ap (map trip.readBack) (refused-keeps d a (eqb-false (step d a).refusal 0 n)).frames
+    ∙ sym (pick_no (taken e) r [] n))
+    (tested (taken e))
+
 -- a run
 answered-run : (s : Settings) (d : Device) (h : List Done) (as' : List Lent) → AllTyped as' → KnownOn d h → Held s d (map event h) → Answers s.depth s.capacity (map event h)
     → Answers s.depth s.capacity (map event (run d h as').calls)
 unfolding run AllTyped Answers
 answered-run s d h [] t w i r = r
 answered-run s d h (a ∷ as') t w i r =
-    answered-run s (result d a).outcome.state (done a (result d a) ∷ h) as' t.1 (λ bs u. w (a ∷ bs) (t.0, u)) (held-step s d a (map event h) t.0 i) (taken-answers s d (map event h) a t.0 i (w [] tt), r)
+    answered-run s (result d a).outcome.state (done a (result d a) ∷ h) as' t.1 (λ bs u. w (a ∷ bs) (t.0, u)) (held-step s d a (map event h) t.0 i) (run-answers s d (map event h) a t.0 i (w [] tt), r)
 
--- every taken call of every run from power-on is answered what the history before it says
+-- every call of every run from power-on is answered what the history before it says
 pub answered : (s : Settings) (as' : List Lent) → AllTyped as' → ((bs : List Lent) → AllTyped bs → Known (run_from s bs).state (history s bs)) → Answers s.depth s.capacity (history s as')
 unfolding Answers
 answered s as' t w = answered-run s (powerOn s).state [] as' t w (held-power s) tt

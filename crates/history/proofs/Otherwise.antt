@@ -24,13 +24,13 @@ use Rattle.rules.specs.declared.facts.Facts.{Facts}
 use Rattle.replies.specs.Replies.{repliesOf, page10Of, page11Of}
 use Rattle.replies.specs.declared.shown.Shown.{Shown}
 use Rattle.device.proofs.Never.{and-never}
-use Rattle.history.specs.Answered.{badReply, sweepReply, pageReplies, wellFormed}
+use Rattle.history.specs.Answered.{answeredBad, sweepReply, pageReplies, wellFormed}
 
 -- what it is answered: an error waits, or not; it is a well-formed READ LOG EXT of page 10h, of 11h; something is outstanding
 abbrev pub otherBy : Bool → Bool → Bool → Bool → Task → List Frame
 otherBy waiting ten eleven busy task =
-    pick (waiting && not ten) (badReply 0x04 task ∷ [])
-    (pick busy (badReply 0x04 task ∷ []) (pick (ten || eleven) (pick waiting (sweepReply ∷ []) [] ++ pageReplies task) (badReply 0x04 task ∷ [])))
+    pick (waiting && not ten) (answeredBad 0x04 task ∷ [])
+    (pick busy (answeredBad 0x04 task ∷ []) (pick (ten || eleven) (pick waiting (sweepReply ∷ []) [] ++ pageReplies task) (answeredBad 0x04 task ∷ [])))
 
 -- the same tests, the same answer
 pub same-other : (x y : Bool) {a b c d e f : Bool} (task : Task) → x ≡ y → a ≡ b → c ≡ d → e ≡ f → otherBy x a c e task ≡ otherBy y b d f task

@@ -31,7 +31,7 @@ use Rattle.device.proofs.StatusLaws.{phase-busy}
 use Rattle.history.specs.Event.{Event}
 use Rattle.history.specs.Seen.{Transfer, underWay}
 use Rattle.history.specs.ByHistory.{isOut, outstandingWith, whole, covers, isOpen, leftOf}
-use Rattle.history.specs.Refused.{outOfBounds, notHeard, writing, untimely, tooLong, someTag, unfit, noRow}
+use Rattle.history.specs.Refused.{outOfBounds, notHeard, writeOpen, untimely, tooLong, someTag, unfit, noRow}
 use Rattle.history.proofs.Transfers.{transferOf, transfer-shut, transfer-open}
 use Rattle.history.proofs.Moving.{deviceEntry, busyAt}
 use Rattle.history.proofs.Knows.{Known, below-not}
@@ -107,8 +107,8 @@ module _ (d : Device) where
       (λ (x : eqb d.status.phase 0 ≡ false). rw (x, phase-at x)) (tested (eqb d.status.phase 0))
 
   -- 5 of data: no write phase
-  writing-same : (eqb d.status.phase 0 || not (phaseEntry d).write) ≡ not (writing (transferOf d))
-  writing-same =
+  write-open-same : (eqb d.status.phase 0 || not (phaseEntry d).write) ≡ not (writeOpen (transferOf d))
+  write-open-same =
       ⊎_elim (λ (x : eqb d.status.phase 0 ≡ true). rw (x, transfer-shut d (eqb-true d.status.phase 0 x)))
       (λ (x : eqb d.status.phase 0 ≡ false). rw (x, phase-at x) (go (phaseEntry d).write)) (tested (eqb d.status.phase 0))
     where
@@ -125,10 +125,10 @@ module _ (d : Device) where
         rw (pick_no (eqb d.status.phase 0) 32 t n) (whole_is d t g (phase-busy d.status d.errors.set (status-good d g) n))
 
     -- 6: what is left of an open write phase
-    left-same : not (writing (transferOf d)) ≡ false → left_of (phaseEntry d) ≡ leftOf false (transferOf d)
+    left-same : not (writeOpen (transferOf d)) ≡ false → left_of (phaseEntry d) ≡ leftOf false (transferOf d)
     unfolding pick
     left-same y =
-        let z : (eqb d.status.phase 0 || not (phaseEntry d).write) ≡ false = writing-same ∙ y in
+        let z : (eqb d.status.phase 0 || not (phaseEntry d).write) ≡ false = write-open-same ∙ y in
         let n = or_left (eqb d.status.phase 0) (not (phaseEntry d).write) z in
         let w = not-false (phaseEntry d).write (or_right (eqb d.status.phase 0) (not (phaseEntry d).write) z) in
         rw (phase-at n, w, phase-whole n)
@@ -181,7 +181,7 @@ module _ (d : Device) (h : List Event) (k : Known d h) where
   time-same m b x (fs.Bits f) = refl
   time-same m b x (fs.Setup f) = refl
   time-same m b x fs.Activate = refl
-  time-same m b x (fs.Data n) = writing-same d ∙ ap (λ (y : Transfer). not (writing y)) (sym k.phase)
+  time-same m b x (fs.Data n) = write-open-same d ∙ ap (λ (y : Transfer). not (writeOpen y)) (sym k.phase)
   time-same m b x fs.Bist = sym (ap isOpen k.phase ∙ open-same d)
   time-same m b x (fs.Pio f) = refl
   time-same m b x fs.Refused = refl
@@ -200,7 +200,7 @@ module _ (d : Device) (h : List Event) (k : Known d h) where
     size-same m b x (fs.Setup f) y = refl
     size-same m b x fs.Activate y = refl
     size-same m b x (fs.Data n) y =
-        ap (λ (z : ℕ). ltb z n) (left-same d g (ap (λ (z : Transfer). not (writing z)) (sym k.phase) ∙ y) ∙ ap (leftOf false) (sym k.phase))
+        ap (λ (z : ℕ). ltb z n) (left-same d g (ap (λ (z : Transfer). not (writeOpen z)) (sym k.phase) ∙ y) ∙ ap (leftOf false) (sym k.phase))
     size-same m b x fs.Bist y = refl
     size-same m b x (fs.Pio f) y = refl
     size-same m b x fs.Refused y = refl

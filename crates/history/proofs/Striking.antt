@@ -13,7 +13,7 @@ use Rattle.device.specs.Step.{step}
 use Rattle.device.specs.declared.state.Device.{Device}
 use Rattle.device.proofs.Refusals.{refused-keeps}
 use Rattle.history.specs.Run.{Done, done, result, Run, run, run_from}
-use Rattle.history.specs.Struck.{struck, heard}
+use Rattle.history.specs.Struck.{takenOf, lentTaken}
 
 abbrev ran : Device → List Done → Run
 ran d h = record { state = d; calls = h }
@@ -23,24 +23,24 @@ keeps : (d : Device) (a : Lent) → eqb (result d a).outcome.refusal 0 ≡ false
 keeps d a n = (refused-keeps d a (eqb-false (step d a).refusal 0 n)).state
 
 -- from any state on, behind any calls
-pub struck-run : (as' : List Lent) (d : Device) (h : List Done) → run d (struck h) (heard d as') ≡ ran (run d h as').state (struck (run d h as').calls)
-unfolding run struck heard
+pub struck-run : (as' : List Lent) (d : Device) (h : List Done) → run d (takenOf h) (lentTaken d as') ≡ ran (run d h as').state (takenOf (run d h as').calls)
+unfolding run takenOf lentTaken
 struck-run [] d h = refl
 struck-run (a ∷ as') d h =
     let b = eqb (result d a).outcome.refusal 0 in
     let d' : Device = (result d a).outcome.state in
     let x : Done = done a (result d a) in
-    let rest = heard d' as' in
+    let rest = lentTaken d' as' in
     let more = struck-run as' d' (x ∷ h) in
     ⊎_elim
     (λ (y : b ≡ true).
-    ap (λ (l : List Lent). run d (struck h) l) (pick_yes b (a ∷ rest) rest y) ∙ ap (λ (k : List Done). run d' k rest) (sym (pick_yes b (x ∷ struck h) (struck h) y)) ∙ more)
+    ap (λ (l : List Lent). run d (takenOf h) l) (pick_yes b (a ∷ rest) rest y) ∙ ap (λ (k : List Done). run d' k rest) (sym (pick_yes b (x ∷ takenOf h) (takenOf h) y)) ∙ more)
     (λ (n : b ≡ false).
-    ap (λ (l : List Lent). run d (struck h) l) (pick_no b (a ∷ rest) rest n) ∙ ap (λ (z : Device). run z (struck h) rest) (sym (keeps d a n))
-    ∙ ap (λ (k : List Done). run d' k rest) (sym (pick_no b (x ∷ struck h) (struck h) n)) ∙ more)
+    ap (λ (l : List Lent). run d (takenOf h) l) (pick_no b (a ∷ rest) rest n) ∙ ap (λ (z : Device). run z (takenOf h) rest) (sym (keeps d a n))
+    ∙ ap (λ (k : List Done). run d' k rest) (sym (pick_no b (x ∷ takenOf h) (takenOf h) n)) ∙ more)
     (tested b)
 
 -- from power-on
-pub refused-struck : (s : Settings) (as' : List Lent) → run_from s (heard (powerOn s).state as') ≡ ran (run_from s as').state (struck (run_from s as').calls)
-unfolding struck
+pub refused-struck : (s : Settings) (as' : List Lent) → run_from s (lentTaken (powerOn s).state as') ≡ ran (run_from s as').state (takenOf (run_from s as').calls)
+unfolding takenOf
 refused-struck s as' = struck-run as' (powerOn s).state []

@@ -1,4 +1,4 @@
--- What every taken call is answered, frame by frame, by the history before it: written from calls, settings and lengths alone. Assumes nothing.
+-- What every call is answered, frame by frame, by the history before it: from settings, calls, lengths, and the refusals and frames of the calls before it. What the frame reader drops, and what a data frame holds, is not told here. Assumes nothing.
 use Rattle.std.specs.Prelude.{◌≡◌, Bool, true, false, not, ◌&&◌, ◌||◌, List, [], ◌∷◌, ◌++◌, map, ℕ, ◌+◌, ◌/◌, ◌%◌, ◌^◌, min, eqb, leb, ltb}
 use Rattle.bits.specs.Pick.{pick}
 use Rattle.frame_parts.specs.Shared.{srstOf, tag_of, sectorsOf}
@@ -19,11 +19,11 @@ use Rattle.history.specs.ByHistory.{isOut, underWayAfter, leftOf, holding}
 -- ---- frames
 
 -- a device register reply repeats bytes 4-10 and 12-13 of the command. Good: status 40h, error 0, I 0. Bad: status 41h, I 1, error as named
-abbrev pub goodReply : Task → Frame
-goodReply task = Device (record { interrupt = false; status = 0x40; error = 0; task = task })
+abbrev pub answeredGood : Task → Frame
+answeredGood task = Device (record { interrupt = false; status = 0x40; error = 0; task = task })
 
-abbrev pub badReply : ℕ → Task → Frame
-badReply error task = Device (record { interrupt = true; status = 0x41; error = error; task = task })
+abbrev pub answeredBad : ℕ → Task → Frame
+answeredBad error task = Device (record { interrupt = true; status = 0x41; error = error; task = task })
 
 -- signature: 34h, I 0, status 40h, error 01h, bytes 4 and 12 01h, rest 0
 abbrev pub signatureReply : Frame
@@ -50,9 +50,9 @@ pageReplies task = Pio (record { interrupt = true; to_host = true; status = 0x48
 -- queued command, first rule that holds. 1: an error waits; 2: tag at or above the depth, or already outstanding; 3: first sector + count above capacity; 4: otherwise good
 abbrev pub queuedReply : ℕ → ℕ → List Event → HostReg → Frame
 queuedReply deep capacity h f =
-    pick (waits (map seen h)) (badReply 0x04 f.task)
-    (pick (leb deep (tag_of f.task.count) || isOut (tag_of f.task.count) h) (badReply 0x04 f.task)
-    (pick (ltb capacity (f.task.lba + sectorsOf f.features f.features_high)) (badReply 0x10 f.task) (goodReply f.task)))
+    pick (waits (map seen h)) (answeredBad 0x04 f.task)
+    (pick (leb deep (tag_of f.task.count) || isOut (tag_of f.task.count) h) (answeredBad 0x04 f.task)
+    (pick (ltb capacity (f.task.lba + sectorsOf f.features f.features_high)) (answeredBad 0x10 f.task) (answeredGood f.task)))
 
 -- READ LOG EXT (2Fh) of a page is well-formed if byte 4 names it, bytes 5 and 9 are 0, byte 12 is 1 and 13 is 0
 abbrev pub wellFormed : ℕ → HostReg → Bool
@@ -63,18 +63,18 @@ wellFormed page f =
 -- A good one: while an error waits first the sweep, then PIO Setup, then the page
 abbrev pub otherReplies : List Event → HostReg → List Frame
 otherReplies h f =
-    pick (waits (map seen h) && not (wellFormed 0x10 f)) (badReply 0x04 f.task ∷ [])
-    (pick (ltb 0 (total (map seen h))) (badReply 0x04 f.task ∷ [])
-    (pick (wellFormed 0x10 f || wellFormed 0x11 f) (pick (waits (map seen h)) (sweepReply ∷ []) [] ++ pageReplies f.task) (badReply 0x04 f.task ∷ [])))
+    pick (waits (map seen h) && not (wellFormed 0x10 f)) (answeredBad 0x04 f.task ∷ [])
+    (pick (ltb 0 (total (map seen h))) (answeredBad 0x04 f.task ∷ [])
+    (pick (wellFormed 0x10 f || wellFormed 0x11 f) (pick (waits (map seen h)) (sweepReply ∷ []) [] ++ pageReplies f.task) (answeredBad 0x04 f.task ∷ [])))
 
 -- control frame: SRST no reply; with SRST 0, if reset is held, the signature, otherwise nothing
-abbrev pub controlReplies : List Event → HostReg → List Frame
-controlReplies h f = pick (srstOf f.control) [] (pick (holding h) (signatureReply ∷ []) [])
+abbrev pub controlAnswer : List Event → HostReg → List Frame
+controlAnswer h f = pick (srstOf f.control) [] (pick (holding h) (signatureReply ∷ []) [])
 
 -- by its kind
 abbrev pub registerReplies : ℕ → ℕ → List Event → HostReg → List Frame
 registerReplies deep capacity h f =
-    pick f.command_bit (pick (eqb f.command 0x60 || eqb f.command 0x61) (queuedReply deep capacity h f ∷ []) (otherReplies h f)) (controlReplies h f)
+    pick f.command_bit (pick (eqb f.command 0x60 || eqb f.command 0x61) (queuedReply deep capacity h f ∷ []) (otherReplies h f)) (controlAnswer h f)
 
 -- a host data frame: if more is left, an Activate follows
 abbrev pub dataReplies : List Event → ℕ → List Frame
@@ -93,26 +93,26 @@ hostReplies deep capacity h Refused = []
 
 -- ---- device events
 
--- open a phase: DMA Setup (A 0, I 0, offset 0, whole byte count; D 1 to the host); for a write an Activate follows. Of the outstanding command with the tag, of which there is one
+-- open a phase: DMA Setup (A 0, I 0, offset 0, whole byte count; D 1 to the host); for a write an Activate follows. Of the outstanding command with the tag, of which there is at most one (OnePerTag of demand 3)
 abbrev pub openedBy : ℕ → Command → List Frame
 openedBy t c =
     Setup (record { auto = false; interrupt = false; to_host = not c.accepted.asks.write; tag = t; offset = 0; count = size c }) ∷ pick c.accepted.asks.write (Activate ∷ []) []
 
-unfoldable pub openReplies : ℕ → List Command → List Frame
-openReplies t [] = []
-openReplies t (c ∷ cs) = pick (eqb (ownTag c) t && outstanding c) (openedBy t c) (openReplies t cs)
+unfoldable pub openedReplies : ℕ → List Command → List Frame
+openedReplies t [] = []
+openedReplies t (c ∷ cs) = pick (eqb (ownTag c) t && outstanding c) (openedBy t c) (openedReplies t cs)
 
 -- what a taken call c is answered after a history h
 unfoldable pub repliesBy : ℕ → ℕ → List Event → Call → List Frame
 repliesBy deep capacity h (hostFrame f) = hostReplies deep capacity h (readFrame f)
-repliesBy deep capacity h (openPhase t) = openReplies t (commands (map seen h))
+repliesBy deep capacity h (openPhase t) = openedReplies t (commands (map seen h))
 repliesBy deep capacity h sendData = Data (min 8192 (leftOf true (underWayAfter h))) ∷ []
 repliesBy deep capacity h (finishTags s) = finishedReply s ∷ []
 repliesBy deep capacity h (mediaError t error sector) = failedReply error ∷ []
 repliesBy deep capacity h (linkEvent r) = []
 repliesBy deep capacity h comReset = signatureReply ∷ []
 
--- every taken event has just these replies, each read by the frame reader's own definition
+-- a taken event has just these replies, each read by the frame reader's own definition, and a refused one has none
 unfoldable pub Answers : ℕ → ℕ → List Event → Type 0
 Answers deep capacity [] = Unit
-Answers deep capacity (e ∷ h) = (taken e ≡ true → frames e ≡ repliesBy deep capacity h e.call) × Answers deep capacity h
+Answers deep capacity (e ∷ h) = (frames e ≡ pick (taken e) (repliesBy deep capacity h e.call) []) × Answers deep capacity h

@@ -13,7 +13,7 @@ use Rattle.history.specs.Seen.{seen, Transfer, noTransfer, underWay}
 use Rattle.history.specs.Fates.{Command, commands, ownTag, outstanding}
 use Rattle.history.specs.Carried.{transfer, carried, size}
 
--- some command of tag t is outstanding, and is so; no two of one tag are outstanding at once
+-- some command of tag t is outstanding, and is so; there is at most one (OnePerTag of demand 3)
 abbrev pub outstandingWith : ℕ → (Command → Bool) → List Event → Bool
 outstandingWith t is h = some (λ c. eqb (ownTag c) t && (outstanding c && is c)) (commands (map seen h))
 

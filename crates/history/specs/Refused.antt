@@ -1,4 +1,4 @@
--- What every event is turned down for, by the history before it: the table of refusals, written from calls, settings and lengths alone. Assumes nothing.
+-- What every event is turned down for, by the history before it: the table of refusals, from settings, calls, lengths, and the refusals and frames of the calls before it. Assumes nothing.
 use Rattle.std.specs.Prelude.{◌≡◌, Bool, true, false, not, ◌&&◌, ◌||◌, List, [], ◌∷◌, ℕ, zero, suc, ◌*◌, eqb, leb, ltb, length}
 use Rattle.bits.specs.Bit.{bitIn}
 use Rattle.bits.specs.First.{Rung, rung, first_of}
@@ -35,9 +35,9 @@ notHeard (Pio f) = true
 notHeard Refused = true
 
 -- a write phase is open
-abbrev pub writing : Transfer → Bool
-writing noTransfer = false
-writing (underWay d t a z) = not d
+abbrev pub writeOpen : Transfer → Bool
+writeOpen noTransfer = false
+writeOpen (underWay d t a z) = not d
 
 -- 5: command while reset is held or a phase is open; BIST while a phase is open; data with no write phase
 abbrev pub untimely : Frame → List Event → Bool
@@ -46,12 +46,12 @@ untimely (Device f) h = false
 untimely (Bits f) h = false
 untimely (Setup f) h = false
 untimely Activate h = false
-untimely (Data n) h = not (writing (underWayAfter h))
+untimely (Data n) h = not (writeOpen (underWayAfter h))
 untimely Bist h = isOpen (underWayAfter h)
 untimely (Pio f) h = false
 untimely Refused h = false
 
--- 6: the payload is longer than what is left
+-- 6, as request 1 has it: the payload is longer than what is left
 abbrev pub tooLong : Frame → List Event → Bool
 tooLong (Host f) h = false
 tooLong (Device f) h = false
@@ -73,8 +73,8 @@ abbrev pub unfit : ℕ → List Event → Bool
 unfit s h = eqb s 0 || someTag 32 (λ t. bitIn 32 s t && not (outstandingWith t whole h))
 
 -- 12: byte 0, or a sector outside the command
-abbrev pub noError : ℕ → ℕ → ℕ → List Event → Bool
-noError t error sector h = eqb error 0 || not (outstandingWith t (covers sector) h)
+abbrev pub wrongError : ℕ → ℕ → ℕ → List Event → Bool
+wrongError t error sector h = eqb error 0 || not (outstandingWith t (covers sector) h)
 
 -- 13: row 0, row 9, above 15, or not kept
 abbrev pub noRow : ℕ → ℕ → Bool
@@ -88,7 +88,7 @@ ownTests capacity mask e h (openPhase t) =
     rung 3 (shortBuffer e) ∷ rung 7 (not (isOut t h)) ∷ rung 8 (isOpen (underWayAfter h)) ∷ rung 9 (outstandingWith t whole h) ∷ []
 ownTests capacity mask e h sendData = rung 2 (wrongMedium capacity e) ∷ rung 3 (shortBuffer e) ∷ rung 10 (eqb (leftOf true (underWayAfter h)) 0) ∷ []
 ownTests capacity mask e h (finishTags s) = rung 3 (shortBuffer e) ∷ rung 8 (isOpen (underWayAfter h)) ∷ rung 11 (unfit s h) ∷ []
-ownTests capacity mask e h (mediaError t error sector) = rung 3 (shortBuffer e) ∷ rung 7 (not (isOut t h)) ∷ rung 12 (noError t error sector h) ∷ []
+ownTests capacity mask e h (mediaError t error sector) = rung 3 (shortBuffer e) ∷ rung 7 (not (isOut t h)) ∷ rung 12 (wrongError t error sector h) ∷ []
 ownTests capacity mask e h (linkEvent r) = rung 13 (noRow mask r) ∷ []
 ownTests capacity mask e h comReset = rung 3 (shortBuffer e) ∷ []
 

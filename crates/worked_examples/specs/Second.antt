@@ -16,7 +16,7 @@ use Rattle.history.specs.Fates.{Command, commands, ownTag}
 use Rattle.history.specs.Waits.{givenUpThere, badSince}
 use Rattle.history.specs.Carried.{transfer, span, carried}
 use Rattle.history.specs.ByHistory.{holding}
-use Rattle.history.specs.Answered.{badReply, signatureReply, sweepReply, pageReplies}
+use Rattle.history.specs.Answered.{answeredBad, signatureReply, sweepReply, pageReplies}
 use Rattle.device.specs.Lent.{Lent}
 use Rattle.history.specs.Run.{AllTyped, history}
 use Rattle.worked_examples.specs.Story.{settings, sector, lentRoom, queued, readLogCall, tagsSo, Line, reply, line, lines_of, stays, ended, lost, fell}
@@ -119,14 +119,14 @@ pub record SecondShows : Type 0 where
   pub held : map (λ n. holding (upTo n second)) (1 ∷ 2 ∷ 3 ∷ []) ≡ false ∷ true ∷ false ∷ []
   pub released : frames (call_of 3 second) ≡ signatureReply ∷ []
   -- READ LOG EXT of page 10h while a write is outstanding: answered with ERR and 04h; once more: the sweep and the page, which has NQ
-  pub logBad : frames (call_of 5 second) ≡ badReply 0x04 logAsked ∷ []
+  pub logBad : frames (call_of 5 second) ≡ answeredBad 0x04 logAsked ∷ []
   pub logGood : frames (call_of 6 second) ≡ sweepReply ∷ pageReplies logAsked
   pub logPage : read_log (page (call_of 6 second)) ≡ pageOf true 0 0x04 logAsked
   -- two sectors of one, tag 3, while tag 2 is outstanding: ERR and 10h, and so says the page
-  pub farBad : frames (call_of 8 second) ≡ badReply 0x10 (queuedAsked 3) ∷ []
+  pub farBad : frames (call_of 8 second) ≡ answeredBad 0x10 (queuedAsked 3) ∷ []
   pub farPage : read_log (page (call_of 9 second)) ≡ pageOf false 3 0x10 (queuedAsked 3)
   -- a write of tag 4 while a read of tag 4 is outstanding: ERR and 04h, and so says the page
-  pub sameBad : frames (call_of 11 second) ≡ badReply 0x04 (queuedAsked 4) ∷ []
+  pub sameBad : frames (call_of 11 second) ≡ answeredBad 0x04 (queuedAsked 4) ∷ []
   pub samePage : read_log (page (call_of 12 second)) ≡ pageOf false 4 0x04 (queuedAsked 4)
   -- while each of the three waits: the tags given up at it, and those of queued commands answered with an error, the raiser's own
   pub blamed : map givenUpAfter (5 ∷ 8 ∷ 11 ∷ []) ≡ (1 ∷ []) ∷ (2 ∷ []) ∷ (4 ∷ []) ∷ []
