@@ -31,7 +31,7 @@ use Rattle.rules.specs.Tests.{outside}
 use Rattle.rules.specs.declared.acts.Queued.{Queued}
 use Rattle.rules.specs.declared.acts.Act.{Act}
 use Rattle.rules.proofs.Ruled as by
-use Rattle.replies.specs.Replies.{logOf, setupReply, logReplies, activateIf, repliesOf}
+use Rattle.replies.specs.Replies.{signature, logOf, setupReply, logReplies, activateIf, repliesOf}
 use Rattle.device.specs.Device.{contradictoryDevice, powerOn, freshDevice, zeroDevice, powerNumber}
 use Rattle.device.specs.Lent.{Lent, lent, Typed}
 use Rattle.device.specs.After.{after_of, haltWith, resetHeld, released, acceptedBy, unhalted, zeroedIf, movedBy, openedFor, finishedBy, failedBy, renewed, withValue}
@@ -47,7 +47,7 @@ use Rattle.device.proofs.Never.{and-never}
 use Rattle.device.proofs.Refusals.{refused-keeps}
 use Rattle.device.proofs.Sized.{SizedRecord}
 use Rattle.history.specs.Event.{Event}
-use Rattle.history.specs.FrameAsks.{Asked, quiet, registerAsks, dataAsks}
+use Rattle.history.specs.FrameAsks.{Asked, quiet, registerAsks, dataAsks, resetAsks}
 use Rattle.history.specs.FrameReading.{frameAsks}
 use Rattle.history.specs.Reading.{callAsks}
 use Rattle.history.specs.Asked.{asks}
@@ -56,7 +56,7 @@ use Rattle.history.specs.Seen.{Seen, seen}
 use Rattle.history.specs.Fates.{total}
 use Rattle.history.specs.Waits.{waits}
 use Rattle.history.specs.Run.{result, done, event}
-use Rattle.history.specs.Logged.{firstError, frameLog, callLog, haltsAt, blankLog, logBy}
+use Rattle.history.specs.Logged.{registerLog, firstError, frameLog, callLog, haltsAt, blankLog, logBy}
 use Rattle.history.proofs.Views.{view, is-setup, is-brought}
 use Rattle.history.proofs.Frames.{Read, read-frames, read-seen, read_step}
 use Rattle.history.proofs.Changes.{halted-empty, busy-calm}
@@ -92,6 +92,11 @@ module _ (d : Device) (h : List Event) (w : waits (map seen h) ≡ d.status.halt
   unfolding pick
   stays q rs r a b c = rw (a, b, c) k
 
+  -- a reset
+  reset-logged : (q : Asked) (rs : List FrameValue) (r : ErrorLog) → (view q rs).bad ≡ false → (view q rs).fails ≡ false → (view q rs).asks.resets ≡ true → Next q rs r ≡ blankLog
+  unfolding pick
+  reset-logged q rs r a b c = rw (a, b, c) refl
+
   -- host data, with an Activate or without
   data-logged : (m : ℕ) (on : Bool) (r : ErrorLog) → Next (dataAsks m) (activateIf on) r ≡ logOf d.errors
   data-logged m on r = let i = is-brought m on in stays (dataAsks m) (activateIf on) r i.bad i.fails i.resets
@@ -108,14 +113,14 @@ module _ (d : Device) (h : List Event) (w : waits (map seen h) ≡ d.status.halt
   -- page 10h, with or without the sweep
   paged-logged : (f : HostReg) (on : Bool) (p : List ℕ) (r : ErrorLog) → f.command_bit ≡ true → Next (registerAsks f) (logReplies on f.task p) r ≡ logOf d.errors
   unfolding view some collect pick
-  paged-logged f true p r c = rw c k
-  paged-logged f false p r c = rw c k
+  paged-logged f true p r c = stays (registerAsks f) (logReplies true f.task p) r (rw c refl) refl (rw c refl)
+  paged-logged f false p r c = stays (registerAsks f) (logReplies false f.task p) r (rw c refl) refl (rw c refl)
 
   -- a host frame that is not turned down
   heard-logged : (x m b : List ℕ) {f : Frame} {a : Act} → contradictoryDevice d ≡ false → ReadFits f → by.Heard (facts_of d (lent (hostFrame x) m b)) f a
       → Next (frameAsks f) (repliesOf (shown d) [] a) (frameLog (errorOf (repliesOf (shown d) [] a)) f) ≡ logOf (after_of d a).errors
   unfolding view some collect pick repliesOf ReadFits after_of haltWith resetHeld released acceptedBy unhalted zeroedIf movedBy move_of
-  heard-logged x m b g t (by.srst f c s) = rw (c, s) refl
+  heard-logged x m b g t (by.srst f c s) = reset-logged (registerAsks f) [] (registerLog 0 f) (rw c refl) refl (rw (c, s) refl)
   heard-logged x m b g t (by.release f c s y) = rw (c, s) k
   heard-logged x m b g t (by.nothing f c s y) = rw (c, s) k
   heard-logged x m b g t (by.rule1 f c y) = rw (c.command, c.kind, w, y) k
@@ -139,7 +144,7 @@ module _ (d : Device) (h : List Event) (w : waits (map seen h) ≡ d.status.halt
   own-logged m b (by.finished set g s p e r) = k
   own-logged m b (by.failed t e x g s o y v) = rw (w, busy-calm d g t o, failing-task _ x _ (sector-small d t x g o v) (n t o)) refl
   own-logged m b (by.linked r g x) = k
-  own-logged m b (by.renewed g s) = refl
+  own-logged m b (by.renewed g s) = reset-logged resetAsks (signature ∷ []) blankLog refl refl refl
 
   -- a call that was decided
   ruled-logged : (m b : List ℕ) {c : Call} {a : Act} → Typed c → by.Ruled (facts_of d (lent c m b)) c a → number_of a ≡ 0
