@@ -8,6 +8,7 @@ use Rattle.history.specs.Demand3.{Demand3}
 use Rattle.history.specs.StateAgrees.{StateAgrees}
 use Rattle.history.specs.Refused.{Refusals}
 use Rattle.history.specs.Answered.{Answers}
+use Rattle.history.specs.Logged.{LogTold}
 use Rattle.history.proofs.Answering.{answered}
 use Rattle.device.specs.Lent.{Lent}
 use Rattle.history.specs.Run.{Done, AllTyped, run_from, history}
@@ -24,7 +25,7 @@ use Rattle.history.specs.Counted.{toldFor}
 use Rattle.history.specs.Follows.{final, lents, historyOf, Began}
 use Rattle.history.proofs.Allowed.{BeganCode, CounterCode, CountCode}
 use Rattle.history.proofs.Counters.{counters-tell}
-use Rattle.history.proofs.Runs.{demand3-fates, demand3-data, demand3-sactive, demand3-waiting, demand3-depth, demand3-single, demand3-reply-rules, refused-exactly, known}
+use Rattle.history.proofs.Runs.{demand3-fates, demand3-data, demand3-sactive, demand3-waiting, demand3-depth, demand3-single, demand3-reply-rules, refused-exactly, known, log-told}
 use Rattle.history.proofs.StateAgrees.{told-outstanding, told-waits, told-counters, told-asked, told-depth, told-count, told-consistent}
 use Rattle.history.proofs.Contracts.{for-all, began-code, counter-code, count-code}
 
@@ -85,6 +86,14 @@ answers-given s r xs b t = for-all s r xs b (λ (d : Device) (h : List Event). A
 -- and of the code
 pub answers-code : (s : Settings) (r : Outcome) (xs : List Done) → BeganCode s r xs → AllTyped (lents xs) → Answers s.depth s.capacity (historyOf xs)
 answers-code s r xs b = answers-given s r xs (began-code s r xs b)
+
+-- every page 10h ever sent tells the last error since the last reset, as the history before it has it: of a sequence of results that are as the one contract promises them
+pub log-given : (s : Settings) (r : Outcome) (xs : List Done) → Began s r xs → AllTyped (lents xs) → LogTold (historyOf xs)
+log-given s r xs b t = for-all s r xs b (λ (d : Device) (h : List Event). LogTold h) (log-told s (lents xs) t)
+
+-- and of the code
+pub log-code : (s : Settings) (r : Outcome) (xs : List Done) → BeganCode s r xs → AllTyped (lents xs) → LogTold (historyOf xs)
+log-code s r xs b = log-given s r xs (began-code s r xs b)
 
 -- what the history h tells of the state d, and of each answer about it that the contracts of `Device::counter` and `Device::outstanding_count` allow
 pub record CodeAgrees (s : Settings) (d : Device) (h : List Event) : Type 0 where

@@ -46,6 +46,9 @@ pub mod ReplyRules
 -- what the device knows is what the history tells, and so what each call is turned down for
 pub mod Soundness
 pub mod Holding
+pub mod Naming
+pub mod Logging
+pub mod Showing
 pub mod Knows
 pub mod RefusedTests
 pub mod Refusing

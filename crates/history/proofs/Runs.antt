@@ -6,7 +6,7 @@ use mathlib.Core.Logic.{⊎_elim}
 use Prim.Native.Nat.{◌≤◌}
 use native.Mathlib.Nat.{le_trans, le_of_eq}
 use native.Mathlib.Omega.{arith}
-use lib.Dec.{eqb}
+use lib.Dec.{eqb, ltb}
 use lib.Count.{ones}
 use borrow.Author.Tests.{eqb-true, eqb-false}
 use Rattle.bits.specs.Bit.{bitIn}
@@ -20,6 +20,8 @@ use Rattle.history.specs.Seen.{seen}
 use Rattle.history.specs.Fates.{one, total}
 use Rattle.history.specs.Demand3.{Fates, Ranges, Contents, Sactive, Waiting, Depth, OnePerTag, AllReplyRules}
 use Rattle.history.specs.Refused.{Refusals}
+use Rattle.history.specs.Logged.{logBy, LogTold}
+use Rattle.replies.specs.Replies.{logOf}
 use Rattle.device.specs.Lent.{Lent, Typed}
 use Rattle.history.specs.Run.{Done, done, event, result, AllTyped, run, run_from, history}
 use Rattle.history.proofs.Class.{Class}
@@ -35,6 +37,10 @@ use Rattle.device.proofs.Widening.{wide_step, wide-start}
 use Rattle.history.proofs.Holding.{holding-step, holding-power}
 use Rattle.history.proofs.Knows.{Known, knows}
 use Rattle.history.proofs.Refusing.{refusing}
+use Rattle.history.proofs.Naming.{Named, named-step, named-power}
+use Rattle.history.proofs.Logging.{logged-step, logged-power}
+use Rattle.history.proofs.Showing.{told-step}
+use Rattle.history.proofs.CoreSteps.{ones-some}
 use Rattle.history.proofs.Soundness.{Sound, sound-power, sound-step}
 
 -- the state and the history, held together
@@ -49,10 +55,13 @@ pub record Held (s : Settings) (d : Device) (h : List Event) : Type 0 where
   pub reply-rules : AllReplyRules h
   pub knows : Known d h
   pub refusals : Refusals s.depth s.capacity s.mask h
+  pub named : Named d h
+  pub logged : logBy h ≡ logOf d.errors
+  pub log-told : LogTold h
 
 -- one call more
 pub held-step : (s : Settings) (d : Device) (a : Lent) (h : List Event) → Typed a.call → Held s d h → Held s (result d a).outcome.state (event (done a (result d a)) ∷ h)
-unfolding Contents AllReplyRules Refusals
+unfolding Contents AllReplyRules Refusals LogTold
 held-step s d a h t i =
     let d' : Device = (result d a).outcome.state in
     let x : Event = event (done a (result d a)) in
@@ -70,11 +79,14 @@ held-step s d a h t i =
       reply-rules = (reply-rules d a (map seen h) t i.wide.sized i.marked i.inv, i.reply-rules);
       knows = knows d' (x ∷ h) v k (holding-step d a h i.knows.held);
       refusals = (refusing s d a h i.sound i.knows, i.refusals);
+      named = named-step d h i.named a t i.wide.sized;
+      logged = logged-step d h i.knows.halted (ap (ltb 0) (inv-total i.inv) ∙ ones-some d.status.outstanding) i.named i.logged a t i.wide.sized;
+      log-told = (told-step d a h t i.wide.sized i.logged, i.log-told);
     }
 
 -- power-on
 pub held-power : (s : Settings) → Held s (powerOn s).state []
-unfolding powerOn freshDevice Contents AllReplyRules Refusals
+unfolding powerOn freshDevice Contents AllReplyRules Refusals LogTold
 held-power s =
     let d : Device = (powerOn s).state in
     let v : Inv d.status.outstanding d.status.halted [] = by-test (λ (d : Device). Inv d.status.outstanding d.status.halted []) (eqb (powerNumber s) 0) (freshDevice s) zeroDevice (λ _. inv-start) (λ _. inv-start) in
@@ -90,6 +102,9 @@ held-power s =
       reply-rules = tt;
       knows = knows d [] v k (holding-power s);
       refusals = tt;
+      named = named-power s;
+      logged = logged-power s;
+      log-told = tt;
     }
 
 -- a run
@@ -109,6 +124,10 @@ known s as' t = (held s as' t).knows
 -- every event is turned down for just what the table of refusals says, by the history before it
 pub refused-exactly : (s : Settings) (as' : List Lent) → AllTyped as' → Refusals s.depth s.capacity s.mask (history s as')
 refused-exactly s as' t = (held s as' t).refusals
+
+-- every page 10h ever sent tells the last error since the last reset, as the history before it has it
+pub log-told : (s : Settings) (as' : List Lent) → AllTyped as' → LogTold (history s as')
+log-told s as' t = (held s as' t).log-told
 
 -- no more ones than the depth
 within-depth : (s : Settings) (d : Device) (h : List Event) → Held s d h → total (map seen h) ≤ s.depth

@@ -36,11 +36,11 @@ use Rattle.history.proofs.Hosted.{host-goes}
 use Rattle.history.proofs.Own.{own-goes}
 
 -- what is asked, taken and refused
-asks-taken : (x : Event) → x.refusal ≡ 0 → asks x ≡ callAsks x.call
+pub asks-taken : (x : Event) → x.refusal ≡ 0 → asks x ≡ callAsks x.call
 unfolding pick
 asks-taken x z = rw z
 
-asks-refused : (x : Event) → (x.refusal ≡ 0 → ⊥) → asks x ≡ quiet
+pub asks-refused : (x : Event) → (x.refusal ≡ 0 → ⊥) → asks x ≡ quiet
 unfolding pick
 asks-refused x n = rw (ne_eqb x.refusal 0 n)
 

@@ -19,4 +19,5 @@ pub mod Struck
 pub mod ByHistory
 pub mod Refused
 pub mod Answered
+pub mod Logged
 pub mod StateAgrees

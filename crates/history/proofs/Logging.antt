@@ -1,0 +1,182 @@
+-- The error record of the state is what the history tells of the last error: what each call does to it. Assumes nothing.
+use mathlib.Core.Path.{◌≡◌, refl, sym, ap, ap₂, subst, ◌∙◌}
+use mathlib.Core.Bool.{Bool, true, false, not}
+use mathlib.Core.List.{List, [], ◌∷◌, map}
+use mathlib.Core.Logic.{⊎_elim}
+use Prim.Native.Nat.{ℕ, ◌+◌, ◌<◌, ◌^◌}
+use native.Mathlib.Omega.{arith}
+use lib.Dec.{eqb, ltb, leb}
+use borrow.Author.Tests.{eqb-true, eqb-false, leb-false}
+use Rattle.bits.specs.Pick.{pick}
+use Rattle.bits.specs.Bit.{bitIn}
+use Rattle.bits.proofs.Picks.{tested, by-test, or_right}
+use Rattle.frame_parts.specs.declared.shared.Task.{Task}
+use Rattle.frame_parts.proofs.TaskLaws.{same-task}
+use Rattle.frames.specs.Write.{FrameValue}
+use Rattle.frames.specs.RoundTrip as trip
+use Rattle.frames.specs.declared.shapes.HostReg.{HostReg}
+use Rattle.frames.specs.declared.shapes.Frame.{Frame}
+use Rattle.page_10h.specs.declared.page10.ErrorLog.{ErrorLog}
+use Rattle.device_state.specs.State.{taskIn, echoOf}
+use Rattle.device_state.specs.Table.{entry_of}
+use Rattle.device_state.specs.declared.shapes.Echo.{Echo}
+use Rattle.device_state.specs.declared.shapes.Settings.{Settings}
+use Rattle.device_state.proofs.EchoLaws.{echo-task, echo-lba}
+use Rattle.rules.specs.Call.{Call, hostFrame}
+use Rattle.rules.specs.Act.{failing}
+use Rattle.rules.specs.Medium.{span_of, part_of}
+use Rattle.rules.specs.Number.{number_of}
+use Rattle.rules.specs.Positions.{move_of}
+use Rattle.rules.specs.Tests.{outside}
+use Rattle.rules.specs.declared.acts.Queued.{Queued}
+use Rattle.rules.specs.declared.acts.Act.{Act}
+use Rattle.rules.proofs.Ruled as by
+use Rattle.replies.specs.Replies.{signature, logOf, setupReply, logReplies, activateIf, repliesOf}
+use Rattle.device.specs.Device.{contradictoryDevice, powerOn, freshDevice, zeroDevice, powerNumber}
+use Rattle.device.specs.Lent.{Lent, lent, Typed}
+use Rattle.device.specs.After.{after_of, haltWith, resetHeld, released, acceptedBy, unhalted, zeroedIf, movedBy, openedFor, finishedBy, failedBy, renewed, withValue}
+use Rattle.device.specs.FactsOf.{facts_of}
+use Rattle.device.specs.Step.{shown, actOf, step}
+use Rattle.device.specs.declared.state.Device.{Device}
+use Rattle.device.proofs.Busy.{range-within}
+use Rattle.device.proofs.Doing.{heard-unsent}
+use Rattle.device.proofs.Entering.{capacity-most}
+use Rattle.device.proofs.Fitting.{ReadFits, read_fits}
+use Rattle.device.proofs.Keeping.{settings-good}
+use Rattle.device.proofs.Never.{and-never}
+use Rattle.device.proofs.Refusals.{refused-keeps}
+use Rattle.device.proofs.Sized.{SizedRecord}
+use Rattle.history.specs.Event.{Event}
+use Rattle.history.specs.FrameAsks.{Asked, quiet, registerAsks, dataAsks, resetAsks}
+use Rattle.history.specs.FrameReading.{frameAsks}
+use Rattle.history.specs.Reading.{callAsks}
+use Rattle.history.specs.Asked.{asks}
+use Rattle.history.specs.Replied.{some, registerIn, collect}
+use Rattle.history.specs.Seen.{Seen, seen}
+use Rattle.history.specs.Fates.{total}
+use Rattle.history.specs.Waits.{waits}
+use Rattle.history.specs.Run.{result, done, event}
+use Rattle.history.specs.Logged.{registerLog, firstError, frameLog, callLog, haltsAt, blankLog, logBy}
+use Rattle.history.proofs.Views.{view, is-setup, is-brought}
+use Rattle.history.proofs.Frames.{Read, read-frames, read-seen, read_step}
+use Rattle.history.proofs.Changes.{halted-empty, busy-calm}
+use Rattle.history.proofs.Steps.{asks-taken, asks-refused}
+use Rattle.history.proofs.Naming.{Named}
+
+-- the bytes of a command with a failing sector in them
+failing-task : (e : Echo) (sector : ℕ) (t : Task) → sector < 2 ^ 48 → taskIn e ≡ t → taskIn (failing e sector) ≡ record { lba = sector; device = t.device; count = t.count }
+unfolding taskIn failing echoOf
+failing-task e sector t l k =
+    same-task (echo-lba (record { lba = sector; device = 0; count = 0 }) l) (ap (λ (x : Task). x.device) k) (ap (λ (x : Task). x.count) k)
+
+-- a sector of an outstanding command's range has 48 bits
+sector-small : (d : Device) (t sector : ℕ) → contradictoryDevice d ≡ false → bitIn 32 d.status.outstanding t ≡ true → outside (entry_of d.entries t) sector ≡ false → sector < 2 ^ 48
+sector-small d t sector g o w =
+    let e = entry_of d.entries t in
+    let a = leb-false (e.first + e.count) sector (or_right (ltb sector e.first) (leb (e.first + e.count) sector) w) in
+    let b = range-within d t g o in
+    let c = capacity-most d.settings (settings-good d g) in
+    omega arith
+
+-- the error byte of the first 34h sent
+abbrev errorOf : List FrameValue → ℕ
+errorOf rs = firstError (collect registerIn (map trip.readBack rs))
+
+module _ (d : Device) (h : List Event) (w : waits (map seen h) ≡ d.status.halted) (u : ltb 0 (total (map seen h)) ≡ not (eqb d.status.outstanding 0)) (n : Named d h) (k : logBy h ≡ logOf d.errors) where
+  -- the record next, from what was asked and sent, and what the call leaves to be read if it raises an error
+  abbrev Next : Asked → List FrameValue → ErrorLog → ErrorLog
+  Next q rs r = pick (haltsAt (view q rs) (map seen h)) r (pick (view q rs).asks.resets blankLog (logBy h))
+
+  -- nothing is raised or reset
+  stays : (q : Asked) (rs : List FrameValue) (r : ErrorLog) → (view q rs).bad ≡ false → (view q rs).fails ≡ false → (view q rs).asks.resets ≡ false → Next q rs r ≡ logOf d.errors
+  unfolding pick
+  stays q rs r a b c = rw (a, b, c) k
+
+  -- a reset
+  reset-logged : (q : Asked) (rs : List FrameValue) (r : ErrorLog) → (view q rs).bad ≡ false → (view q rs).fails ≡ false → (view q rs).asks.resets ≡ true → Next q rs r ≡ blankLog
+  unfolding pick
+  reset-logged q rs r a b c = rw (a, b, c) refl
+
+  -- host data, with an Activate or without
+  data-logged : (m : ℕ) (on : Bool) (r : ErrorLog) → Next (dataAsks m) (activateIf on) r ≡ logOf d.errors
+  data-logged m on r = let i = is-brought m on in stays (dataAsks m) (activateIf on) r i.bad i.fails i.resets
+
+  -- DMA Setup, with an Activate or without
+  setup-logged : (q : Queued) (r : ErrorLog) → Next quiet (setupReply q ∷ activateIf q.entry.write) r ≡ logOf d.errors
+  setup-logged q r = let i = is-setup _ q.entry.write in stays quiet (setupReply q ∷ activateIf q.entry.write) r i.bad i.fails i.resets
+
+  -- something is outstanding, and so it is not halted
+  calm : contradictoryDevice d ≡ false → eqb d.status.outstanding 0 ≡ false → d.status.halted ≡ false
+  calm g y =
+      ⊎_elim (λ (x : d.status.halted ≡ true). absurd (eqb-false d.status.outstanding 0 y (halted-empty d g x))) (λ (x : d.status.halted ≡ false). x) (tested d.status.halted)
+
+  -- page 10h, with or without the sweep
+  paged-logged : (f : HostReg) (on : Bool) (p : List ℕ) (r : ErrorLog) → f.command_bit ≡ true → Next (registerAsks f) (logReplies on f.task p) r ≡ logOf d.errors
+  unfolding view some collect pick
+  paged-logged f true p r c = stays (registerAsks f) (logReplies true f.task p) r (rw c refl) refl (rw c refl)
+  paged-logged f false p r c = stays (registerAsks f) (logReplies false f.task p) r (rw c refl) refl (rw c refl)
+
+  -- a host frame that is not turned down
+  heard-logged : (x m b : List ℕ) {f : Frame} {a : Act} → contradictoryDevice d ≡ false → ReadFits f → by.Heard (facts_of d (lent (hostFrame x) m b)) f a
+      → Next (frameAsks f) (repliesOf (shown d) [] a) (frameLog (errorOf (repliesOf (shown d) [] a)) f) ≡ logOf (after_of d a).errors
+  unfolding view some collect pick repliesOf ReadFits after_of haltWith resetHeld released acceptedBy unhalted zeroedIf movedBy move_of
+  heard-logged x m b g t (by.srst f c s) = reset-logged (registerAsks f) [] (registerLog 0 f) (rw c refl) refl (rw (c, s) refl)
+  heard-logged x m b g t (by.release f c s y) = rw (c, s) k
+  heard-logged x m b g t (by.nothing f c s y) = rw (c, s) k
+  heard-logged x m b g t (by.rule1 f c y) = rw (c.command, c.kind, w, y) k
+  heard-logged x m b g t (by.rule2 f c y z) = rw (c.command, c.kind, w, y, echo-task f.task t) refl
+  heard-logged x m b g t (by.rule3 f c y z v) = rw (c.command, c.kind, w, y, echo-task f.task t) refl
+  heard-logged x m b g t (by.rule4 f c y z v) = rw c.command k
+  heard-logged x m b g t (by.other-halted f c y) = rw (c.command, c.kind, w, y, and-never _) k
+  heard-logged x m b g t (by.other-busy f c y) = rw (c.command, c.kind, w, calm g y, u, y, echo-task f.task t) refl
+  heard-logged x m b g t (by.page10 f c y p) = paged-logged f d.status.halted _ _ c.command
+  heard-logged x m b g t (by.page11 f c y z p) = rw c.command k
+  heard-logged x m b g t (by.other-bad f c y z) = rw (c.command, c.kind, w, y, u, z) k
+  heard-logged x m b g t (by.due l p q y) = data-logged l _ _
+  heard-logged x m b g t (by.bist y) = k
+
+  -- a device event that is taken
+  own-logged : (m b : List ℕ) {c : Call} {a : Act} → by.Own (facts_of d (lent c m b)) c a
+      → Next (callAsks c) (repliesOf (shown d) (part_of (span_of a) m) a) (callLog (errorOf (repliesOf (shown d) (part_of (span_of a) m) a)) h c) ≡ logOf (after_of d a).errors
+  unfolding view some collect pick repliesOf after_of openedFor movedBy finishedBy failedBy haltWith renewed released resetHeld withValue move_of
+  own-logged m b (by.opened t g s o p e) = setup-logged (record { tag = t; entry = entry_of d.entries t }) _
+  own-logged m b (by.sent g v s p r) = k
+  own-logged m b (by.finished set g s p e r) = k
+  own-logged m b (by.failed t e x g s o y v) = rw (w, busy-calm d g t o, failing-task _ x _ (sector-small d t x g o v) (n t o)) refl
+  own-logged m b (by.linked r g x) = k
+  own-logged m b (by.renewed g s) = reset-logged resetAsks (signature ∷ []) blankLog refl refl refl
+
+  -- a call that was decided
+  ruled-logged : (m b : List ℕ) {c : Call} {a : Act} → Typed c → by.Ruled (facts_of d (lent c m b)) c a → number_of a ≡ 0
+      → Next (callAsks c) (repliesOf (shown d) (part_of (span_of a) m) a) (callLog (errorOf (repliesOf (shown d) (part_of (span_of a) m) a)) h c) ≡ logOf (after_of d a).errors
+  unfolding number_of
+  ruled-logged m b t (by.refused c i x e) z = absurd (x z)
+  ruled-logged m b {c} {a} t (by.host f _ g v s y) z =
+      subst (λ (p : List ℕ). Next (callAsks c) (repliesOf (shown d) p a) (callLog (errorOf (repliesOf (shown d) p a)) h c) ≡ logOf (after_of d a).errors)
+      (heard-unsent (facts_of d (lent (hostFrame f) m b)) m y) (heard-logged f m b g (read_fits f t.0) y)
+  ruled-logged m b t (by.own o) z = own-logged m b o
+
+  -- every call
+  pub logged-step : (l : Lent) → Typed l.call → SizedRecord d → logBy (event (done l (result d l)) ∷ h) ≡ logOf (step d l).state.errors
+  unfolding logBy actOf view some collect pick
+  logged-step l t s =
+      let x : Event = event (done l (result d l)) in
+      let rs : List FrameValue = (step d l).frames in
+      let r : Read x rs = read_step d l t s in
+      let told : (q : Asked) → asks x ≡ q → logBy (x ∷ h) ≡ Next q rs (callLog (errorOf rs) h l.call) =
+      λ q e. ap₂ (λ (y : Seen) (fs : List Frame). pick (haltsAt y (map seen h)) (callLog (firstError (collect registerIn fs)) h l.call) (pick y.asks.resets blankLog (logBy h))) (read-seen x rs r q e) (read-frames x rs r) in
+      ⊎_elim
+      (λ (y : eqb (step d l).refusal 0 ≡ true).
+      let z = eqb-true (step d l).refusal 0 y in
+      told (callAsks l.call) (asks-taken x z) ∙ ruled-logged l.medium l.buffer t (by.ruled (facts_of d l) l.call) z)
+      (λ (y : eqb (step d l).refusal 0 ≡ false).
+      let i = eqb-false (step d l).refusal 0 y in
+      told quiet (asks-refused x i)
+      ∙ ap (λ (fs : List FrameValue). Next quiet fs (callLog (errorOf fs) h l.call)) (refused-keeps d l i).frames
+      ∙ k ∙ sym (ap (λ (e : Device). logOf e.errors) (refused-keeps d l i).state))
+      (tested (eqb (step d l).refusal 0))
+
+-- power-on: a blank record
+pub logged-power : (s : Settings) → logBy [] ≡ logOf (powerOn s).state.errors
+unfolding logBy powerOn freshDevice pick
+logged-power s = by-test (λ (d : Device). blankLog ≡ logOf d.errors) (eqb (powerNumber s) 0) (freshDevice s) zeroDevice (λ _. refl) (λ _. refl)
