@@ -22,6 +22,16 @@ ran d h = record { state = d; calls = h }
 keeps : (d : Device) (a : Lent) → eqb (result d a).outcome.refusal 0 ≡ false → (result d a).outcome.state ≡ d
 keeps d a n = (refused-keeps d a (eqb-false (step d a).refusal 0 n)).state
 
+-- a taken call stays
+taken-yes : (x : Done) (xs : List Done) → eqb x.gave.outcome.refusal 0 ≡ true → takenOf (x ∷ xs) ≡ x ∷ takenOf xs
+unfolding takenOf
+taken-yes x xs y = pick_yes (eqb x.gave.outcome.refusal 0) (x ∷ takenOf xs) (takenOf xs) y
+
+-- a refused one is struck out
+taken-no : (x : Done) (xs : List Done) → eqb x.gave.outcome.refusal 0 ≡ false → takenOf (x ∷ xs) ≡ takenOf xs
+unfolding takenOf
+taken-no x xs n = pick_no (eqb x.gave.outcome.refusal 0) (x ∷ takenOf xs) (takenOf xs) n
+
 -- from any state on, behind any calls
 pub struck-run : (as' : List Lent) (d : Device) (h : List Done) → run d (takenOf h) (lentTaken d as') ≡ ran (run d h as').state (takenOf (run d h as').calls)
 unfolding run takenOf lentTaken
@@ -34,10 +44,10 @@ struck-run (a ∷ as') d h =
     let more = struck-run as' d' (x ∷ h) in
     ⊎_elim
     (λ (y : b ≡ true).
-    ap (λ (l : List Lent). run d (takenOf h) l) (pick_yes b (a ∷ rest) rest y) ∙ ap (λ (k : List Done). run d' k rest) (sym (pick_yes b (x ∷ takenOf h) (takenOf h) y)) ∙ more)
+    ap (λ (l : List Lent). run d (takenOf h) l) (pick_yes b (a ∷ rest) rest y) ∙ ap (λ (k : List Done). run d' k rest) (sym (taken-yes x h y)) ∙ more)
     (λ (n : b ≡ false).
     ap (λ (l : List Lent). run d (takenOf h) l) (pick_no b (a ∷ rest) rest n) ∙ ap (λ (z : Device). run z (takenOf h) rest) (sym (keeps d a n))
-    ∙ ap (λ (k : List Done). run d' k rest) (sym (pick_no b (x ∷ takenOf h) (takenOf h) n)) ∙ more)
+    ∙ ap (λ (k : List Done). run d' k rest) (sym (taken-no x h n)) ∙ more)
     (tested b)
 
 -- from power-on
