@@ -42,7 +42,7 @@ use Rattle.history.specs.Logs.{readsLog}
 use Rattle.history.specs.Reading.{callReads}
 use Rattle.history.specs.Replied.{some, isPio, paged, page}
 use Rattle.history.specs.Run.{result, done, event}
-use Rattle.history.specs.Logged.{logBy, sends10, Tells}
+use Rattle.history.specs.Logged.{logBy, sends10, TellsHalt}
 use Rattle.history.proofs.Views.{pageIn}
 use Rattle.history.proofs.Frames.{Read, read-frames, read_step}
 use Rattle.history.proofs.Frames as frames
@@ -114,7 +114,7 @@ module _ (d : Device) where
   ruled-page m b (by.own o) z p q = absurd (false≢true (sym (own-goes d m b o).replies.pageless ∙ p))
 
 -- every call: a page 10h in its replies tells the record
-pub told-step : (d : Device) (l : Lent) (h : List Event) → Typed l.call → SizedRecord d → logBy h ≡ logOf d.errors → sends10 (event (done l (result d l))) ≡ true → Tells (event (done l (result d l))) h
+pub told-step : (d : Device) (l : Lent) (h : List Event) → Typed l.call → SizedRecord d → logBy h ≡ logOf d.errors → sends10 (event (done l (result d l))) ≡ true → TellsHalt (event (done l (result d l))) h
 unfolding actOf
 told-step d l h t s k y =
     let x : Event = event (done l (result d l)) in

@@ -112,11 +112,11 @@ abbrev pub sends10 : Event → Bool
 sends10 e = taken e && (paged e && callReads 0x10 e.call)
 
 -- it tells the record, byte for byte, and its reader gives each field
-pub record Tells (e : Event) (h : List Event) : Type 0 where
+pub record TellsHalt (e : Event) (h : List Event) : Type 0 where
   pub bytes : page e ≡ page10 (logBy h)
   pub fields : read_log (page e) ≡ Fields (logBy h)
 
 -- of every page 10h, however often it is read
 unfoldable pub LogTold : List Event → Type 0
 LogTold [] = Unit
-LogTold (e ∷ h) = (sends10 e ≡ true → Tells e h) × LogTold h
+LogTold (e ∷ h) = (sends10 e ≡ true → TellsHalt e h) × LogTold h
