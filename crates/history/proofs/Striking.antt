@@ -25,7 +25,7 @@ keeps d a n = (refused-keeps d a (eqb-false (step d a).refusal 0 n)).state
 -- a taken call stays
 taken-yes : (x : Done) (xs : List Done) → eqb x.gave.outcome.refusal 0 ≡ true → takenOf (x ∷ xs) ≡ x ∷ takenOf xs
 unfolding takenOf
-taken-yes x xs y = pick_yes (eqb x.gave.outcome.refusal 0) (x ∷ takenOf xs) (takenOf xs) y
+taken-yes x xs y = pick_yes (eqb x.gave.outcome.refusal 0) (x ∷ takenOf xs) _ y
 
 -- a refused one is struck out
 taken-no : (x : Done) (xs : List Done) → eqb x.gave.outcome.refusal 0 ≡ false → takenOf (x ∷ xs) ≡ takenOf xs
