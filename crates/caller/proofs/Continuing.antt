@@ -38,11 +38,15 @@ unfolding AllTyped
 typed-more [] x t u = (u, tt)
 typed-more (y ∷ xs) x t u = (t.0, typed-more xs x t.1 u)
 
--- a call that a contract allows goes on
-pub continues : (d : Device) (a : Lent) (g : Gave) → Typed a.call → Allowed d a g → Continues d a g
-continues d a g t p s r xs h =
+-- a call that the one contract promises goes on
+pub continues-given : (d : Device) (a : Lent) (g : Gave) → Typed a.call → Given d a g → Continues d a g
+continues-given d a g t p s r xs h =
     holds s r (xs ++ done a g ∷ []) g.outcome.state (record {
-      began = record { power = h.began.power; follows = follows-more xs r.state (done a g) h.began.follows (subst (λ (e : Device). Given e a g) (sym h.last) (allowed-given p)) };
+      began = record { power = h.began.power; follows = follows-more xs r.state (done a g) h.began.follows (subst (λ (e : Device). Given e a g) (sym h.last) p) };
       typed = typed-more xs (done a g) h.typed t;
       last = final-more xs r.state (done a g);
     })
+
+-- so a call that a contract allows
+pub continues : (d : Device) (a : Lent) (g : Gave) → Typed a.call → Allowed d a g → Continues d a g
+continues d a g t p = continues-given d a g t (allowed-given p)

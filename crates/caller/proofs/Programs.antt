@@ -29,7 +29,6 @@ use Rattle.events.specs.Start.{start_of}
 use Rattle.events.specs.Calls.{calls_of, callsFor}
 use Rattle.events.specs.Played.{stepFor}
 use Rattle.events.specs.EventLine.{line_for}
-use Rattle.events.specs.declared.tells.EventLine as tells
 use Rattle.rules.specs.Call.{Call}
 use Rattle.device.specs.Lent.{lent}
 use Rattle.device.proofs.Typing.{none-typed, frame-typed, set_typed, error-typed}

@@ -2,11 +2,15 @@
 use Rattle.bits.specs.Contract.{Says}
 use Rattle.bits.proofs.Tying.{say}
 use Rattle.rules.specs.Call.{hostFrame, openPhase, sendData, finishTags, mediaError, linkEvent, comReset}
-use Rattle.device.specs.Lent.{lent, gave}
+use Rattle.device.specs.Lent.{lent, gave, answered}
+use Rattle.device.specs.Sealing.{poweredOf}
+use Rattle.events.specs.EventLine.{toldOf, begun}
 use Rattle.caller.specs.Continued.{Begins, Continues, ContinuesReplying, ContinuesAlone, FirstCall}
 use Rattle.caller.specs.Program.{start, play, Started, Played}
 use Rattle.caller.proofs.calling
 use Rattle.caller.specs.contracts.calling as calling-said
+use Rattle.caller.proofs.keeping
+use Rattle.caller.specs.contracts.keeping as keeping-said
 use Rattle.caller.proofs.telling
 use Rattle.caller.specs.contracts.telling as telling-said
 
@@ -39,9 +43,35 @@ tied-comreset = say (λ κs a. tt) (λ κs a r ws p. p)
 pub tied-first-link : Says calling-said.first_link.ended calling.first_link.Reads.Asked calling.first_link.Reads.Post (λ κs a r ws. FirstCall a.0 (linkEvent a.1.0) r)
 tied-first-link = say (λ κs a. tt) (λ κs a r ws p. p)
 
-pub tied-start-line : Says telling-said.start_line.ended telling.start_line.Reads.Asked telling.start_line.Reads.Post (λ κs a r ws. Started a.0 (start a.1.0.now a.1.1.0.now r ws.1.1.0))
+pub tied-start-line : Says telling-said.start_line.ended telling.start_line.Reads.Asked telling.start_line.Reads.Post (λ κs a r ws. Started a.0 (start a.1.0.now a.1.1.0.now (begun r) ws.1.1.0))
 tied-start-line = say (λ κs a. tt) (λ κs a r ws p. p)
 
 pub tied-play-line : Says telling-said.play_line.ended telling.play_line.Reads.Asked telling.play_line.Reads.Post
-    (λ κs a r ws. Played a.1.0 a.1.1.0 a.0 (play a.1.1.1.0.now a.1.1.1.1.0.now a.1.1.1.1.1.0.now a.1.1.1.1.1.1.0.now r ws.1.1.1.1.0 ws.1.1.1.1.1.0 ws.1.1.1.1.1.1.0))
+    (λ κs a r ws. Played a.1.0 a.1.1.0 a.0.now.device (play a.1.1.1.0.now a.1.1.1.1.0.now a.1.1.1.1.1.0.now a.1.1.1.1.1.1.0.now (toldOf ws.0.device r) ws.1.1.1.1.0 ws.1.1.1.1.1.0 ws.1.1.1.1.1.1.0))
 tied-play-line = say (λ κs a. tt) (λ κs a r ws p. p)
+
+-- ---- of a kept device
+
+pub tied-keep : Says keeping-said.keep.ended keeping.keep.Reads.Asked keeping.keep.Reads.Post (λ κs a r ws. Begins a.0 (poweredOf r))
+tied-keep = say (λ κs a. tt) (λ κs a r ws p. p)
+
+pub tied-kept-host-frame : Says keeping-said.kept_host_frame.ended keeping.kept_host_frame.Reads.Asked keeping.kept_host_frame.Reads.Post (λ κs a r ws. Continues a.0.now.device (lent (hostFrame a.1.0.now) a.1.1.0.now a.1.1.1.0.now) (gave (answered ws.0.device r) ws.1.1.0 ws.1.1.1.0))
+tied-kept-host-frame = say (λ κs a. tt) (λ κs a r ws p. p)
+
+pub tied-kept-open : Says keeping-said.kept_open.ended keeping.kept_open.Reads.Asked keeping.kept_open.Reads.Post (λ κs a r ws. ContinuesReplying a.0.now.device (openPhase a.1.0) a.1.1.0.now (answered ws.0.device r) ws.1.1.0)
+tied-kept-open = say (λ κs a. tt) (λ κs a r ws p. p)
+
+pub tied-kept-send : Says keeping-said.kept_send.ended keeping.kept_send.Reads.Asked keeping.kept_send.Reads.Post (λ κs a r ws. Continues a.0.now.device (lent sendData a.1.0.now a.1.1.0.now) (gave (answered ws.0.device r) a.1.0.now ws.1.1.0))
+tied-kept-send = say (λ κs a. tt) (λ κs a r ws p. p)
+
+pub tied-kept-finish : Says keeping-said.kept_finish.ended keeping.kept_finish.Reads.Asked keeping.kept_finish.Reads.Post (λ κs a r ws. ContinuesReplying a.0.now.device (finishTags a.1.0) a.1.1.0.now (answered ws.0.device r) ws.1.1.0)
+tied-kept-finish = say (λ κs a. tt) (λ κs a r ws p. p)
+
+pub tied-kept-media-error : Says keeping-said.kept_media_error.ended keeping.kept_media_error.Reads.Asked keeping.kept_media_error.Reads.Post (λ κs a r ws. ContinuesReplying a.0.now.device (mediaError a.1.0 a.1.1.0 a.1.1.1.0) a.1.1.1.1.0.now (answered ws.0.device r) ws.1.1.1.1.0)
+tied-kept-media-error = say (λ κs a. tt) (λ κs a r ws p. p)
+
+pub tied-kept-link-event : Says keeping-said.kept_link_event.ended keeping.kept_link_event.Reads.Asked keeping.kept_link_event.Reads.Post (λ κs a r ws. ContinuesAlone a.0.now.device (linkEvent a.1.0) (answered ws.0.device r))
+tied-kept-link-event = say (λ κs a. tt) (λ κs a r ws p. p)
+
+pub tied-kept-comreset : Says keeping-said.kept_comreset.ended keeping.kept_comreset.Reads.Asked keeping.kept_comreset.Reads.Post (λ κs a r ws. ContinuesReplying a.0.now.device comReset a.1.0.now (answered ws.0.device r) ws.1.0)
+tied-kept-comreset = say (λ κs a. tt) (λ κs a r ws p. p)

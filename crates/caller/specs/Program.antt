@@ -7,8 +7,7 @@ use Rattle.device.specs.declared.state.Device.{Device}
 use Rattle.event_kinds.specs.Settings.{asked_of}
 use Rattle.event_lines.specs.Lines.{line_of}
 use Rattle.events.specs.Calls.{callsFor}
-use Rattle.events.specs.declared.tells.EventLine as tells
-use Rattle.events.specs.EventLine.{PlayTold, Tells, startStep}
+use Rattle.events.specs.EventLine.{Told, PlayTold, Tells, startStep}
 use Rattle.device.specs.Lent.{lent}
 use Rattle.history.specs.Run.{Done, done, result, event, run_from}
 use Rattle.history.specs.Follows.{newestFirst, lents, historyOf}
@@ -21,33 +20,33 @@ pub record Play : Type 0 where
   pub medium : List ℕ
   pub buffer : List ℕ
   pub line : List ℕ
-  pub told : tells.EventLine
+  pub told : Told
   pub left : List ℕ
   pub after : List ℕ
   pub written : List ℕ
 
 -- an event as it was played, of these eight
-abbrev pub play : List ℕ → List ℕ → List ℕ → List ℕ → tells.EventLine → List ℕ → List ℕ → List ℕ → Play
+abbrev pub play : List ℕ → List ℕ → List ℕ → List ℕ → Told → List ℕ → List ℕ → List ℕ → Play
 play e m b o t m' b' o' = record { event = e; medium = m; buffer = b; line = o; told = t; left = m'; after = b'; written = o' }
 
 -- what `play_line` promises in the state d; an event is of bytes, as what stands in a slice of them always is
 pub data Played (traced : Bool) (number : ℕ) (d : Device) : Play → Type 0 where
-  played : (e m b o : List ℕ) (t : tells.EventLine) (m' b' o' : List ℕ) → Bytes e → PlayTold d traced number e m b o t m' b' o' → Played traced number d (play e m b o t m' b' o')
+  played : (e m b o : List ℕ) (t : Told) (m' b' o' : List ℕ) → Bytes e → PlayTold d traced number e m b o t m' b' o' → Played traced number d (play e m b o t m' b' o')
 
 -- the settings record as it was taken: its bytes, the line buffer, what was answered, and what the buffer then held
 pub record Start : Type 0 where
   pub event : List ℕ
   pub line : List ℕ
-  pub told : tells.EventLine
+  pub told : Told
   pub written : List ℕ
 
 -- a settings record as it was taken, of these four
-abbrev pub start : List ℕ → List ℕ → tells.EventLine → List ℕ → Start
+abbrev pub start : List ℕ → List ℕ → Told → List ℕ → Start
 start e o t o' = record { event = e; line = o; told = t; written = o' }
 
 -- what `start_line` promises
 pub data Started (traced : Bool) : Start → Type 0 where
-  started : (e o : List ℕ) (t : tells.EventLine) (o' : List ℕ) → Tells traced 0 (startStep e) o t o' → Started traced (start e o t o')
+  started : (e o : List ℕ) (t : Told) (o' : List ℕ) → Tells traced 0 (startStep e) o t o' → Started traced (start e o t o')
 
 -- one event after the other, numbered on, each given the state that the last one left, and any medium and buffers
 unfoldable pub Plays : Bool → ℕ → Device → List Play → Type 0

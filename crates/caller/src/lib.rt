@@ -2,9 +2,14 @@
 #![tactic(auto)]
 
 mod calling;
+mod keeping;
 mod telling;
 
 pub use calling::{
     begin, comreset, finish, first_link, host_frame, link_event, media_error, open, send,
+};
+pub use keeping::{
+    keep, kept_comreset, kept_finish, kept_host_frame, kept_link_event, kept_media_error,
+    kept_open, kept_send,
 };
 pub use telling::{play_line, start_line};

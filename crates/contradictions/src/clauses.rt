@@ -76,8 +76,13 @@ fn entry_bad(s: Settings, e: Entry, t: u32, busy: bool, phase: bool) -> bool
 }
 
 // One walk over the thirty-two entries.
-fn table_bad(s: Settings, entries: [Entry; Settings::ENTRIES], outstanding: u32, phase: u32) -> bool
-    ensures { result ≡ tableBad s entries outstanding phase }
+fn table_bad(
+    s: Settings,
+    entries: &[Entry; Settings::ENTRIES],
+    outstanding: u32,
+    phase: u32,
+) -> bool
+    ensures { result ≡ tableBad s entries.now outstanding phase }
 {
     let mut bad = false;
     for i in 0..Settings::ENTRIES {
@@ -114,8 +119,8 @@ fn row_bad(mask: u16, row: usize, value: u32) -> bool
     !kept & !(value == 0)
 }
 
-fn rows_bad(mask: u16, values: [u32; 16]) -> bool
-    ensures { result ≡ rowsBad mask values }
+fn rows_bad(mask: u16, values: &[u32; 16]) -> bool
+    ensures { result ≡ rowsBad mask values.now }
 {
     let mut bad = false;
     for i in 0..16usize {
@@ -129,11 +134,11 @@ fn rows_bad(mask: u16, values: [u32; 16]) -> bool
 pub fn contradicts(
     s: Settings,
     f: Status,
-    entries: [Entry; Settings::ENTRIES],
+    entries: &[Entry; Settings::ENTRIES],
     r: ErrorRecord,
-    values: [u32; 16],
+    values: &[u32; 16],
 ) -> bool
-    ensures { result ≡ contradictory s f entries r values }
+    ensures { result ≡ contradictory s f entries.now r values.now }
 {
     let settings = settings_out(s);
     let table = table_bad(s, entries, f.outstanding, f.phase);

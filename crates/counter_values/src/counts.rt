@@ -12,23 +12,12 @@ pub fn bump(value: u32, amount: u32) -> u32
 }
 
 // One event more at a row; there are rows 0 to 15 alone.
-pub fn counted(values: [u32; 16], row: u8) -> [u32; 16]
-    ensures { result ≡ countedAt values row }
+pub fn count(values: &mut [u32; 16], row: u8)
+    ensures { values.new ≡ countedAt values.old row }
 {
-    let mut next = values;
     if 16 <= row {
-        return next;
+        return;
     }
     let i = row as usize;
-    let v = next[i];
-    let more = bump(v, 1);
-    next[i] = more;
-    next
-}
-
-// COMRESET: one link reset more, at 00Ah, which is row 9.
-pub fn with_link_reset(values: [u32; 16]) -> [u32; 16]
-    ensures { result ≡ countedAt values 9 }
-{
-    counted(values, 9)
+    values[i] = bump(values[i], 1);
 }

@@ -3,4 +3,4 @@
 
 mod counts;
 
-pub use counts::{bump, counted, with_link_reset};
+pub use counts::{bump, count};

@@ -23,10 +23,13 @@ pub mod Lending
 pub mod Exactly
 pub mod Refusals
 pub mod Counting
+pub mod Kept
 pub mod Tied
+pub mod TiedSealed
 pub mod Widening
 pub mod Sending
 pub mod Storing
 pub mod Moves
 pub mod Due
 pub mod Zeros
+pub mod Sound

@@ -24,7 +24,7 @@ pub taken : (n m : ℕ) (r old new : Device) → n ≡ m → r ≡ new → not (
 unfolding pick
 taken n m r old new e s t = rw (← e, not-false (eqb n 0) t, s)
 
-same_outcome : {d d' : Device} {n n' l l' : ℕ} → d ≡ d' → n ≡ n' → l ≡ l' → ◌≡◌ {A = Outcome} (record { state = d; refusal = n; len = l }) (record { state = d'; refusal = n'; len = l' })
+pub same_outcome : {d d' : Device} {n n' l l' : ℕ} → d ≡ d' → n ≡ n' → l ≡ l' → ◌≡◌ {A = Outcome} (record { state = d; refusal = n; len = l }) (record { state = d'; refusal = n'; len = l' })
 same_outcome p q r = cc
 
 -- a step has one answer

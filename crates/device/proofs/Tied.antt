@@ -11,13 +11,11 @@ use mathlib.Core.List.{[]}
 use mathlib.Core.Path.{◌≡◌, refl}
 use Rattle.bits.specs.Contract.{Tied}
 use Rattle.bits.proofs.Tying.{same, say, by, named}
-use Rattle.device.proofs.after
-use Rattle.device.specs.contracts.after as after-said
 use Rattle.device.proofs.state
 use Rattle.device.specs.contracts.state as state-said
 
-pub tied-after : Tied after-said.after.ended after.after.Reads.Asked after.after.Reads.Post (λ κs a r ws. r ≡ after_of a.0 a.1.0)
-tied-after = named (say (λ κs a. tt) (λ κs a r ws p. p)) (λ κs a ws ws'. refl)
+pub tied-after : Tied state-said.Device.after.ended state.Device.after.Reads.Asked state.Device.after.Reads.Post (λ κs a r ws. ws.0 ≡ after_of a.0.now a.1.0)
+tied-after = by (say (λ κs a. tt) (λ κs a r ws p. p)) (λ κs a r r' ws ws' p q. (refl, λ i. (same p q i, (tt, tt))))
 
 pub tied-host-frame : Tied state-said.Device.host_frame.ended state.Device.host_frame.Reads.Asked state.Device.host_frame.Reads.Post (λ κs a r ws. Given a.0 (lent (hostFrame a.1.0.now) a.1.1.0.now a.1.1.1.0.now) (gave r ws.1.1.0 ws.1.1.1.0))
 tied-host-frame = by (say (λ κs a. tt) (λ κs a r ws p. p)) (λ κs a r r' ws ws' p q. let e = given-once _ _ r r' ws.1.1.0 ws'.1.1.0 ws.1.1.1.0 ws'.1.1.1.0 p q in (e.0, λ i. (tt, (tt, (e.1.0 i, (e.1.1 i, tt))))))
@@ -40,17 +38,17 @@ tied-link-event = by (say (λ κs a. tt) (λ κs a r ws p. p)) (λ κs a r r' ws
 pub tied-comreset : Tied state-said.Device.comreset.ended state.Device.comreset.Reads.Asked state.Device.comreset.Reads.Post (λ κs a r ws. Given a.0 (lent comReset [] a.1.0.now) (gave r [] ws.1.0))
 tied-comreset = by (say (λ κs a. tt) (λ κs a r ws p. p)) (λ κs a r r' ws ws' p q. let e = given-once _ _ r r' [] [] ws.1.0 ws'.1.0 p q in (e.0, λ i. (tt, (e.1.1 i, tt))))
 
-pub tied-data-due : Tied state-said.Device.data_due.ended state.Device.data_due.Reads.Asked state.Device.data_due.Reads.Post (λ κs a r ws. r ≡ dataDue a.0)
+pub tied-data-due : Tied state-said.Device.data_due.ended state.Device.data_due.Reads.Asked state.Device.data_due.Reads.Post (λ κs a r ws. r ≡ dataDue a.0.now)
 tied-data-due = named (say (λ κs a. tt) (λ κs a r ws p. p)) (λ κs a ws ws'. refl)
 
-pub tied-counter : Tied state-said.Device.counter.ended state.Device.counter.Reads.Asked state.Device.counter.Reads.Post (λ κs a r ws. CounterGiven a.0 a.1.0 r)
+pub tied-counter : Tied state-said.Device.counter.ended state.Device.counter.Reads.Asked state.Device.counter.Reads.Post (λ κs a r ws. CounterGiven a.0.now a.1.0 r)
 tied-counter = by (say (λ κs a. tt) (λ κs a r ws p. p)) (λ κs a r r' ws ws' p q. (same p.answer q.answer, refl))
 
-pub tied-outstanding-count : Tied state-said.Device.outstanding_count.ended state.Device.outstanding_count.Reads.Asked state.Device.outstanding_count.Reads.Post (λ κs a r ws. CountGiven a.0 r)
+pub tied-outstanding-count : Tied state-said.Device.outstanding_count.ended state.Device.outstanding_count.Reads.Asked state.Device.outstanding_count.Reads.Post (λ κs a r ws. CountGiven a.0.now r)
 tied-outstanding-count = by (say (λ κs a. tt) (λ κs a r ws p. p)) (λ κs a r r' ws ws' p q. (same p.answer q.answer, refl))
 
 pub tied-power-on : Tied state-said.Device.power_on.ended state.Device.power_on.Reads.Asked state.Device.power_on.Reads.Post (λ κs a r ws. r ≡ powerOn a.0)
 tied-power-on = named (say (λ κs a. tt) (λ κs a r ws p. p)) (λ κs a ws ws'. refl)
 
-pub tied-contradicts : Tied state-said.Device.contradicts.ended state.Device.contradicts.Reads.Asked state.Device.contradicts.Reads.Post (λ κs a r ws. r ≡ contradictoryDevice a.0)
+pub tied-contradicts : Tied state-said.Device.contradicts.ended state.Device.contradicts.Reads.Asked state.Device.contradicts.Reads.Post (λ κs a r ws. r ≡ contradictoryDevice a.0.now)
 tied-contradicts = named (say (λ κs a. tt) (λ κs a r ws p. p)) (λ κs a ws ws'. refl)

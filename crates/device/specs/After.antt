@@ -18,7 +18,7 @@ use Rattle.device.specs.declared.state.Device.{Device}
 
 -- the state with other counters
 abbrev pub withValues : Device → List ℕ → Device
-withValues d values = record { settings = d.settings; status = d.status; entries = d.entries; errors = d.errors; values = values }
+withValues d values = record d { values = values }
 
 -- one event more at a row
 unfoldable pub withValue : Device → ℕ → Device
@@ -26,7 +26,7 @@ withValue d row = withValues d (countedAt d.values row)
 
 -- the same settings and counters, an empty table
 abbrev pub emptied : Device → Status → ErrorRecord → Device
-emptied d status record' = record { settings = d.settings; status = status; entries = replicate 32 zeroEntry; errors = record'; values = d.values }
+emptied d status record' = record d { status = status; entries = replicate 32 zeroEntry; errors = record' }
 
 -- halt: every outstanding command is given up, an open phase closes, the error record is set
 unfoldable pub haltWith : Device → Fault → Device
@@ -34,7 +34,7 @@ haltWith d f = emptied d (noneUnderWay true false) (record { set = true; nq = f.
 
 -- another status and table
 abbrev pub withStatus : Device → Status → List Entry → Device
-withStatus d f es = record { settings = d.settings; status = f; entries = es; errors = d.errors; values = d.values }
+withStatus d f es = record d { status = f; entries = es }
 
 -- rule 4: the tag is outstanding
 unfoldable pub acceptedBy : Device → Queued → Device
@@ -42,7 +42,7 @@ acceptedBy d q = withStatus d (with_tag d.status q.tag) (placed d.entries q.tag 
 
 -- the halt ends
 unfoldable pub unhalted : Device → Device
-unhalted d = withStatus d (record { outstanding = d.status.outstanding; phase = d.status.phase; halted = false; held = d.status.held }) d.entries
+unhalted d = record d { status = record d.status { halted = false } }
 
 -- the counters are zeroed
 unfoldable pub zeroedIf : Device → Bool → Device
@@ -54,17 +54,16 @@ resetHeld d = emptied d (noneUnderWay false true) blankRecord
 
 -- release
 unfoldable pub released : Device → Device
-released d = withStatus d (record { outstanding = d.status.outstanding; phase = d.status.phase; halted = d.status.halted; held = false }) d.entries
+released d = record d { status = record d.status { held = false } }
 
 -- what has moved; at nothing left the phase closes
 unfoldable pub movedBy : Device → Move → Device
 movedBy d m =
-    withStatus d (record { outstanding = d.status.outstanding; phase = pick m.last 0 d.status.phase; halted = d.status.halted; held = d.status.held })
-    (placed d.entries m.tag m.entry)
+    record d { status = record d.status { phase = pick m.last 0 d.status.phase }; entries = placed d.entries m.tag m.entry }
 
 -- the phase of a tag is open
 unfoldable pub openedFor : Device → ℕ → Device
-openedFor d tag = withStatus d (record { outstanding = d.status.outstanding; phase = tag + 1; halted = d.status.halted; held = d.status.held }) d.entries
+openedFor d tag = record d { status = record d.status { phase = tag + 1 } }
 
 -- the commands of a set are finished
 unfoldable pub finishedBy : Device → ℕ → Device

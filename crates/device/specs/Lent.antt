@@ -3,6 +3,8 @@ use Rattle.std.specs.Prelude.{List, ℕ, ◌^◌, ◌<◌}
 use Rattle.bits.specs.Little.{Bytes}
 use Rattle.rules.specs.Call.{Call}
 use Rattle.rules.specs.Handed.{handed}
+use Rattle.device.specs.declared.state.Device.{Device}
+use Rattle.device.specs.declared.state.Answer.{Answer}
 use Rattle.device.specs.declared.state.Outcome.{Outcome}
 
 -- a call with a medium and a reply buffer beside it, any of them; what it is not lent it does not look at and leaves as it was (`unlent`), and a method's own contract has no bytes there
@@ -14,6 +16,10 @@ pub record Lent : Type 0 where
 -- a call with the medium and the reply buffer lent to it
 abbrev pub lent : Call → List ℕ → List ℕ → Lent
 lent c m b = record { call = c; medium = m; buffer = b }
+
+-- an answer, with the state that its call left in place
+abbrev pub answered : Device → Answer → Outcome
+answered d a = record { state = d; refusal = a.refusal; len = a.len }
 
 -- what came back: the outcome, and what medium and reply buffer then hold
 pub record Gave : Type 0 where

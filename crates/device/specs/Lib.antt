@@ -6,3 +6,4 @@ pub mod After
 pub mod Step
 pub mod Counter
 pub mod Ones
+pub mod Sealing

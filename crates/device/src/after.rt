@@ -1,4 +1,6 @@
 // The state after an act.
+#![tactic(auto, unfolding(crate::specs::After::withValue, crate::specs::After::haltWith, crate::specs::After::acceptedBy, crate::specs::After::unhalted, crate::specs::After::zeroedIf, crate::specs::After::resetHeld, crate::specs::After::released, crate::specs::After::movedBy, crate::specs::After::openedFor, crate::specs::After::finishedBy, crate::specs::After::failedBy, crate::specs::After::renewed, crate::specs::After::after_of, bits::specs::Pick::pick))]
+
 ghost use Rattle.std.specs.Prelude.{◌≡◌};
 ghost use Rattle.device.specs.After.{withValue, emptied, haltWith, acceptedBy, unhalted, zeroedIf, resetHeld, released, movedBy, openedFor, finishedBy, failedBy, renewed, after_of};
 
@@ -8,158 +10,130 @@ use rules::{Act, Fault, Move, Queued};
 
 impl Device {
     // One row's counter has one event more.
-    fn counted(mut self, row: u8) -> Device
-        ensures { result ≡ withValue self row }
+    fn count(&mut self, row: u8)
+        ensures { self.new ≡ withValue self.old row }
     {
-        let values = self.values;
-        let more = counter_values::counted(values, row);
-        self.values = more;
-        self
+        counter_values::count(&mut self.values, row);
     }
 
     // Nothing is under way any more; settings and counters stay.
-    fn emptied(mut self, status: Status, errors: ErrorRecord) -> Device
-        ensures { result ≡ emptied self status errors }
+    fn empty(&mut self, status: Status, errors: ErrorRecord)
+        ensures { self.new ≡ emptied self.old status errors }
     {
-        let e = device_state::idle_entry();
-        let entries = [e; Settings::ENTRIES];
         self.status = status;
-        self.entries = entries;
+        self.entries = [device_state::idle_entry(); Settings::ENTRIES];
         self.errors = errors;
-        self
     }
 
-    fn halt_with(self, f: Fault) -> Device
-        ensures { result ≡ haltWith self f }
+    fn halt(&mut self, f: Fault)
+        ensures { self.new ≡ haltWith self.old f }
     {
-        let echo = f.echo;
-        let errors = ErrorRecord {
-            set: true,
-            nq: f.nq,
-            tag: f.tag,
-            error: f.error,
-            echo,
-        };
-        self.emptied(device_state::halted(), errors)
+        self.empty(
+            device_state::halted(),
+            ErrorRecord {
+                set: true,
+                nq: f.nq,
+                tag: f.tag,
+                error: f.error,
+                echo: f.echo,
+            },
+        );
     }
 
-    fn accepted_by(mut self, q: Queued) -> Device
-        ensures { result ≡ acceptedBy self q }
+    fn accept(&mut self, q: Queued)
+        ensures { self.new ≡ acceptedBy self.old q }
     {
-        let old = self.entries;
-        let e = q.entry;
         let tag = q.tag as u32;
-        let entries = device_state::with_entry(old, tag, e);
-        let status = device_state::with_tag(self.status, tag);
-        self.entries = entries;
-        self.status = status;
-        self
+        device_state::put_entry(&mut self.entries, tag, q.entry);
+        self.status = device_state::with_tag(self.status, tag);
     }
 
-    fn unhalted(mut self) -> Device
-        ensures { result ≡ unhalted self }
+    fn end_halt(&mut self)
+        ensures { self.new ≡ unhalted self.old }
     {
         self.status.halted = false;
-        self
     }
 
-    fn zeroed_if(mut self, on: bool) -> Device
-        ensures { result ≡ zeroedIf self on }
+    fn zero_if(&mut self, on: bool)
+        ensures { self.new ≡ zeroedIf self.old on }
     {
         if on {
-            let values = [0u32; 16];
-            self.values = values;
-            return self;
+            self.values = [0; 16];
         }
-        self
     }
 
-    fn reset_held(self) -> Device
-        ensures { result ≡ resetHeld self }
+    fn hold_reset(&mut self)
+        ensures { self.new ≡ resetHeld self.old }
     {
-        self.emptied(device_state::held(), device_state::no_record())
+        self.empty(device_state::held(), device_state::no_record());
     }
 
-    fn released(mut self) -> Device
-        ensures { result ≡ released self }
+    fn release(&mut self)
+        ensures { self.new ≡ released self.old }
     {
         self.status.held = false;
-        self
     }
 
-    fn moved_by(mut self, m: Move) -> Device
-        ensures { result ≡ movedBy self m }
+    fn move_on(&mut self, m: Move)
+        ensures { self.new ≡ movedBy self.old m }
     {
-        let old = self.entries;
-        let e = m.entry;
-        let entries = device_state::with_entry(old, m.tag, e);
-        self.entries = entries;
+        device_state::put_entry(&mut self.entries, m.tag, m.entry);
         if m.last {
             self.status.phase = 0;
-            return self;
         }
-        self
     }
 
-    fn opened_for(mut self, tag: u8) -> Device
-        ensures { result ≡ openedFor self tag }
+    fn open_for(&mut self, tag: u8)
+        ensures { self.new ≡ openedFor self.old tag }
     {
-        let phase = (tag as u32) + 1;
-        self.status.phase = phase;
-        self
+        self.status.phase = tag as u32 + 1;
     }
 
-    fn finished_by(mut self, set: u32) -> Device
-        ensures { result ≡ finishedBy self set }
+    fn finish_tags(&mut self, set: u32)
+        ensures { self.new ≡ finishedBy self.old set }
     {
-        let old = self.entries;
-        let entries = device_state::cleared(old, set);
-        let status = device_state::without_tags(self.status, set);
-        self.entries = entries;
-        self.status = status;
-        self
+        device_state::clear_entries(&mut self.entries, set);
+        self.status = device_state::without_tags(self.status, set);
     }
 
-    fn renewed(mut self) -> Device
-        ensures { result ≡ renewed self }
+    fn renew(&mut self)
+        ensures { self.new ≡ renewed self.old }
     {
-        let values = self.values;
-        let more = counter_values::with_link_reset(values);
-        self.values = more;
-        self.emptied(device_state::idle(), device_state::no_record())
+        self.empty(device_state::idle(), device_state::no_record());
+        self.count(9);
     }
 
-    fn failed_by(self, f: Fault) -> Device
-        ensures { result ≡ failedBy self f }
+    fn fail(&mut self, f: Fault)
+        ensures { self.new ≡ failedBy self.old f }
     {
         if frame_parts::flag(f.error, 7) {
-            return self.counted(0).halt_with(f);
+            self.count(0);
         }
-        self.halt_with(f)
+        self.halt(f);
     }
-}
 
-// By the act: one function for each thing that changes.
-pub fn after(d: Device, act: Act) -> Device
-    ensures { result ≡ after_of d act }
-{
-    match act {
-        Act::Refuse(_) => d,
-        Act::Nothing => d,
-        Act::Bad(_) => d,
-        Act::BadAndHalt(f) => d.halt_with(f),
-        Act::Accept(q) => d.accepted_by(q),
-        Act::Log10(_) => d.unhalted(),
-        Act::Log11(l) => d.zeroed_if(l.zero),
-        Act::Reset => d.reset_held(),
-        Act::Release => d.released(),
-        Act::ZeroCounters => d.zeroed_if(true),
-        Act::Store(m) => d.moved_by(m),
-        Act::Open(q) => d.opened_for(q.tag),
-        Act::Send(m) => d.moved_by(m),
-        Act::Finish(set) => d.finished_by(set),
-        Act::Media(f) => d.failed_by(f),
-        Act::Count(row) => d.counted(row),
-        Act::Renew => d.renewed(),
+    // By the act: one function for each thing that changes.
+    pub(crate) fn after(&mut self, act: Act)
+        ensures { self.new ≡ after_of self.old act }
+    {
+        match act {
+            Act::Refuse(_) => {}
+            Act::Nothing => {}
+            Act::Bad(_) => {}
+            Act::BadAndHalt(f) => self.halt(f),
+            Act::Accept(q) => self.accept(q),
+            Act::Log10(_) => self.end_halt(),
+            Act::Log11(l) => self.zero_if(l.zero),
+            Act::Reset => self.hold_reset(),
+            Act::Release => self.release(),
+            Act::ZeroCounters => self.zero_if(true),
+            Act::Store(m) => self.move_on(m),
+            Act::Open(q) => self.open_for(q.tag),
+            Act::Send(m) => self.move_on(m),
+            Act::Finish(set) => self.finish_tags(set),
+            Act::Media(f) => self.fail(f),
+            Act::Count(row) => self.count(row),
+            Act::Renew => self.renew(),
+        }
     }
 }

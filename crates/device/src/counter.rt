@@ -6,8 +6,8 @@ use page_rows::Counter;
 
 impl Device {
     // Value or absent; 1, or 23 for a number that is not 1 to FFFh.
-    pub fn counter(self, number: u16) -> Counter
-        ensures { CounterGiven self number result }
+    pub fn counter(&self, number: u16) -> Counter
+        ensures { CounterGiven self.now number result }
     {
         let bad = self.contradicts();
         let mask = self.settings.mask;
@@ -22,8 +22,8 @@ impl Device {
     }
 
     // How many commands are outstanding; 1 for a state that contradicts itself, which is not read as idle.
-    pub fn outstanding_count(self) -> Counter
-        ensures { CountGiven self result }
+    pub fn outstanding_count(&self) -> Counter
+        ensures { CountGiven self.now result }
     {
         let bad = self.contradicts();
         let outstanding = self.status.outstanding;

@@ -4,6 +4,10 @@
 mod after;
 mod calls;
 mod counter;
+mod here;
+mod sealed;
+mod sealed_calls;
 mod state;
 
-pub use state::{Device, Outcome};
+pub use sealed::Sealed;
+pub use state::{Answer, Device, Outcome};

@@ -14,6 +14,13 @@ pub struct Device {
     pub values: [u32; 16],
 }
 
+// What a call on a device that is lent answers: the refusal or 0, and the length of the replies.
+#[derive(Clone, Copy)]
+pub struct Answer {
+    pub refusal: u8,
+    pub len: usize,
+}
+
 // What every call answers: the state to be handed in next, the refusal or 0, and the length of the replies.
 #[derive(Clone, Copy)]
 pub struct Outcome {
@@ -82,14 +89,15 @@ impl Device {
     }
 
     // Refusal 1.
-    pub fn contradicts(self) -> bool
-        ensures { result ≡ contradictoryDevice self }
+    pub fn contradicts(&self) -> bool
+        ensures { result ≡ contradictoryDevice self.now }
     {
-        let settings = self.settings;
-        let status = self.status;
-        let entries = self.entries;
-        let errors = self.errors;
-        let values = self.values;
-        contradictions::contradicts(settings, status, entries, errors, values)
+        contradictions::contradicts(
+            self.settings,
+            self.status,
+            &self.entries,
+            self.errors,
+            &self.values,
+        )
     }
 }

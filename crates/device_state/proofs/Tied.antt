@@ -6,7 +6,7 @@ use Rattle.device_state.specs.UnderWay.{noneUnderWay, with_tag, withoutTags}
 use mathlib.Core.Bool.{true, false}
 use mathlib.Core.Path.{◌≡◌, refl}
 use Rattle.bits.specs.Contract.{Tied}
-use Rattle.bits.proofs.Tying.{say, named}
+use Rattle.bits.proofs.Tying.{same, say, by, named}
 use Rattle.device_state.proofs.shapes
 use Rattle.device_state.specs.contracts.shapes as shapes-said
 use Rattle.device_state.proofs.status
@@ -29,14 +29,14 @@ tied-idle-entry = named (say (λ κs a. tt) (λ κs a r ws p. p)) (λ κs a ws w
 pub tied-no-record : Tied shapes-said.no_record.ended shapes.no_record.Reads.Asked shapes.no_record.Reads.Post (λ κs a r ws. r ≡ blankRecord)
 tied-no-record = named (say (λ κs a. tt) (λ κs a r ws p. p)) (λ κs a ws ws'. refl)
 
-pub tied-entry-of : Tied table-said.entry_of.ended table.entry_of.Reads.Asked table.entry_of.Reads.Post (λ κs a r ws. r ≡ entry_of a.0 a.1.0)
+pub tied-entry-of : Tied table-said.entry_of.ended table.entry_of.Reads.Asked table.entry_of.Reads.Post (λ κs a r ws. r ≡ entry_of a.0.now a.1.0)
 tied-entry-of = named (say (λ κs a. tt) (λ κs a r ws p. p)) (λ κs a ws ws'. refl)
 
-pub tied-with-entry : Tied table-said.with_entry.ended table.with_entry.Reads.Asked table.with_entry.Reads.Post (λ κs a r ws. r ≡ placed a.0 a.1.0 a.1.1.0)
-tied-with-entry = named (say (λ κs a. tt) (λ κs a r ws p. p)) (λ κs a ws ws'. refl)
+pub tied-put-entry : Tied table-said.put_entry.ended table.put_entry.Reads.Asked table.put_entry.Reads.Post (λ κs a r ws. ws.0 ≡ placed a.0.now a.1.0 a.1.1.0)
+tied-put-entry = by (say (λ κs a. tt) (λ κs a r ws p. p)) (λ κs a r r' ws ws' p q. (refl, λ i. (same p q i, (tt, (tt, tt)))))
 
-pub tied-cleared : Tied table-said.cleared.ended table.cleared.Reads.Asked table.cleared.Reads.Post (λ κs a r ws. r ≡ cleared a.0 a.1.0)
-tied-cleared = named (say (λ κs a. tt) (λ κs a r ws p. p)) (λ κs a ws ws'. refl)
+pub tied-clear-entries : Tied table-said.clear_entries.ended table.clear_entries.Reads.Asked table.clear_entries.Reads.Post (λ κs a r ws. ws.0 ≡ cleared a.0.now a.1.0)
+tied-clear-entries = by (say (λ κs a. tt) (λ κs a r ws p. p)) (λ κs a r r' ws ws' p q. (refl, λ i. (same p q i, (tt, tt))))
 
 pub tied-idle : Tied status-said.idle.ended status.idle.Reads.Asked status.idle.Reads.Post (λ κs a r ws. r ≡ noneUnderWay false false)
 tied-idle = named (say (λ κs a. tt) (λ κs a r ws p. p)) (λ κs a ws ws'. refl)

@@ -7,8 +7,8 @@ ghost use Rattle.bits.specs.Pick.{pick};
 use crate::shapes::{Entry, Settings, idle_entry};
 
 // The entry of a tag; of a tag that has none, an idle one.
-pub fn entry_of(entries: [Entry; Settings::ENTRIES], tag: u32) -> Entry
-    ensures { result ≡ entry_of entries tag }
+pub fn entry_of(entries: &[Entry; Settings::ENTRIES], tag: u32) -> Entry
+    ensures { result ≡ entry_of entries.now tag }
 {
     if Settings::DEPTH_LIMIT <= tag {
         return idle_entry();
@@ -18,34 +18,25 @@ pub fn entry_of(entries: [Entry; Settings::ENTRIES], tag: u32) -> Entry
 }
 
 // The table with the entry of a tag anew.
-pub fn with_entry(
-    entries: [Entry; Settings::ENTRIES],
-    tag: u32,
-    e: Entry,
-) -> [Entry; Settings::ENTRIES]
-    ensures { result ≡ placed entries tag e }
+pub fn put_entry(entries: &mut [Entry; Settings::ENTRIES], tag: u32, e: Entry)
+    ensures { entries.new ≡ placed entries.old tag e }
 {
-    let mut es = entries;
     if Settings::DEPTH_LIMIT <= tag {
-        return es;
+        return;
     }
-    let i = tag as usize;
-    es[i] = e;
-    es
+    entries[tag as usize] = e;
 }
 
 // The table without the entries of a set of tags.
-pub fn cleared(entries: [Entry; Settings::ENTRIES], set: u32) -> [Entry; Settings::ENTRIES]
-    ensures { result ≡ cleared entries set }
+pub fn clear_entries(entries: &mut [Entry; Settings::ENTRIES], set: u32)
+    ensures { entries.new ≡ cleared entries.old set }
 {
-    let mut es = entries;
     for i in 0..Settings::ENTRIES {
-        let old = es[i];
+        let old = entries[i];
         let asked = bits::bit(set, i as u32);
         let next = idle_if(asked, old);
-        es[i] = next;
+        entries[i] = next;
     }
-    es
 }
 
 fn idle_if(on: bool, e: Entry) -> Entry

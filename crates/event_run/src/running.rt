@@ -3,21 +3,14 @@ ghost use Rattle.std.specs.Prelude.{◌≡◌, ◌≤◌, length};
 ghost use Rattle.events.specs.Played.{eventStep};
 ghost use Rattle.event_io.specs.Bounds.{WithinBuffer};
 
-use device::Device;
+use device::{Device, Sealed};
 use event_io::{Window, behind, close, complain, next_place, refill, unread};
 use event_kinds::Next;
 use std::io::{Read, Write};
 
-// The device between two events, and how far the output buffer is filled.
-#[derive(Clone, Copy)]
-struct Step {
-    state: Device,
-    filled: usize,
-}
-
-// One event, its line put at a place of the output buffer: the state that goes on is the one that the event left.
+// One event, its line put at a place of the output buffer, and how far that is filled then: the device that goes on is the one that the event left.
 fn one(
-    state: Device,
+    device: &mut Sealed,
     traced: bool,
     number: u64,
     event: &[u8],
@@ -25,13 +18,13 @@ fn one(
     reply: &mut [u8],
     output: &mut [u8],
     from: usize,
-) -> Step
+) -> usize
     requires { from ≤ length output.old }
-    ensures { result.state ≡ (eventStep state event.now medium.old reply.old).state }
+    ensures { device.new.device ≡ (eventStep device.old.device event.now medium.old reply.old).state }
 {
     let size = output.len();
     let told = events::play_line(
-        state,
+        device,
         traced,
         number,
         event,
@@ -39,13 +32,7 @@ fn one(
         reply,
         &mut output[from..],
     );
-    let len = told.len;
-    let after = told.state;
-    let filled = behind(from, len, size);
-    Step {
-        state: after,
-        filled,
-    }
+    behind(from, told.len, size)
 }
 
 // The events behind the settings record, and whether all of their lines could be written. A proved loop has to end: this one does at the
@@ -54,7 +41,8 @@ fn play_on<R: Read, W: Write>(
     reader: &mut R,
     out: &mut W,
     traced: bool,
-    first: Step,
+    device: &mut Sealed,
+    first: usize,
     rest: Window,
     input: &mut [u8],
     medium: &mut [u8],
@@ -63,14 +51,13 @@ fn play_on<R: Read, W: Write>(
 ) -> bool
     requires { WithinBuffer rest (length input.old) }
 {
-    let mut step = first;
+    let mut filled = first;
     let mut window = rest;
     let mut number: u64 = 1;
     while number < u64::MAX {
         let more = refill(reader, input, window);
         let at = more.at;
         let end = more.end;
-        let filled = step.filled;
         match event_kinds::next_event(false, &input[at..end]) {
             Next::Whole(n) => {
                 let place = next_place(out, output, filled);
@@ -79,9 +66,8 @@ fn play_on<R: Read, W: Write>(
                 }
                 let from = place.at;
                 let to = at + n;
-                let state = step.state;
-                let next = one(
-                    state,
+                filled = one(
+                    device,
                     traced,
                     number,
                     &input[at..to],
@@ -90,7 +76,6 @@ fn play_on<R: Read, W: Write>(
                     output,
                     from,
                 );
-                step = next;
                 window = Window {
                     at: to,
                     end,
@@ -107,7 +92,6 @@ fn play_on<R: Read, W: Write>(
         }
         number += 1;
     }
-    let filled = step.filled;
     close(out, output, filled, true)
 }
 
@@ -130,14 +114,11 @@ fn run_over<R: Read, W: Write>(
     let to = at + n;
     let room = output.len();
     let told = events::start_line(traced, &input[at..to], output);
-    let len = told.len;
-    let filled = behind(0, len, room);
-    let refusal = told.refusal;
-    let state = told.state;
-    if refusal != 0 {
+    let filled = behind(0, told.len, room);
+    let Ok(mut device) = told.kept else {
         return close(out, output, filled, false);
-    }
-    let size = Device::SECTOR_SIZE * (state.settings.capacity as usize);
+    };
+    let size = Device::SECTOR_SIZE * (device.device.settings.capacity as usize);
     if medium.len() < size {
         return close(out, output, filled, true);
     }
@@ -147,12 +128,12 @@ fn run_over<R: Read, W: Write>(
         ended: window.ended,
         failed: window.failed,
     };
-    let first = Step { state, filled };
     play_on(
         reader,
         out,
         traced,
-        first,
+        &mut device,
+        filled,
         rest,
         input,
         &mut medium[0..size],

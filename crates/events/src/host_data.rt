@@ -1,11 +1,11 @@
 // Host data of the length due, all of one byte.
 ghost use Rattle.std.specs.Prelude.{◌≡◌};
 ghost use Rattle.rules.specs.Call.{hostFrame};
-ghost use Rattle.device.specs.Lent.{lent, gave};
+ghost use Rattle.device.specs.Lent.{lent, gave, answered};
 ghost use Rattle.device.specs.Step.{Given};
 ghost use Rattle.events.specs.HostData.{dataFrame, hostData};
 
-use device::{Device, Outcome};
+use device::{Answer, Sealed};
 
 // The longest data frame, its payload all of one byte: a front of it is the frame that is due.
 fn longest(byte: u8) -> [u8; 8196]
@@ -19,10 +19,10 @@ fn longest(byte: u8) -> [u8; 8196]
     frame
 }
 
-pub fn host_data(d: Device, byte: u8, medium: &mut [u8], reply: &mut [u8]) -> Outcome
-    ensures { Given d (lent (hostFrame (hostData d byte)) medium.old reply.old) (gave result medium.new reply.new) }
+pub fn host_data(d: &mut Sealed, byte: u8, medium: &mut [u8], reply: &mut [u8]) -> Answer
+    ensures { Given d.old.device (lent (hostFrame (hostData d.old.device byte)) medium.old reply.old) (gave (answered d.new.device result) medium.new reply.new) }
 {
-    let end = 4 + d.data_due();
+    let end = 4 + d.device.data_due();
     let frame = longest(byte);
     d.host_frame(&frame[0..end], medium, reply)
 }

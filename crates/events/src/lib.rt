@@ -8,4 +8,4 @@ mod tells;
 
 pub use plays::play;
 pub use starts::start;
-pub use tells::{EventLine, play_line, start_line};
+pub use tells::{EventLine, StartLine, play_line, start_line};

@@ -1,11 +1,12 @@
 // Power-on by the settings record, which starts a run.
 ghost use Rattle.std.specs.Prelude.{◌≡◌};
+ghost use Rattle.device.specs.Sealing.{poweredOf};
 ghost use Rattle.events.specs.Start.{start_of};
 
-use device::{Device, Outcome};
+use device::Sealed;
 
-pub fn start(event: &[u8]) -> Outcome
-    ensures { result ≡ start_of event.now }
+pub fn start(event: &[u8]) -> Result<Sealed, u8>
+    ensures { poweredOf result ≡ start_of event.now }
 {
-    Device::power_on(event_kinds::settings_asked(event))
+    Sealed::power_on(event_kinds::settings_asked(event))
 }

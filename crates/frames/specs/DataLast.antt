@@ -4,14 +4,8 @@ use Rattle.frames.specs.Write.{FrameValue, host, device, setBits, setup, activat
 
 -- a data frame takes what is left
 abbrev pub isPayload : FrameValue → Bool
-isPayload (host f) = false
-isPayload (device f) = false
-isPayload (setBits f) = false
-isPayload (setup f) = false
-isPayload activate = false
 isPayload (payload p) = true
-isPayload bist = false
-isPayload (pio f) = false
+isPayload _ = false
 
 -- of frames one behind the other only the last is a data frame
 unfoldable pub DataLast : List FrameValue → Type 0

@@ -37,9 +37,9 @@ pub record BeganCode (s : Settings) (r : Outcome) (xs : List Done) : Type 0 wher
   pub follows : FollowsBy Allowed r.state xs
 
 -- an answer that the contract of `Device::counter` allows
-abbrev pub CounterCode : Device → ℕ → Counter → Type 0
-CounterCode d number c = Allows said.counter.ended calls.counter.Reads.Post tt (d, (number, tt)) c (tt, (tt, tt))
+pub data CounterCode : Device → ℕ → Counter → Type 0 where
+  counted : (κs : Lfts 1) (d : Bor Device) (number : ℕ) (c : Counter) → Allows said.counter.ended calls.counter.Reads.Post κs (d, (number, tt)) c (tt, (tt, tt)) → CounterCode d.now number c
 
 -- an answer that the contract of `Device::outstanding_count` allows
-abbrev pub CountCode : Device → Counter → Type 0
-CountCode d c = Allows said.outstanding_count.ended calls.outstanding_count.Reads.Post tt (d, tt) c (tt, tt)
+pub data CountCode : Device → Counter → Type 0 where
+  summed : (κs : Lfts 1) (d : Bor Device) (c : Counter) → Allows said.outstanding_count.ended calls.outstanding_count.Reads.Post κs (d, tt) c (tt, tt) → CountCode d.now c

@@ -62,3 +62,4 @@ pub mod Striking
 pub mod Otherwise
 pub mod Answering
 pub mod Demand3
+pub mod KeptCalls

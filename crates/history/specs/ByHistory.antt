@@ -46,24 +46,13 @@ leftOf d (underWay x t a z) = pick (pick d x (not x)) (z - a) 0
 -- a frame ends a held reset: a control frame (C 0) with SRST 0
 abbrev pub frameFrees : Frame → Bool
 frameFrees (Host h) = not h.command_bit && not (srstOf h.control)
-frameFrees (Device f) = false
-frameFrees (Bits f) = false
-frameFrees (Setup f) = false
-frameFrees Activate = false
-frameFrees (Data n) = false
-frameFrees Bist = false
-frameFrees (Pio f) = false
-frameFrees Refused = false
+frameFrees _ = false
 
 -- and so does COMRESET, which is SRST and release together
 abbrev pub frees : Call → Bool
 frees (hostFrame f) = frameFrees (readFrame f)
-frees (openPhase t) = false
-frees sendData = false
-frees (finishTags s) = false
-frees (mediaError t e s) = false
-frees (linkEvent r) = false
 frees comReset = true
+frees _ = false
 
 -- reset is held: SRST was taken, and since then neither its release nor COMRESET
 unfoldable pub holding : List Event → Bool

@@ -41,14 +41,9 @@ neverTaken = record { asks = quiet; zeroes = λ on. false; reads = λ page. fals
 -- by its kind
 abbrev pub frameReading : Frame → FrameReading
 frameReading (Host h) = registerReading h
-frameReading (Device f) = neverTaken
-frameReading (Bits f) = neverTaken
-frameReading (Setup f) = neverTaken
-frameReading Activate = neverTaken
 frameReading (Data n) = dataReading n
 frameReading Bist = bistReading
-frameReading (Pio f) = neverTaken
-frameReading Refused = neverTaken
+frameReading _ = neverTaken
 
 -- ---- each column
 

@@ -27,24 +27,12 @@ noTask = record { lba = 0; device = 0; count = 0 }
 -- bytes 4-10 and 12-13 of a register frame
 abbrev pub frameTask : Frame → Task
 frameTask (Host f) = f.task
-frameTask (Device f) = noTask
-frameTask (Bits f) = noTask
-frameTask (Setup f) = noTask
-frameTask Activate = noTask
-frameTask (Data n) = noTask
-frameTask Bist = noTask
-frameTask (Pio f) = noTask
-frameTask Refused = noTask
+frameTask _ = noTask
 
 -- of a call; a device event brings none
 abbrev pub callTask : Call → Task
 callTask (hostFrame f) = frameTask (readFrame f)
-callTask (openPhase t) = noTask
-callTask sendData = noTask
-callTask (finishTags s) = noTask
-callTask (mediaError t e s) = noTask
-callTask (linkEvent r) = noTask
-callTask comReset = noTask
+callTask _ = noTask
 
 -- those of the newest command accepted with tag t; while one of this tag is outstanding, it is that one (OnePerTag of demand 3)
 unfoldable pub namedBy : ℕ → List Event → Task
@@ -73,14 +61,7 @@ registerLog error f = record { nq = not (registerAsks f).queued; tag = pick (reg
 -- by its kind: no other frame is a command
 abbrev pub frameLog : ℕ → Frame → ErrorLog
 frameLog error (Host f) = registerLog error f
-frameLog error (Device f) = blankLog
-frameLog error (Bits f) = blankLog
-frameLog error (Setup f) = blankLog
-frameLog error Activate = blankLog
-frameLog error (Data n) = blankLog
-frameLog error Bist = blankLog
-frameLog error (Pio f) = blankLog
-frameLog error Refused = blankLog
+frameLog error _ = blankLog
 
 -- a media error: its tag, its error byte, and the bytes of the command of this tag, but 4-6 and 8-10 hold the failing sector
 abbrev pub mediaLog : ℕ → ℕ → ℕ → Task → ErrorLog
@@ -89,12 +70,8 @@ mediaLog t error sector task = record { nq = false; tag = t; status = 0x41; erro
 -- what a call that raises an error leaves to be read, if a command was answered with this error byte; no other call raises one
 abbrev pub callLog : ℕ → List Event → Call → ErrorLog
 callLog answered h (hostFrame f) = frameLog answered (readFrame f)
-callLog answered h (openPhase t) = blankLog
-callLog answered h sendData = blankLog
-callLog answered h (finishTags s) = blankLog
 callLog answered h (mediaError t error sector) = mediaLog t error sector (namedBy t h)
-callLog answered h (linkEvent r) = blankLog
-callLog answered h comReset = blankLog
+callLog answered h _ = blankLog
 
 -- ---- the record
 

@@ -25,14 +25,9 @@ shortBuffer e = ltb e.room 8196
 -- 4: frame type not 27h, 46h, 58h; or not read at all, for its length
 abbrev pub notHeard : Frame → Bool
 notHeard (Host h) = false
-notHeard (Device f) = true
-notHeard (Bits f) = true
-notHeard (Setup f) = true
-notHeard Activate = true
 notHeard (Data n) = false
 notHeard Bist = false
-notHeard (Pio f) = true
-notHeard Refused = true
+notHeard _ = true
 
 -- a write phase is open
 abbrev pub writeOpen : Transfer → Bool
@@ -42,26 +37,14 @@ writeOpen (underWay d t a z) = not d
 -- 5: command while reset is held or a phase is open; BIST while a phase is open; data with no write phase
 abbrev pub untimely : Frame → List Event → Bool
 untimely (Host f) h = f.command_bit && (holding h || isOpen (underWayAfter h))
-untimely (Device f) h = false
-untimely (Bits f) h = false
-untimely (Setup f) h = false
-untimely Activate h = false
 untimely (Data n) h = not (writeOpen (underWayAfter h))
 untimely Bist h = isOpen (underWayAfter h)
-untimely (Pio f) h = false
-untimely Refused h = false
+untimely _ h = false
 
 -- 6, as request 1 has it: the payload is longer than what is left
 abbrev pub tooLong : Frame → List Event → Bool
-tooLong (Host f) h = false
-tooLong (Device f) h = false
-tooLong (Bits f) h = false
-tooLong (Setup f) h = false
-tooLong Activate h = false
 tooLong (Data n) h = ltb (leftOf false (underWayAfter h)) n
-tooLong Bist h = false
-tooLong (Pio f) h = false
-tooLong Refused h = false
+tooLong _ h = false
 
 -- some tag below n is so
 unfoldable pub someTag : ℕ → (ℕ → Bool) → Bool

@@ -31,51 +31,23 @@ errIn status = bitIn 8 status 0
 
 -- a 34h
 abbrev pub registerIn : Frame → List DevReg
-registerIn (Host f) = []
 registerIn (Device f) = f ∷ []
-registerIn (Bits f) = []
-registerIn (Setup f) = []
-registerIn Activate = []
-registerIn (Data n) = []
-registerIn Bist = []
-registerIn (Pio f) = []
-registerIn Refused = []
+registerIn _ = []
 
 -- an A1h
 abbrev pub setBitsIn : Frame → List SetBits
-setBitsIn (Host f) = []
-setBitsIn (Device f) = []
 setBitsIn (Bits f) = f ∷ []
-setBitsIn (Setup f) = []
-setBitsIn Activate = []
-setBitsIn (Data n) = []
-setBitsIn Bist = []
-setBitsIn (Pio f) = []
-setBitsIn Refused = []
+setBitsIn _ = []
 
 -- a 41h
 abbrev pub setupIn : Frame → List DmaSetup
-setupIn (Host f) = []
-setupIn (Device f) = []
-setupIn (Bits f) = []
 setupIn (Setup f) = f ∷ []
-setupIn Activate = []
-setupIn (Data n) = []
-setupIn Bist = []
-setupIn (Pio f) = []
-setupIn Refused = []
+setupIn _ = []
 
 -- a 5Fh
 abbrev pub pioSetupIn : Frame → List PioSetup
-pioSetupIn (Host f) = []
-pioSetupIn (Device f) = []
-pioSetupIn (Bits f) = []
-pioSetupIn (Setup f) = []
-pioSetupIn Activate = []
-pioSetupIn (Data n) = []
-pioSetupIn Bist = []
 pioSetupIn (Pio f) = f ∷ []
-pioSetupIn Refused = []
+pioSetupIn _ = []
 
 -- whether a frame is one
 abbrev pub isPio : Frame → Bool
@@ -92,15 +64,8 @@ faultyIn fs = some (λ p. errIn p.status || errIn p.ending) (collect pioSetupIn 
 
 -- the payload of a reply that is a data frame; of any other none
 abbrev pub dataIn : List ℕ → Frame → List ℕ
-dataIn p (Host f) = []
-dataIn p (Device f) = []
-dataIn p (Bits f) = []
-dataIn p (Setup f) = []
-dataIn p Activate = []
 dataIn p (Data n) = drop 4 p
-dataIn p Bist = []
-dataIn p (Pio f) = []
-dataIn p Refused = []
+dataIn p _ = []
 
 -- the payloads of replies, one behind the other
 unfoldable pub payloads : List (List ℕ) → List ℕ

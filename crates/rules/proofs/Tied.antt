@@ -38,7 +38,7 @@ tied-link-act = named (say (λ κs a. tt) (λ κs a r ws p. p)) (λ κs a ws ws'
 pub tied-comreset-act : Tied device_events-said.comreset_act.ended device_events.comreset_act.Reads.Asked device_events.comreset_act.Reads.Post (λ κs a r ws. r ≡ act a.0 comReset)
 tied-comreset-act = named (say (λ κs a. tt) (λ κs a r ws p. p)) (λ κs a ws ws'. refl)
 
-pub tied-some-unready : Tied device_events-said.some_unready.ended device_events.some_unready.Reads.Asked device_events.some_unready.Reads.Post (λ κs a r ws. r ≡ someUnready a.0 a.1.0 a.1.1.0)
+pub tied-some-unready : Tied device_events-said.some_unready.ended device_events.some_unready.Reads.Asked device_events.some_unready.Reads.Post (λ κs a r ws. r ≡ someUnready a.0.now a.1.0 a.1.1.0)
 tied-some-unready = named (say (λ κs a. tt) (λ κs a r ws p. p)) (λ κs a ws ws'. refl)
 
 pub tied-left-of : Tied facts-said.left_of.ended facts.left_of.Reads.Asked facts.left_of.Reads.Post (λ κs a r ws. r ≡ left_of a.0)

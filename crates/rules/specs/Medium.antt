@@ -14,23 +14,9 @@ pub data Touch : Type 0 where
 
 -- an act's: host data is stored, a send sends, every other act leaves the medium
 unfoldable pub touch_of : Act → Touch
-touch_of (Refuse n) = leaves
-touch_of Nothing = leaves
-touch_of (Bad b) = leaves
-touch_of (BadAndHalt g) = leaves
-touch_of (Accept q) = leaves
-touch_of (Log10 l) = leaves
-touch_of (Log11 l) = leaves
-touch_of Reset = leaves
-touch_of Release = leaves
-touch_of ZeroCounters = leaves
 touch_of (Store k) = stores k
-touch_of (Open q) = leaves
 touch_of (Send k) = sends k
-touch_of (Finish s) = leaves
-touch_of (Media g) = leaves
-touch_of (Count r) = leaves
-touch_of Renew = leaves
+touch_of _ = leaves
 
 -- no part of the medium
 abbrev pub nowhere : Span

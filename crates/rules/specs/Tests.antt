@@ -19,38 +19,21 @@ use Rattle.rules.specs.declared.facts.Facts.{Facts}
 -- 4: frame type not 27h, 46h, 58h; wrong length, for which the reader refuses the frame
 unfoldable pub wrongKind : Frame → Bool
 wrongKind (Host h) = false
-wrongKind (Device f) = true
-wrongKind (Bits f) = true
-wrongKind (Setup f) = true
-wrongKind Activate = true
 wrongKind (Data n) = false
 wrongKind Bist = false
-wrongKind (Pio f) = true
-wrongKind Refused = true
+wrongKind _ = true
 
 -- 5: command while reset is held or a phase is open; data with no write phase; BIST while a phase is open
 unfoldable pub wrongTime : Facts → Frame → Bool
 wrongTime v (Host h) = h.command_bit && (v.status.held || v.link_busy)
-wrongTime v (Device f) = false
-wrongTime v (Bits f) = false
-wrongTime v (Setup f) = false
-wrongTime v Activate = false
 wrongTime v (Data n) = eqb v.status.phase 0 || not v.entry.write
 wrongTime v Bist = v.link_busy
-wrongTime v (Pio f) = false
-wrongTime v Refused = false
+wrongTime v _ = false
 
 -- 6: the payload is longer than what is left of the command
 unfoldable pub wrongSize : Facts → Frame → Bool
-wrongSize v (Host h) = false
-wrongSize v (Device f) = false
-wrongSize v (Bits f) = false
-wrongSize v (Setup f) = false
-wrongSize v Activate = false
 wrongSize v (Data n) = longer (left_of v.entry) n
-wrongSize v Bist = false
-wrongSize v (Pio f) = false
-wrongSize v Refused = false
+wrongSize v _ = false
 
 -- 4, 5 and 6: what of a host frame's row its kind decides
 abbrev pub kindTests : Facts → Frame → List Rung

@@ -66,8 +66,8 @@ fn unready(e: Entry, asked: bool, busy: bool) -> bool
 }
 
 // One walk over the thirty-two entries.
-pub fn some_unready(entries: [Entry; Settings::ENTRIES], outstanding: u32, set: u32) -> bool
-    ensures { result ≡ someUnready entries outstanding set }
+pub fn some_unready(entries: &[Entry; Settings::ENTRIES], outstanding: u32, set: u32) -> bool
+    ensures { result ≡ someUnready entries.now outstanding set }
 {
     let mut bad = false;
     for i in 0..Settings::ENTRIES {

@@ -71,9 +71,7 @@ pub fn with_entry(mut state: Device, r: &[u8]) -> Device {
         echo,
     };
     let tag = frame_parts::byte_of(r, 1) as u32;
-    let old = state.entries;
-    let entries = device_state::with_entry(old, tag, e);
-    state.entries = entries;
+    device_state::put_entry(&mut state.entries, tag, e);
     state
 }
 

@@ -11,11 +11,11 @@ pub loop-i-preserved : goal.loop-i-preserved
 loop-i-preserved c =
     let l = c.loop-i in
     let a = c.args in
-    (omega arith, some_turn (rowBadAt a.mask a.values) l.i l.bad c.row_bad-one.result l.invariant.1 c.row_bad-one.ensures)
+    (omega arith, some_turn (rowBadAt a.mask a.values.now) l.i l.bad c.row_bad-one.result l.invariant.1 c.row_bad-one.ensures)
 
 pub returns : goal.returns
 unfolding rowsBad
 returns c =
     let l = c.loop-i in
     let a = c.args in
-    some_end (rowBadAt a.mask a.values) 16 l.i l.bad l.invariant.0 c.loop-i-test.false l.invariant.1
+    some_end (rowBadAt a.mask a.values.now) 16 l.i l.bad l.invariant.0 c.loop-i-test.false l.invariant.1

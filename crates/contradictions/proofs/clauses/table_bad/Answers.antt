@@ -11,11 +11,11 @@ pub loop-i-preserved : goal.loop-i-preserved
 loop-i-preserved c =
     let l = c.loop-i in
     let a = c.args in
-    (omega arith, some_turn (tagBad a.s a.entries a.outstanding a.phase) l.i l.bad c.entry_bad-one.result l.invariant.1 (rw c.bit-busy.ensures at c.entry_bad-one.ensures))
+    (omega arith, some_turn (tagBad a.s a.entries.now a.outstanding a.phase) l.i l.bad c.entry_bad-one.result l.invariant.1 (rw c.bit-busy.ensures at c.entry_bad-one.ensures))
 
 pub returns : goal.returns
 unfolding tableBad
 returns c =
     let l = c.loop-i in
     let a = c.args in
-    some_end (tagBad a.s a.entries a.outstanding a.phase) 32 l.i l.bad l.invariant.0 c.loop-i-test.false l.invariant.1
+    some_end (tagBad a.s a.entries.now a.outstanding a.phase) 32 l.i l.bad l.invariant.0 c.loop-i-test.false l.invariant.1

@@ -9,4 +9,4 @@ pub slice_bounds-host_frame-end : goal.slice_bounds-host_frame-end
 slice_bounds-host_frame-end c = let h = due-within _ _ c.data_due-end.ensures in search rules
 
 pub returns : goal.returns
-returns c = hosted-front c.args.d c.args.byte c.data_due-end.result c.longest-frame.result _ _ _ c.data_due-end.ensures c.longest-frame.ensures c.host_frame.ensures
+returns c = hosted-front c.args.d.now.device c.args.byte c.data_due-end.result c.longest-frame.result _ _ _ c.data_due-end.ensures c.longest-frame.ensures c.host_frame.ensures

@@ -1,0 +1,6 @@
+use Rattle.device.proofs.Typing.{none-typed}
+use Rattle.caller.proofs.Continuing.{continues-given}
+use Rattle.caller.proofs.keeping.kept_send.Goals as goal
+
+pub returns : goal.returns
+returns c = continues-given _ _ _ none-typed c.send.ensures

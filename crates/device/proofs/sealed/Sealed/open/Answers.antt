@@ -1,0 +1,12 @@
+use native.Mathlib.Omega.{arith}
+use mathlib.Core.List.{[]}
+use Rattle.rules.specs.Call.{openPhase}
+use Rattle.device.specs.Lent.{lent, gave, answered}
+use Rattle.device.proofs.Sound.{sound-given}
+use Rattle.device.proofs.sealed.Sealed.open.Goals as goal
+
+pub invariant_of-self : goal.invariant_of-self
+invariant_of-self c =
+    let a = c.args in
+    let r = c.open_here in
+    record { sound = sound-given a.self.now.device (lent (openPhase a.tag) [] a.reply.now) (gave (answered r.new.self r.result) [] r.new.reply) (omega arith) a.self.now.sound r.ensures }

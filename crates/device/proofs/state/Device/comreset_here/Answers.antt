@@ -1,0 +1,19 @@
+use mathlib.Core.Path.{refl}
+use mathlib.Core.List.{[]}
+use Rattle.rules.specs.Call.{comReset}
+use Rattle.device.specs.Lent.{lent}
+use Rattle.device.proofs.Doing.{has_room, given-without, plain-act}
+use Rattle.device.proofs.state.Device.comreset_here.Goals as goal
+
+pub done-requires : goal.done-requires
+done-requires c =
+    let a = c.args in
+    let e = plain-act a.self.now comReset a.reply.now c.facts-facts.result c.comreset_act-act.result refl refl c.facts-facts.ensures c.comreset_act-act.ensures in
+    has_room a.self.now (lent comReset [] a.reply.now) c.comreset_act-act.result refl e
+
+pub returns : goal.returns
+returns c =
+    let a = c.args in
+    let e = plain-act a.self.now comReset a.reply.now c.facts-facts.result c.comreset_act-act.result refl refl c.facts-facts.ensures c.comreset_act-act.ensures in
+    let w = c.done.ensures in
+    given-without a.self.now comReset a.reply.now c.comreset_act-act.result c.done.new.reply (record { state = c.done.new.self; refusal = c.done.result.refusal; len = c.done.result.len }) refl e w.state w.refusal w.reply

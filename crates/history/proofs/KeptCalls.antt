@@ -1,0 +1,89 @@
+-- Sequences of calls of a device that is kept: what their contracts allow is a sequence as the one contract promises it. Assumes nothing.
+use mathlib.Core.Path.{◌≡◌, refl, subst, sym}
+use mathlib.Core.List.{List, [], ◌∷◌}
+use Prim.Native.Nat.{ℕ}
+use contract.Lifetimes.{Lfts}
+use Rattle.std.specs.Prelude.{Ok}
+use Rattle.std.specs.Borrow.{Bor, MutBor}
+use Rattle.bits.specs.Contract.{Allows}
+use Rattle.device_state.specs.declared.shapes.Settings.{Settings}
+use Rattle.device.specs.Sealing.{poweredOf}
+use Rattle.device.specs.Step.{Given}
+use Rattle.device.specs.declared.state.Answer.{Answer}
+use Rattle.device.specs.declared.state.Outcome.{Outcome}
+use Rattle.device.specs.declared.sealed.Sealed.{Sealed}
+use Rattle.device.proofs.sealed.Sealed as calls
+use Rattle.device.specs.contracts.sealed.Sealed as said
+use Rattle.device.proofs.Lending.{unlent, unlent-both}
+use Rattle.rules.specs.Call.{hostFrame, openPhase, sendData, finishTags, mediaError, linkEvent, comReset}
+use Rattle.device.specs.Lent.{Lent, lent, Gave, gave, answered}
+use Rattle.history.specs.Run.{Done, done, AllTyped}
+use Rattle.history.specs.Follows.{FollowsBy, final, lents, historyOf, Began}
+use Rattle.history.specs.Demand3.{Demand3}
+use Rattle.history.specs.StateAgrees.{StateAgrees}
+use Rattle.history.proofs.Demand3.{demand3-given, told-given}
+
+-- one call of a kept device, as it may go, and what is kept then: each case is a public function of `Sealed`, and what it holds is that function's own contract
+pub data Keeps : Sealed → Lent → Gave → Sealed → Type 0 where
+  hosted : (κs : Lfts 4) (k : MutBor Sealed) (f : Bor (List ℕ)) (m b : MutBor (List ℕ)) (r : Answer) (k' : Sealed) (m' b' : List ℕ)
+      → Allows said.host_frame.ended calls.host_frame.Reads.Post κs (k, (f, (m, (b, tt)))) r (k', (tt, (m', (b', tt)))) → Keeps k.now (lent (hostFrame f.now) m.now b.now) (gave (answered k'.device r) m' b') k'
+  opened : (κs : Lfts 2) (k : MutBor Sealed) (t : ℕ) (b : MutBor (List ℕ)) (r : Answer) (k' : Sealed) (m b' : List ℕ)
+      → Allows said.open.ended calls.open.Reads.Post κs (k, (t, (b, tt))) r (k', (tt, (b', tt))) → Keeps k.now (lent (openPhase t) m b.now) (gave (answered k'.device r) m b') k'
+  sent : (κs : Lfts 3) (k : MutBor Sealed) (m : Bor (List ℕ)) (b : MutBor (List ℕ)) (r : Answer) (k' : Sealed) (b' : List ℕ)
+      → Allows said.send.ended calls.send.Reads.Post κs (k, (m, (b, tt))) r (k', (tt, (b', tt))) → Keeps k.now (lent sendData m.now b.now) (gave (answered k'.device r) m.now b') k'
+  finished : (κs : Lfts 2) (k : MutBor Sealed) (s : ℕ) (b : MutBor (List ℕ)) (r : Answer) (k' : Sealed) (m b' : List ℕ)
+      → Allows said.finish.ended calls.finish.Reads.Post κs (k, (s, (b, tt))) r (k', (tt, (b', tt))) → Keeps k.now (lent (finishTags s) m b.now) (gave (answered k'.device r) m b') k'
+  failed : (κs : Lfts 2) (k : MutBor Sealed) (t e s : ℕ) (b : MutBor (List ℕ)) (r : Answer) (k' : Sealed) (m b' : List ℕ)
+      → Allows said.media_error.ended calls.media_error.Reads.Post κs (k, (t, (e, (s, (b, tt))))) r (k', (tt, (tt, (tt, (b', tt))))) → Keeps k.now (lent (mediaError t e s) m b.now) (gave (answered k'.device r) m b') k'
+  linked : (κs : Lfts 1) (k : MutBor Sealed) (row : ℕ) (r : Answer) (k' : Sealed) (m b : List ℕ)
+      → Allows said.link_event.ended calls.link_event.Reads.Post κs (k, (row, tt)) r (k', (tt, tt)) → Keeps k.now (lent (linkEvent row) m b) (gave (answered k'.device r) m b) k'
+  reset : (κs : Lfts 2) (k : MutBor Sealed) (b : MutBor (List ℕ)) (r : Answer) (k' : Sealed) (m b' : List ℕ)
+      → Allows said.comreset.ended calls.comreset.Reads.Post κs (k, (b, tt)) r (k', (b', tt)) → Keeps k.now (lent comReset m b.now) (gave (answered k'.device r) m b') k'
+
+-- calls one after the other, the oldest first, each of what the last one kept
+pub data KeepsOn : Sealed → List Done → Sealed → Type 0 where
+  ended : (k : Sealed) → KeepsOn k [] k
+  after : (k : Sealed) (l : Lent) (g : Gave) (k' : Sealed) (xs : List Done) (end : Sealed) → Keeps k l g k' → KeepsOn k' xs end → KeepsOn k (done l g ∷ xs) end
+
+-- from power-on
+pub data BeganKept (s : Settings) (xs : List Done) : Sealed → Type 0 where
+  began-kept : (k end : Sealed) → Allows said.power_on.ended calls.power_on.Reads.Post tt (s, tt) (Ok k) (tt, tt) → KeepsOn k xs end → BeganKept s xs end
+
+-- each call's own contract is the one contract, and what is given back is what is kept
+pub keeps-given : {k k' : Sealed} {l : Lent} {g : Gave} → Keeps k l g k' → Given k.device l g × (g.outcome.state ≡ k'.device)
+keeps-given (hosted κs k f m b r k' m' b' p) = (p, refl)
+keeps-given (opened κs k t b r k' m b' p) = (unlent k.now.device (openPhase t) m b.now b' (answered k'.device r) refl p, refl)
+keeps-given (sent κs k m b r k' b' p) = (p, refl)
+keeps-given (finished κs k s b r k' m b' p) = (unlent k.now.device (finishTags s) m b.now b' (answered k'.device r) refl p, refl)
+keeps-given (failed κs k t e s b r k' m b' p) = (unlent k.now.device (mediaError t e s) m b.now b' (answered k'.device r) refl p, refl)
+keeps-given (linked κs k row r k' m b p) = (unlent-both k.now.device (linkEvent row) m b (answered k'.device r) refl refl p, refl)
+keeps-given (reset κs k b r k' m b' p) = (unlent k.now.device comReset m b.now b' (answered k'.device r) refl p, refl)
+
+-- so a sequence is one of results as the one contract promises them, and ends with what is kept
+pub keeps-follows : {k end : Sealed} {xs : List Done} → KeepsOn k xs end → FollowsBy Given k.device xs × (final k.device xs ≡ end.device)
+unfolding FollowsBy final
+keeps-follows (ended k) = (tt, refl)
+keeps-follows (after k l g k' xs end c q) =
+    let a = keeps-given c in
+    let b = keeps-follows q in
+    let e : k'.device ≡ g.outcome.state = sym a.1 in
+    ((a.0, subst (λ d. FollowsBy Given d xs) e b.0), subst (λ d. final d xs ≡ end.device) e b.1)
+
+-- a sequence as the one contract promises it, which ends with what is kept: so whatever holds of one holds of it
+pub record FollowsKept (s : Settings) (xs : List Done) (end : Sealed) : Type 0 where
+  pub power : Outcome
+  pub began : Began s power xs
+  pub last : final power.state xs ≡ end.device
+
+pub kept-began : {s : Settings} {xs : List Done} {end : Sealed} → BeganKept s xs end → FollowsKept s xs end
+unfolding poweredOf
+kept-began (began-kept k last p q) = let f = keeps-follows q in record { power = poweredOf (Ok k); began = record { power = p; follows = f.0 }; last = f.1 }
+
+module _ (s : Settings) (xs : List Done) (end : Sealed) (b : BeganKept s xs end) (t : AllTyped (lents xs)) where
+  -- demand 3 of its history
+  pub demand3-kept : Demand3 s.depth s.mask (historyOf xs)
+  demand3-kept = let f = kept-began b in demand3-given s f.power xs f.began t
+
+  -- and the device that is kept is what it tells
+  pub told-kept : StateAgrees s end.device (historyOf xs)
+  told-kept = let f = kept-began b in subst (λ d. StateAgrees s d (historyOf xs)) f.last (told-given s f.power xs f.began t)
