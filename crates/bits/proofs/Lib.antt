@@ -1,7 +1,6 @@
 pub mod Masks
 pub mod Tables
 pub mod Picks
-pub mod Firsts
 pub mod Littles
 pub mod Fronts
 pub mod Tying

@@ -2,7 +2,7 @@
 use Prim.Native.Nat.{◌+◌, min}
 use Rattle.bits.specs.Bit.{bitIn, clearIn, withBitIn}
 use Rattle.bits.specs.Laid.{over}
-use Rattle.bits.specs.Little.{NumberGiven, byte_of}
+use Rattle.bits.specs.Little.{NumberGiven, byte_of, leAt}
 use lib.Count.{ones}
 use lib.Dec.{leb}
 use lib.ListN.{get_or, length}
@@ -24,6 +24,12 @@ tied-byte-at = named (say (λ κs a. tt) (λ κs a r ws p. p)) (λ κs a ws ws'.
 
 pub tied-le : Tied little-said.le.ended little.le.Reads.Asked little.le.Reads.Post (λ κs a r ws. NumberGiven a.0.now a.1.0 (min a.1.1.0 8) r)
 tied-le = by (say (λ κs a. tt) (λ κs a r ws p. p)) (λ κs a r r' ws ws' p q. (same p.value q.value, refl))
+
+pub tied-le16 : Tied little-said.le16.ended little.le16.Reads.Asked little.le16.Reads.Post (λ κs a r ws. r ≡ leAt a.0.now a.1.0 2)
+tied-le16 = named (say (λ κs a. tt) (λ κs a r ws p. p)) (λ κs a ws ws'. refl)
+
+pub tied-le32 : Tied little-said.le32.ended little.le32.Reads.Asked little.le32.Reads.Post (λ κs a r ws. r ≡ leAt a.0.now a.1.0 4)
+tied-le32 = named (say (λ κs a. tt) (λ κs a r ws p. p)) (λ κs a ws ws'. refl)
 
 pub tied-byte : Tied little-said.byte.ended little.byte.Reads.Asked little.byte.Reads.Post (λ κs a r ws. r ≡ byte_of a.0 a.1.0)
 tied-byte = named (say (λ κs a. tt) (λ κs a r ws p. p)) (λ κs a ws ws'. refl)

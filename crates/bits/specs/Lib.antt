@@ -1,5 +1,4 @@
 pub mod Pick
-pub mod First
 pub mod Answer
 pub mod Bit
 pub mod Contract

@@ -1,56 +1,48 @@
 // Numbers in bytes, the lowest byte first.
-ghost use Rattle.std.specs.Prelude.{◌≡◌, ◌+◌, ◌%◌, ◌<◌, min, get_or};
-ghost use Rattle.bits.specs.Little.{byte_of, NumberGiven};
+ghost use Rattle.std.specs.Prelude.{◌≡◌, ◌+◌, min, get_or};
+ghost use Rattle.bits.specs.Little.{leAt, byte_of, NumberGiven};
 
-// The byte i places behind at; past the end, 0.
+/// The byte i places behind `at`; past the end, 0.
 pub fn byte_at(s: &[u8], at: usize, i: usize) -> u8
     ensures { result ≡ get_or s.now (at + i) 0 }
 {
-    let n = s.len();
-    if n <= at {
-        return 0;
-    }
-    if n - at <= i {
-        return 0;
-    }
-    s[at + i]
+    s.get(at..)
+        .and_then(|rest| rest.get(i))
+        .copied()
+        .unwrap_or(0)
 }
 
-fn wide(b: u8) -> u64
-    ensures { (result ≡ b) × (result < 256) }
-{
-    b as u64
-}
-
-fn at_most_8(n: usize) -> usize
-    ensures { result ≡ min n 8 }
-{
-    if n < 8 { n } else { 8 }
-}
-
-// The number of the n bytes (at most 8) from at on.
+/// The number of the n bytes (at most 8) from `at` on.
 pub fn le(s: &[u8], at: usize, n: usize) -> u64
     ensures { NumberGiven s.now at (min n 8) result }
 {
     let mut x: u64 = 0;
-    for i in (0..at_most_8(n)).rev() {
-        x = (x << 8) | wide(byte_at(s, at, i));
+    for i in (0..n.min(8)).rev() {
+        x = (x << 8) | byte_at(s, at, i) as u64;
     }
     x
 }
 
-fn low8(x: u64) -> u8
-    ensures { result ≡ x % 256 }
+/// The 16-bit number at a place.
+pub fn le16(s: &[u8], at: usize) -> u16
+    ensures { result ≡ leAt s.now at 2 }
 {
-    (x & 0xff) as u8
+    le(s, at, 2) as u16
 }
 
-// Byte k of x; from 8 on there is none, and it is 0.
+/// The 32-bit number at a place.
+pub fn le32(s: &[u8], at: usize) -> u32
+    ensures { result ≡ leAt s.now at 4 }
+{
+    le(s, at, 4) as u32
+}
+
+/// Byte k of x; from 8 on there is none, and it is 0.
 pub fn byte(x: u64, k: u32) -> u8
     ensures { result ≡ byte_of x k }
 {
     if 8 <= k {
         return 0;
     }
-    low8(x >> (8 * k))
+    ((x >> (8 * k)) & 0xff) as u8
 }

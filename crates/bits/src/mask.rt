@@ -3,7 +3,7 @@ ghost use Rattle.std.specs.Prelude.{◌≡◌};
 ghost use Rattle.std.specs.Int.Count.{ones};
 ghost use Rattle.bits.specs.Bit.{bitIn, withBitIn, clearIn};
 
-// Bit t of m.
+/// Bit t of m.
 pub fn bit(m: u32, t: u32) -> bool
     ensures { result ≡ bitIn 32 m t }
 {
@@ -13,7 +13,8 @@ pub fn bit(m: u32, t: u32) -> bool
     (m >> t) & 1 == 1
 }
 
-// m with bit t on.
+/// m with bit t on.
+#[tactic(auto, unfolding(crate::specs::Pick::pick))]
 pub fn with_bit(m: u32, t: u32) -> u32
     ensures { result ≡ withBitIn 32 m t }
 {
@@ -23,14 +24,14 @@ pub fn with_bit(m: u32, t: u32) -> u32
     m | (1 << t)
 }
 
-// m with all bits of s off.
+/// m with all bits of s off.
 pub fn without(m: u32, s: u32) -> u32
     ensures { result ≡ clearIn 32 m s }
 {
     m & !s
 }
 
-// How many bits of m are on.
+/// How many bits of m are on.
 pub fn ones(m: u32) -> u32
     ensures { result ≡ ones m }
 {

@@ -1,48 +1,72 @@
--- What the event program's own contracts allow, event by event: every sequence of such results is a history. Assumes nothing.
-use Rattle.std.specs.Prelude.{Bool, List, [], ◌∷◌, ℕ, ◌+◌}
-use contract.Lifetimes.{Lfts}
-use Rattle.std.specs.Borrow.{Bor, MutBor}
-use Rattle.bits.specs.Contract.{Allows}
+-- What the contract of the run allows is a history, however the run ended. Assumes nothing.
+use Rattle.std.proofs.Common.{◌≡◌, ℕ, zero, suc, ◌+◌, ◌<◌, ◌≤◌, Bool, Option, Some, None, IfSome, Result, Ok, Err, List, [], ◌∷◌, ◌++◌, length, get_or, refl, sym, ap, ◌∙◌, subst, append-nil, append_assoc, arith, ⊎_elim}
+use Rattle.bits.proofs.Masks.{lt-or-le}
+use lib.ListN.{get_or-append}
+use Rattle.std.proofs.lemmas.List.{get_or-append-add}
+use Rattle.std.specs.Io.KnownBytes.{Appends, Consumes}
 use Rattle.bits.specs.Little.{Bytes}
-use Rattle.device.specs.declared.state.Device.{Device}
-use Rattle.device.specs.declared.sealed.Sealed.{Sealed}
-use Rattle.events.specs.declared.tells.EventLine.{EventLine}
-use Rattle.events.specs.declared.tells.StartLine.{StartLine}
-use Rattle.events.specs.EventLine.{toldOf, begun}
-use Rattle.events.proofs.play_line
-use Rattle.events.proofs.start_line
-use Rattle.events.specs.contracts.play_line as play-said
-use Rattle.events.specs.contracts.start_line as start-said
-use Rattle.caller.specs.Program.{Play, play, Played, played, Start, start, Started, started, Plays, IsHistory}
-use Rattle.caller.proofs.Programs.{program-history}
+use Rattle.event_kinds.specs.declared.kinds.Next.{Next}
+use Rattle.event_kinds.specs.declared.kinds.Next.TheVariants.{Whole, Stop, End}
+use Rattle.event_program.specs.declared.errors.RunError.{RunError}
+use Rattle.event_program.specs.declared.errors.RunError.TheVariants.{Input, Output, Memory, TooMany}
+use Rattle.streams.specs.Fronts.{AppendsFront}
+use Rattle.event_program.specs.Running.{Plays, run_lines, ending, next_behind}
+use Rattle.event_program.specs.Runs.{joined, Ran}
+use Rattle.event_program.specs.Reading.{Ends}
+use Rattle.event_program.proofs.Fronts.{front-of}
+use Rattle.event_program.proofs.Runs.{begins}
+use Rattle.caller.specs.Program.{RunHistory}
+use Rattle.caller.proofs.Programs.{AllBytes, program-history}
 
--- what the contract of `play_line` allows in the state d
-pub data PlayedCode (traced : Bool) (number : ℕ) : Device → Play → Type 0 where
-  played-code : (κs : Lfts 5) (d : MutBor Sealed) (e : Bor (List ℕ)) (m b o : MutBor (List ℕ)) (r : EventLine) (d' : Sealed) (m' b' o' : List ℕ) → Bytes e.now
-      → Allows play-said.ended play_line.Reads.Post κs (d, (traced, (number, (e, (m, (b, (o, tt))))))) r (d', (tt, (tt, (tt, (m', (b', (o', tt)))))))
-      → PlayedCode traced number d.now.device (play e.now m.now b.now o.now (toldOf d'.device r) m' b' o')
+-- what begins or ends a text of bytes is of bytes
+past-end : (l : List ℕ) (i : ℕ) → length l ≤ i → get_or l i 0 ≡ 0
+past-end [] i h = refl
+past-end (x ∷ l) zero h = absurd (omega arith)
+past-end (x ∷ l) (suc i) h = past-end l i (omega arith)
 
--- what the contract of `start_line` allows
-pub data StartedCode (traced : Bool) : Start → Type 0 where
-  started-code : (κs : Lfts 2) (e : Bor (List ℕ)) (o : MutBor (List ℕ)) (r : StartLine) (o' : List ℕ)
-      → Allows start-said.ended start_line.Reads.Post κs (traced, (e, (o, tt))) r (tt, (tt, (o', tt))) → StartedCode traced (start e.now o.now (begun r) o')
+first-bytes : (a b : List ℕ) → Bytes (a ++ b) → Bytes a
+first-bytes a b w i = ⊎_elim (λ (h : i < length a). subst (λ (x : ℕ). x < 256) (get_or-append a b 0 i h) (w i)) (λ (h : length a ≤ i). rw (past-end a i h) (omega arith)) (lt-or-le i (length a))
 
--- one event after the other, numbered on, each given the state that the last one left, and any medium and buffers
-unfoldable pub PlaysCode : Bool → ℕ → Device → List Play → Type 0
-PlaysCode traced n d [] = Unit
-PlaysCode traced n d (p ∷ ps) = PlayedCode traced n d p × PlaysCode traced (n + 1) p.told.state ps
+rest-bytes : (a b : List ℕ) → Bytes (a ++ b) → Bytes b
+rest-bytes a b w i = subst (λ (x : ℕ). x < 256) (get_or-append-add a b i 0) (w (length a + i))
 
-played-by : {traced : Bool} {number : ℕ} {d : Device} {p : Play} → PlayedCode traced number d p → Played traced number d p
-played-by (played-code κs d e m b o r d' m' b' o' w q) = played e.now m.now b.now o.now (toldOf d'.device r) m' b' o' w q
+all-bytes : (es : List (List ℕ)) (rest : List ℕ) → Bytes (joined es ++ rest) → AllBytes es
+unfolding AllBytes
+all-bytes [] rest w = tt
+all-bytes (e ∷ es) rest w =
+    let all : Bytes (e ++ (joined es ++ rest)) = subst Bytes (append_assoc e (joined es) rest) w in
+    (first-bytes e (joined es ++ rest) all, all-bytes es rest (rest-bytes e (joined es ++ rest) all))
 
-started-by : {traced : Bool} {b : Start} → StartedCode traced b → Started traced b
-started-by (started-code κs e o r o' q) = started e.now o.now (begun r) o' q
+-- events that an input begins with, of whose lines a front is written
+shown : (traced : Bool) (input : List ℕ) (old new : Option (List ℕ)) (es : List (List ℕ)) (rest : List ℕ) → Bytes input → input ≡ joined es ++ rest → Plays es
+    → AppendsFront old new (run_lines traced es ++ ending Stop) → RunHistory traced input old new
+shown traced input old new es rest w e p f = record {
+  es = es;
+  rest = rest;
+  begins = e;
+  plays = p;
+  history = program-history traced es (all-bytes es rest (subst Bytes e w)) p;
+  written = f;
+}
 
-plays-by : (traced : Bool) (n : ℕ) (d : Device) (ps : List Play) → PlaysCode traced n d ps → Plays traced n d ps
-unfolding Plays PlaysCode
-plays-by traced n d [] q = tt
-plays-by traced n d (p ∷ ps) q = (played-by q.0, plays-by traced (n + 1) p.told.state ps q.1)
+-- what was written ends as the input does
+ended : (traced : Bool) (old new : Option (List ℕ)) (es : List (List ℕ)) (end : Next) → Ends end → Appends old new (run_lines traced es ++ ending end) → AppendsFront old new (run_lines traced es ++ ending Stop)
+unfolding ending
+ended traced old new es (Whole n) e a = absurd e
+ended traced old new es Stop e a = front-of old new _ [] _ (sym (append-nil _)) a
+ended traced old new es End e a = front-of old new _ _ _ (ap (λ (l : List ℕ). l ++ ending Stop) (sym (append-nil (run_lines traced es)))) a
 
--- every sequence of results that the contracts of `start_line` and `play_line` allow, whatever its events, media and buffers
-pub program-history-code : (traced : Bool) (b : Start) (ps : List Play) → StartedCode traced b → PlaysCode traced 1 b.told.state ps → IsHistory traced b ps
-program-history-code traced b ps g q = program-history traced b ps (started-by g) (plays-by traced 1 b.told.state ps q)
+-- of an input that is known
+of-some : (traced : Bool) (input : List ℕ) (old new : Option (List ℕ)) (es : List (List ℕ)) (more : List ℕ) → Plays es → AppendsFront old new (run_lines traced es ++ ending Stop)
+    → IfSome (Some input) (λ l. (rest : List ℕ) × (l ≡ (joined es ++ more) ++ rest)) → Bytes input → RunHistory traced input old new
+of-some traced input old new es more p f b w = shown traced input old new es (more ++ b.0) w (b.1 ∙ append_assoc (joined es) more b.0) p f
+
+pub program-history-code : (traced : Bool) (known known' old new : Option (List ℕ)) (r : Result Unit RunError) → Ran traced known known' old new r
+    → IfSome known (λ input. Bytes input → RunHistory traced input old new)
+program-history-code traced None known' old new r t = tt
+program-history-code traced (Some input) known' old new (Ok u) t = λ w. shown traced input old new t.es t.rest w t.cut.whole t.cut.events (ended traced old new t.es (next_behind t.es t.rest) t.cut.ends t.written)
+program-history-code traced (Some input) known' old new (Err (Input e)) t = of-some traced input old new t.es t.part t.cut.events (ended traced old new t.es Stop tt t.written) (begins (Some input) known' _ t.read)
+program-history-code traced (Some input) known' old new (Err (Output e)) t = λ w. shown traced input old new t.es t.begins.0 w t.begins.1 t.events t.written
+program-history-code traced (Some input) known' old new (Err Memory) t = λ w. shown traced input old new t.es t.begins.0 w t.begins.1 t.events t.written
+program-history-code traced (Some input) known' old new (Err TooMany) t =
+    of-some traced input old new t.es [] t.events (ended traced old new t.es Stop tt t.written) (begins (Some input) known' _ (subst (λ (l : List ℕ). Consumes (Some input) known' l) (sym (append-nil (joined t.es))) t.read))

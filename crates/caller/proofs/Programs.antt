@@ -1,19 +1,17 @@
 -- What the event program plays is a history in the sense of demand 3. Assumes nothing.
 use mathlib.Core.Path.{◌≡◌, refl, sym, ap, subst, ◌∙◌}
-use mathlib.Core.Bool.{Bool}
+use mathlib.Core.Bool.{Bool, false, true≢false}
 use mathlib.Core.List.{List, [], ◌∷◌, ◌++◌, map}
 use Prim.Native.Nat.{ℕ, zero, suc, ◌+◌, ◌<◌}
 use native.Mathlib.Omega.{arith}
 use lib.ListN.{length, take, drop, get_or, replicate}
 use lib.Seq.{take-append_seam}
 use lib.Dec.{eqb}
+use Rattle.std.specs.Prelude.{Option, Some, None, is_none, option_map, option_to_list}
 use Rattle.bits.specs.Laid.{laid}
 use Rattle.bits.specs.Little.{Bytes}
 use Rattle.bits.proofs.Littles.{le-lt}
 use Rattle.bits.proofs.Picks.{by-test}
-use Rattle.frame_parts.specs.Cut.{joined}
-use Rattle.text.specs.Sheet.{WholeTextGiven}
-use Rattle.replies.specs.Replies.{sentAll}
 use Rattle.device_state.specs.declared.shapes.Settings.{Settings}
 use Rattle.device.specs.DataDue.{dataDue}
 use Rattle.device.specs.Step.{Step, step, bytes_of}
@@ -22,30 +20,23 @@ use Rattle.event_kinds.specs.Kinds.{isEvent}
 use Rattle.event_kinds.specs.Settings.{asked_of}
 use Rattle.event_kinds.specs.Requests.{callByKind, requestOf}
 use Rattle.event_kinds.specs.declared.asked.Request.{Request}
-use Rattle.event_kinds.specs.declared.asked.Request.TheVariants.{OpenPhase, SendData, FinishTags, MediaError, LinkEvent, ComReset, HostData, HostFrame, Nothing}
-use Rattle.event_lines.specs.Lines.{line_of}
 use Rattle.events.specs.HostData.{dataFrame}
 use Rattle.events.specs.Start.{start_of}
-use Rattle.events.specs.Calls.{calls_of, callsFor}
+use Rattle.events.specs.Calls.{call_of, callFor}
 use Rattle.events.specs.Played.{stepFor}
-use Rattle.events.specs.EventLine.{line_for}
+use Rattle.events.proofs.Playable.{run-plays}
+use Rattle.event_program.specs.Lines.{line_of}
+use Rattle.event_program.specs.Reading.{IsEvent}
+use Rattle.event_program.specs.Running.{Kept, kept, after, told, started, kept_after, AllEvents, Plays}
 use Rattle.rules.specs.Call.{Call}
-use Rattle.device.specs.Lent.{lent}
+use Rattle.device.specs.Lent.{lent, Typed}
 use Rattle.device.proofs.Typing.{none-typed, frame-typed, set_typed, error-typed}
 use Rattle.history.specs.Run.{AllTyped, result, Done, done, event, Run, run, run_from}
 use Rattle.history.specs.Follows.{newestFirst, lents}
 use Rattle.history.specs.Demand3.{Demand3}
 use Rattle.history.specs.StateAgrees.{StateAgrees}
-use Rattle.history.proofs.Demand3.{demand3, told}
-use Rattle.caller.specs.Program.{Play, Played, played, Start, Started, started, Plays, endState, donesBy, donesAll, ShowsCall, EachShown, StartShown, IsHistory}
-
--- what a play is told, for the step s
-record Tells (traced : Bool) (number : ℕ) (p : Play) (s : Step) : Type 0 where
-  pub state : p.told.state ≡ s.state
-  pub refusal : p.told.refusal ≡ s.refusal
-  pub left : p.left ≡ s.medium
-  pub after : p.after ≡ laid (bytes_of s) p.buffer
-  pub line : WholeTextGiven (line_for traced number s) p.line p.told.len p.written
+use Rattle.history.proofs.Demand3.{demand3, told as state-told}
+use Rattle.caller.specs.Program.{donesAll, ShowsCall, EachShown, StartShown, IsHistory, OfHistory}
 
 -- the outside sees just the replies
 front : (f b : List ℕ) → take (length f) (laid f b) ≡ f
@@ -56,61 +47,54 @@ abbrev ran : Device → List Done → Run
 ran d h = record { state = d; calls = h }
 
 -- a call as it went
-abbrev doneBy : Device → Play → Call → Done
-doneBy d p c = done (lent c p.medium p.buffer) (result d (lent c p.medium p.buffer))
+abbrev went : Kept → Call → Done
+went k c = done (lent c k.medium k.reply) (result k.device (lent c k.medium k.reply))
 
-module _ (traced : Bool) (number : ℕ) (d : Device) (p : Play) where
-  -- what it is told of its calls
-  abbrev Told-by : List Call → Type 0
-  Told-by cs = Tells traced number p (stepFor d p.medium p.buffer cs)
+-- the call that was made, if one was
+abbrev made : Kept → Option Call → List Done
+made k c = option_to_list (option_map (went k) c)
+
+-- what an event leaves and tells, by its call
+abbrev after-by : Kept → Step → Kept
+after-by k s = kept s.state s.medium (laid (bytes_of s) k.reply)
+
+abbrev told-by : Bool → ℕ → Step → List ℕ
+told-by traced number s = line_of traced number s.refusal s.state.status.outstanding (bytes_of s)
+
+module _ (traced : Bool) (number : ℕ) (k : Kept) (e : List ℕ) where
+  -- what it leaves and tells is that of its call
+  record By (c : Option Call) : Type 0 where
+    pub kept : after k e ≡ after-by k (stepFor k.device k.medium k.reply c)
+    pub line : told traced number k e ≡ told-by traced number (stepFor k.device k.medium k.reply c)
+
+  by-call : By (callFor k.device e)
+  unfolding after told
+  by-call = record { kept = refl; line = refl }
 
   -- a call is shown as it is told
-  shows-call : (c : Call) → Told-by (c ∷ []) → ShowsCall traced number p d (doneBy d p c ∷ [])
-  unfolding stepFor line_for ShowsCall
-  shows-call c t =
-      let s = step d (lent c p.medium p.buffer) in (
-        record {
-          state = t.state;
-          refusal = t.refusal;
-          left = t.left;
-          after = t.after;
-          line = subst (λ (f : List ℕ). WholeTextGiven (line_of traced number s.refusal s.state.status.outstanding f) p.line p.told.len p.written) (sym (front (bytes_of s) p.buffer)) t.line;
-        },
-        refl,
-      )
+  shows-call : (c : Option Call) → is_none c ≡ false → By c → ShowsCall traced number k e (option_map (went k) c)
+  unfolding stepFor ShowsCall
+  shows-call None n t = absurd (true≢false n)
+  shows-call (Some c) n t =
+      let s = step k.device (lent c k.medium k.reply) in
+      record {
+        kept = t.kept;
+        line = t.line ∙ ap (line_of traced number s.refusal s.state.status.outstanding) (sym (front (bytes_of s) k.reply));
+      }
 
-  -- no call, or one
-  AtMostOne : List Call → Type 0
-  AtMostOne [] = Unit
-  AtMostOne (c ∷ cs) = cs ≡ []
+  -- the run of its call: the state that it leaves, and the call itself
+  call-run : (c : Option Call) → is_none c ≡ false → By c → (h : List Done) → run k.device h (lents (made k c)) ≡ ran (after k e).device (newestFirst h (made k c))
+  unfolding stepFor run newestFirst
+  call-run None n t h = absurd (true≢false n)
+  call-run (Some c) n t h = ap (λ (x : Kept). ran x.device (went k c ∷ h)) (sym t.kept)
 
-  shows-calls : (cs : List Call) → AtMostOne cs → Told-by cs → ShowsCall traced number p d (map (doneBy d p) cs)
-  unfolding AtMostOne stepFor ShowsCall sentAll joined line_for
-  shows-calls [] o t = record { state = t.state; refusal = t.refusal; left = t.left; after = t.after; line = t.line }
-  shows-calls (c ∷ cs) o t = rw o (shows-call c (record { state = t.state; refusal = t.refusal; left = t.left; after = t.after; line = t.line }))
+-- an event that a run plays makes a call
+take-all : (l : List ℕ) → take (length l) l ≡ l
+take-all [] = refl
+take-all (x ∷ l) = ap (λ (t : List ℕ). x ∷ t) (take-all l)
 
-  -- the run of its calls: the state that it leaves, and they themselves
-  calls-run : (cs : List Call) → AtMostOne cs → Told-by cs → (h : List Done) → run d h (lents (map (doneBy d p) cs)) ≡ record { state = p.told.state; calls = newestFirst h (map (doneBy d p) cs) }
-  unfolding AtMostOne stepFor run newestFirst
-  calls-run [] o t h = ap (λ (s : Device). ran s h) (sym t.state)
-  calls-run (c ∷ cs) o t h = rw o (ap (λ (s : Device). ran s (doneBy d p c ∷ h)) (sym t.state))
-
-  -- an event makes no call, or one
-  one-call : (v : Request) → AtMostOne (calls_of d p.event v)
-  unfolding AtMostOne calls_of
-  one-call (OpenPhase tag) = refl
-  one-call SendData = refl
-  one-call (FinishTags set) = refl
-  one-call (MediaError tag error sector) = refl
-  one-call (LinkEvent row) = refl
-  one-call ComReset = refl
-  one-call (HostData b) = refl
-  one-call HostFrame = refl
-  one-call Nothing = tt
-
--- what `play_line` promises is told of its calls
-told-by : {traced : Bool} {number : ℕ} {d : Device} {p : Play} → Played traced number d p → Told-by traced number d p (callsFor d p.event)
-told-by (played e m b o t m' b' o' w q) = record { state = q.tells.state; refusal = q.tells.refusal; left = q.medium; after = q.reply; line = q.tells.line }
+some-call : (d : Device) (e : List ℕ) → IsEvent false e → is_none (callFor d e) ≡ false
+some-call d e i = ap (λ (l : List ℕ). is_none (callFor d l)) (sym (take-all e)) ∙ run-plays d e (length e) i
 
 -- runs go on where they stand
 run_more : (xs ys : List Done) (d : Device) (h : List Done) → run d h (lents (xs ++ ys)) ≡ run (run d h (lents xs)).state (run d h (lents xs)).calls (lents ys)
@@ -124,24 +108,28 @@ newest-more [] ys h = refl
 newest-more (x ∷ xs) ys h = newest-more xs ys (x ∷ h)
 
 -- the run of all calls
-plays-run : (traced : Bool) (n : ℕ) (d : Device) (ps : List Play) (h : List Done) → Plays traced n d ps → run d h (lents (donesAll d ps)) ≡ ran (endState d ps) (newestFirst h (donesAll d ps))
-unfolding Plays donesAll endState run newestFirst
-plays-run traced n d [] h q = refl
-plays-run traced n d (p ∷ ps) h q =
-    let rest = donesAll p.told.state ps in
-    run_more (donesBy d p) rest d h
-    ∙ ap (λ (r : Run). run r.state r.calls (lents rest)) (calls-run traced n d p (callsFor d p.event) (one-call traced n d p (requestOf p.event)) (told-by q.0) h)
-    ∙ plays-run traced (n + 1) p.told.state ps (newestFirst h (donesBy d p)) q.1
-    ∙ ap (ran (endState p.told.state ps)) (sym (newest-more (donesBy d p) rest h))
+plays-run : (traced : Bool) (n : ℕ) (k : Kept) (es : List (List ℕ)) (h : List Done) → AllEvents es → run k.device h (lents (donesAll k es)) ≡ ran (kept_after k es).device (newestFirst h (donesAll k es))
+unfolding AllEvents donesAll kept_after run newestFirst
+plays-run traced n k [] h q = refl
+plays-run traced n k (e ∷ es) h q =
+    let rest = donesAll (after k e) es in
+    run_more (made k (callFor k.device e)) rest k.device h
+    ∙ ap (λ (r : Run). run r.state r.calls (lents rest)) (call-run traced n k e (callFor k.device e) (some-call k.device e q.0) (by-call traced n k e) h)
+    ∙ plays-run traced (n + 1) (after k e) es (newestFirst h (made k (callFor k.device e))) q.1
+    ∙ ap (ran (kept_after (after k e) es).device) (sym (newest-more (made k (callFor k.device e)) rest h))
 
-shown-run : (traced : Bool) (n : ℕ) (d : Device) (ps : List Play) → Plays traced n d ps → EachShown traced n d ps
-unfolding Plays EachShown
-shown-run traced n d [] q = tt
-shown-run traced n d (p ∷ ps) q = (shows-calls traced n d p (callsFor d p.event) (one-call traced n d p (requestOf p.event)) (told-by q.0), shown-run traced (n + 1) p.told.state ps q.1)
+shown-run : (traced : Bool) (n : ℕ) (k : Kept) (es : List (List ℕ)) → AllEvents es → EachShown traced n k es
+unfolding AllEvents EachShown
+shown-run traced n k [] q = tt
+shown-run traced n k (e ∷ es) q = (shows-call traced n k e (callFor k.device e) (some-call k.device e q.0) (by-call traced n k e), shown-run traced (n + 1) (after k e) es q.1)
 
 -- ---- the arguments are of their types
-abbrev TypedAll : Device → List ℕ → Request → Type 0
-TypedAll d e c = AllTyped (map (λ x. lent x [] []) (calls_of d e c))
+abbrev TypedCall : Option Call → Type 0
+TypedCall None = Unit
+TypedCall (Some c) = Typed c
+
+abbrev TypedFor : Device → List ℕ → Option Request → Type 0
+TypedFor d e o = TypedCall (option_map (call_of d e) o)
 
 same_bytes : (n b i : ℕ) → b < 256 → get_or (replicate n b) i 0 < 256
 same_bytes zero b i h = omega arith
@@ -156,56 +144,63 @@ data-bytes n b h (suc (suc zero)) = omega arith
 data-bytes n b h (suc (suc (suc zero))) = omega arith
 data-bytes n b h (suc (suc (suc (suc i)))) = same_bytes n b i h
 
-typed-kind : (d : Device) (k : ℕ) (e : List ℕ) → Bytes e → TypedAll d e (callByKind k e)
-unfolding callByKind calls_of AllTyped
+typed-kind : (d : Device) (k : ℕ) (e : List ℕ) → Bytes e → TypedFor d e (callByKind k e)
+unfolding callByKind call_of
 typed-kind d k e w =
-    by-test (TypedAll d e) (eqb k 0x01) _ _ (λ h. (none-typed, tt))
-    (λ h. by-test (TypedAll d e) (eqb k 0x02) _ _ (λ h. (none-typed, tt))
-    (λ h. by-test (TypedAll d e) (eqb k 0x03) _ _ (λ h. (set_typed _ (le-lt e w 1 4), tt))
-    (λ h. by-test (TypedAll d e) (eqb k 0x04) _ _ (λ h. (error-typed _ (w 2), tt))
-    (λ h. by-test (TypedAll d e) (eqb k 0x05) _ _ (λ h. (none-typed, tt))
-    (λ h. by-test (TypedAll d e) (eqb k 0x06) _ _ (λ h. (none-typed, tt))
-    (λ h. by-test (TypedAll d e) (eqb k 0x07) _ _ (λ h. (frame-typed (dataFrame (dataDue d) (get_or e 1 0)) (data-bytes (dataDue d) (get_or e 1 0) (w 1)), tt))
-    (λ h. by-test (TypedAll d e) (eqb k 0x27) _ _ (λ h. (frame-typed e w, tt))
-    (λ h. by-test (TypedAll d e) (eqb k 0x58) _ _ (λ h. (frame-typed e w, tt)) (λ h. tt)))))))))
+    by-test (TypedFor d e) (eqb k 0x01) _ _ (λ h. none-typed)
+    (λ h. by-test (TypedFor d e) (eqb k 0x02) _ _ (λ h. none-typed)
+    (λ h. by-test (TypedFor d e) (eqb k 0x03) _ _ (λ h. set_typed _ (le-lt e w 1 4))
+    (λ h. by-test (TypedFor d e) (eqb k 0x04) _ _ (λ h. error-typed _ (w 2))
+    (λ h. by-test (TypedFor d e) (eqb k 0x05) _ _ (λ h. none-typed)
+    (λ h. by-test (TypedFor d e) (eqb k 0x06) _ _ (λ h. none-typed)
+    (λ h. by-test (TypedFor d e) (eqb k 0x07) _ _ (λ h. frame-typed (dataFrame (dataDue d) (get_or e 1 0)) (data-bytes (dataDue d) (get_or e 1 0) (w 1)))
+    (λ h. by-test (TypedFor d e) (eqb k 0x27) _ _ (λ h. frame-typed e w)
+    (λ h. by-test (TypedFor d e) (eqb k 0x58) _ _ (λ h. frame-typed e w) (λ h. tt)))))))))
 
-typed-event : (d : Device) (e : List ℕ) → Bytes e → TypedAll d e (requestOf e)
-unfolding requestOf calls_of AllTyped
-typed-event d e w = by-test (TypedAll d e) (isEvent e) _ _ (λ h. typed-kind d (get_or e 0 0) e w) (λ h. tt)
+typed-event : (d : Device) (e : List ℕ) → Bytes e → TypedCall (callFor d e)
+unfolding requestOf
+typed-event d e w = by-test (TypedFor d e) (isEvent e) _ _ (λ h. typed-kind d (get_or e 0 0) e w) (λ h. tt)
 
 -- whatever is lent, and with what follows
-typed-more : (d : Device) (p : Play) (cs : List Call) (ys : List Done) → AllTyped (map (λ x. lent x [] []) cs) → AllTyped (lents ys) → AllTyped (lents (map (doneBy d p) cs ++ ys))
+typed-more : (k : Kept) (c : Option Call) (ys : List Done) → TypedCall c → AllTyped (lents ys) → AllTyped (lents (made k c ++ ys))
 unfolding AllTyped
-typed-more d p [] ys t u = u
-typed-more d p (c ∷ cs) ys t u = (t.0, typed-more d p cs ys t.1 u)
+typed-more k None ys t u = u
+typed-more k (Some c) ys t u = (t, u)
 
-of-bytes : {traced : Bool} {number : ℕ} {d : Device} {p : Play} → Played traced number d p → Bytes p.event
-of-bytes (played e m b o t m' b' o' w q) = w
+-- each event is of bytes
+unfoldable pub AllBytes : List (List ℕ) → Type 0
+AllBytes [] = Unit
+AllBytes (e ∷ es) = Bytes e × AllBytes es
 
-typed-run : (traced : Bool) (n : ℕ) (d : Device) (ps : List Play) → Plays traced n d ps → AllTyped (lents (donesAll d ps))
-unfolding Plays donesAll AllTyped
-typed-run traced n d [] q = tt
-typed-run traced n d (p ∷ ps) q =
-    typed-more d p (callsFor d p.event) (donesAll p.told.state ps) (typed-event d p.event (of-bytes q.0)) (typed-run traced (n + 1) p.told.state ps q.1)
+typed-run : (k : Kept) (es : List (List ℕ)) → AllBytes es → AllTyped (lents (donesAll k es))
+unfolding donesAll AllTyped AllBytes
+typed-run k [] w = tt
+typed-run k (e ∷ es) w = typed-more k (callFor k.device e) (donesAll (after k e) es) (typed-event k.device e w.0) (typed-run (after k e) es w.1)
 
 -- ---- from power-on
-powered : {traced : Bool} {b : Start} → Started traced b → StartShown traced b
-unfolding start_of line_for sentAll joined
-powered (started e o t o' q) = record { state = q.state; refusal = q.refusal; line = q.line }
+powered : (traced : Bool) (s : List ℕ) → StartShown traced s
+unfolding start_of started
+powered traced s = record { state = refl; line = refl }
 
--- every sequence of results as `start_line` and `play_line` promise them, whatever its events, media and buffers
-pub program-history : (traced : Bool) (b : Start) (ps : List Play) → Started traced b → Plays traced 1 b.told.state ps → IsHistory traced b ps
-program-history traced b ps g q =
-    let s : Settings = asked_of b.event in
-    let d : Device = b.told.state in
-    let xs : List Done = donesAll d ps in
-    let typed = typed-run traced 1 d ps q in
-    let begun = powered g in
-    let ended : run_from s (lents xs) ≡ ran (endState d ps) (newestFirst [] xs) = ap (λ (x : Device). run x [] (lents xs)) (sym begun.state) ∙ plays-run traced 1 d ps [] q in
+-- the events behind a settings record
+behind-settings : (traced : Bool) (s : List ℕ) (es : List (List ℕ)) → AllBytes es → AllEvents es → IsHistory traced s es
+behind-settings traced s es w q =
+    let asked : Settings = asked_of s in
+    let k : Kept = started s in
+    let xs : List Done = donesAll k es in
+    let typed = typed-run k es w in
+    let begun = powered traced s in
+    let ended : run_from asked (lents xs) ≡ ran (kept_after k es).device (newestFirst [] xs) = ap (λ (x : Device). run x [] (lents xs)) (sym begun.state) ∙ plays-run traced 1 k es [] q in
     record {
       begins = begun;
       calls = ended;
-      shown = shown-run traced 1 d ps q;
-      demand3 = subst (λ (r : Run). Demand3 s.depth s.mask (map event r.calls)) ended (demand3 s (lents xs) typed);
-      told = subst (λ (r : Run). StateAgrees s r.state (map event r.calls)) ended (told s (lents xs) typed);
+      shown = shown-run traced 1 k es q;
+      demand3 = subst (λ (r : Run). Demand3 asked.depth asked.mask (map event r.calls)) ended (demand3 asked (lents xs) typed);
+      told = subst (λ (r : Run). StateAgrees asked r.state (map event r.calls)) ended (state-told asked (lents xs) typed);
     }
+
+-- all events that a run plays, whatever they are
+pub program-history : (traced : Bool) (es : List (List ℕ)) → AllBytes es → Plays es → OfHistory traced es
+unfolding Plays OfHistory AllBytes
+program-history traced [] w q = tt
+program-history traced (s ∷ es) w q = behind-settings traced s es w.1 q.1

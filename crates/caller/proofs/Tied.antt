@@ -1,18 +1,26 @@
 -- What each contract of a caller says. The answer itself is said by the contract of the device's call, which is tied there. Assumes nothing.
-use Rattle.bits.specs.Contract.{Says}
+use mathlib.Core.List.{Mem}
+use Prim.Native.Nat.{ℕ}
+use Rattle.bits.specs.Contract.{Says, SaysOver}
 use Rattle.bits.proofs.Tying.{say}
 use Rattle.rules.specs.Call.{hostFrame, openPhase, sendData, finishTags, mediaError, linkEvent, comReset}
 use Rattle.device.specs.Lent.{lent, gave, answered}
 use Rattle.device.specs.Sealing.{poweredOf}
-use Rattle.events.specs.EventLine.{toldOf, begun}
+use Rattle.std.specs.Prelude.{IfSome}
+use Rattle.bits.specs.Little.{Bytes}
+use denote.RattleType.{RattleType}
+use denote.Param.Laws.{Laws}
+use mir.Syntax.{Dict}
+use Rattle.std.specs.declared.io.traits.Read as Reader
+use Rattle.std.specs.declared.io.traits.Write as Writer
 use Rattle.caller.specs.Continued.{Begins, Continues, ContinuesReplying, ContinuesAlone, FirstCall}
-use Rattle.caller.specs.Program.{start, play, Started, Played}
+use Rattle.caller.specs.Program.{RunHistory}
 use Rattle.caller.proofs.calling
 use Rattle.caller.specs.contracts.calling as calling-said
 use Rattle.caller.proofs.keeping
 use Rattle.caller.specs.contracts.keeping as keeping-said
-use Rattle.caller.proofs.telling
-use Rattle.caller.specs.contracts.telling as telling-said
+use Rattle.caller.proofs.running
+use Rattle.caller.specs.contracts.running as running-said
 
 pub tied-begin : Says calling-said.begin.ended calling.begin.Reads.Asked calling.begin.Reads.Post (λ κs a r ws. Begins a.0 r)
 tied-begin = say (λ κs a. tt) (λ κs a r ws p. p)
@@ -43,12 +51,11 @@ tied-comreset = say (λ κs a. tt) (λ κs a r ws p. p)
 pub tied-first-link : Says calling-said.first_link.ended calling.first_link.Reads.Asked calling.first_link.Reads.Post (λ κs a r ws. FirstCall a.0 (linkEvent a.1.0) r)
 tied-first-link = say (λ κs a. tt) (λ κs a r ws p. p)
 
-pub tied-start-line : Says telling-said.start_line.ended telling.start_line.Reads.Asked telling.start_line.Reads.Post (λ κs a r ws. Started a.0 (start a.1.0.now a.1.1.0.now (begun r) ws.1.1.0))
-tied-start-line = say (λ κs a. tt) (λ κs a r ws p. p)
-
-pub tied-play-line : Says telling-said.play_line.ended telling.play_line.Reads.Asked telling.play_line.Reads.Post
-    (λ κs a r ws. Played a.1.0 a.1.1.0 a.0.now.device (play a.1.1.1.0.now a.1.1.1.1.0.now a.1.1.1.1.1.0.now a.1.1.1.1.1.1.0.now (toldOf ws.0.device r) ws.1.1.1.1.0 ws.1.1.1.1.1.0 ws.1.1.1.1.1.1.0))
-tied-play-line = say (λ κs a. tt) (λ κs a r ws p. p)
+-- the event program's run, by any reader to any writer
+pub tied-run : (R W : RattleType) (l : Laws R) (m : Laws W) (g : Reader.Ghosts R.Denot) (d : Dict) (h : Writer.Ghosts W.Denot) (e : Dict)
+    → SaysOver (running-said.run.ended R W g d h e) (λ κs a. ((x : ℕ) → Mem x R.lives → Mem x κs.1.1.0) × ((x : ℕ) → Mem x W.lives → Mem x κs.1.1.1.0)) (running.run.Reads.Asked R W l m g d h e) (running.run.Reads.Post R W l m g d h e)
+    (λ κs a r ws. IfSome (g.remaining a.1.1.0.now) (λ input. Bytes input → RunHistory a.1.0 input (h.contents a.1.1.1.0.now) (h.contents ws.1.1.1.0)))
+tied-run R W l m g d h e = record { free = λ κs a x. x; says = λ κs a r ws p. p }
 
 -- ---- of a kept device
 

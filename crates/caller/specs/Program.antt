@@ -1,100 +1,68 @@
--- What the event program is told event by event, and the calls of the device that are made. Assumes nothing.
-use Rattle.std.specs.Prelude.{◌≡◌, Bool, List, [], ◌∷◌, ◌++◌, map, ℕ, ◌+◌}
-use Rattle.bits.specs.Little.{Bytes}
-use Rattle.text.specs.Sheet.{WholeTextGiven}
+-- What the event program plays, event by event, and the calls of the device that are made. Assumes nothing.
+use Rattle.std.specs.Prelude.{◌≡◌, Bool, List, [], ◌∷◌, ◌++◌, ℕ, ◌+◌, Option, Some, None, option_map, option_to_list}
+use Rattle.refusals.specs.declared.reasons.Refusal.{Refusal}
 use Rattle.device.specs.Device.{powerOn}
 use Rattle.device.specs.declared.state.Device.{Device}
-use Rattle.event_kinds.specs.Settings.{asked_of}
-use Rattle.event_lines.specs.Lines.{line_of}
-use Rattle.events.specs.Calls.{callsFor}
-use Rattle.events.specs.EventLine.{Told, PlayTold, Tells, startStep}
 use Rattle.device.specs.Lent.{lent}
+use Rattle.event_kinds.specs.Settings.{asked_of}
+use Rattle.event_kinds.specs.declared.kinds.Next.TheVariants.{Stop}
+use Rattle.events.specs.Calls.{callFor}
+use Rattle.event_program.specs.Lines.{line_of}
+use Rattle.streams.specs.Fronts.{AppendsFront}
+use Rattle.event_program.specs.Running.{Kept, kept, after, told, started, start_line, run_lines, kept_after, ending, Plays}
+use Rattle.event_program.specs.Runs.{joined}
 use Rattle.history.specs.Run.{Done, done, result, event, run_from}
 use Rattle.history.specs.Follows.{newestFirst, lents, historyOf}
 use Rattle.history.specs.Demand3.{Demand3}
 use Rattle.history.specs.StateAgrees.{StateAgrees}
 
--- one event as it was played: its bytes, medium, reply buffer and line buffer, what was answered, and what the three then held
-pub record Play : Type 0 where
-  pub event : List ℕ
-  pub medium : List ℕ
-  pub buffer : List ℕ
-  pub line : List ℕ
-  pub told : Told
-  pub left : List ℕ
-  pub after : List ℕ
-  pub written : List ℕ
-
--- an event as it was played, of these eight
-abbrev pub play : List ℕ → List ℕ → List ℕ → List ℕ → Told → List ℕ → List ℕ → List ℕ → Play
-play e m b o t m' b' o' = record { event = e; medium = m; buffer = b; line = o; told = t; left = m'; after = b'; written = o' }
-
--- what `play_line` promises in the state d; an event is of bytes, as what stands in a slice of them always is
-pub data Played (traced : Bool) (number : ℕ) (d : Device) : Play → Type 0 where
-  played : (e m b o : List ℕ) (t : Told) (m' b' o' : List ℕ) → Bytes e → PlayTold d traced number e m b o t m' b' o' → Played traced number d (play e m b o t m' b' o')
-
--- the settings record as it was taken: its bytes, the line buffer, what was answered, and what the buffer then held
-pub record Start : Type 0 where
-  pub event : List ℕ
-  pub line : List ℕ
-  pub told : Told
-  pub written : List ℕ
-
--- a settings record as it was taken, of these four
-abbrev pub start : List ℕ → List ℕ → Told → List ℕ → Start
-start e o t o' = record { event = e; line = o; told = t; written = o' }
-
--- what `start_line` promises
-pub data Started (traced : Bool) : Start → Type 0 where
-  started : (e o : List ℕ) (t : Told) (o' : List ℕ) → Tells traced 0 (startStep e) o t o' → Started traced (start e o t o')
-
--- one event after the other, numbered on, each given the state that the last one left, and any medium and buffers
-unfoldable pub Plays : Bool → ℕ → Device → List Play → Type 0
-Plays traced n d [] = Unit
-Plays traced n d (p ∷ ps) = Played traced n d p × Plays traced (n + 1) p.told.state ps
-
--- the state that they end with
-unfoldable pub endState : Device → List Play → Device
-endState d [] = d
-endState d (p ∷ ps) = endState p.told.state ps
-
--- as they went: lent what the event was lent, and what the device then gives
-abbrev pub donesBy : Device → Play → List Done
-donesBy d p = map (λ c. done (lent c p.medium p.buffer) (result d (lent c p.medium p.buffer))) (callsFor d p.event)
+-- the call of an event as it went, if it made one: lent what the run keeps, and what the device then gives
+abbrev pub doneBy : Kept → List ℕ → Option Done
+doneBy k e = option_map (λ c. done (lent c k.medium k.reply) (result k.device (lent c k.medium k.reply))) (callFor k.device e)
 
 -- all of them, the oldest first
-unfoldable pub donesAll : Device → List Play → List Done
-donesAll d [] = []
-donesAll d (p ∷ ps) = donesBy d p ++ donesAll p.told.state ps
+unfoldable pub donesAll : Kept → List (List ℕ) → List Done
+donesAll k [] = []
+donesAll k (e ∷ es) = option_to_list (doneBy k e) ++ donesAll (after k e) es
 
--- what was played shows this state, refusal, medium and reply buffer, and the line of it, in front of the line buffer
-pub record Shows (traced : Bool) (number : ℕ) (p : Play) (d : Device) (n : ℕ) (reply m b : List ℕ) : Type 0 where
-  pub state : p.told.state ≡ d
-  pub refusal : p.told.refusal ≡ n
-  pub left : p.left ≡ m
-  pub after : p.after ≡ b
-  pub line : WholeTextGiven (line_of traced number n d.status.outstanding reply) p.line p.told.len p.written
+-- behind an event the run keeps this state, medium and reply buffer, and its line shows this state, refusal and reply
+pub record Shows (traced : Bool) (number : ℕ) (k : Kept) (e : List ℕ) (d : Device) (r : Option Refusal) (reply m b : List ℕ) : Type 0 where
+  pub kept : after k e ≡ kept d m b
+  pub line : told traced number k e ≡ line_of traced number r d.status.outstanding reply
 
--- the one call that it made; where it made none, 24, and nothing has changed
-unfoldable pub ShowsCall : Bool → ℕ → Play → Device → List Done → Type 0
-ShowsCall traced number p d [] = Shows traced number p d 24 [] p.medium p.buffer
-ShowsCall traced number p d (x ∷ xs) = Shows traced number p x.gave.outcome.state (event x).refusal (event x).reply (event x).left x.gave.buffer × (xs ≡ [])
+-- it made a call, and shows that
+unfoldable pub ShowsCall : Bool → ℕ → Kept → List ℕ → Option Done → Type 0
+ShowsCall traced number k e None = ⊥
+ShowsCall traced number k e (Some x) = Shows traced number k e x.gave.outcome.state (event x).refusal (event x).reply (event x).left x.gave.buffer
 
--- every event
-unfoldable pub EachShown : Bool → ℕ → Device → List Play → Type 0
-EachShown traced n d [] = Unit
-EachShown traced n d (p ∷ ps) = ShowsCall traced n p d (donesBy d p) × EachShown traced (n + 1) p.told.state ps
+-- every event, numbered on
+unfoldable pub EachShown : Bool → ℕ → Kept → List (List ℕ) → Type 0
+EachShown traced n k [] = Unit
+EachShown traced n k (e ∷ es) = ShowsCall traced n k e (doneBy k e) × EachShown traced (n + 1) (after k e) es
 
 -- power-on with the settings that the record asks for, and its line, the first
-pub record StartShown (traced : Bool) (b : Start) : Type 0 where
-  pub state : b.told.state ≡ (powerOn (asked_of b.event)).state
-  pub refusal : b.told.refusal ≡ (powerOn (asked_of b.event)).refusal
-  pub line : WholeTextGiven (line_of traced 0 (powerOn (asked_of b.event)).refusal (powerOn (asked_of b.event)).state.status.outstanding []) b.line b.told.len b.written
+pub record StartShown (traced : Bool) (s : List ℕ) : Type 0 where
+  pub state : (started s).device ≡ (powerOn (asked_of s)).state
+  pub line : start_line traced s ≡ line_of traced 0 (powerOn (asked_of s)).refusal (powerOn (asked_of s)).state.status.outstanding []
 
--- what was played is a history in the sense of demand 3: from power-on its calls are a run of the device, each event shows its own of them, and demand 3 holds of their history
-pub record IsHistory (traced : Bool) (b : Start) (ps : List Play) : Type 0 where
-  pub begins : StartShown traced b
-  pub calls : run_from (asked_of b.event) (lents (donesAll b.told.state ps)) ≡ record { state = endState b.told.state ps; calls = newestFirst [] (donesAll b.told.state ps) }
-  pub shown : EachShown traced 1 b.told.state ps
-  pub demand3 : Demand3 (asked_of b.event).depth (asked_of b.event).mask (historyOf (donesAll b.told.state ps))
-  pub told : StateAgrees (asked_of b.event) (endState b.told.state ps) (historyOf (donesAll b.told.state ps))
+-- what is played behind the settings s is a history in the sense of demand 3: from power-on its calls are a run of the device, each event shows its own of them, and demand 3 holds of their history
+pub record IsHistory (traced : Bool) (s : List ℕ) (es : List (List ℕ)) : Type 0 where
+  pub begins : StartShown traced s
+  pub calls : run_from (asked_of s) (lents (donesAll (started s) es)) ≡ record { state = (kept_after (started s) es).device; calls = newestFirst [] (donesAll (started s) es) }
+  pub shown : EachShown traced 1 (started s) es
+  pub demand3 : Demand3 (asked_of s).depth (asked_of s).mask (historyOf (donesAll (started s) es))
+  pub told : StateAgrees (asked_of s) (kept_after (started s) es).device (historyOf (donesAll (started s) es))
+
+-- the first event is the settings; a run without them makes no call
+unfoldable pub OfHistory : Bool → List (List ℕ) → Type 0
+OfHistory traced [] = Unit
+OfHistory traced (s ∷ es) = IsHistory traced s es
+
+-- of the lines of a history, and `stop`, a run has written a front: how much of it, its end says
+pub record RunHistory (traced : Bool) (input : List ℕ) (old new : Option (List ℕ)) : Type 0 where
+  pub es : List (List ℕ)
+  pub rest : List ℕ
+  pub begins : input ≡ joined es ++ rest
+  pub plays : Plays es
+  pub history : OfHistory traced es
+  pub written : AppendsFront old new (run_lines traced es ++ ending Stop)

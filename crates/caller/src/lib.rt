@@ -1,9 +1,9 @@
-// Callers of the device: a function for each call, whose contract is demand 3 of every history that the call continues; and the two functions of the event program, whose results, one after the other, are such a history (`program-history` in proofs/).
+// Callers of the device: a function for each call, whose contract is demand 3 of every history that the call continues; and the event program's run, whose contract is that what it wrote is the lines of such a history.
 #![tactic(auto)]
 
 mod calling;
 mod keeping;
-mod telling;
+mod running;
 
 pub use calling::{
     begin, comreset, finish, first_link, host_frame, link_event, media_error, open, send,
@@ -12,4 +12,4 @@ pub use keeping::{
     keep, kept_comreset, kept_finish, kept_host_frame, kept_link_event, kept_media_error,
     kept_open, kept_send,
 };
-pub use telling::{play_line, start_line};
+pub use running::run;

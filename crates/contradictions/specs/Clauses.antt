@@ -1,11 +1,12 @@
 -- A state contradicts itself if one of these clauses holds, each in the words of the rules. Assumes nothing.
-use Rattle.std.specs.Prelude.{Bool, not, ◌&&◌, ◌||◌, List, ℕ, ◌+◌, ◌-◌, ◌%◌, ltb, leb, eqb, get_or}
+use Rattle.std.specs.Prelude.{Bool, false, not, ◌&&◌, ◌||◌, List, ℕ, ◌+◌, ◌%◌, ltb, leb, eqb, get_or, Option, Some, None}
 use Rattle.bits.specs.Pick.{pick}
 use Rattle.bits.specs.Bit.{bitIn}
 use Rattle.frame_parts.specs.Shared.{sectorsOf}
 use Rattle.page_rows.specs.Rows.{kept, keepsBoth}
 use Rattle.device_state.specs.State.{taskIn, tagIn, whole_of, zeroEntry}
 use Rattle.device_state.specs.Table.{someBelow}
+use Rattle.device_state.specs.UnderWay.{openFor}
 use Rattle.device_state.specs.declared.shapes.Settings.{Settings}
 use Rattle.device_state.specs.declared.shapes.Echo.{Echo}
 use Rattle.device_state.specs.declared.shapes.Entry.{Entry}
@@ -79,16 +80,21 @@ unfoldable pub entryBad : Settings → Entry → ℕ → Bool → Bool → Bool
 entryBad s e t busy phase = pick busy (busyBad s e t phase) (idleBad e)
 
 -- of tag t, in the table
-abbrev pub tagBad : Settings → List Entry → ℕ → ℕ → ℕ → Bool
-tagBad s es outstanding phase t = entryBad s (get_or es t zeroEntry) t (bitIn 32 outstanding t) (eqb phase (t + 1))
+abbrev pub tagBad : Settings → List Entry → ℕ → Option ℕ → ℕ → Bool
+tagBad s es outstanding phase t = entryBad s (get_or es t zeroEntry) t (bitIn 32 outstanding t) (openFor phase t)
 
 -- of some tag
-unfoldable pub tableBad : Settings → List Entry → ℕ → ℕ → Bool
+unfoldable pub tableBad : Settings → List Entry → ℕ → Option ℕ → Bool
 tableBad s es outstanding phase = someBelow 32 (tagBad s es outstanding phase)
+
+-- the tag of a phase isn't among those outstanding
+abbrev pub openIdle : ℕ → Option ℕ → Bool
+openIdle outstanding None = false
+openIdle outstanding (Some tag) = not (bitIn 32 outstanding tag)
 
 -- the open phase's tag isn't outstanding
 abbrev pub phaseIdle : Status → Bool
-phaseIdle f = not (eqb f.phase 0) && not (bitIn 32 f.outstanding (f.phase - 1))
+phaseIdle f = openIdle f.outstanding f.phase
 
 -- halted or held with something outstanding
 abbrev pub stoppedBusy : Status → Bool

@@ -1,13 +1,10 @@
 -- Each public function's own contract: what it says, and that two answers which it allows are equal. Assumes nothing.
-use Rattle.counter_values.specs.Counts.{bumped, countedAt}
+use Rattle.counter_values.specs.Counts.{countedAt}
 use mathlib.Core.Path.{◌≡◌, refl}
 use Rattle.bits.specs.Contract.{Tied}
-use Rattle.bits.proofs.Tying.{same, say, by, named}
+use Rattle.bits.proofs.Tying.{same, say, by}
 use Rattle.counter_values.proofs.counts
 use Rattle.counter_values.specs.contracts.counts as counts-said
-
-pub tied-bump : Tied counts-said.bump.ended counts.bump.Reads.Asked counts.bump.Reads.Post (λ κs a r ws. r ≡ bumped a.0 a.1.0)
-tied-bump = named (say (λ κs a. tt) (λ κs a r ws p. p)) (λ κs a ws ws'. refl)
 
 pub tied-count : Tied counts-said.count.ended counts.count.Reads.Asked counts.count.Reads.Post (λ κs a r ws. ws.0 ≡ countedAt a.0.now a.1.0)
 tied-count = by (say (λ κs a. tt) (λ κs a r ws p. p)) (λ κs a r r' ws ws' p q. (refl, λ i. (same p q i, (tt, tt))))

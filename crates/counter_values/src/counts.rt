@@ -1,23 +1,14 @@
 // Counters that stay at the top once there.
 ghost use Rattle.std.specs.Prelude.{◌≡◌};
-ghost use Rattle.counter_values.specs.Counts.{bumped, countedAt};
+ghost use Rattle.counter_values.specs.Counts.{countedAt};
 
-pub fn bump(value: u32, amount: u32) -> u32
-    ensures { result ≡ bumped value amount }
-{
-    if 4294967295 - value < amount {
-        return 4294967295;
-    }
-    value + amount
-}
-
-// One event more at a row; there are rows 0 to 15 alone.
+/// One event more at a row; there are rows 0 to 15 alone.
+#[tactic(auto, unfolding(bits::specs::Pick::pick))]
 pub fn count(values: &mut [u32; 16], row: u8)
     ensures { values.new ≡ countedAt values.old row }
 {
-    if 16 <= row {
-        return;
+    let row = row as usize;
+    if row < values.len() {
+        values[row] = values[row].saturating_add(1);
     }
-    let i = row as usize;
-    values[i] = bump(values[i], 1);
 }

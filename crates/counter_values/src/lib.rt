@@ -3,4 +3,4 @@
 
 mod counts;
 
-pub use counts::{bump, count};
+pub use counts::count;

@@ -4,9 +4,9 @@ use mathlib.Core.Bool.{Bool, true, false, ◌||◌}
 use Prim.Native.Nat.{ℕ, ◌+◌, ◌-◌, ◌*◌, ◌%◌, ◌≤◌, ◌<◌, min}
 use lib.Dec.{eqb}
 use native.Mathlib.Omega.{arith}
-use borrow.Author.Tests.{ltb-false, eqb-true, eqb-false, eq-eqb, not-false}
+use borrow.Author.Tests.{ltb-false, eqb-true, eqb-false, not-false}
 use Rattle.bits.specs.Bit.{bitIn}
-use Rattle.bits.proofs.Picks.{pick_yes, pick_no, or_left, or_right}
+use Rattle.bits.proofs.Picks.{pick_yes, or_left, or_right}
 use Rattle.device_state.specs.State.{whole_of}
 use Rattle.device_state.specs.Table.{entry_of}
 use Rattle.contradictions.specs.Clauses.{aboveDepth, pastCapacity, countZero, otherTag, otherRange, movedAbove, movedOdd, movedBetween, phaseDone, movedBad, busyBad, idleBad, entryBad}
@@ -20,10 +20,13 @@ use Rattle.device.proofs.StatusLaws.{phase-busy}
 use Rattle.device.proofs.Entering.{capacity-most}
 use Rattle.device.proofs.Keeping.{settings-good}
 use Rattle.device.proofs.Tags.{busy-below}
+use Rattle.device.proofs.Phases.{some-open, open-tag, own-open}
+use Rattle.device_state.specs.UnderWay.{openFor}
+use Rattle.std.proofs.Common.{is_none, unwrap_or}
 
 -- the phase of a tag is open
 abbrev pub phaseOf : Device → ℕ → Bool
-phaseOf d t = eqb d.status.phase (t + 1)
+phaseOf d t = openFor d.status.phase t
 
 -- its entry
 pub busy-good : (d : Device) (t : ℕ) → contradictoryDevice d ≡ false → bitIn 32 d.status.outstanding t ≡ true
@@ -86,19 +89,19 @@ module _ (d : Device) (t : ℕ) (h : contradictoryDevice d ≡ false) (b : bitIn
       omega (arith, apart)
 
 -- of the open phase
-pub moves-on : (d : Device) → contradictoryDevice d ≡ false → eqb d.status.phase 0 ≡ false
+pub moves-on : (d : Device) → contradictoryDevice d ≡ false → is_none d.status.phase ≡ false
     → (entry_of d.entries (openTag d.status.phase)).moved < whole_of (entry_of d.entries (openTag d.status.phase)).count
 unfolding openTag
 moves-on d h p =
-    let t = d.status.phase - 1 in
-    let own : phaseOf d t ≡ true = let q = eqb-false d.status.phase 0 p in eq-eqb d.status.phase (t + 1) (omega (arith, q)) in
-    rw (pick_no (eqb d.status.phase 0) 32 t p) (phase-more d t h (phase-busy d.status d.errors.set (status-good d h) p) own)
+    let t = unwrap_or d.status.phase 0 in
+    let own : phaseOf d t ≡ true = own-open d.status.phase t (some-open d.status.phase p) in
+    rw (open-tag d.status.phase p) (phase-more d t h (phase-busy d.status d.errors.set (status-good d h) p) own)
 
 -- of whole Dwords, and of what is left of the open phase's command, the less is whole Dwords too
-pub part-fours : (d : Device) (k : ℕ) → contradictoryDevice d ≡ false → eqb d.status.phase 0 ≡ false → k % 4 ≡ 0
-    → min k (left_of (entry_of d.entries (d.status.phase - 1))) % 4 ≡ 0
+pub part-fours : (d : Device) (k : ℕ) → contradictoryDevice d ≡ false → is_none d.status.phase ≡ false → k % 4 ≡ 0
+    → min k (left_of (entry_of d.entries (unwrap_or d.status.phase 0))) % 4 ≡ 0
 part-fours d k h p four =
-    let t = d.status.phase - 1 in
+    let t = unwrap_or d.status.phase 0 in
     let old = moved-fours d t h (phase-busy d.status d.errors.set (status-good d h) p) in
     less-fours k (entry_of d.entries t).count (entry_of d.entries t).moved four old
   where

@@ -3,20 +3,19 @@ use mathlib.Core.Path.{◌≡◌, ap, ◌∙◌}
 use mathlib.Core.Bool.{true, false, not}
 use Prim.Native.Nat.{ℕ, ◌≤◌, min}
 use native.Mathlib.Omega.{arith}
-use lib.Dec.{eqb}
-use borrow.Author.Tests.{not-true}
 use Rattle.bits.proofs.Picks.{by-test, and_left, pick_yes}
 use Rattle.rules.specs.Positions.{left_of}
 use Rattle.device.specs.Device.{contradictoryDevice}
 use Rattle.device.specs.DataDue.{phaseEntry, writing, dataDue}
 use Rattle.device.specs.declared.state.Device.{Device}
 use Rattle.device.proofs.Moves.{left, left_is}
+use Rattle.std.proofs.Common.{is_some}
 
 -- in the write phase of a state that does not contradict itself, the length due is min(8,192, what is left of the command)
 pub due-is : (d : Device) → contradictoryDevice d ≡ false → writing d ≡ true → dataDue d ≡ min 8192 (left d)
 unfolding dataDue
 due-is d h w =
-    let phase = not-true (eqb d.status.phase 0) (and_left (not (eqb d.status.phase 0)) (phaseEntry d).write w) in
+    let phase = ap not (and_left (is_some d.status.phase) (phaseEntry d).write w) in
     pick_yes (writing d) (min 8192 (left_of (phaseEntry d))) 4 w ∙ ap (λ (n : ℕ). min 8192 n) (left_is d h phase)
 
 -- no more than a data frame holds

@@ -2,7 +2,7 @@
 use mathlib.Core.Path.{◌≡◌, refl, sym, subst}
 use mathlib.Core.Bool.{Bool, true, false, true≢false}
 use Prim.Native.Nat.{ℕ, ◌<◌}
-use lib.Dec.{eqb, lit<}
+use lib.Dec.{lit<}
 use lib.ListN.{replicate}
 use Rattle.bits.specs.Pick.{pick}
 use Rattle.bits.specs.Bit.{bitIn}
@@ -12,13 +12,14 @@ use Rattle.device_state.specs.declared.shapes.Entry.{Entry}
 use Rattle.device_state.specs.declared.shapes.ErrorRecord.{ErrorRecord}
 use Rattle.rules.specs.declared.acts.Fault.{Fault}
 use Rattle.rules.specs.declared.acts.Act.{Act}
-use Rattle.rules.specs.declared.acts.Act.TheVariants.{Refuse, Nothing, Bad, BadAndHalt, Accept, Log10, Log11, Reset, Release, ZeroCounters, Store, Open, Send, Finish, Media, Count, Renew}
+use Rattle.rules.specs.declared.acts.Act.TheVariants.{Nothing, Bad, BadAndHalt, Accept, Log10, Log11, Reset, Release, ZeroCounters, Store, Open, Send, Finish, Media, Count, Renew}
 use Rattle.device.specs.After.{withValue, haltWith, unhalted, zeroedIf, resetHeld, released, acceptedBy, movedBy, openedFor, finishedBy, failedBy, renewed, after_of}
 use Rattle.device.specs.declared.state.Device.{Device}
 use Rattle.device.proofs.Widths.{Small, SmallAll, Wide, zero-small, placed-small, cleared-small, idle-small}
+use Rattle.std.proofs.Common.{Option, None, is_none}
 
 -- halt: every outstanding command is given up, an open phase closes, the error record is set
-pub halt-effect : (d : Device) (f : Fault) → ((haltWith d f).status ≡ record { outstanding = 0; phase = 0; halted = true; held = false }) × ((haltWith d f).errors.set ≡ true) × ((haltWith d f).values ≡ d.values)
+pub halt-effect : (d : Device) (f : Fault) → ((haltWith d f).status ≡ record { outstanding = 0; phase = None; halted = true; held = false }) × ((haltWith d f).errors.set ≡ true) × ((haltWith d f).values ≡ d.values)
 unfolding haltWith
 halt-effect d f = (refl, refl, refl)
 
@@ -33,7 +34,7 @@ unfolding zeroedIf pick
 zeroed-effect d = (refl, refl)
 
 -- SRST: everything outstanding is dropped, an open phase closes, halt and record cleared, reset held; counters kept
-pub reset-effect : (d : Device) → ((resetHeld d).status ≡ record { outstanding = 0; phase = 0; halted = false; held = true }) × ((resetHeld d).errors ≡ blankRecord) × ((resetHeld d).values ≡ d.values)
+pub reset-effect : (d : Device) → ((resetHeld d).status ≡ record { outstanding = 0; phase = None; halted = false; held = true }) × ((resetHeld d).errors ≡ blankRecord) × ((resetHeld d).values ≡ d.values)
 unfolding resetHeld
 reset-effect d = (refl, refl, refl)
 
@@ -73,7 +74,6 @@ opening = record { anew = false; opens = true; error = 0; echo = zeroEcho }
 
 -- an act's
 unfoldable pub traits : Act → Traits
-traits (Refuse n) = none
 traits Nothing = none
 traits (Bad b) = none
 traits (BadAndHalt f) = halting f
@@ -99,7 +99,7 @@ Puts a = ((traits a).error < 256) × Small (traits a).echo
 pub record ActLaws (d : Device) (a : Act) : Type 0 where
   pub settings : (after_of d a).settings ≡ d.settings
   pub stays : (traits a).anew ≡ false → (after_of d a).errors ≡ d.errors
-  pub opened : eqb (after_of d a).status.phase 0 ≡ false → (traits a).opens ≡ false → eqb d.status.phase 0 ≡ false
+  pub opened : is_none (after_of d a).status.phase ≡ false → (traits a).opens ≡ false → is_none d.status.phase ≡ false
   pub wide : Wide d → Puts a → Wide (after_of d a)
 
 -- nor does a media error
@@ -109,7 +109,7 @@ failed-settings d f true = refl
 failed-settings d f false = refl
 
 -- what moves closes a phase, or leaves it
-still : (last : Bool) (phase : ℕ) → eqb (pick last 0 phase) 0 ≡ false → eqb phase 0 ≡ false
+still : (last : Bool) (phase : Option ℕ) → is_none (pick last None phase) ≡ false → is_none phase ≡ false
 unfolding pick
 still true phase e = absurd (true≢false e)
 still false phase e = e
@@ -125,7 +125,6 @@ same-record q w s = record { sized = record { error = subst (λ (r : ErrorRecord
 
 pub act-laws : (d : Device) (a : Act) → ActLaws d a
 unfolding traits after_of haltWith acceptedBy unhalted zeroedIf resetHeld released movedBy openedFor finishedBy failedBy renewed withValue pick
-act-laws d (Refuse n) = record { settings = refl; stays = λ _. refl; opened = λ p _. p; wide = λ w _. w }
 act-laws d Nothing = record { settings = refl; stays = λ _. refl; opened = λ p _. p; wide = λ w _. w }
 act-laws d (Bad b) = record { settings = refl; stays = λ _. refl; opened = λ p _. p; wide = λ w _. w }
 act-laws d (BadAndHalt f) = record {
@@ -175,7 +174,7 @@ act-settings d a = (act-laws d a).settings
 pub record-stays : (d : Device) (a : Act) → (traits a).anew ≡ false → (after_of d a).errors ≡ d.errors
 record-stays d a = (act-laws d a).stays
 
-pub opens-only : (d : Device) (a : Act) → eqb (after_of d a).status.phase 0 ≡ false → (traits a).opens ≡ false → eqb d.status.phase 0 ≡ false
+pub opens-only : (d : Device) (a : Act) → is_none (after_of d a).status.phase ≡ false → (traits a).opens ≡ false → is_none d.status.phase ≡ false
 opens-only d a = (act-laws d a).opened
 
 pub act-wide : (d : Device) (a : Act) → Wide d → Puts a → Wide (after_of d a)

@@ -2,12 +2,12 @@
 use mathlib.Core.Path.{◌≡◌, refl}
 use mathlib.Core.Bool.{Bool, true, false, not, ◌&&◌, ◌||◌}
 use mathlib.Core.List.{List, [], ◌∷◌}
+use Rattle.std.proofs.Common.{Result, Ok, Err}
 use Prim.Native.Nat.{ℕ, zero, suc, ◌-◌, ◌<◌}
 use native.Mathlib.Omega.{arith}
 use lib.Dec.{eqb}
 use lib.ListN.{length, get_or}
 use borrow.Author.Tests.{lt-ltb, ltb-true, ltb-false, not-false}
-use Rattle.bits.specs.Pick.{pick}
 use Rattle.bits.specs.Little.{byte_of, Bytes}
 use Rattle.bits.proofs.Picks.{by-test, and_left, or_left, or_right}
 use Rattle.frame_parts.specs.Shared.{taskFits, below}
@@ -17,6 +17,8 @@ use Rattle.frame_parts.proofs.TaskLaws.{task-fits}
 use Rattle.frames.specs.Read.{hostOf, deviceOf, bits_of, setupOf, pioOf, frameByKind, readFrame}
 use Rattle.frames.specs.declared.shapes.Frame.{Frame}
 use Rattle.frames.specs.declared.shapes.Frame.TheVariants as fs
+use Rattle.refusals.specs.declared.reasons.Refusal.{Refusal}
+use Rattle.refusals.specs.declared.reasons.Refusal.TheVariants.{NoFrame}
 use Rattle.page_10h.specs.Page10.{fits10}
 use Rattle.page_10h.specs.declared.page10.ErrorLog.{ErrorLog}
 use Rattle.device_state.specs.State.{placedBytes, taskIn, echoOf}
@@ -76,35 +78,21 @@ record-fits d s h =
 -- ---- a host frame
 
 -- what was read of a command's bytes fits
-unfoldable pub ReadFits : Frame → Type 0
-ReadFits (fs.Host h) = taskFits h.task ≡ true
-ReadFits (fs.Device x) = Unit
-ReadFits (fs.Bits x) = Unit
-ReadFits (fs.Setup x) = Unit
-ReadFits fs.Activate = Unit
-ReadFits (fs.Data n) = Unit
-ReadFits fs.Bist = Unit
-ReadFits (fs.Pio x) = Unit
-ReadFits fs.Refused = Unit
+unfoldable pub ReadFits : Result Frame Refusal → Type 0
+ReadFits (Ok (fs.Host h)) = taskFits h.task ≡ true
+ReadFits _ = Unit
 
 pub read_fits : (l : List ℕ) → Bytes l → ReadFits (readFrame l)
 unfolding ReadFits readFrame frameByKind
 read_fits l b =
     let k = get_or l 0 0 in
-    let last : Frame = pick (eqb k 0x46) (fs.Data (length l - 4)) fs.Refused in
-    let five : Frame = pick (eqb k 0x5F) (fs.Pio (pioOf l)) last in
-    let bist : Frame = pick (eqb k 0x58) fs.Bist five in
-    let active : Frame = pick (eqb k 0x39) fs.Activate bist in
-    let setup : Frame = pick (eqb k 0x41) (fs.Setup (setupOf l)) active in
-    let bits : Frame = pick (eqb k 0xA1) (fs.Bits (bits_of l)) setup in
-    let device : Frame = pick (eqb k 0x34) (fs.Device (deviceOf l)) bits in
-    by-test ReadFits (readable k (length l)) (frameByKind k l) fs.Refused
-    (λ _. by-test ReadFits (eqb k 0x27) (fs.Host (hostOf l)) device (λ _. task-fits l b)
-    (λ _. by-test ReadFits (eqb k 0x34) (fs.Device (deviceOf l)) bits (λ _. tt)
-    (λ _. by-test ReadFits (eqb k 0xA1) (fs.Bits (bits_of l)) setup (λ _. tt)
-    (λ _. by-test ReadFits (eqb k 0x41) (fs.Setup (setupOf l)) active (λ _. tt)
-    (λ _. by-test ReadFits (eqb k 0x39) fs.Activate bist (λ _. tt)
-    (λ _. by-test ReadFits (eqb k 0x58) fs.Bist five (λ _. tt)
-    (λ _. by-test ReadFits (eqb k 0x5F) (fs.Pio (pioOf l)) last (λ _. tt)
-    (λ _. by-test ReadFits (eqb k 0x46) (fs.Data (length l - 4)) fs.Refused (λ _. tt) (λ _. tt)))))))))
+    by-test ReadFits (readable k (length l)) (frameByKind k l) (Err NoFrame)
+    (λ _. by-test ReadFits (eqb k 0x27) (Ok (fs.Host (hostOf l))) _ (λ _. task-fits l b)
+    (λ _. by-test ReadFits (eqb k 0x34) (Ok (fs.Device (deviceOf l))) _ (λ _. tt)
+    (λ _. by-test ReadFits (eqb k 0xA1) (Ok (fs.Bits (bits_of l))) _ (λ _. tt)
+    (λ _. by-test ReadFits (eqb k 0x41) (Ok (fs.Setup (setupOf l))) _ (λ _. tt)
+    (λ _. by-test ReadFits (eqb k 0x39) (Ok fs.Activate) _ (λ _. tt)
+    (λ _. by-test ReadFits (eqb k 0x58) (Ok fs.Bist) _ (λ _. tt)
+    (λ _. by-test ReadFits (eqb k 0x5F) (Ok (fs.Pio (pioOf l))) _ (λ _. tt)
+    (λ _. by-test ReadFits (eqb k 0x46) (Ok (fs.Data (length l - 4))) (Err NoFrame) (λ _. tt) (λ _. tt)))))))))
     (λ _. tt)

@@ -1,3 +1,4 @@
+pub mod Turns
 pub mod Sized
 pub mod Outcomes
 pub mod Never
@@ -5,6 +6,7 @@ pub mod Keeping
 pub mod Parts
 pub mod Acts
 pub mod Tags
+pub mod Phases
 pub mod StatusLaws
 pub mod Retagging
 pub mod Changes
@@ -31,5 +33,6 @@ pub mod Sending
 pub mod Storing
 pub mod Moves
 pub mod Due
+pub mod Contradicted
 pub mod Zeros
 pub mod Sound

@@ -1,11 +1,12 @@
 -- What moves, in plain numbers: of a command 512 × count bytes less what has moved are left, and the next one stands at 512 × first and what has moved. Assumes nothing.
 use mathlib.Core.Path.{◌≡◌, refl, sym, ap, ◌∙◌}
-use mathlib.Core.Bool.{true, false, not}
+use mathlib.Core.Bool.{Bool, true, false, not}
 use mathlib.Core.List.{List, [], ◌∷◌, ◌++◌}
 use mathlib.Core.Logic.{⊎_elim}
+use Rattle.std.proofs.Common.{Option, Some, None, Result, Ok, is_none}
 use Prim.Native.Nat.{ℕ, ◌+◌, ◌-◌, ◌*◌, ◌%◌, ◌≤◌, min}
 use native.Mathlib.Omega.{arith}
-use lib.Dec.{eqb, ltb, leb}
+use lib.Dec.{ltb, leb}
 use lib.ListN.{length, get_or, take, drop, length-drop}
 use borrow.Author.Tests.{le-leb, lt-ltb, le-ltb, leb-true, leb-false, eq-eqb}
 use Rattle.bits.specs.Pick.{pick}
@@ -13,11 +14,12 @@ use Rattle.bits.specs.Bit.{bitIn}
 use Rattle.bits.proofs.Picks.{tested}
 use Rattle.frame_parts.specs.Size.{payloadSize}
 use Rattle.frames.specs.Write.{activate, payload}
+use Rattle.refusals.specs.declared.reasons.Refusal.{Refusal}
+use Rattle.refusals.specs.declared.reasons.Refusal.TheVariants.{TooLong}
 use Rattle.device_state.specs.Table.{entry_of}
 use Rattle.device_state.specs.declared.shapes.Entry.{Entry}
 use Rattle.rules.specs.Positions.{left_of, move_of}
 use Rattle.rules.specs.Call.{hostFrame, sendData}
-use Rattle.rules.specs.Number.{number_of}
 use Rattle.rules.specs.Medium.{touch_of, span_of, part_of}
 use Rattle.rules.specs.declared.acts.Act.{Act}
 use Rattle.rules.proofs.Ruled as by
@@ -25,13 +27,14 @@ use Rattle.replies.specs.Replies.{repliesOf}
 use Rattle.device.specs.Device.{contradictoryDevice}
 use Rattle.device.specs.Lent.{lent}
 use Rattle.device.specs.FactsOf.{openTag, facts_of}
-use Rattle.device.specs.Step.{shown, actOf, step}
+use Rattle.device.specs.Step.{shown, stepBy, step}
 use Rattle.device.specs.declared.state.Device.{Device}
 use Rattle.device.proofs.Parts.{status-good}
 use Rattle.device.proofs.StatusLaws.{phase-busy}
 use Rattle.device.proofs.Busy.{whole_is}
-use Rattle.device.proofs.Rooms.{open-tag-is}
+use Rattle.device.proofs.Turns.{by-turn, none-some, act-ruled}
 use Rattle.device.proofs.Storing.{taken-46, data-kept-whole, six-by-left}
+use Rattle.device.proofs.Phases.{open-tag}
 
 -- the entry of the open phase
 abbrev pub opened : Device → Entry
@@ -46,10 +49,10 @@ abbrev pub place : Device → ℕ
 place d = 512 * (opened d).first + (opened d).moved
 
 -- in a state that does not contradict itself that is what the rules go by
-pub left_is : (d : Device) → contradictoryDevice d ≡ false → eqb d.status.phase 0 ≡ false → left_of (opened d) ≡ left d
+pub left_is : (d : Device) → contradictoryDevice d ≡ false → is_none d.status.phase ≡ false → left_of (opened d) ≡ left d
 left_is d h p =
     let t = openTag d.status.phase in
-    let busy : bitIn 32 d.status.outstanding t ≡ true = rw (open-tag-is d h p) (phase-busy d.status d.errors.set (status-good d h) p) in
+    let busy : bitIn 32 d.status.outstanding t ≡ true = rw (open-tag d.status.phase p) (phase-busy d.status d.errors.set (status-good d h) p) in
     let whole = whole_is d t h busy in
     omega arith
 
@@ -62,7 +65,7 @@ pub record Stored (d : Device) (f m b : List ℕ) : Type 0 where
   pub bytes : (step d (lent (hostFrame f) m b)).medium ≡ take (place d) m ++ (drop 4 f ++ drop (place d + length (drop 4 f)) m)
   pub frames : (step d (lent (hostFrame f) m b)).frames ≡ pick (ltb (length (drop 4 f)) (left d)) (activate ∷ []) []
 
-pub data-stored : (d : Device) (f m b : List ℕ) → get_or f 0 0 ≡ 0x46 → (step d (lent (hostFrame f) m b)).refusal ≡ 0 → Stored d f m b
+pub data-stored : (d : Device) (f m b : List ℕ) → get_or f 0 0 ≡ 0x46 → (step d (lent (hostFrame f) m b)).refusal ≡ None → Stored d f m b
 unfolding repliesOf move_of
 data-stored d f m b kind z =
     let t = taken-46 d f m b kind z in
@@ -73,7 +76,7 @@ data-stored d f m b kind z =
       most = omega (arith, all, most);
       bytes = kept.1;
       frames =
-          ap (λ (a : Act). repliesOf (shown d) (part_of (span_of a) m) a) t.act
+          ap (λ (x : Result Act Refusal). (stepBy d (lent (hostFrame f) m b) x).frames) t.act
           ∙ ap (λ x. pick x (activate ∷ []) []) (not-leb (left_of (opened d)) (length f - 4) ∙ ap (λ (n : ℕ). ltb (length f - 4) n) all ∙ ap (λ (n : ℕ). ltb n (left d)) (sym (length-drop 4 f)));
     }
 
@@ -82,20 +85,21 @@ payload-of k a b = rw (le-leb 4 (4 * k) (omega arith), le-leb (4 * k) 8192 (omeg
 
 -- 6: in a write phase, where nothing before it is wrong, a payload of k whole Dwords, 1 to 2,048, is turned down exactly when it is longer than what is left
 pub six-exactly : (d : Device) (f m b : List ℕ) (k : ℕ) → get_or f 0 0 ≡ 0x46 → length f ≡ 4 + 4 * k → 1 ≤ k → k ≤ 2048
-    → contradictoryDevice d ≡ false → length m ≡ 512 * d.settings.capacity → 8196 ≤ length b → eqb d.status.phase 0 ≡ false → (opened d).write ≡ true
-    → (step d (lent (hostFrame f) m b)).refusal ≡ pick (ltb (left d) (4 * k)) 6 0
+    → contradictoryDevice d ≡ false → length m ≡ 512 * d.settings.capacity → 8196 ≤ length b → is_none d.status.phase ≡ false → (opened d).write ≡ true
+    → (step d (lent (hostFrame f) m b)).refusal ≡ pick (ltb (left d) (4 * k)) (Some TooLong) None
 six-exactly d f m b k kind long some most c w s o u =
     let size : length f - 4 ≡ 4 * k = omega arith in
+    let told : Bool → Option Refusal = λ t. pick t (Some TooLong) None in
     six-by-left d f m b kind (rw size (payload-of k some most)) c (rw (eq-eqb (length m) (512 * d.settings.capacity) w) refl) (le-ltb (length b) 8196 s) o u
-    ∙ ap (λ (x : ℕ). pick (ltb x (length f - 4)) 6 0) (left_is d c o) ∙ ap (λ (x : ℕ). pick (ltb (left d) x) 6 0) size
+    ∙ ap (λ (x : ℕ). told (ltb x (length f - 4))) (left_is d c o) ∙ ap (λ (x : ℕ). told (ltb (left d) x)) size
 
--- a send that was decided
-ruled-carries : (d : Device) (m b : List ℕ) {a : Act} → by.Ruled (facts_of d (lent sendData m b)) sendData a → number_of a ≡ 0 → repliesOf (shown d) (part_of (span_of a) m) a ≡ payload (take (min 8192 (left d)) (drop (place d) m)) ∷ []
-unfolding touch_of repliesOf move_of number_of
-ruled-carries d m b (by.refused c n h e) z = absurd (h z)
-ruled-carries d m b (by.own (by.sent g w s p r)) z = ap (λ (x : ℕ). payload (take (min 8192 x) (drop (place d) m)) ∷ []) (left_is d g p)
+-- a taken send
+ruled-carries : (d : Device) (m b : List ℕ) {a : Act} → by.Ruled (facts_of d (lent sendData m b)) sendData (Ok a) → repliesOf (shown d) (part_of (span_of a) m) a ≡ payload (take (min 8192 (left d)) (drop (place d) m)) ∷ []
+unfolding touch_of repliesOf move_of
+ruled-carries d m b (by.own (by.sent g w s p r)) = ap (λ (x : ℕ). payload (take (min 8192 x) (drop (place d) m)) ∷ []) (left_is d g p)
 
 -- a taken send: one data frame of min(8,192, what is left) bytes of the medium, from the command's place on
-pub send-carries : (d : Device) (m b : List ℕ) → (step d (lent sendData m b)).refusal ≡ 0 → (step d (lent sendData m b)).frames ≡ payload (take (min 8192 (left d)) (drop (place d) m)) ∷ []
-unfolding actOf
-send-carries d m b z = ruled-carries d m b (by.ruled (facts_of d (lent sendData m b)) sendData) z
+pub send-carries : (d : Device) (m b : List ℕ) → (step d (lent sendData m b)).refusal ≡ None → (step d (lent sendData m b)).frames ≡ payload (take (min 8192 (left d)) (drop (place d) m)) ∷ []
+send-carries d m b =
+    let l = lent sendData m b in
+    by-turn d l (λ s. s.refusal ≡ None → s.frames ≡ payload (take (min 8192 (left d)) (drop (place d) m)) ∷ []) (λ r _ z. absurd (none-some r z)) (λ a q _. ruled-carries d m b (act-ruled d l a q))

@@ -1,9 +1,10 @@
 -- A state that power-on makes never contradicts itself. Assumes nothing.
 use mathlib.Core.Path.{◌≡◌, refl}
 use mathlib.Core.Bool.{Bool, true, false, not, ◌&&◌}
-use Prim.Native.Nat.{ℕ, ◌+◌, ◌^◌}
+use Prim.Native.Nat.{ℕ, ◌^◌}
+use Rattle.std.proofs.Common.{None}
 use native.Mathlib.Nat.{zero-div}
-use lib.Dec.{eqb, ltb, lit<}
+use lib.Dec.{ltb, lit<}
 use lib.ListN.{replicate, get_or-replicate}
 use Rattle.bits.specs.Pick.{pick}
 use Rattle.bits.specs.Bit.{bitIn}
@@ -13,7 +14,7 @@ use Rattle.contradictions.specs.Clauses.{settingsOut, entryBad, idleBad, tagBad,
 use Rattle.device_state.specs.declared.shapes.Settings.{Settings}
 use Rattle.device_state.proofs.TableLaws.{some-never}
 use Rattle.device.specs.Device.{freshDevice, zeroDevice, contradictoryDevice, powerOn}
-use Rattle.bits.proofs.Firsts as firsts
+use Rattle.refusals.proofs.FirstLaws as firsts
 use Rattle.refusals.specs.Ladders.{powerLadder}
 
 -- a test that nothing can hold beside
@@ -29,11 +30,11 @@ pub idle-tag : (s : Settings) (t : ℕ) (b : Bool) → entryBad s zeroEntry t fa
 unfolding entryBad idleBad pick
 idle-tag s t b = refl
 
-pub fresh-table : (s : Settings) → tableBad s (replicate 32 zeroEntry) 0 0 ≡ false
+pub fresh-table : (s : Settings) → tableBad s (replicate 32 zeroEntry) 0 None ≡ false
 unfolding tableBad
 fresh-table s =
-    some-never (tagBad s (replicate 32 zeroEntry) 0 0) 32
-    (λ t h. rw (get_or-replicate 32 t zeroEntry zeroEntry h, no-bit t) (idle-tag s t (eqb 0 (t + 1))))
+    some-never (tagBad s (replicate 32 zeroEntry) 0 None) 32
+    (λ t h. rw (get_or-replicate 32 t zeroEntry zeroEntry h, no-bit t) (idle-tag s t false))
 
 pub fresh-rows : (mask : ℕ) → rowsBad mask (replicate 16 0) ≡ false
 unfolding rowsBad
@@ -50,6 +51,6 @@ unfolding contradictoryDevice freshDevice contradictory settingsOut
 zeros-contradict = refl
 
 -- power-on, taken
-pub never-contradicts-power : (s : Settings) → (powerOn s).refusal ≡ 0 → contradictoryDevice (powerOn s).state ≡ false
-unfolding powerOn pick
+pub never-contradicts-power : (s : Settings) → (powerOn s).refusal ≡ None → contradictoryDevice (powerOn s).state ≡ false
+unfolding powerOn
 never-contradicts-power s z = rw z (never-contradicts s ((firsts.first-exactly (powerLadder (settingsOut s)) tt).none.0 z 0 (lit< tt)))

@@ -26,6 +26,7 @@ use Rattle.device.specs.Ones.{openEntry, openEntries}
 use Rattle.device.specs.declared.state.Device.{Device}
 use Rattle.device.proofs.Parts.{tag-good}
 use Rattle.device.proofs.Retagging.{nameBad}
+use Rattle.device_state.specs.UnderWay.{openFor}
 
 -- ---- what the test of an entry says of its count, and of its tag
 
@@ -121,7 +122,7 @@ ones-open d w h =
     ones-tied openEntry zeroEntry d.entries d.status.outstanding (rw w.entries w.outstanding)
     (λ t l.
     let k : t < 32 = rw w.entries at l in
-    bit-open d.settings (entry_of d.entries t) d.status.outstanding t (eqb d.status.phase (t + 1)) k (tag-good d h t k))
+    bit-open d.settings (entry_of d.entries t) d.status.outstanding t (openFor d.status.phase t) k (tag-good d h t k))
     ∙ open-sum d.entries
 
 -- at most the depth
@@ -129,7 +130,7 @@ pub ones-most : (d : Device) → d.status.outstanding < 2 ^ 32 → contradictory
 ones-most d w h =
     ones-le d.settings.depth d.status.outstanding
     (below_top 32 d.settings.depth d.status.outstanding w
-    (λ t a k. bit-above d.settings (entry_of d.entries t) d.status.outstanding t (eqb d.status.phase (t + 1)) k a (tag-good d h t k)))
+    (λ t a k. bit-above d.settings (entry_of d.entries t) d.status.outstanding t (openFor d.status.phase t) k a (tag-good d h t k)))
 
 -- so the table never holds more commands than that
 pub open-most : (d : Device) → Sized d → contradictoryDevice d ≡ false → openEntries d.entries ≤ d.settings.depth

@@ -3,22 +3,18 @@ use mathlib.Core.Path.{◌≡◌, refl, ap, ◌∙◌}
 use mathlib.Core.List.{List, []}
 use Prim.Native.Nat.{ℕ}
 use lib.ListN.{length}
-use borrow.Author.Tests.{ne_eqb}
-use Rattle.bits.specs.Pick.{pick}
+use Rattle.std.proofs.Common.{Option, Some, None}
 use Rattle.bits.specs.Laid.{laid}
 use Rattle.frame_parts.specs.Cut.{joined}
 use Rattle.frames.specs.Write.{FrameValue}
+use Rattle.refusals.specs.declared.reasons.Refusal.{Refusal}
 use Rattle.device_state.specs.declared.shapes.Settings.{Settings}
-use Rattle.rules.specs.Number.{number_of}
-use Rattle.rules.specs.Medium.{touch_of}
-use Rattle.rules.specs.declared.acts.Act.{Act}
-use Rattle.rules.proofs.Cases.{act-cases}
-use Rattle.replies.specs.Replies.{repliesOf, sentAll}
-use Rattle.device.specs.Device.{zeroDevice, powerNumber, powerOn}
+use Rattle.replies.specs.Replies.{sentAll}
+use Rattle.device.specs.Device.{zeroDevice, powerRefusal, powered, powerOn}
 use Rattle.device.specs.Lent.{Lent, Gave}
-use Rattle.device.specs.After.{after_of}
-use Rattle.device.specs.Step.{Step, stepBy, actOf, step, Given}
+use Rattle.device.specs.Step.{Step, step, Given}
 use Rattle.device.specs.declared.state.Device.{Device}
+use Rattle.device.proofs.Turns.{by-turn}
 
 -- a step that hands back the state d and the medium m, and sends nothing
 pub record Keeps (d : Device) (m : List ℕ) (s : Step) : Type 0 where
@@ -26,15 +22,9 @@ pub record Keeps (d : Device) (m : List ℕ) (s : Step) : Type 0 where
   pub frames : s.frames ≡ []
   pub medium : s.medium ≡ m
 
--- of a refused act
-act-keeps : (d : Device) (l : Lent) (a : Act) → (number_of a ≡ 0 → ⊥) → Keeps d l.medium (stepBy d l a)
-unfolding after_of repliesOf touch_of
-act-keeps d l =
-    act-cases (λ (x : Act). (number_of x ≡ 0 → ⊥) → Keeps d l.medium (stepBy d l x)) (λ n h. record { state = refl; frames = refl; medium = refl }) (λ x e h. absurd (h e))
-
 -- every call
-pub refused-keeps : (d : Device) (l : Lent) → ((step d l).refusal ≡ 0 → ⊥) → Keeps d l.medium (step d l)
-refused-keeps d l h = act-keeps d l (actOf d l) h
+pub refused-keeps : (d : Device) (l : Lent) → ((step d l).refusal ≡ None → ⊥) → Keeps d l.medium (step d l)
+refused-keeps d l = by-turn d l (λ (s : Step). (s.refusal ≡ None → ⊥) → Keeps d l.medium s) (λ r q h. record { state = refl; frames = refl; medium = refl }) (λ a q h. absurd (h refl))
 
 -- what a caller then sees: the state that came in, length 0, and medium and reply buffer as they were
 pub record Unchanged (d : Device) (l : Lent) (g : Gave) : Type 0 where
@@ -43,7 +33,7 @@ pub record Unchanged (d : Device) (l : Lent) (g : Gave) : Type 0 where
   pub reply : g.buffer ≡ l.buffer
   pub medium : g.medium ≡ l.medium
 
-pub refused-unchanged : (d : Device) (l : Lent) (g : Gave) → Given d l g → (g.outcome.refusal ≡ 0 → ⊥) → Unchanged d l g
+pub refused-unchanged : (d : Device) (l : Lent) (g : Gave) → Given d l g → (g.outcome.refusal ≡ None → ⊥) → Unchanged d l g
 unfolding sentAll joined
 refused-unchanged d l g h n =
     let k = refused-keeps d l (λ e. n (h.refusal ∙ e)) in
@@ -55,6 +45,10 @@ refused-unchanged d l g h n =
     }
 
 -- a refused power-on hands back all zeros
-pub refused-zeros : (s : Settings) → ((powerOn s).refusal ≡ 0 → ⊥) → (powerOn s).state ≡ zeroDevice
-unfolding powerOn pick
-refused-zeros s n = rw (ne_eqb (powerNumber s) 0 n)
+powered-zeros : (r : Option Refusal) (s : Settings) → (r ≡ None → ⊥) → powered r s ≡ zeroDevice
+powered-zeros None s n = absurd (n refl)
+powered-zeros (Some r) s n = refl
+
+pub refused-zeros : (s : Settings) → ((powerOn s).refusal ≡ None → ⊥) → (powerOn s).state ≡ zeroDevice
+unfolding powerOn
+refused-zeros s n = powered-zeros (powerRefusal s) s n

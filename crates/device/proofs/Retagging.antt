@@ -1,10 +1,9 @@
 -- The test of any one tag, after a command is accepted, opened, moved on or finished. Assumes nothing.
-use mathlib.Core.Path.{◌≡◌, refl}
+use mathlib.Core.Path.{◌≡◌, refl, sym}
 use mathlib.Core.Bool.{Bool, true, false, not, ◌||◌}
 use mathlib.Core.List.{List}
 use mathlib.Core.Logic.{⊎_elim}
-use Prim.Native.Nat.{ℕ, ◌+◌, ◌-◌, ◌%◌, ◌^◌, ◌<◌, min}
-use native.Mathlib.Omega.{arith}
+use Prim.Native.Nat.{ℕ, ◌%◌, ◌^◌, ◌<◌, min}
 use lib.Dec.{leb, eqb}
 use borrow.Author.Tests.{eq-eqb, ne_eqb, eqb-true, eqb-false}
 use Rattle.bits.specs.Pick.{pick}
@@ -18,6 +17,9 @@ use Rattle.device_state.specs.declared.shapes.Settings.{Settings}
 use Rattle.device_state.specs.declared.shapes.Entry.{Entry}
 use Rattle.device_state.proofs.TableLaws.{getD-placed, getD-cleared}
 use Rattle.device.proofs.Never.{idle-tag}
+use Rattle.device.proofs.Phases.{no-phase, phase-same, phase-other}
+use Rattle.device_state.specs.UnderWay.{openFor}
+use Rattle.std.proofs.Common.{Option, Some, None, is_none, unwrap_or}
 use Rattle.device.proofs.Tags.{bit-with, bit-without, busy-below, wrongMove, moved-opened, moved_on}
 
 -- the clauses of an entry that do not ask what has moved
@@ -40,31 +42,11 @@ busy-on s e t n h four =
     let old : Bool = wrongMove (whole_of e.count) e.moved true in
     rw (or_left name old h) (moved_on (whole_of e.count) e.moved n (or_right name old h) four)
 
--- ---- whose phase is open
-
--- no phase is open, so not that of a tag
-no-phase : (phase t : ℕ) → phase ≡ 0 → eqb phase (t + 1) ≡ false
-no-phase phase t e = ne_eqb phase (t + 1) (λ q. omega arith)
-
--- a phase that closes at the last move: its own tag
-phase-same : (last : Bool) (phase : ℕ) → eqb phase 0 ≡ false → eqb (pick last 0 phase) (phase - 1 + 1) ≡ not last
-unfolding pick
-phase-same true phase n = no-phase 0 (phase - 1) refl
-phase-same false phase n = let m = eqb-false phase 0 n in eq-eqb phase (phase - 1 + 1) (omega arith)
-
--- and any other tag
-phase-other : (last : Bool) (phase t : ℕ) → eqb phase 0 ≡ false → eqb t (phase - 1) ≡ false → eqb (pick last 0 phase) (t + 1) ≡ false
-unfolding pick
-phase-other true phase t n x = no-phase 0 t refl
-phase-other false phase t n x =
-    let y = eqb-false t (phase - 1) x in
-    ne_eqb phase (t + 1) (λ e. y (omega arith))
-
 -- ---- any one tag
 
-module _ (s : Settings) (es : List Entry) (o phase : ℕ) where
+module _ (s : Settings) (es : List Entry) (o : ℕ) (phase : Option ℕ) where
   -- a command is accepted
-  pub accepted-tag : (tag : ℕ) (e : Entry) → phase ≡ 0 → tag < 32 → busyBad s e tag false ≡ false → (t : ℕ) → t < 32 → tagBad s es o phase t ≡ false
+  pub accepted-tag : (tag : ℕ) (e : Entry) → phase ≡ None → tag < 32 → busyBad s e tag false ≡ false → (t : ℕ) → t < 32 → tagBad s es o phase t ≡ false
       → tagBad s (placed es tag e) (withBitIn 32 o tag) phase t ≡ false
   unfolding entryBad pick
   accepted-tag tag e p l b t h old =
@@ -75,33 +57,33 @@ module _ (s : Settings) (es : List Entry) (o phase : ℕ) where
       (tested (eqb t tag)))
 
   -- the phase of a tag is opened
-  pub opened-tag : (tag : ℕ) → phase ≡ 0 → bitIn 32 o tag ≡ true → eqb (entry_of es tag).moved (whole_of (entry_of es tag).count) ≡ false
-      → ((t : ℕ) → t < 32 → tagBad s es o phase t ≡ false) → (t : ℕ) → t < 32 → tagBad s es o (tag + 1) t ≡ false
+  pub opened-tag : (tag : ℕ) → phase ≡ None → bitIn 32 o tag ≡ true → eqb (entry_of es tag).moved (whole_of (entry_of es tag).count) ≡ false
+      → ((t : ℕ) → t < 32 → tagBad s es o phase t ≡ false) → (t : ℕ) → t < 32 → tagBad s es o (Some tag) t ≡ false
   unfolding entryBad pick
   opened-tag tag p b m old t h =
       ⊎_elim
       (λ (x : eqb t tag ≡ true).
       let was : busyBad s (entry_of es tag) tag false ≡ false = rw (b, no-phase phase tag p) at (old tag (busy-below o tag b)) in
-      rw (eqb-true t tag x, b, eq-eqb (tag + 1) (tag + 1) refl) (busy-opened s (entry_of es tag) tag was m))
+      rw (eqb-true t tag x, b, eq-eqb tag tag refl) (busy-opened s (entry_of es tag) tag was m))
       (λ (x : eqb t tag ≡ false).
       let y = eqb-false t tag x in
-      rw (ne_eqb (tag + 1) (t + 1) (λ e. y (omega arith))) (rw (no-phase phase t p) at (old t h)))
+      rw (ne_eqb tag t (λ e. y (sym e))) (rw (no-phase phase t p) at (old t h)))
       (tested (eqb t tag))
 
   -- n bytes move in the open phase, or what is left
-  pub moved-tag : (n : ℕ) → eqb phase 0 ≡ false → bitIn 32 o (phase - 1) ≡ true → min n (left_of (entry_of es (phase - 1))) % 4 ≡ 0
+  pub moved-tag : (n : ℕ) → is_none phase ≡ false → bitIn 32 o (unwrap_or phase 0) ≡ true → min n (left_of (entry_of es (unwrap_or phase 0))) % 4 ≡ 0
       → ((t : ℕ) → t < 32 → tagBad s es o phase t ≡ false) → (t : ℕ) → t < 32
-      → tagBad s (placed es (phase - 1) (advancedBy (entry_of es (phase - 1)) (min n (left_of (entry_of es (phase - 1)))))) o (pick (leb (left_of (entry_of es (phase - 1))) n) 0 phase) t ≡ false
+      → tagBad s (placed es (unwrap_or phase 0) (advancedBy (entry_of es (unwrap_or phase 0)) (min n (left_of (entry_of es (unwrap_or phase 0)))))) o (pick (leb (left_of (entry_of es (unwrap_or phase 0))) n) None phase) t ≡ false
   unfolding entryBad pick
   moved-tag n p b four old t h =
-      let last : Bool = leb (left_of (entry_of es (phase - 1))) n in
-      rw (getD-placed es (phase - 1) (advancedBy (entry_of es (phase - 1)) (min n (left_of (entry_of es (phase - 1))))) t h)
+      let last : Bool = leb (left_of (entry_of es (unwrap_or phase 0))) n in
+      rw (getD-placed es (unwrap_or phase 0) (advancedBy (entry_of es (unwrap_or phase 0)) (min n (left_of (entry_of es (unwrap_or phase 0))))) t h)
       (⊎_elim
-      (λ (x : eqb t (phase - 1) ≡ true).
-      let was : busyBad s (entry_of es (phase - 1)) (phase - 1) true ≡ false = rw (b, phase-same false phase p) at (old (phase - 1) (busy-below o (phase - 1) b)) in
-      rw (x, eqb-true t (phase - 1) x, b, phase-same last phase p) (busy-on s (entry_of es (phase - 1)) (phase - 1) n was four))
-      (λ (x : eqb t (phase - 1) ≡ false). rw (x, phase-other last phase t p x) (rw (phase-other false phase t p x) at (old t h)))
-      (tested (eqb t (phase - 1))))
+      (λ (x : eqb t (unwrap_or phase 0) ≡ true).
+      let was : busyBad s (entry_of es (unwrap_or phase 0)) (unwrap_or phase 0) true ≡ false = rw (b, phase-same false phase p) at (old (unwrap_or phase 0) (busy-below o (unwrap_or phase 0) b)) in
+      rw (x, eqb-true t (unwrap_or phase 0) x, b, phase-same last phase p) (busy-on s (entry_of es (unwrap_or phase 0)) (unwrap_or phase 0) n was four))
+      (λ (x : eqb t (unwrap_or phase 0) ≡ false). rw (x, phase-other last phase t p x) (rw (phase-other false phase t p x) at (old t h)))
+      (tested (eqb t (unwrap_or phase 0))))
 
   -- a set of commands is finished
   pub finished-tag : (set : ℕ) → set < 2 ^ 32 → (t : ℕ) → t < 32 → tagBad s es o phase t ≡ false → tagBad s (cleared es set) (clearIn 32 o set) phase t ≡ false
@@ -109,6 +91,6 @@ module _ (s : Settings) (es : List Entry) (o phase : ℕ) where
   finished-tag set l t h old =
       rw (getD-cleared es set t h, bit-without o set t l h)
       (⊎_elim
-      (λ (x : bitIn 32 set t ≡ true). rw x (idle-tag s t (eqb phase (t + 1))))
+      (λ (x : bitIn 32 set t ≡ true). rw x (idle-tag s t (openFor phase t)))
       (λ (x : bitIn 32 set t ≡ false). rw x old)
       (tested (bitIn 32 set t)))

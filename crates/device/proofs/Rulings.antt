@@ -2,17 +2,19 @@
 use mathlib.Core.Path.{◌≡◌, refl, subst, sym}
 use mathlib.Core.Bool.{true≢false, Bool, ◌&&◌, ◌||◌, false, not, true}
 use mathlib.Core.List.{List, []}
-use Prim.Native.Nat.{◌%◌, ◌*◌, ◌+◌, ◌-◌, ◌<◌, ◌^◌, ◌≤◌, min, ℕ}
+use Rattle.std.proofs.Common.{Result, is_none}
+use Prim.Native.Nat.{◌%◌, ◌*◌, ◌+◌, ◌<◌, ◌^◌, ◌≤◌, min, ℕ}
 use native.Mathlib.Omega.{arith}
 use lib.Dec.{eqb, leb, ltb, lit<}
 use lib.ListN.{length, length-drop, length-take}
 use borrow.Author.Tests.{eq-eqb, eqb-true, le-leb, le-ltb, not-false}
 use Rattle.bits.specs.Bit.{bitIn}
-use Rattle.bits.proofs.Picks.{and_right, or_left, or_right, pick_no}
+use Rattle.bits.proofs.Picks.{and_right, or_left, or_right}
 use Rattle.frame_parts.specs.Size.{payloadSize}
 use Rattle.frames.specs.declared.shapes.HostReg.{HostReg}
 use Rattle.frames.specs.declared.shapes.Frame.{Frame}
 use Rattle.frames.proofs.ReadLaws.{DataRead}
+use Rattle.refusals.specs.declared.reasons.Refusal.{Refusal}
 use Rattle.page_rows.specs.Rows.{kept}
 use Rattle.device_state.specs.State.{echoOf, zeroEcho}
 use Rattle.device_state.specs.Table.{entry_of}
@@ -41,7 +43,8 @@ use Rattle.device.proofs.Tags.{busy-below}
 use Rattle.device.proofs.Fitting.{ReadFits, echo-bytes, record-fits}
 use Rattle.device.proofs.Widths.{Small, SmallAll, failing-small, zero-small}
 use Rattle.device.proofs.Sized.{SizedRecord}
-use Rattle.device.proofs.Rooms.{move-within, open-tag-is}
+use Rattle.device.proofs.Rooms.{move-within}
+use Rattle.device.proofs.Phases.{open-tag}
 
 -- ---- what must be kept
 
@@ -63,12 +66,12 @@ asked-small : (r : HostReg) → ltb 31 (tagAsked r) ≡ false
 asked-small r = let l = tag_small r.task.count in le-ltb 31 (tagAsked r) (omega arith)
 
 -- bytes of the open phase move, whole Dwords
-moving-good : (d : Device) (k : ℕ) → contradictoryDevice d ≡ false → eqb d.status.phase 0 ≡ false → k % 4 ≡ 0
+moving-good : (d : Device) (k : ℕ) → contradictoryDevice d ≡ false → is_none d.status.phase ≡ false → k % 4 ≡ 0
     → contradictoryDevice (movedBy d (move_of d.status (entry_of d.entries (openTag d.status.phase)) k)) ≡ false
 unfolding openTag
 moving-good d k h n four =
     subst (λ (t : ℕ). contradictoryDevice (movedBy d (move_of d.status (entry_of d.entries t) k)) ≡ false)
-    (sym (pick_no (eqb d.status.phase 0) 32 (d.status.phase - 1) n)) (moved-good d k h n (part-fours d k h n four))
+    (sym (open-tag d.status.phase n)) (moved-good d k h n (part-fours d k h n four))
 
 -- where arguments and record are of their types, the replies of an act can be written and what it puts is of bytes; and the state after it does not contradict itself
 pub record RuleKeeps (d : Device) (part : List ℕ) (typed narrow : Type 0) (a : Act) : Type 0 where
@@ -84,7 +87,7 @@ move-small d t n h = h t
 -- ---- a host frame that is not turned down
 
 module _ (d : Device) (wrong some : Bool) (room : ℕ) (g : contradictoryDevice d ≡ false) where
-  pub heard-keeps : {f : Frame} {a : Act} → (k : ℕ) (l : List ℕ) → DataRead k l f → by.Heard (factsWith d (openTag d.status.phase) wrong some room) f a → RuleKeeps d [] (ReadFits f) Unit a
+  pub heard-keeps : {f : Result Frame Refusal} {a : Act} → (k : ℕ) (l : List ℕ) → DataRead k l f → by.Heard (factsWith d (openTag d.status.phase) wrong some room) f a → RuleKeeps d [] (ReadFits f) Unit a
   unfolding after_of Fit traits ReadFits
   heard-keeps k l r (by.srst h c s) = record { fits = λ _ _. tt; puts = λ _ _. none-puts; good = λ _. reset-held-good d g }
   heard-keeps k l r (by.release h c s x) = record { fits = λ _ _. tt; puts = λ _ _. none-puts; good = λ _. released-good d g }
@@ -95,7 +98,7 @@ module _ (d : Device) (wrong some : Bool) (room : ℕ) (g : contradictoryDevice 
   heard-keeps k l r (by.rule4 h c x u y) = record {
     fits = λ t _. echo-bytes h.task t;
     puts = λ t _. (lit< tt, echo-bytes h.task t);
-    good = λ _. accepted-good d (record { tag = tagAsked h; entry = entryFor h }) g x c.free (not-false (eqb d.status.phase 0) c.calm) (tag_small h.task.count) (entry-good d.settings h (settings-good d g) (or_left (leb d.settings.depth (tagAsked h)) (bitIn 32 d.status.outstanding (tagAsked h)) u) y);
+    good = λ _. accepted-good d (record { tag = tagAsked h; entry = entryFor h }) g x c.free c.calm (tag_small h.task.count) (entry-good d.settings h (settings-good d g) (or_left (leb d.settings.depth (tagAsked h)) (bitIn 32 d.status.outstanding (tagAsked h)) u) y);
   }
   heard-keeps k l r (by.other-halted h c x) = record { fits = λ t _. (omega arith, t); puts = λ _ _. none-puts; good = λ _. g }
   heard-keeps k l r (by.other-busy h c x) = record { fits = λ t _. (omega arith, echo-bytes h.task t); puts = λ t _. (omega arith, echo-bytes h.task t); good = λ _. fault-good d h true 0 0x04 g refl refl }
@@ -112,7 +115,7 @@ sized : (k : ℕ) → 1 ≤ k → k ≤ 8192 → k % 4 ≡ 0 → payloadSize k �
 sized k a b z = rw (le-leb 4 k (omega arith), le-leb k 8192 b, eq-eqb (k % 4) 0 z)
 
 -- what is sent of the medium is a data frame's payload
-part-sized : (d : Device) (m : List ℕ) → contradictoryDevice d ≡ false → mediumWrong d.settings.capacity (length m) ≡ false → eqb d.status.phase 0 ≡ false
+part-sized : (d : Device) (m : List ℕ) → contradictoryDevice d ≡ false → mediumWrong d.settings.capacity (length m) ≡ false → is_none d.status.phase ≡ false
     → let k = move_of d.status (entry_of d.entries (openTag d.status.phase)) 8192 in payloadSize (length (part_of (record { at = k.at; size = k.size }) m)) ≡ true
 unfolding move_of
 part-sized d m good w phase =
@@ -120,7 +123,7 @@ part-sized d m good w phase =
     let within = move-within d good phase 8192 (length m) w in
     let more = moves-on d good phase in
     let due = min 8192 (left_of e) in
-    let four : due % 4 ≡ 0 = subst (λ (u : ℕ). min 8192 (left_of (entry_of d.entries u)) % 4 ≡ 0) (sym (open-tag-is d good phase)) (part-fours d 8192 good phase refl) in
+    let four : due % 4 ≡ 0 = subst (λ (u : ℕ). min 8192 (left_of (entry_of d.entries u)) % 4 ≡ 0) (sym (open-tag d.status.phase phase)) (part-fours d 8192 good phase refl) in
     let long : length (part_of (record { at = 512 * e.first + e.moved; size = due }) m) ≡ due = simp (length-take, length-drop) (omega arith) in
     rw long (sized due (omega arith) (omega arith) four)
 
@@ -135,7 +138,7 @@ own-keeps d m b (by.opened u g s o p e) = record {
   keeps = record {
     fits = λ _ _. let small = busy-below d.status.outstanding u o in omega arith;
     puts = λ _ _. none-puts;
-    good = λ _. opened-good d u g (not-false (eqb d.status.phase 0) p) o e;
+    good = λ _. opened-good d u g p o e;
   };
   silent = λ h. absurd (true≢false h);
 }
@@ -144,7 +147,7 @@ own-keeps d m b (by.sent g w s p r) = record {
   silent = λ h. absurd (true≢false h);
 }
 own-keeps d m b (by.finished u g s p e r) = record {
-  keeps = record { fits = λ t _. t.1; puts = λ _ _. none-puts; good = λ small. finished-good d u g small (not-false (eqb d.status.phase 0) p) };
+  keeps = record { fits = λ t _. t.1; puts = λ _ _. none-puts; good = λ small. finished-good d u g small p };
   silent = λ h. absurd (true≢false h);
 }
 own-keeps d m b (by.failed u e x g s o y w) = record {

@@ -1,7 +1,7 @@
 -- The test of the status, after a command is accepted, opened, moved on or finished. Assumes nothing.
 use mathlib.Core.Path.{◌≡◌, refl, ap, ◌∙◌}
-use mathlib.Core.Bool.{Bool, true, false, not, ◌&&◌, ◌||◌}
-use Prim.Native.Nat.{ℕ, ◌+◌, ◌-◌, ◌^◌}
+use mathlib.Core.Bool.{Bool, true, false, true≢false, not, ◌&&◌, ◌||◌}
+use Prim.Native.Nat.{ℕ, ◌-◌, ◌^◌}
 use native.Mathlib.Omega.{arith}
 use lib.Dec.{eqb}
 use lib.Bits.{and_zero_l}
@@ -9,18 +9,19 @@ use borrow.Author.Tests.{not-false, eqb-true}
 use Rattle.bits.specs.Pick.{pick}
 use Rattle.bits.specs.Bit.{bitIn, clearIn}
 use Rattle.bits.proofs.Picks.{or_left, or_right}
-use Rattle.contradictions.specs.Clauses.{phaseIdle, statusBad}
+use Rattle.contradictions.specs.Clauses.{openIdle, phaseIdle, statusBad}
 use Rattle.device_state.specs.declared.shapes.Status.{Status}
-use Rattle.device.proofs.Never.{and-never}
+use Rattle.std.proofs.Common.{Option, Some, None, is_some, is_none, unwrap_or}
+use Rattle.device.proofs.Phases.{none-open}
 
 -- a status by its parts
-abbrev pub statusWith : ℕ → ℕ → Bool → Bool → Status
+abbrev pub statusWith : ℕ → Option ℕ → Bool → Bool → Status
 statusWith o phase halted held = record { outstanding = o; phase = phase; halted = halted; held = held }
 
 -- neither halted nor held, and no phase open: whatever is outstanding
-pub free-status : (o phase : ℕ) (halted held set : Bool) → halted ≡ false → held ≡ false → eqb phase 0 ≡ true → statusBad (statusWith o phase halted held) set ≡ false
+pub free-status : (o : ℕ) (phase : Option ℕ) (halted held set : Bool) → halted ≡ false → held ≡ false → is_some phase ≡ false → statusBad (statusWith o phase halted held) set ≡ false
 unfolding statusBad
-free-status o phase halted held set a b p = rw (a, b, p)
+free-status o phase halted held set a b p = rw (a, b, none-open phase p)
 
 -- of tests: nothing more outstanding than before, and an open phase's tag outstanding
 kept-tests : (halted held busy busy' set idle idle' : Bool) → (((halted || held) && busy) || (halted && held)) || ((held && set) || idle) ≡ false
@@ -34,7 +35,7 @@ kept-tests false true busy busy' set idle idle' e k i =
 kept-tests false false busy busy' set idle idle' e k i = i
 
 -- the same of statuses
-pub kept-status : (o o' phase phase' : ℕ) (halted held set : Bool) → statusBad (statusWith o phase halted held) set ≡ false
+pub kept-status : (o o' : ℕ) (phase phase' : Option ℕ) (halted held set : Bool) → statusBad (statusWith o phase halted held) set ≡ false
     → (not (eqb o 0) ≡ false → not (eqb o' 0) ≡ false) → phaseIdle (statusWith o' phase' halted held) ≡ false → statusBad (statusWith o' phase' halted held) set ≡ false
 unfolding statusBad
 kept-status o o' phase phase' halted held set e k i =
@@ -48,22 +49,21 @@ phase-good f set e =
     (or_right (((f.halted || f.held) && not (eqb f.outstanding 0)) || (f.halted && f.held)) ((f.held && set) || phaseIdle f) e)
 
 -- not idle, so outstanding
-busy-of : (closed busy : Bool) → not closed && not busy ≡ false → closed ≡ false → busy ≡ true
-busy-of closed busy e n = not-false busy (rw n at e)
+busy-of : (o : ℕ) (phase : Option ℕ) → openIdle o phase ≡ false → is_none phase ≡ false → bitIn 32 o (unwrap_or phase 0) ≡ true
+busy-of o None e n = absurd (true≢false n)
+busy-of o (Some tag) e n = not-false (bitIn 32 o tag) e
 
 -- the same, where a phase is open
-pub phase-busy : (f : Status) (set : Bool) → statusBad f set ≡ false → eqb f.phase 0 ≡ false → bitIn 32 f.outstanding (f.phase - 1) ≡ true
-phase-busy f set e n = busy-of (eqb f.phase 0) (bitIn 32 f.outstanding (f.phase - 1)) (phase-good f set e) n
+pub phase-busy : (f : Status) (set : Bool) → statusBad f set ≡ false → is_none f.phase ≡ false → bitIn 32 f.outstanding (unwrap_or f.phase 0) ≡ true
+phase-busy f set e n = busy-of f.outstanding f.phase (phase-good f set e) n
 
 -- the phase of an outstanding tag
-pub opened-idle : (o tag : ℕ) (halted held : Bool) → bitIn 32 o tag ≡ true → phaseIdle (statusWith o (tag + 1) halted held) ≡ false
-opened-idle o tag halted held b =
-    let e : tag + 1 - 1 ≡ tag = omega arith in
-    rw (e, b) (and-never (not (eqb (tag + 1) 0)))
+pub opened-idle : (o tag : ℕ) (halted held : Bool) → bitIn 32 o tag ≡ true → phaseIdle (statusWith o (Some tag) halted held) ≡ false
+opened-idle o tag halted held b = rw b
 
 -- a phase that closes at the last move
-pub moved-idle : (last : Bool) (o phase : ℕ) (halted held : Bool) → phaseIdle (statusWith o phase halted held) ≡ false
-    → phaseIdle (statusWith o (pick last 0 phase) halted held) ≡ false
+pub moved-idle : (last : Bool) (o : ℕ) (phase : Option ℕ) (halted held : Bool) → phaseIdle (statusWith o phase halted held) ≡ false
+    → phaseIdle (statusWith o (pick last None phase) halted held) ≡ false
 unfolding pick
 moved-idle true o phase halted held e = refl
 moved-idle false o phase halted held e = e

@@ -1,5 +1,6 @@
 -- Host data: what is known of a frame that was taken, where it goes, and when 6 is given, by what the rules go by. Assumes nothing.
 use mathlib.Core.Path.{◌≡◌, refl, sym, ap, ◌∙◌}
+use Rattle.std.proofs.Common.{Option, Some, None, Result, Ok, Err, is_none}
 use mathlib.Core.Bool.{true, false, not, ◌&&◌, true≢false}
 use mathlib.Core.List.{List, ◌++◌}
 use mathlib.Core.Logic.{⊎_elim}
@@ -10,13 +11,15 @@ use lib.ListN.{length, get_or, take, drop, length-drop}
 use lib.Seq.{drop-drop}
 use borrow.Author.Tests.{le-leb, leb-true, ltb-false}
 use Rattle.bits.specs.Pick.{pick}
-use Rattle.bits.specs.First.{first_of}
+use Rattle.refusals.specs.First.{first_of, unless}
+use Rattle.refusals.specs.declared.reasons.Refusal.{Refusal}
+use Rattle.refusals.specs.declared.reasons.Refusal.TheVariants.{NoFrame, TooLong}
 use Rattle.bits.proofs.Fronts.{over_yes}
 use Rattle.bits.proofs.Picks.{tested, and_left, or_left}
 use Rattle.frame_parts.specs.Size.{readable, payloadSize}
 use Rattle.frames.specs.Read.{frameByKind, readFrame}
 use Rattle.frames.specs.declared.shapes.Frame.{Frame}
-use Rattle.frames.specs.declared.shapes.Frame.TheVariants as fs
+use Rattle.frames.specs.declared.shapes.Frame.TheVariants.{Data}
 use Rattle.device_state.specs.Table.{entry_of}
 use Rattle.device_state.specs.declared.shapes.Entry.{Entry}
 use Rattle.rules.specs.Positions.{left_of, place_of, move_of}
@@ -24,25 +27,25 @@ use Rattle.rules.specs.Call.{hostFrame}
 use Rattle.rules.specs.Tests.{wrongKind, wrongTime, wrongSize, frameTests, tests}
 use Rattle.rules.specs.Decide.{frameAct}
 use Rattle.rules.specs.Act.{does, act}
-use Rattle.rules.specs.Medium.{touch_of, stored, mediumAfter}
+use Rattle.rules.specs.Medium.{touch_of, stored}
 use Rattle.rules.specs.declared.acts.Move.{Move}
 use Rattle.rules.specs.declared.acts.Act.{Act}
 use Rattle.rules.specs.declared.acts.Act.TheVariants.{Store}
-use Rattle.rules.proofs.Numbers.{not-refused, decided-is, act-number}
 use Rattle.device.specs.Device.{contradictoryDevice}
-use Rattle.device.specs.Lent.{lent}
+use Rattle.device.specs.Lent.{Lent, lent}
 use Rattle.device.specs.FactsOf.{openTag, mediumWrong, facts_of}
-use Rattle.device.specs.Step.{actOf, step}
+use Rattle.device.specs.Step.{stepBy, actOf, step}
 use Rattle.device.specs.declared.state.Device.{Device}
 use Rattle.device.proofs.Rooms.{move-within}
+use Rattle.device.proofs.Turns.{step-refusal}
 use Rattle.device.proofs.Exactly.{first-exactly}
 
 -- 46h is read as data if its payload has a right size, and else refused
-data-read : (f : List ℕ) → get_or f 0 0 ≡ 0x46 → payloadSize (length f - 4) ≡ true → readFrame f ≡ fs.Data (length f - 4)
+data-read : (f : List ℕ) → get_or f 0 0 ≡ 0x46 → payloadSize (length f - 4) ≡ true → readFrame f ≡ Ok (Data (length f - 4))
 unfolding readFrame readable frameByKind pick
 data-read f k p = rw (k, p)
 
-data-refused : (f : List ℕ) → get_or f 0 0 ≡ 0x46 → payloadSize (length f - 4) ≡ false → readFrame f ≡ fs.Refused
+data-refused : (f : List ℕ) → get_or f 0 0 ≡ 0x46 → payloadSize (length f - 4) ≡ false → readFrame f ≡ Err NoFrame
 unfolding readFrame readable frameByKind pick
 data-refused f k p = rw (k, p)
 
@@ -57,9 +60,9 @@ stored-whole at size f m h e w =
     (ap (λ (x : List ℕ). take at m ++ x) (over_yes (drop 4 f) (drop at m) (omega arith) ∙ ap (λ (x : List ℕ). drop 4 f ++ x) (ap (λ (k : ℕ). drop k (drop at m)) long ∙ drop-drop size at m)))
 
 module _ (d : Device) (f m b : List ℕ) where
-  -- what the device makes of the frame
-  abbrev done : Act
-  done = actOf d (lent (hostFrame f) m b)
+  -- the frame as a call, with what is lent
+  abbrev l : Lent
+  l = lent (hostFrame f) m b
 
   -- the entry of the open phase
   abbrev e : Entry
@@ -69,36 +72,35 @@ module _ (d : Device) (f m b : List ℕ) where
   pub record Taken46 : Type 0 where
     pub good : contradictoryDevice d ≡ false
     pub medium : mediumWrong d.settings.capacity (length m) ≡ false
-    pub phase : eqb d.status.phase 0 ≡ false
+    pub phase : is_none d.status.phase ≡ false
     pub some : 4 ≤ length f - 4
     pub most : length f - 4 ≤ left_of e
-    pub act : done ≡ Store (move_of d.status e (length f - 4))
+    pub act : actOf d l ≡ Ok (Store (move_of d.status e (length f - 4)))
 
-  pub taken-46 : get_or f 0 0 ≡ 0x46 → (step d (lent (hostFrame f) m b)).refusal ≡ 0 → Taken46
+  pub taken-46 : get_or f 0 0 ≡ 0x46 → (step d l).refusal ≡ None → Taken46
   unfolding actOf act tests does wrongKind wrongTime wrongSize frameAct
   taken-46 kind z =
-      let v = facts_of d (lent (hostFrame f) m b) in
+      let v = facts_of d l in
       let k = length f - 4 in
-      let none = (first-exactly d (lent (hostFrame f) m b)).none.0 z in
+      let none = (first-exactly d l).none.0 z in
       ⊎_elim
       (λ (p : payloadSize k ≡ true).
       let r = data-read f kind p in
-      let time : wrongTime v (fs.Data k) ≡ false = rw r at (none 4 (lit< tt)) in
-      let size : wrongSize v (fs.Data k) ≡ false = rw r at (none 5 (lit< tt)) in
-      let first = first_of (frameTests v (readFrame f)) in
+      let time : wrongTime v (Ok (Data k)) ≡ false = rw r at (none 4 (lit< tt)) in
+      let size : wrongSize v (Ok (Data k)) ≡ false = rw r at (none 5 (lit< tt)) in
       record {
         good = none 0 (lit< tt);
         medium = none 1 (lit< tt);
-        phase = or_left (eqb d.status.phase 0) (not v.entry.write) time;
+        phase = or_left (is_none d.status.phase) (not v.entry.write) time;
         some = leb-true 4 k (and_left (leb 4 k) (leb k 8192) (and_left (leb 4 k && leb k 8192) (eqb (k % 4) 0) p));
         most = ltb-false (left_of v.entry) k size;
-        act = decided-is first (frameAct v (readFrame f)) (not-refused first (frameAct v (readFrame f)) z) ∙ ap (frameAct v) r;
+        act = ap (λ (o : Option Refusal). unless o (frameAct v (readFrame f))) (sym (step-refusal d l) ∙ z) ∙ ap (λ (x : Result Frame Refusal). Ok (frameAct v x)) r;
       })
       (λ (p : payloadSize k ≡ false). absurd (true≢false (sym (ap wrongKind (data-refused f kind p)) ∙ none 3 (lit< tt))))
       (tested (payloadSize k))
 
   -- its payload stands whole at the command's next place, and every other byte of the medium is as it was
-  pub data-kept-whole : Taken46 → (length (drop 4 f) ≤ left_of e) × (mediumAfter done f m ≡ take (place_of e) m ++ (drop 4 f ++ drop (place_of e + length (drop 4 f)) m))
+  pub data-kept-whole : Taken46 → (length (drop 4 f) ≤ left_of e) × ((step d l).medium ≡ take (place_of e) m ++ (drop 4 f ++ drop (place_of e + length (drop 4 f)) m))
   unfolding touch_of move_of
   data-kept-whole t =
       let n = length f - 4 in
@@ -108,12 +110,11 @@ module _ (d : Device) (f m b : List ℕ) where
       let due : n ≡ k.size = omega arith in
       let within = move-within d t.good t.phase n (length m) t.medium in
       let long = length-drop 4 f in
-      (omega arith, ap (λ (a : Act). mediumAfter a f m) t.act ∙ stored-whole k.at k.size f m (omega arith) due within ∙ ap (λ (s : ℕ). take k.at m ++ (drop 4 f ++ drop (k.at + s) m)) (sym (long ∙ due)))
+      (omega arith, ap (λ (x : Result Act Refusal). (stepBy d l x).medium) t.act ∙ stored-whole k.at k.size f m (omega arith) due within ∙ ap (λ (s : ℕ). take k.at m ++ (drop 4 f ++ drop (k.at + s) m)) (sym (long ∙ due)))
 
-  -- the number of a host data frame of a right size, in a write phase, where nothing before 6 is wrong
+  -- the refusal of a host data frame of a right size, in a write phase, where nothing before 6 is wrong
   pub six-by-left : get_or f 0 0 ≡ 0x46 → payloadSize (length f - 4) ≡ true → contradictoryDevice d ≡ false → mediumWrong d.settings.capacity (length m) ≡ false → ltb (length b) 8196 ≡ false
-      → eqb d.status.phase 0 ≡ false → e.write ≡ true → (step d (lent (hostFrame f) m b)).refusal ≡ pick (ltb (left_of e) (length f - 4)) 6 0
-  unfolding actOf tests wrongKind wrongTime wrongSize first_of pick
+      → is_none d.status.phase ≡ false → e.write ≡ true → (step d l).refusal ≡ pick (ltb (left_of e) (length f - 4)) (Some TooLong) None
+  unfolding tests wrongKind wrongTime wrongSize first_of pick
   six-by-left kind p c w s o u =
-      let v = facts_of d (lent (hostFrame f) m b) in
-      act-number v (hostFrame f) ∙ ap (λ (r : Frame). first_of (frameTests v r)) (data-read f kind p) ∙ rw (c, w, s, o, u) refl
+      step-refusal d l ∙ ap (λ (x : Result Frame Refusal). first_of (frameTests (facts_of d l) x)) (data-read f kind p) ∙ rw (c, w, s, o, u) refl

@@ -1,5 +1,5 @@
 -- The state after an act. Assumes nothing.
-use Rattle.std.specs.Prelude.{Bool, true, false, List, ℕ, ◌+◌, replicate}
+use Rattle.std.specs.Prelude.{Bool, true, false, List, ℕ, replicate, Some, None}
 use Rattle.bits.specs.Pick.{pick}
 use Rattle.bits.specs.Bit.{bitIn}
 use Rattle.device_state.specs.State.{zeroEntry, blankRecord}
@@ -13,7 +13,7 @@ use Rattle.rules.specs.declared.acts.Fault.{Fault}
 use Rattle.rules.specs.declared.acts.Queued.{Queued}
 use Rattle.rules.specs.declared.acts.Move.{Move}
 use Rattle.rules.specs.declared.acts.Act.{Act}
-use Rattle.rules.specs.declared.acts.Act.TheVariants.{Refuse, Nothing, Bad, BadAndHalt, Accept, Log10, Log11, Reset, Release, ZeroCounters, Store, Open, Send, Finish, Media, Count, Renew}
+use Rattle.rules.specs.declared.acts.Act.TheVariants.{Nothing, Bad, BadAndHalt, Accept, Log10, Log11, Reset, Release, ZeroCounters, Store, Open, Send, Finish, Media, Count, Renew}
 use Rattle.device.specs.declared.state.Device.{Device}
 
 -- the state with other counters
@@ -59,11 +59,11 @@ released d = record d { status = record d.status { held = false } }
 -- what has moved; at nothing left the phase closes
 unfoldable pub movedBy : Device → Move → Device
 movedBy d m =
-    record d { status = record d.status { phase = pick m.last 0 d.status.phase }; entries = placed d.entries m.tag m.entry }
+    record d { status = record d.status { phase = pick m.last None d.status.phase }; entries = placed d.entries m.tag m.entry }
 
 -- the phase of a tag is open
 unfoldable pub openedFor : Device → ℕ → Device
-openedFor d tag = record d { status = record d.status { phase = tag + 1 } }
+openedFor d tag = record d { status = record d.status { phase = Some tag } }
 
 -- the commands of a set are finished
 unfoldable pub finishedBy : Device → ℕ → Device
@@ -79,7 +79,6 @@ renewed d = withValue (released (resetHeld d)) 9
 
 -- by the act; a link event adds one to its row's counter
 unfoldable pub after_of : Device → Act → Device
-after_of d (Refuse n) = d
 after_of d Nothing = d
 after_of d (Bad b) = d
 after_of d (BadAndHalt f) = haltWith d f

@@ -1,5 +1,5 @@
 -- The host data that is due. Assumes nothing.
-use Rattle.std.specs.Prelude.{Bool, not, ◌&&◌, ℕ, eqb}
+use Rattle.std.specs.Prelude.{Bool, ◌&&◌, ℕ, is_some}
 use Rattle.moves.specs.Amounts.{dueIn}
 use Rattle.device_state.specs.Table.{entry_of}
 use Rattle.device_state.specs.declared.shapes.Entry.{Entry}
@@ -13,7 +13,7 @@ phaseEntry d = entry_of d.entries (openTag d.status.phase)
 
 -- a write phase is open
 abbrev pub writing : Device → Bool
-writing d = not (eqb d.status.phase 0) && (phaseEntry d).write
+writing d = is_some d.status.phase && (phaseEntry d).write
 
 -- the length due, by the open write phase and what is left of it
 unfoldable pub dataDue : Device → ℕ

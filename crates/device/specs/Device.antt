@@ -1,11 +1,11 @@
 -- The device's state, and power-on. Assumes nothing.
-use Rattle.std.specs.Prelude.{Bool, false, ℕ, eqb, replicate}
-use Rattle.bits.specs.Pick.{pick}
-use Rattle.bits.specs.First.{first_of}
+use Rattle.std.specs.Prelude.{Bool, false, replicate, Option, Some, None}
 use Rattle.device_state.specs.State.{zeroEntry, blankRecord}
 use Rattle.device_state.specs.UnderWay.{noneUnderWay}
 use Rattle.contradictions.specs.Clauses.{settingsOut, contradictory}
+use Rattle.refusals.specs.First.{first_of}
 use Rattle.refusals.specs.Ladders.{powerLadder}
+use Rattle.refusals.specs.declared.reasons.Refusal.{Refusal}
 use Rattle.device_state.specs.declared.shapes.Settings.{Settings}
 use Rattle.device.specs.declared.state.Device.{Device}
 use Rattle.device.specs.declared.state.Outcome.{Outcome}
@@ -28,10 +28,15 @@ freshDevice s = record {
 abbrev pub zeroDevice : Device
 zeroDevice = freshDevice (record { depth = 0; capacity = 0; mask = 0 })
 
--- the number that power-on gives
-abbrev pub powerNumber : Settings → ℕ
-powerNumber s = first_of (powerLadder (settingsOut s))
+-- what power-on is refused with
+abbrev pub powerRefusal : Settings → Option Refusal
+powerRefusal s = first_of (powerLadder (settingsOut s))
 
--- no reply; refused, it hands back all zeros
+-- the state that power-on hands back: refused, all zeros
+abbrev pub powered : Option Refusal → Settings → Device
+powered None s = freshDevice s
+powered (Some r) s = zeroDevice
+
+-- no reply
 unfoldable pub powerOn : Settings → Outcome
-powerOn s = record { state = pick (eqb (powerNumber s) 0) (freshDevice s) zeroDevice; refusal = powerNumber s; len = 0 }
+powerOn s = record { state = powered (powerRefusal s) s; refusal = powerRefusal s; len = 0 }

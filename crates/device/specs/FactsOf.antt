@@ -1,6 +1,5 @@
 -- What a decision looks at, of a device and of what is lent to a call. Assumes nothing.
-use Rattle.std.specs.Prelude.{Bool, not, ℕ, ◌-◌, ◌*◌, eqb, ltb, length}
-use Rattle.bits.specs.Pick.{pick}
+use Rattle.std.specs.Prelude.{Bool, not, ℕ, ◌*◌, eqb, ltb, length, Option, is_some, unwrap_or}
 use Rattle.device_state.specs.Table.{entry_of}
 use Rattle.rules.specs.Call.{Call}
 use Rattle.rules.specs.Handed.{handed}
@@ -11,8 +10,8 @@ use Rattle.device.specs.Lent.{Lent}
 use Rattle.device.specs.declared.state.Device.{Device}
 
 -- the tag of the open phase; while none is open 32, which has no entry
-unfoldable pub openTag : ℕ → ℕ
-openTag phase = pick (eqb phase 0) 32 (phase - 1)
+unfoldable pub openTag : Option ℕ → ℕ
+openTag phase = unwrap_or phase 32
 
 -- 2: medium length wrong; it is 512 × capacity. Read of a host frame and of a send alone: of a call that is lent no medium it says nothing
 abbrev pub mediumWrong : ℕ → ℕ → Bool
@@ -20,7 +19,7 @@ mediumWrong capacity n = not (eqb n (512 * capacity))
 
 -- a phase is open on the link: what 5 for commands and BIST and 8 read, and nothing else
 abbrev pub linkBusy : Device → Bool
-linkBusy d = not (eqb d.status.phase 0)
+linkBusy d = is_some d.status.phase
 
 -- the tests of 1, 2 (the call says) and 3 (reply buffer under 8,196), the entry of a tag, and whether a set has an unready tag
 abbrev pub factsWith : Device → ℕ → Bool → Bool → ℕ → Facts
@@ -36,7 +35,7 @@ factsWith d tag wrong some room = record {
 }
 
 -- the tag whose entry a call is about: its own, or that of the open phase; 32 for none
-abbrev pub tagMeant : ℕ → Call → ℕ
+abbrev pub tagMeant : Option ℕ → Call → ℕ
 tagMeant phase c = (handed c).tag (openTag phase)
 
 -- a call names a set with an unready tag

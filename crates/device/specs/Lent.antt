@@ -1,10 +1,10 @@
 -- A call with what is lent to it, and what came back. Assumes nothing.
-use Rattle.std.specs.Prelude.{List, ℕ, ◌^◌, ◌<◌}
+use Rattle.std.specs.Prelude.{List, ℕ, ◌^◌, ◌<◌, Some, None, Result, Ok, Err}
 use Rattle.bits.specs.Little.{Bytes}
+use Rattle.refusals.specs.declared.reasons.Refusal.{Refusal}
 use Rattle.rules.specs.Call.{Call}
 use Rattle.rules.specs.Handed.{handed}
 use Rattle.device.specs.declared.state.Device.{Device}
-use Rattle.device.specs.declared.state.Answer.{Answer}
 use Rattle.device.specs.declared.state.Outcome.{Outcome}
 
 -- a call with a medium and a reply buffer beside it, any of them; what it is not lent it does not look at and leaves as it was (`unlent`), and a method's own contract has no bytes there
@@ -17,9 +17,10 @@ pub record Lent : Type 0 where
 abbrev pub lent : Call → List ℕ → List ℕ → Lent
 lent c m b = record { call = c; medium = m; buffer = b }
 
--- an answer, with the state that its call left in place
-abbrev pub answered : Device → Answer → Outcome
-answered d a = record { state = d; refusal = a.refusal; len = a.len }
+-- what a call on a lent device answers, the length of its replies or the refusal, with the state that it left in place
+abbrev pub answered : Device → Result ℕ Refusal → Outcome
+answered d (Ok n) = record { state = d; refusal = None; len = n }
+answered d (Err r) = record { state = d; refusal = Some r; len = 0 }
 
 -- what came back: the outcome, and what medium and reply buffer then hold
 pub record Gave : Type 0 where

@@ -1,9 +1,9 @@
 -- All that a call leaves behind, as one function of what came in. Assumes nothing.
-use Rattle.std.specs.Prelude.{◌≡◌, List, ℕ, length}
+use Rattle.std.specs.Prelude.{◌≡◌, List, [], ℕ, length, Option, Some, None, Result, Ok, Err}
 use Rattle.bits.specs.Laid.{laid}
 use Rattle.frames.specs.Write.{FrameValue}
+use Rattle.refusals.specs.declared.reasons.Refusal.{Refusal}
 use Rattle.rules.specs.Act.{act}
-use Rattle.rules.specs.Number.{number_of}
 use Rattle.rules.specs.Medium.{span_of, part_of, mediumAfter}
 use Rattle.rules.specs.declared.acts.Act.{Act}
 use Rattle.replies.specs.Replies.{repliesOf, sentAll}
@@ -16,7 +16,7 @@ use Rattle.device.specs.declared.state.Device.{Device}
 -- the state, the refusal, the replies as frames, and the medium
 pub record Step : Type 0 where
   pub state : Device
-  pub refusal : ℕ
+  pub refusal : Option Refusal
   pub frames : List FrameValue
   pub medium : List ℕ
 
@@ -24,17 +24,18 @@ pub record Step : Type 0 where
 abbrev pub shown : Device → Shown
 shown d = record { halted = d.status.halted; settings = d.settings; errors = d.errors; values = d.values }
 
--- what an act leaves behind, with what was lent
-abbrev pub stepBy : Device → Lent → Act → Step
-stepBy d l a = record {
+-- what is left behind, with what was lent: refused, all as it was and no reply; else by the act
+abbrev pub stepBy : Device → Lent → Result Act Refusal → Step
+stepBy d l (Err r) = record { state = d; refusal = Some r; frames = []; medium = l.medium }
+stepBy d l (Ok a) = record {
   state = after_of d a;
-  refusal = number_of a;
+  refusal = None;
   frames = repliesOf (shown d) (part_of (span_of a) l.medium) a;
   medium = mediumAfter a (frameIn l.call) l.medium;
 }
 
--- what a call makes the device do
-unfoldable pub actOf : Device → Lent → Act
+-- what a call makes the device do, or what it is refused with
+unfoldable pub actOf : Device → Lent → Result Act Refusal
 actOf d l = act (facts_of d l) l.call
 
 -- what a call leaves behind

@@ -5,7 +5,7 @@ ghost use Rattle.std.specs.Prelude.{◌≡◌};
 ghost use Rattle.device.specs.After.{withValue, emptied, haltWith, acceptedBy, unhalted, zeroedIf, resetHeld, released, movedBy, openedFor, finishedBy, failedBy, renewed, after_of};
 
 use crate::state::Device;
-use device_state::{ErrorRecord, Settings, Status};
+use device_state::{Entry, ErrorRecord, Settings, Status};
 use rules::{Act, Fault, Move, Queued};
 
 impl Device {
@@ -21,7 +21,7 @@ impl Device {
         ensures { self.new ≡ emptied self.old status errors }
     {
         self.status = status;
-        self.entries = [device_state::idle_entry(); Settings::ENTRIES];
+        self.entries = [Entry::default(); Settings::ENTRIES];
         self.errors = errors;
     }
 
@@ -29,7 +29,7 @@ impl Device {
         ensures { self.new ≡ haltWith self.old f }
     {
         self.empty(
-            device_state::halted(),
+            Status::halted(),
             ErrorRecord {
                 set: true,
                 nq: f.nq,
@@ -45,7 +45,7 @@ impl Device {
     {
         let tag = q.tag as u32;
         device_state::put_entry(&mut self.entries, tag, q.entry);
-        self.status = device_state::with_tag(self.status, tag);
+        self.status = self.status.with_tag(tag);
     }
 
     fn end_halt(&mut self)
@@ -65,7 +65,7 @@ impl Device {
     fn hold_reset(&mut self)
         ensures { self.new ≡ resetHeld self.old }
     {
-        self.empty(device_state::held(), device_state::no_record());
+        self.empty(Status::held(), ErrorRecord::default());
     }
 
     fn release(&mut self)
@@ -79,27 +79,27 @@ impl Device {
     {
         device_state::put_entry(&mut self.entries, m.tag, m.entry);
         if m.last {
-            self.status.phase = 0;
+            self.status.phase = None;
         }
     }
 
     fn open_for(&mut self, tag: u8)
         ensures { self.new ≡ openedFor self.old tag }
     {
-        self.status.phase = tag as u32 + 1;
+        self.status.phase = Some(tag as u32);
     }
 
     fn finish_tags(&mut self, set: u32)
         ensures { self.new ≡ finishedBy self.old set }
     {
         device_state::clear_entries(&mut self.entries, set);
-        self.status = device_state::without_tags(self.status, set);
+        self.status = self.status.without_tags(set);
     }
 
     fn renew(&mut self)
         ensures { self.new ≡ renewed self.old }
     {
-        self.empty(device_state::idle(), device_state::no_record());
+        self.empty(Status::idle(), ErrorRecord::default());
         self.count(9);
     }
 
@@ -117,7 +117,6 @@ impl Device {
         ensures { self.new ≡ after_of self.old act }
     {
         match act {
-            Act::Refuse(_) => {}
             Act::Nothing => {}
             Act::Bad(_) => {}
             Act::BadAndHalt(f) => self.halt(f),

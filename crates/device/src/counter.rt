@@ -2,35 +2,28 @@
 ghost use Rattle.device.specs.Counter.{CounterGiven, CountGiven};
 
 use crate::state::Device;
-use page_rows::Counter;
+use refusals::{Refusal, check};
 
 impl Device {
-    // Value or absent; 1, or 23 for a number that is not 1 to FFFh.
-    pub fn counter(&self, number: u16) -> Counter
+    /// The value of the counter with this number, `None` for one that is not kept. Refused with 1, or with 23 for a number that is not 1 to FFFh.
+    #[tactic(auto, unfolding(crate::specs::Counter::counterOf, page_rows::specs::Made11::shownFor, refusals::specs::First::first_of, bits::specs::Pick::pick))]
+    pub fn counter(&self, number: u16) -> Result<Option<u64>, Refusal>
         ensures { CounterGiven self.now number result }
     {
-        let bad = self.contradicts();
-        let mask = self.settings.mask;
-        let values = self.values;
-        let refusal = refusals::counter_number(bad, (number < 1) | (4095 < number));
-        let place = page_rows::row_of(number);
-        let answer = page_rows::shown_at(mask, values, place);
-        if !(refusal == 0) {
-            return Counter::Refused(refusal);
-        }
-        answer
+        check(&[
+            (self.contradicts(), Refusal::Contradiction),
+            (!(1..=0xfff).contains(&number), Refusal::NoCounter),
+        ])?;
+        let row = page_rows::row_of(number);
+        Ok(page_rows::shown_at(self.settings.mask, self.values, row))
     }
 
-    // How many commands are outstanding; 1 for a state that contradicts itself, which is not read as idle.
-    pub fn outstanding_count(&self) -> Counter
+    /// How many commands are outstanding. Refused with 1: a state that contradicts itself is not read as idle.
+    #[tactic(auto, unfolding(crate::specs::Counter::count_of, refusals::specs::First::first_of, bits::specs::Pick::pick))]
+    pub fn outstanding_count(&self) -> Result<u32, Refusal>
         ensures { CountGiven self.now result }
     {
-        let bad = self.contradicts();
-        let outstanding = self.status.outstanding;
-        if bad {
-            return Counter::Refused(1);
-        }
-        let on = bits::ones(outstanding);
-        Counter::Value(on as u64)
+        check(&[(self.contradicts(), Refusal::Contradiction)])?;
+        Ok(bits::ones(self.status.outstanding))
     }
 }

@@ -4,10 +4,9 @@
 mod after;
 mod calls;
 mod counter;
-mod here;
 mod sealed;
 mod sealed_calls;
 mod state;
 
 pub use sealed::Sealed;
-pub use state::{Answer, Device, Outcome};
+pub use state::{Device, Outcome};

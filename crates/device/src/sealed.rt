@@ -4,6 +4,7 @@ ghost use Rattle.device.specs.Device.{contradictoryDevice};
 
 use crate::state::Device;
 
+/// A device whose state does not contradict itself.
 #[derive(Drop)]
 pub struct Sealed {
     pub device: Device,

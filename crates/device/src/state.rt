@@ -3,9 +3,10 @@ ghost use Rattle.std.specs.Prelude.{◌≡◌};
 ghost use Rattle.device.specs.Device.{contradictoryDevice, zeroDevice, freshDevice, powerOn};
 
 use device_state::{Entry, ErrorRecord, Settings, Status};
+use refusals::Refusal;
 
-// Settings, what is under way, the entry of each tag, the error record, and the counters by row: a row that is not kept holds 0 here, and is absent to `counter` and on page 11h.
-#[derive(Clone, Copy)]
+/// Settings, what is under way, the entry of each tag, the error record, and the counters by row: a row that is not kept holds 0 here, and is absent to `counter` and on page 11h.
+#[derive(Clone, Copy, Debug, PartialEq, Eq)]
 pub struct Device {
     pub settings: Settings,
     pub status: Status,
@@ -14,36 +15,25 @@ pub struct Device {
     pub values: [u32; 16],
 }
 
-// What a call on a device that is lent answers: the refusal or 0, and the length of the replies.
-#[derive(Clone, Copy)]
-pub struct Answer {
-    pub refusal: u8,
-    pub len: usize,
-}
-
-// What every call answers: the state to be handed in next, the refusal or 0, and the length of the replies.
-#[derive(Clone, Copy)]
+/// What every call by value answers: the state to be handed in next, the refusal or `None`, and the length of the replies in bytes.
+#[derive(Clone, Copy, Debug, PartialEq, Eq)]
 pub struct Outcome {
     pub state: Device,
-    pub refusal: u8,
+    pub refusal: Option<Refusal>,
     pub len: usize,
 }
 
 // Idle, record blank, counters 0.
+#[tactic(auto, unfolding(crate::specs::Device::freshDevice))]
 fn fresh(settings: Settings) -> Device
     ensures { result ≡ freshDevice settings }
 {
-    let status = device_state::idle();
-    let e = device_state::idle_entry();
-    let entries = [e; Settings::ENTRIES];
-    let errors = device_state::no_record();
-    let values = [0u32; 16];
     Device {
         settings,
-        status,
-        entries,
-        errors,
-        values,
+        status: Status::idle(),
+        entries: [Entry::default(); Settings::ENTRIES],
+        errors: ErrorRecord::default(),
+        values: [0; 16],
     }
 }
 
@@ -51,44 +41,43 @@ fn fresh(settings: Settings) -> Device
 fn zeros() -> Device
     ensures { result ≡ zeroDevice }
 {
-    fresh(Settings {
-        depth: 0,
-        capacity: 0,
-        mask: 0,
-    })
+    fresh(Settings::default())
 }
 
 impl Device {
+    /// The most tags.
     pub const DEPTH_LIMIT: u32 = Settings::DEPTH_LIMIT;
 
+    /// Bytes of a sector.
     pub const SECTOR_SIZE: usize = Settings::SECTOR_SIZE;
 
+    /// The most bytes of a data frame's payload.
     pub const FRAME_SIZE: usize = Settings::FRAME_SIZE;
 
+    /// The fewest bytes of a reply buffer that no call turns down.
     pub const REPLY_SIZE: usize = Settings::REPLY_SIZE;
 
-    // Power-on: refused, it hands back all zeros.
+    /// Power-on: idle, record blank, counters 0. Refused with 1 for settings out of bounds; then it hands back all zeros.
+    #[tactic(auto, unfolding(crate::specs::Device::powerOn, refusals::specs::First::first_of, bits::specs::Pick::pick))]
     pub fn power_on(settings: Settings) -> Outcome
         ensures { result ≡ powerOn settings }
     {
-        let refusal = refusals::power_number(contradictions::settings_out(settings));
-        if !(refusal == 0) {
-            let state = zeros();
+        if contradictions::settings_out(settings) {
             return Outcome {
-                state,
-                refusal,
+                state: zeros(),
+                refusal: Some(Refusal::Contradiction),
                 len: 0,
             };
         }
-        let state = fresh(settings);
         Outcome {
-            state,
-            refusal,
+            state: fresh(settings),
+            refusal: None,
             len: 0,
         }
     }
 
-    // Refusal 1.
+    /// Whether the state contradicts itself: every call on such a state is refused with 1.
+    #[tactic(auto, unfolding(crate::specs::Device::contradictoryDevice))]
     pub fn contradicts(&self) -> bool
         ensures { result ≡ contradictoryDevice self.now }
     {

@@ -1,3 +1,4 @@
 pub mod TableLaws
+pub mod Walk
 pub mod EchoLaws
 pub mod Tied

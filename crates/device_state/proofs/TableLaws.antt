@@ -1,6 +1,6 @@
 -- Laws of tests over a table. Assumes nothing.
 use mathlib.Core.Path.{◌≡◌, refl, sym, ap, ◌∙◌}
-use mathlib.Core.Bool.{Bool, true, false, ◌||◌}
+use mathlib.Core.Bool.{Bool, true, false}
 use Prim.Native.Nat.{ℕ, zero, suc, ◌+◌, ◌≤◌, ◌<◌}
 use native.Mathlib.Numerals.{add-one}
 use native.Mathlib.Omega.{arith}
@@ -17,21 +17,6 @@ use Rattle.bits.proofs.Picks.{tested, or_left, or_right}
 use Rattle.device_state.specs.State.{zeroEntry}
 use Rattle.device_state.specs.Table.{someBelow, tab, entry_of, placed, cleared}
 use Rattle.device_state.specs.declared.shapes.Entry.{Entry}
-
-pub some-none : (p : ℕ → Bool) → false ≡ someBelow 0 p
-unfolding someBelow
-some-none p = refl
-
--- one turn of a loop
-pub some_turn : (p : ℕ → Bool) (i : ℕ) (a b : Bool) → a ≡ someBelow i p → b ≡ p i → a || b ≡ someBelow (i + 1) p
-unfolding someBelow
-some_turn p i a b e f = rw (add-one i, e, f)
-
--- its end
-pub some_end : (p : ℕ → Bool) (n i : ℕ) (a : Bool) → i ≤ n → n ≤ i → a ≡ someBelow i p → a ≡ someBelow n p
-some_end p n i a h k e =
-    let m : i ≡ n = omega arith in
-    e ∙ ap (λ (j : ℕ). someBelow j p) m
 
 -- none is so
 pub some-never : (p : ℕ → Bool) (n : ℕ) → ((i : ℕ) → i < n → p i ≡ false) → someBelow n p ≡ false
@@ -85,6 +70,10 @@ module _ {A : Type 0} where
   unfolding tab
   partly-turn n f l d h =
       rw (drop-cons l n d, add-one) (set_at (tab n f) _ _ (f n) n (length-tab n f) ∙ sym (append_snoc (tab n f) (f n) (drop (suc n) l)))
+
+  -- an element that is as it should be is put there
+  pub partly-put : (n : ℕ) (f : ℕ → A) (l : List A) (d e : A) → n < length l → e ≡ f n → set (partly n f l) n e ≡ partly (n + 1) f l
+  partly-put n f l d e h q = ap (λ (x : A). set (partly n f l) n x) q ∙ partly-turn n f l d h
 
   pub partly-end : (n : ℕ) (f : ℕ → A) (l : List A) → length l ≡ n → partly n f l ≡ tab n f
   partly-end n f l h = rw (drop_of_length-le l (le_of_eq h)) (append-nil (tab n f))

@@ -1,11 +1,16 @@
 -- What is under way, and how it changes. Assumes nothing.
-use Rattle.std.specs.Prelude.{Bool, ℕ}
+use Rattle.std.specs.Prelude.{Bool, ℕ, eqb, Option, Some, None}
+use Rattle.std.specs.Option.{option_eq}
 use Rattle.bits.specs.Bit.{withBitIn, clearIn}
 use Rattle.device_state.specs.declared.shapes.Status.{Status}
 
 -- nothing outstanding, no phase open
 abbrev pub noneUnderWay : Bool → Bool → Status
-noneUnderWay halted held = record { outstanding = 0; phase = 0; halted = halted; held = held }
+noneUnderWay halted held = record { outstanding = 0; phase = None; halted = halted; held = held }
+
+-- the open phase is that of a tag
+abbrev pub openFor : Option ℕ → ℕ → Bool
+openFor phase t = option_eq eqb phase (Some t)
 
 -- a tag more is outstanding
 abbrev pub with_tag : Status → ℕ → Status

@@ -1,11 +1,11 @@
 // What the state holds: nothing that the list of contradictions does not speak of.
 ghost use Rattle.std.specs.Prelude.{◌≡◌};
-ghost use Rattle.device_state.specs.State.{taskIn, echoOf, whole_of, zeroEntry, blankRecord};
+ghost use Rattle.device_state.specs.State.{taskIn, echoOf, whole_of};
 
 use frame_parts::Task;
 
-// Queue depth, capacity in sectors, and which rows of page 11h are kept.
-#[derive(Clone, Copy)]
+/// Queue depth, capacity in sectors, and which rows of page 11h are kept.
+#[derive(Clone, Copy, Debug, Default, PartialEq, Eq)]
 pub struct Settings {
     pub depth: u32,
     pub capacity: u32,
@@ -14,21 +14,24 @@ pub struct Settings {
 
 // The fixed limits.
 impl Settings {
+    /// The most tags.
     pub const DEPTH_LIMIT: u32 = 32;
-    // one entry a tag
+    /// The entries of the table: one a tag.
     pub const ENTRIES: usize = 32;
 
+    /// The most sectors.
     pub const CAPACITY_LIMIT: u32 = 65536;
 
+    /// Bytes of a sector.
     pub const SECTOR_SIZE: usize = 512;
-    // the payload of a data frame
+    /// The most bytes of a data frame's payload.
     pub const FRAME_SIZE: usize = 8192;
-    // a data frame behind its header
+    /// The fewest bytes of a reply buffer: a data frame behind its header.
     pub const REPLY_SIZE: usize = 8196;
 }
 
-// Bytes 4-10 and 12-13 of a command, as they stand.
-#[derive(Clone, Copy)]
+/// Bytes 4-10 and 12-13 of a command, as they stand.
+#[derive(Clone, Copy, Debug, Default, PartialEq, Eq)]
 pub struct Echo {
     pub b4: u8,
     pub b5: u8,
@@ -41,8 +44,8 @@ pub struct Echo {
     pub b13: u8,
 }
 
-// The table's entry of a tag: direction and range in sectors, what has moved in bytes, and the command's bytes 3-13. An idle one is all zeros.
-#[derive(Clone, Copy)]
+/// The table's entry of a tag: direction and range in sectors, what has moved in bytes, and the command's bytes 3-13. An idle one is all zeros.
+#[derive(Clone, Copy, Debug, Default, PartialEq, Eq)]
 pub struct Entry {
     pub write: bool,
     pub first: u32,
@@ -53,17 +56,26 @@ pub struct Entry {
     pub echo: Echo,
 }
 
-// The outstanding tags; the open phase as its tag plus one, 0 while none is open; halted; reset held.
-#[derive(Clone, Copy)]
+impl Entry {
+    /// The bytes of the whole command; more than 65,536 sectors count as that many.
+    pub fn whole(&self) -> u32
+        ensures { result ≡ whole_of self.now.count }
+    {
+        (Settings::SECTOR_SIZE as u32) * self.count.min(Settings::CAPACITY_LIMIT)
+    }
+}
+
+/// The outstanding tags; the tag of the open phase, if one is open; halted; reset held.
+#[derive(Clone, Copy, Debug, PartialEq, Eq)]
 pub struct Status {
     pub outstanding: u32,
-    pub phase: u32,
+    pub phase: Option<u32>,
     pub halted: bool,
     pub held: bool,
 }
 
-// The error record. Blank is all zeros here, though its page starts with 80h.
-#[derive(Clone, Copy)]
+/// The error record. Blank is all zeros here, though its page starts with 80h.
+#[derive(Clone, Copy, Debug, Default, PartialEq, Eq)]
 pub struct ErrorRecord {
     pub set: bool,
     pub nq: bool,
@@ -72,79 +84,35 @@ pub struct ErrorRecord {
     pub echo: Echo,
 }
 
-// The command's bytes as a frame shows them.
-pub fn task_in(e: Echo) -> Task
-    ensures { result ≡ taskIn e }
-{
-    let b: [u8; 14] = [
-        0, 0, 0, 0, e.b4, e.b5, e.b6, e.b7, e.b8, e.b9, e.b10, 0, e.b12, e.b13,
-    ];
-    frame_parts::task_of(&b)
-}
+/// The command's bytes as a frame shows them.
+impl From<Echo> for Task {
+    ghost from_gives = { λ e t. t ≡ taskIn e };
 
-// The bytes of what a frame showed.
-pub fn echo_of(t: Task) -> Echo
-    ensures { result ≡ echoOf t }
-{
-    let count = t.count as u64;
-    Echo {
-        b4: bits::byte(t.lba, 0),
-        b5: bits::byte(t.lba, 1),
-        b6: bits::byte(t.lba, 2),
-        b7: t.device,
-        b8: bits::byte(t.lba, 3),
-        b9: bits::byte(t.lba, 4),
-        b10: bits::byte(t.lba, 5),
-        b12: bits::byte(count, 0),
-        b13: bits::byte(count, 1),
+    #[tactic(auto, unfolding(crate::specs::State::taskIn))]
+    fn from(e: Echo) -> Task {
+        frame_parts::task_of(&[
+            0, 0, 0, 0, e.b4, e.b5, e.b6, e.b7, e.b8, e.b9, e.b10, 0, e.b12, e.b13,
+        ])
     }
 }
 
-// The bytes of a command of so many sectors; more than 65,536 count as that many.
-pub fn whole_of(count: u32) -> u32
-    ensures { result ≡ whole_of count }
-{
-    if Settings::CAPACITY_LIMIT <= count {
-        return (Settings::SECTOR_SIZE as u32) * Settings::CAPACITY_LIMIT;
-    }
-    (Settings::SECTOR_SIZE as u32) * count
-}
+/// The bytes of what a frame showed.
+impl From<Task> for Echo {
+    ghost from_gives = { λ t e. e ≡ echoOf t };
 
-pub fn idle_entry() -> Entry
-    ensures { result ≡ zeroEntry }
-{
-    let echo = Echo {
-        b4: 0,
-        b5: 0,
-        b6: 0,
-        b7: 0,
-        b8: 0,
-        b9: 0,
-        b10: 0,
-        b12: 0,
-        b13: 0,
-    };
-    Entry {
-        write: false,
-        first: 0,
-        count: 0,
-        moved: 0,
-        features: 0,
-        features_high: 0,
-        echo,
-    }
-}
-
-pub fn no_record() -> ErrorRecord
-    ensures { result ≡ blankRecord }
-{
-    let e = idle_entry();
-    let echo = e.echo;
-    ErrorRecord {
-        set: false,
-        nq: false,
-        tag: 0,
-        error: 0,
-        echo,
+    #[tactic(auto, unfolding(crate::specs::State::echoOf))]
+    fn from(t: Task) -> Echo {
+        let count = t.count as u64;
+        Echo {
+            b4: bits::byte(t.lba, 0),
+            b5: bits::byte(t.lba, 1),
+            b6: bits::byte(t.lba, 2),
+            b7: t.device,
+            b8: bits::byte(t.lba, 3),
+            b9: bits::byte(t.lba, 4),
+            b10: bits::byte(t.lba, 5),
+            b12: bits::byte(count, 0),
+            b13: bits::byte(count, 1),
+        }
     }
 }

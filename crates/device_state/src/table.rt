@@ -4,20 +4,16 @@ ghost use Rattle.device_state.specs.Table.{entry_of, placed, cleared};
 ghost use Rattle.device_state.specs.State.{zeroEntry};
 ghost use Rattle.bits.specs.Pick.{pick};
 
-use crate::shapes::{Entry, Settings, idle_entry};
+use crate::shapes::{Entry, Settings};
 
-// The entry of a tag; of a tag that has none, an idle one.
+/// The entry of a tag; of a tag that has none, an idle one.
 pub fn entry_of(entries: &[Entry; Settings::ENTRIES], tag: u32) -> Entry
     ensures { result ≡ entry_of entries.now tag }
 {
-    if Settings::DEPTH_LIMIT <= tag {
-        return idle_entry();
-    }
-    let i = tag as usize;
-    entries[i]
+    entries.get(tag as usize).copied().unwrap_or_default()
 }
 
-// The table with the entry of a tag anew.
+/// The table with the entry of a tag anew.
 pub fn put_entry(entries: &mut [Entry; Settings::ENTRIES], tag: u32, e: Entry)
     ensures { entries.new ≡ placed entries.old tag e }
 {
@@ -27,23 +23,18 @@ pub fn put_entry(entries: &mut [Entry; Settings::ENTRIES], tag: u32, e: Entry)
     entries[tag as usize] = e;
 }
 
-// The table without the entries of a set of tags.
+/// The table without the entries of a set of tags.
 pub fn clear_entries(entries: &mut [Entry; Settings::ENTRIES], set: u32)
     ensures { entries.new ≡ cleared entries.old set }
 {
-    for i in 0..Settings::ENTRIES {
-        let old = entries[i];
-        let asked = bits::bit(set, i as u32);
-        let next = idle_if(asked, old);
-        entries[i] = next;
+    for (tag, entry) in entries.iter_mut().enumerate() {
+        *entry = idle_if(bits::bit(set, tag as u32), *entry);
     }
 }
 
+#[tactic(auto, unfolding(bits::specs::Pick::pick))]
 fn idle_if(on: bool, e: Entry) -> Entry
     ensures { result ≡ pick on zeroEntry e }
 {
-    if on {
-        return idle_entry();
-    }
-    e
+    if on { Entry::default() } else { e }
 }

@@ -8,8 +8,7 @@ use lib.ListN.{length, get_or}
 use Rattle.bits.specs.Pick.{pick}
 use Rattle.event_kinds.specs.Kinds.{bodyLength, misplaced, nextWhole, next_of}
 use Rattle.event_kinds.specs.Stops.{isStop, notWhole, stopsAt}
-use Rattle.event_kinds.specs.declared.kinds.Length.{Length}
-use Rattle.event_kinds.specs.declared.kinds.Length.TheVariants.{Bytes, Unknown}
+use Rattle.std.specs.Prelude.{Option, Some, None}
 use Rattle.event_kinds.specs.declared.kinds.Next.{Next}
 use Rattle.event_kinds.specs.declared.kinds.Next.TheVariants.{Whole, Stop, End}
 
@@ -18,10 +17,10 @@ unfolding pick isStop
 picked true n = refl
 picked false n = refl
 
-whole-stop : (k : Length) (n : ℕ) → isStop (nextWhole k n) ≡ notWhole k n
+whole-stop : (k : Option ℕ) (n : ℕ) → isStop (nextWhole k n) ≡ notWhole k n
 unfolding nextWhole notWhole isStop
-whole-stop (Bytes k) n = picked (leb (k + 1) n) (k + 1)
-whole-stop Unknown n = refl
+whole-stop (Some k) n = picked (leb (k + 1) n) (k + 1)
+whole-stop None n = refl
 
 by_tests : (first empty zero : Bool) (w : Next) → isStop (pick empty (pick first Stop End) (pick (pick first (not zero) zero) Stop w))
     ≡ (first && empty) || (not empty && ((first && not zero) || (not first && zero) || isStop w))

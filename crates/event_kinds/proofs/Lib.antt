@@ -1,2 +1,3 @@
+pub mod Asking
 pub mod Exactly
 pub mod Tied

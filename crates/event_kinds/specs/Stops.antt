@@ -3,8 +3,7 @@ use Rattle.std.specs.Prelude.{Bool, true, false, not, ◌&&◌, ◌||◌, List, 
 use Rattle.contradictions.specs.Clauses.{settingsOut}
 use Rattle.event_kinds.specs.Kinds.{bodyLength, isEvent}
 use Rattle.event_kinds.specs.Settings.{inLimit, settingsOf}
-use Rattle.event_kinds.specs.declared.kinds.Length.{Length}
-use Rattle.event_kinds.specs.declared.kinds.Length.TheVariants.{Bytes, Unknown}
+use Rattle.std.specs.Prelude.{Option, Some, None}
 use Rattle.event_kinds.specs.declared.kinds.Next.{Next}
 use Rattle.event_kinds.specs.declared.kinds.Next.TheVariants.{Whole, Stop, End}
 
@@ -15,9 +14,9 @@ isStop Stop = true
 isStop End = false
 
 -- an unknown kind, or a short body
-unfoldable pub notWhole : Length → ℕ → Bool
-notWhole (Bytes n) have = not (leb (n + 1) have)
-notWhole Unknown have = true
+unfoldable pub notWhole : Option ℕ → ℕ → Bool
+notWhole (Some n) have = not (leb (n + 1) have)
+notWhole None have = true
 
 -- empty input; or a first kind other than 00h, a repeated 00h, an unknown kind, a short body
 abbrev pub stopsAt : Bool → List ℕ → Bool

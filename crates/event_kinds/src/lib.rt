@@ -6,5 +6,5 @@ mod kinds;
 mod settings;
 
 pub use asked::{Request, request_of};
-pub use kinds::{Length, Next, body_length, next_event};
+pub use kinds::{Next, body_length, is_misplaced};
 pub use settings::settings_asked;

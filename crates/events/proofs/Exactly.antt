@@ -4,7 +4,7 @@ use mathlib.Core.Bool.{Bool, true, false, not, ◌||◌}
 use mathlib.Core.List.{List}
 use Prim.Native.Nat.{ℕ}
 use Rattle.bits.specs.Pick.{pick}
-use Rattle.bits.specs.First.{FirstExactly}
+use Rattle.refusals.specs.First.{FirstExactly}
 use Rattle.refusals.specs.Ladders.{powerLadder}
 use Rattle.contradictions.specs.Clauses.{settingsOut}
 use Rattle.device_state.specs.declared.shapes.Settings.{Settings}

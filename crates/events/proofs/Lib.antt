@@ -1,5 +1,4 @@
 pub mod Frames
-pub mod Telling
 pub mod Exactly
 pub mod Playable
 pub mod Turned

@@ -2,4 +2,3 @@ pub mod Start
 pub mod HostData
 pub mod Calls
 pub mod Played
-pub mod EventLine

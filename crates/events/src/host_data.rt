@@ -5,9 +5,11 @@ ghost use Rattle.device.specs.Lent.{lent, gave, answered};
 ghost use Rattle.device.specs.Step.{Given};
 ghost use Rattle.events.specs.HostData.{dataFrame, hostData};
 
-use device::{Answer, Sealed};
+use device::Sealed;
+use refusals::Refusal;
 
 // The longest data frame, its payload all of one byte: a front of it is the frame that is due.
+#[tactic(auto, unfolding(crate::specs::HostData::dataFrame))]
 fn longest(byte: u8) -> [u8; 8196]
     ensures { result ≡ dataFrame 8192 byte }
 {
@@ -19,7 +21,13 @@ fn longest(byte: u8) -> [u8; 8196]
     frame
 }
 
-pub fn host_data(d: &mut Sealed, byte: u8, medium: &mut [u8], reply: &mut [u8]) -> Answer
+/// Host data of the length due, all of the one byte given.
+pub fn host_data(
+    d: &mut Sealed,
+    byte: u8,
+    medium: &mut [u8],
+    reply: &mut [u8],
+) -> Result<usize, Refusal>
     ensures { Given d.old.device (lent (hostFrame (hostData d.old.device byte)) medium.old reply.old) (gave (answered d.new.device result) medium.new reply.new) }
 {
     let end = 4 + d.device.data_due();

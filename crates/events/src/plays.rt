@@ -1,24 +1,26 @@
 // One event to its call.
+ghost use Rattle.std.specs.Prelude.{Some};
 ghost use Rattle.device.specs.Lent.{gave, answered};
 ghost use Rattle.device.specs.Step.{Gives};
-ghost use Rattle.events.specs.Calls.{calls_of};
+ghost use Rattle.events.specs.Calls.{call_of};
 ghost use Rattle.events.specs.Played.{stepFor, eventStep};
 
 use crate::host_data::host_data;
-use device::{Answer, Sealed};
+use device::Sealed;
 use event_kinds::{Request, request_of};
+use refusals::Refusal;
 
-// A frame is handed on as it came, its kind being its first byte. What is no event changes nothing.
+// A frame is handed on as it came, its kind being its first byte.
 fn make_call(
     d: &mut Sealed,
-    event: Request,
-    bytes: &[u8],
+    request: Request,
+    event: &[u8],
     medium: &mut [u8],
     reply: &mut [u8],
-) -> Answer
-    ensures { Gives (stepFor d.old.device medium.old reply.old (calls_of d.old.device bytes.now event)) reply.old (gave (answered d.new.device result) medium.new reply.new) }
+) -> Result<usize, Refusal>
+    ensures { Gives (stepFor d.old.device medium.old reply.old (Some (call_of d.old.device event.now request))) reply.old (gave (answered d.new.device result) medium.new reply.new) }
 {
-    match event {
+    match request {
         Request::OpenPhase(tag) => d.open(tag, reply),
         Request::SendData => d.send(medium, reply),
         Request::FinishTags(set) => d.finish(set, reply),
@@ -26,17 +28,22 @@ fn make_call(
         Request::LinkEvent(row) => d.link_event(row),
         Request::ComReset => d.comreset(reply),
         Request::HostData(byte) => host_data(d, byte, medium, reply),
-        Request::HostFrame => d.host_frame(bytes, medium, reply),
-        Request::Nothing => Answer {
-            refusal: 24,
-            len: 0,
-        },
+        Request::HostFrame => d.host_frame(event, medium, reply),
     }
 }
 
-// The event is its kind and body; medium and reply buffer are those of the device's calls.
-pub fn play(d: &mut Sealed, event: &[u8], medium: &mut [u8], reply: &mut [u8]) -> Answer
+/// One event to its call: the event is its kind and body; medium and reply buffer are those of the device's calls. What is no event is refused with 24, and changes nothing.
+#[tactic(auto, unfolding(crate::specs::Played::stepFor, replies::specs::Replies::sentAll, frame_parts::specs::Cut::joined))]
+pub fn play(
+    d: &mut Sealed,
+    event: &[u8],
+    medium: &mut [u8],
+    reply: &mut [u8],
+) -> Result<usize, Refusal>
     ensures { Gives (eventStep d.old.device event.now medium.old reply.old) reply.old (gave (answered d.new.device result) medium.new reply.new) }
 {
-    make_call(d, request_of(event), event, medium, reply)
+    let Some(request) = request_of(event) else {
+        return Err(Refusal::NoFrame);
+    };
+    make_call(d, request, event, medium, reply)
 }

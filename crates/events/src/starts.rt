@@ -4,8 +4,11 @@ ghost use Rattle.device.specs.Sealing.{poweredOf};
 ghost use Rattle.events.specs.Start.{start_of};
 
 use device::Sealed;
+use refusals::Refusal;
 
-pub fn start(event: &[u8]) -> Result<Sealed, u8>
+/// Power-on by the settings record: a device, or the refusal.
+#[tactic(auto, unfolding(crate::specs::Start::start_of))]
+pub fn start(event: &[u8]) -> Result<Sealed, Refusal>
     ensures { poweredOf result ≡ start_of event.now }
 {
     Sealed::power_on(event_kinds::settings_asked(event))

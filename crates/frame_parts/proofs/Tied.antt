@@ -5,6 +5,7 @@ use Rattle.frame_parts.specs.Emit.{WriteGiven}
 use Rattle.frame_parts.specs.Shared.{flags_of, halvesOf, registerBytes, sectorsOf, srstOf, tag_of, taskFits, task_of}
 use Rattle.frame_parts.specs.Size.{fixedSize, payloadSize, readable}
 use lib.ListN.{get_or}
+use mathlib.Core.List.{◌++◌}
 use mathlib.Core.Path.{◌≡◌, refl}
 use Rattle.bits.specs.Contract.{Tied}
 use Rattle.bits.proofs.Tying.{say, by, named}
@@ -21,8 +22,8 @@ use Rattle.frame_parts.specs.contracts.sizes as sizes-said
 pub tied-cut-first : Tied cutting-said.cut_first.ended cutting.cut_first.Reads.Asked cutting.cut_first.Reads.Post (λ κs a r ws. r ≡ firstLength a.0.now)
 tied-cut-first = named (say (λ κs a. tt) (λ κs a r ws p. p)) (λ κs a ws ws'. refl)
 
-pub tied-emit : Tied emitting-said.emit.ended emitting.emit.Reads.Asked emitting.emit.Reads.Post (λ κs a r ws. WriteGiven a.1.0 a.1.1.0.now a.0.now r ws.0)
-tied-emit = by (say (λ κs a. tt) (λ κs a r ws p. p)) (λ κs a r r' ws ws' p q. let e = emitted-once _ _ _ r r' ws.0 ws'.0 p q in (e.0, λ i. (e.1 i, (tt, (tt, tt)))))
+pub tied-emit : Tied emitting-said.emit.ended emitting.emit.Reads.Asked emitting.emit.Reads.Post (λ κs a r ws. WriteGiven a.1.0 (a.1.1.0.now ++ a.1.1.1.0.now) a.0.now r ws.0)
+tied-emit = by (say (λ κs a. tt) (λ κs a r ws p. p)) (λ κs a r r' ws ws' p q. let e = emitted-once _ _ _ r r' ws.0 ws'.0 p q in (e.0, λ i. (e.1 i, (tt, (tt, (tt, tt))))))
 
 pub tied-byte-of : Tied shared-said.byte_of.ended shared.byte_of.Reads.Asked shared.byte_of.Reads.Post (λ κs a r ws. r ≡ get_or a.0.now a.1.0 0)
 tied-byte-of = named (say (λ κs a. tt) (λ κs a r ws p. p)) (λ κs a ws ws'. refl)

@@ -1,26 +1,22 @@
-// Bytes written in front of a buffer, or 25, or 26, and then no byte is changed.
+// Bytes written in front of a buffer, or a refusal, and then no byte is changed.
+ghost use Rattle.std.specs.Prelude.{◌++◌};
 ghost use Rattle.frame_parts.specs.Emit.{WriteGiven};
 
-// What a writer answers: 0, 25 or 26, and the length written.
-#[derive(Clone, Copy)]
-pub struct Written {
-    pub number: u8,
-    pub len: usize,
-}
+use refusals::Refusal;
 
-// Writes s to the front of buf, if its values fit and buf has room.
-pub fn emit(buf: &mut [u8], fit: bool, s: &[u8]) -> Written
-    ensures { WriteGiven fit s.now buf.old result buf.new }
+/// Writes `head` and `rest` behind it to the front of `buf`, if their values fit and `buf` has room: how many bytes were
+/// written, or `Unfit` or `BufferShort`.
+pub fn emit(buf: &mut [u8], fit: bool, head: &[u8], rest: &[u8]) -> Result<usize, Refusal>
+    ensures { WriteGiven fit (head.now ++ rest.now) buf.old result buf.new }
 {
     if !fit {
-        return Written { number: 25, len: 0 };
+        return Err(Refusal::Unfit);
     }
-    if bits::lay(buf, s) {
-        Written {
-            number: 0,
-            len: s.len(),
-        }
-    } else {
-        Written { number: 26, len: 0 }
+    let n = head.len();
+    if buf.len() < n || buf.len() - n < rest.len() {
+        return Err(Refusal::BufferShort);
     }
+    bits::lay(buf, head);
+    bits::lay(&mut buf[n..], rest);
+    Ok(n + rest.len())
 }

@@ -7,7 +7,7 @@ mod shared;
 mod sizes;
 
 pub use cutting::cut_first;
-pub use emitting::{Written, emit};
+pub use emitting::emit;
 pub use shared::{
     Task, byte_of, flag, flags, halves, register_bytes, sectors_of, srst, tag_of, task_fits,
     task_of,

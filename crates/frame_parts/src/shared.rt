@@ -3,46 +3,43 @@ ghost use Rattle.std.specs.Prelude.{◌≡◌, ◌%◌, get_or};
 ghost use Rattle.bits.specs.Bit.{bitIn};
 ghost use Rattle.frame_parts.specs.Shared.{flags_of, halvesOf, LbaGiven, task_of, srstOf, tag_of, sectorsOf, registerBytes, taskFits};
 
-// Bytes 4-10 and 12-13 of the frames that repeat a command: LBA 0-23 at 4-6, device at 7, LBA 24-47 at 8-10, count at 12-13.
-#[derive(Clone, Copy)]
+/// Bytes 4-10 and 12-13 of the frames that repeat a command: LBA 0-23 at 4-6, device at 7, LBA 24-47 at 8-10, count at 12-13.
+#[derive(Clone, Copy, Debug, Default, PartialEq, Eq)]
 pub struct Task {
     pub lba: u64,
     pub device: u8,
     pub count: u16,
 }
 
-// Byte k of a frame; past the end, 0.
+/// Byte k of a frame; past the end, 0.
 pub fn byte_of(s: &[u8], k: usize) -> u8
     ensures { result ≡ get_or s.now k 0 }
 {
-    bits::byte_at(s, k, 0)
+    s.get(k).copied().unwrap_or(0)
 }
 
-// Bit k of a byte; from 8 on there is none, and it is off.
+/// Bit k of a byte; from 8 on there is none, and it is off.
 pub fn flag(b: u8, k: u32) -> bool
     ensures { result ≡ bitIn 8 b k }
 {
-    if 8 <= k {
-        return false;
-    }
-    (b >> k) & 1 == 1
+    k < 8 && bits::bit(b as u32, k)
 }
 
-// Bit 2 of the control byte is SRST.
+/// Bit 2 of the control byte is SRST.
 pub fn srst(control: u8) -> bool
     ensures { result ≡ srstOf control }
 {
     flag(control, 2)
 }
 
-// Byte 1: bits 7, 6 and 5.
+/// Byte 1: bits 7, 6 and 5.
 pub fn flags(seven: bool, six: bool, five: bool) -> u8
     ensures { result ≡ flags_of seven six five }
 {
     ((seven as u8) << 7) | ((six as u8) << 6) | ((five as u8) << 5)
 }
 
-// Bits 6:4 and 2:0.
+/// Bits 6:4 and 2:0.
 pub fn halves(b: u8) -> u8
     ensures { result ≡ halvesOf b }
 {
@@ -55,14 +52,14 @@ fn lba_of(s: &[u8]) -> u64
     (bits::le(s, 8, 3) << 24) | bits::le(s, 4, 3)
 }
 
-// Bytes 4-10 and 12-13; past the end stand zeros, so that who asks has seen to the length.
+/// Bytes 4-10 and 12-13; past the end stand zeros, so that who asks has seen to the length.
 pub fn task_of(s: &[u8]) -> Task
     ensures { result ≡ task_of s.now }
 {
     Task {
         lba: lba_of(s),
         device: byte_of(s, 7),
-        count: bits::le(s, 12, 2) as u16,
+        count: bits::le16(s, 12),
     }
 }
 
@@ -72,14 +69,15 @@ fn low5(x: u16) -> u8
     (x & 31) as u8
 }
 
-// Bits 7:3 of byte 12, the low byte of the count, hold the tag.
+/// Bits 7:3 of byte 12, the low byte of the count, hold the tag.
 pub fn tag_of(count: u16) -> u8
     ensures { result ≡ tag_of count }
 {
     low5(count >> 3)
 }
 
-// Features and features high are the sector count (0 = 65,536).
+/// Features and features high are the sector count (0 = 65,536).
+#[tactic(auto, unfolding(crate::specs::Shared::sectorsOf, bits::specs::Pick::pick))]
 pub fn sectors_of(features: u8, high: u8) -> u32
     ensures { result ≡ sectorsOf features high }
 {
@@ -87,8 +85,9 @@ pub fn sectors_of(features: u8, high: u8) -> u32
     if n == 0 { 65536 } else { n }
 }
 
-// The layout that 27h, 34h and 5Fh share. It refuses nothing: of an LBA the 48 bits that have a place are laid, and the writers
-// above, which ask `task_fits`, turn a larger one down.
+/// The layout that 27h, 34h and 5Fh share. It refuses nothing: of an LBA the 48 bits that have a place are laid, and the writers
+/// above, which ask `task_fits`, turn a larger one down.
+#[tactic(auto, unfolding(crate::specs::Shared::registerBytes))]
 pub fn register_bytes(
     kind: u8,
     flags: u8,
@@ -101,33 +100,16 @@ pub fn register_bytes(
 ) -> [u8; 20]
     ensures { result ≡ registerBytes kind flags second third t eleven fifteen bytes }
 {
-    let count = t.count as u64;
-    let n = bytes as u64;
+    let [l0, l1, l2, l3, l4, l5, _, _] = t.lba.to_le_bytes();
+    let [c0, c1] = t.count.to_le_bytes();
+    let [n0, n1] = bytes.to_le_bytes();
     [
-        kind,
-        flags,
-        second,
-        third,
-        bits::byte(t.lba, 0),
-        bits::byte(t.lba, 1),
-        bits::byte(t.lba, 2),
-        t.device,
-        bits::byte(t.lba, 3),
-        bits::byte(t.lba, 4),
-        bits::byte(t.lba, 5),
-        eleven,
-        bits::byte(count, 0),
-        bits::byte(count, 1),
-        0,
-        fifteen,
-        bits::byte(n, 0),
-        bits::byte(n, 1),
-        0,
-        0,
+        kind, flags, second, third, l0, l1, l2, t.device, l3, l4, l5, eleven, c0, c1, 0, fifteen,
+        n0, n1, 0, 0,
     ]
 }
 
-// Of the values that a frame repeats from a command only the LBA can be too large for its bits.
+/// Of the values that a frame repeats from a command only the LBA can be too large for its bits.
 pub fn task_fits(t: Task) -> bool
     ensures { result ≡ taskFits t }
 {

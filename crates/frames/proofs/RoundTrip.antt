@@ -28,7 +28,7 @@ use Rattle.frames.specs.declared.shapes.SetBits.{SetBits}
 use Rattle.frames.specs.declared.shapes.DmaSetup.{DmaSetup}
 use Rattle.frames.specs.declared.shapes.PioSetup.{PioSetup}
 use Rattle.frames.specs.declared.shapes.Frame.TheVariants.{Host, Device, Bits, Setup, Data, Pio}
-use Rattle.frame_parts.specs.declared.emitting.Written.{Written}
+use Rattle.std.proofs.Common.{Ok}
 
 -- ---- byte 1
 
@@ -101,30 +101,30 @@ same-pio p q r s t u v = cc
 
 -- ---- each kind
 
-read-host : (f : HostReg) → fits (host f) ≡ true → readFrame (encode (host f)) ≡ Host f
+read-host : (f : HostReg) → fits (host f) ≡ true → readFrame (encode (host f)) ≡ Ok (Host f)
 unfolding readFrame frameByKind readable fixedSize pick encode fits registerBytes
 read-host f h =
-    ap Host (same-host (flag-7 f.command_bit false false) refl refl
+    ap (λ x. Ok (Host x)) (same-host (flag-7 f.command_bit false false) refl refl
     (task-all 0x27 (flags_of f.command_bit false false) f.command f.features f.task f.features_high f.control 0
     (and_right (below 8 f.command && below 8 f.features && below 8 f.features_high && below 8 f.control) (taskFits f.task) h)) refl refl)
 
-read-device : (f : DevReg) → fits (device f) ≡ true → readFrame (encode (device f)) ≡ Device f
+read-device : (f : DevReg) → fits (device f) ≡ true → readFrame (encode (device f)) ≡ Ok (Device f)
 unfolding readFrame frameByKind readable fixedSize pick encode fits registerBytes
 read-device f h =
-    ap Device (same-device (flag-6 false f.interrupt false)
+    ap (λ x. Ok (Device x)) (same-device (flag-6 false f.interrupt false)
     (task-all 0x34 (flags_of false f.interrupt false) f.status f.error f.task 0 0 0
     (and_right (below 8 f.status && below 8 f.error) (taskFits f.task) h)) refl refl)
 
-read-pio : (f : PioSetup) → fits (pio f) ≡ true → readFrame (encode (pio f)) ≡ Pio f
+read-pio : (f : PioSetup) → fits (pio f) ≡ true → readFrame (encode (pio f)) ≡ Ok (Pio f)
 unfolding readFrame frameByKind readable fixedSize pick encode fits registerBytes
 read-pio f h =
     let front = below 8 f.status && below 8 f.error && below 8 f.ending in
-    ap Pio (same-pio (flag-6 false f.interrupt f.to_host) (flag-5 false f.interrupt f.to_host)
+    ap (λ x. Ok (Pio x)) (same-pio (flag-6 false f.interrupt f.to_host) (flag-5 false f.interrupt f.to_host)
     (task-all 0x5F (flags_of false f.interrupt f.to_host) f.status f.error f.task 0 f.ending f.bytes
     (and_right (front && below 16 f.bytes) (taskFits f.task) h)) refl refl refl
     (le-leBytes 2 (small 16 f.bytes (and_right front (below 16 f.bytes) (and_left (front && below 16 f.bytes) (taskFits f.task) h)))))
 
-read-bits : (f : SetBits) → fits (setBits f) ≡ true → readFrame (encode (setBits f)) ≡ Bits f
+read-bits : (f : SetBits) → fits (setBits f) ≡ true → readFrame (encode (setBits f)) ≡ Ok (Bits f)
 unfolding readFrame frameByKind readable fixedSize pick encode fits bitsBytes
 read-bits f h =
     let n7 = not (bitIn 8 f.status 7) in
@@ -132,16 +132,16 @@ read-bits f h =
     let two = below 8 f.status && below 8 f.error in
     let upTo7 : ((two && below 32 f.active) && n7) ≡ true = and_left ((two && below 32 f.active) && n7) n3 h in
     let three : (two && below 32 f.active) ≡ true = and_left (two && below 32 f.active) n7 upTo7 in
-    ap Bits (same_bits (flag-6 false f.interrupt false)
+    ap (λ x. Ok (Bits x)) (same_bits (flag-6 false f.interrupt false)
     (halves-all f.status (small 8 f.status (and_left (below 8 f.status) (below 8 f.error) (and_left two (below 32 f.active) three)))
     (and_right (two && below 32 f.active) n7 upTo7) (and_right ((two && below 32 f.active) && n7) n3 h)) refl
     (le-leBytes 4 (small 32 f.active (and_right two (below 32 f.active) three))))
 
-read-setup : (f : DmaSetup) → fits (setup f) ≡ true → readFrame (encode (setup f)) ≡ Setup f
+read-setup : (f : DmaSetup) → fits (setup f) ≡ true → readFrame (encode (setup f)) ≡ Ok (Setup f)
 unfolding readFrame frameByKind readable fixedSize pick encode fits setupBytes
 read-setup f h =
     let two = and_left (below 32 f.tag && below 32 f.offset) (below 32 f.count) h in
-    ap Setup (same-setup (flag-7 f.auto f.interrupt f.to_host) (flag-6 f.auto f.interrupt f.to_host) (flag-5 f.auto f.interrupt f.to_host)
+    ap (λ x. Ok (Setup x)) (same-setup (flag-7 f.auto f.interrupt f.to_host) (flag-6 f.auto f.interrupt f.to_host) (flag-5 f.auto f.interrupt f.to_host)
     (le-leBytes 4 (small 32 f.tag (and_left (below 32 f.tag) (below 32 f.offset) two)))
     (le-leBytes 4 (small 32 f.offset (and_right (below 32 f.tag) (below 32 f.offset) two)))
     (le-leBytes 4 (small 32 f.count (and_right (below 32 f.tag && below 32 f.offset) (below 32 f.count) h))))
@@ -153,14 +153,14 @@ readable-payload n m e h =
     let k : n - 4 ≡ m = omega arith in
     rw k h
 
-read-payload : (p : List ℕ) → fits (payload p) ≡ true → readFrame (encode (payload p)) ≡ Data (length p)
+read-payload : (p : List ℕ) → fits (payload p) ≡ true → readFrame (encode (payload p)) ≡ Ok (Data (length p))
 unfolding frameByKind pick encode fits
 read-payload p h =
     let l = length-payload p in
-    read_by (encode (payload p)) 0x46 refl (readable-payload (length (encode (payload p))) (length p) l h) ∙ ap Data (omega arith)
+    read_by (encode (payload p)) 0x46 refl (readable-payload (length (encode (payload p))) (length p) l h) ∙ ap (λ n. Ok (Data n)) (omega arith)
 
 -- what was encoded is read as what was sent
-pub read-encoded : (f : FrameValue) → fits f ≡ true → readFrame (encode f) ≡ readBack f
+pub read-encoded : (f : FrameValue) → fits f ≡ true → readFrame (encode f) ≡ Ok (readBack f)
 unfolding readFrame frameByKind readable fixedSize pick encode
 read-encoded (host f) h = read-host f h
 read-encoded (device f) h = read-device f h
@@ -172,17 +172,17 @@ read-encoded bist h = refl
 read-encoded (pio f) h = read-pio f h
 
 -- the bytes that a writer wrote are the frame's
-pub written-front : (f : FrameValue) (d d' : List ℕ) (r : Written) → FrameWriteGiven f d r d' → r.number ≡ 0 → take r.len d' ≡ encode f
-written-front f d d' r w z =
-    let a = wrote-all (fits f) (encode f) d r d' w z in
+pub written-front : (f : FrameValue) (d d' : List ℕ) (n : ℕ) → FrameWriteGiven f d (Ok n) d' → take n d' ≡ encode f
+written-front f d d' n w =
+    let a = wrote-all (fits f) (encode f) d n d' w in
     rw (a.2, a.3) (take_at (encode f) (drop (length (encode f)) d) (length (encode f)) refl)
 
 -- reading what was written gives it back
-pub read-write : (f : FrameValue) (d d' : List ℕ) (r : Written) → FrameWriteGiven f d r d' → r.number ≡ 0 → readFrame (take r.len d') ≡ readBack f
-read-write f d d' r w z =
-    rw (written-front f d d' r w z) (read-encoded f (wrote-all (fits f) (encode f) d r d' w z).0)
+pub read-write : (f : FrameValue) (d d' : List ℕ) (n : ℕ) → FrameWriteGiven f d (Ok n) d' → readFrame (take n d') ≡ Ok (readBack f)
+read-write f d d' n w =
+    rw (written-front f d d' n w) (read-encoded f (wrote-all (fits f) (encode f) d n d' w).0)
 
 -- and the payload of a data frame stands behind its four bytes
-pub read-write-payload : (p d d' : List ℕ) (r : Written) → FrameWriteGiven (payload p) d r d' → r.number ≡ 0 → drop 4 (take r.len d') ≡ p
+pub read-write-payload : (p d d' : List ℕ) (n : ℕ) → FrameWriteGiven (payload p) d (Ok n) d' → drop 4 (take n d') ≡ p
 unfolding encode
-read-write-payload p d d' r w z = ap (drop 4) (written-front (payload p) d d' r w z)
+read-write-payload p d d' n w = ap (drop 4) (written-front (payload p) d d' n w)

@@ -18,7 +18,7 @@ use Rattle.bits.proofs.Tables.{below_all}
 use Rattle.bits.proofs.Littles.{le-lt, byte_le}
 use Rattle.frame_parts.specs.Shared.{flags_of, halvesOf, lbaOf, task_of, registerBytes}
 use Rattle.frame_parts.specs.Size.{fixedSize, payloadSize, readable}
-use Rattle.frames.specs.Read.{flagAt, hostOf, deviceOf, bits_of, setupOf, pioOf, frameByKind, readFrame, frameAnswer}
+use Rattle.frames.specs.Read.{flagAt, hostOf, deviceOf, bits_of, setupOf, pioOf, frameByKind, readFrame}
 use Rattle.frames.specs.Write.{FrameValue, host, device, setBits, setup, activate, payload, bist, pio, bitsBytes, setupBytes, encode, fits, FrameWriteGiven}
 use Rattle.frames.specs.RoundTrip.{again, namedBits, zeroed}
 use Rattle.bits.proofs.Picks.{and_right}
@@ -26,7 +26,8 @@ use Rattle.frame_parts.specs.Emit.{WriteGiven}
 use Rattle.frame_parts.proofs.SizeLaws.{payload-4}
 use Rattle.frame_parts.proofs.TaskLaws.{task-fits}
 use Rattle.frames.proofs.WriteLaws.{length-payload}
-use Rattle.frame_parts.specs.declared.emitting.Written.{Written}
+use Rattle.std.proofs.Common.{Result, Ok, Err}
+use Rattle.refusals.specs.declared.reasons.Refusal.{Refusal}
 use Rattle.frames.specs.declared.shapes.Frame.{Frame}
 
 -- ---- one byte under a mask
@@ -206,33 +207,38 @@ module _ (l : List ℕ) (bytes : Bytes l) where
   unfolding readable pick
   sized r = r
 
-  abbrev Goes : Frame → Type 0
-  Goes f = ((frameAnswer f).number ≡ 24 → ⊥) → Back (again l f)
+  -- what a reader's answer has to give: of a frame, that it can be written
+  abbrev Goes : Result Frame Refusal → Type 0
+  Goes (Ok f) = Back (again l f)
+  Goes (Err r) = Unit
 
   -- of a kind that is known by its test
   by_kind : (k : ℕ) → k ≡ get_or l 0 0 → readable k (length l) ≡ true → Goes (frameByKind k l)
-  unfolding frameByKind frameAnswer fixedSize pick
+  unfolding frameByKind fixedSize pick
   by_kind k e r =
-      by-test Goes (eqb k 0x27) _ _ (λ t _. let q = eqb-true k 0x27 t in host-again (sym e ∙ q) (exact 0x27 20 (rw q at r) refl refl)) (λ _.
-      by-test Goes (eqb k 0x34) _ _ (λ t _. let q = eqb-true k 0x34 t in device-again (sym e ∙ q) (exact 0x34 20 (rw q at r) refl refl)) (λ _.
-      by-test Goes (eqb k 0xA1) _ _ (λ t _. let q = eqb-true k 0xA1 t in bits-again (sym e ∙ q) (exact 0xA1 8 (rw q at r) refl refl)) (λ _.
-      by-test Goes (eqb k 0x41) _ _ (λ t _. let q = eqb-true k 0x41 t in setup-again (sym e ∙ q) (exact 0x41 28 (rw q at r) refl refl)) (λ _.
-      by-test Goes (eqb k 0x39) _ _ (λ t _. let q = eqb-true k 0x39 t in activate-again (sym e ∙ q) (exact 0x39 4 (rw q at r) refl refl)) (λ _.
-      by-test Goes (eqb k 0x58) _ _ (λ t _. let q = eqb-true k 0x58 t in bist-again (sym e ∙ q) (exact 0x58 12 (rw q at r) refl refl)) (λ _.
-      by-test Goes (eqb k 0x5F) _ _ (λ t _. let q = eqb-true k 0x5F t in pio-again (sym e ∙ q) (exact 0x5F 20 (rw q at r) refl refl)) (λ _.
-      by-test Goes (eqb k 0x46) _ _ (λ t _. let q = eqb-true k 0x46 t in payload-again (sym e ∙ q) (sized (rw q at r))) (λ _ n. absurd (n refl)))))))))
+      by-test Goes (eqb k 0x27) _ _ (λ t. let q = eqb-true k 0x27 t in host-again (sym e ∙ q) (exact 0x27 20 (rw q at r) refl refl)) (λ _.
+      by-test Goes (eqb k 0x34) _ _ (λ t. let q = eqb-true k 0x34 t in device-again (sym e ∙ q) (exact 0x34 20 (rw q at r) refl refl)) (λ _.
+      by-test Goes (eqb k 0xA1) _ _ (λ t. let q = eqb-true k 0xA1 t in bits-again (sym e ∙ q) (exact 0xA1 8 (rw q at r) refl refl)) (λ _.
+      by-test Goes (eqb k 0x41) _ _ (λ t. let q = eqb-true k 0x41 t in setup-again (sym e ∙ q) (exact 0x41 28 (rw q at r) refl refl)) (λ _.
+      by-test Goes (eqb k 0x39) _ _ (λ t. let q = eqb-true k 0x39 t in activate-again (sym e ∙ q) (exact 0x39 4 (rw q at r) refl refl)) (λ _.
+      by-test Goes (eqb k 0x58) _ _ (λ t. let q = eqb-true k 0x58 t in bist-again (sym e ∙ q) (exact 0x58 12 (rw q at r) refl refl)) (λ _.
+      by-test Goes (eqb k 0x5F) _ _ (λ t. let q = eqb-true k 0x5F t in pio-again (sym e ∙ q) (exact 0x5F 20 (rw q at r) refl refl)) (λ _.
+      by-test Goes (eqb k 0x46) _ _ (λ t. let q = eqb-true k 0x46 t in payload-again (sym e ∙ q) (sized (rw q at r))) (λ _. tt))))))))
+
+  goes : Goes (readFrame l)
+  unfolding readFrame
+  goes = by-test Goes (readable (get_or l 0 0) (length l)) _ _ (λ r. by_kind (get_or l 0 0) refl r) (λ _. tt)
 
   -- what was read can be written, and its bytes are the frame with its dropped bits zeroed
-  pub encoded-again : ((frameAnswer (readFrame l)).number ≡ 24 → ⊥) → Back (again l (readFrame l))
-  unfolding readFrame frameAnswer
-  encoded-again = by-test Goes (readable (get_or l 0 0) (length l)) _ _ (λ r. by_kind (get_or l 0 0) refl r) (λ _ n. absurd (n refl))
+  pub encoded-again : (f : Frame) → readFrame l ≡ Ok f → Back (again l f)
+  encoded-again f e = rw e at goes
 
   -- writing what was read gives the frame with its dropped bits zeroed: never 25, 26 exactly when the buffer is shorter, and all other bytes stay
-  pub write_read : ((frameAnswer (readFrame l)).number ≡ 24 → ⊥) → (d d' : List ℕ) (r : Written) → FrameWriteGiven (again l (readFrame l)) d r d' → WriteGiven true (zeroed l) d r d'
-  write_read n d d' r w =
-      let b = encoded-again n in
+  pub write_read : (f : Frame) → readFrame l ≡ Ok f → (d d' : List ℕ) (r : Result ℕ Refusal) → FrameWriteGiven (again l f) d r d' → WriteGiven true (zeroed l) d r d'
+  write_read f e d d' r w =
+      let b = encoded-again f e in
       rw (b.0, b.1) at w
 
   -- which is as long as the frame that was read
-  pub zeroed-length : ((frameAnswer (readFrame l)).number ≡ 24 → ⊥) → length (zeroed l) ≡ length l
-  zeroed-length n = (encoded-again n).2
+  pub zeroed-length : (f : Frame) → readFrame l ≡ Ok f → length (zeroed l) ≡ length l
+  zeroed-length f e = (encoded-again f e).2

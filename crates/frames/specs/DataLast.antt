@@ -1,6 +1,6 @@
 -- Frames one behind the other. Assumes nothing.
 use Rattle.std.specs.Prelude.{◌≡◌, Bool, true, false, List, [], ◌∷◌}
-use Rattle.frames.specs.Write.{FrameValue, host, device, setBits, setup, activate, payload, bist, pio}
+use Rattle.frames.specs.Write.{FrameValue, payload}
 
 -- a data frame takes what is left
 abbrev pub isPayload : FrameValue → Bool

@@ -1,10 +1,13 @@
 -- The frames as they are read: unnamed bits and bytes are dropped. Assumes nothing.
-use Rattle.std.specs.Prelude.{Bool, not, ◌≡◌, List, [], ◌∷◌, ◌++◌, ℕ, ◌-◌, length, get_or, eqb}
+use Rattle.std.specs.Prelude.{Bool, not, ◌≡◌, List, [], ◌∷◌, ◌++◌, ℕ, ◌-◌, length, get_or, eqb, Result, Ok, Err}
 use Rattle.bits.specs.Pick.{pick}
 use Rattle.bits.specs.Bit.{bitIn}
-use Rattle.bits.specs.First.{Rung, first_of, rung}
 use Rattle.bits.specs.Answer.{Answer, bitNumber}
 use Rattle.bits.specs.Little.{leAt}
+use Rattle.refusals.specs.Number.{number}
+use Rattle.refusals.specs.First.{Rung, rung, first_of, refusal_in}
+use Rattle.refusals.specs.declared.reasons.Refusal.{Refusal}
+use Rattle.refusals.specs.declared.reasons.Refusal.TheVariants.{NoFrame}
 use Rattle.frame_parts.specs.Shared.{halvesOf, task_of}
 use Rattle.frame_parts.specs.Size.{readable}
 use Rattle.frame_parts.specs.declared.shared.Task.{Task}
@@ -14,7 +17,7 @@ use Rattle.frames.specs.declared.shapes.SetBits.{SetBits}
 use Rattle.frames.specs.declared.shapes.DmaSetup.{DmaSetup}
 use Rattle.frames.specs.declared.shapes.PioSetup.{PioSetup}
 use Rattle.frames.specs.declared.shapes.Frame.{Frame}
-use Rattle.frames.specs.declared.shapes.Frame.TheVariants.{Host, Device, Bits, Setup, Activate, Data, Bist, Pio, Refused}
+use Rattle.frames.specs.declared.shapes.Frame.TheVariants.{Host, Device, Bits, Setup, Activate, Data, Bist, Pio}
 
 -- bit k of byte 1
 abbrev pub flagAt : List ℕ → ℕ → Bool
@@ -62,43 +65,47 @@ pioOf l = record {
   bytes = leAt l 16 2;
 }
 
--- a frame by its kind; 46h leaves its payload where it is
-unfoldable pub frameByKind : ℕ → List ℕ → Frame
+-- a frame by its kind, or 24 for an unknown one; 46h leaves its payload where it is
+unfoldable pub frameByKind : ℕ → List ℕ → Result Frame Refusal
 frameByKind k l =
-    pick (eqb k 0x27) (Host (hostOf l))
-    (pick (eqb k 0x34) (Device (deviceOf l))
-    (pick (eqb k 0xA1) (Bits (bits_of l))
-    (pick (eqb k 0x41) (Setup (setupOf l))
-    (pick (eqb k 0x39) Activate
-    (pick (eqb k 0x58) Bist
-    (pick (eqb k 0x5F) (Pio (pioOf l))
-    (pick (eqb k 0x46) (Data (length l - 4)) Refused)))))))
+    pick (eqb k 0x27) (Ok (Host (hostOf l)))
+    (pick (eqb k 0x34) (Ok (Device (deviceOf l)))
+    (pick (eqb k 0xA1) (Ok (Bits (bits_of l)))
+    (pick (eqb k 0x41) (Ok (Setup (setupOf l)))
+    (pick (eqb k 0x39) (Ok Activate)
+    (pick (eqb k 0x58) (Ok Bist)
+    (pick (eqb k 0x5F) (Ok (Pio (pioOf l)))
+    (pick (eqb k 0x46) (Ok (Data (length l - 4))) (Err NoFrame))))))))
 
 -- 24: kind unknown or length wrong
 abbrev pub ladder24 : List ℕ → List Rung
-ladder24 l = rung 24 (not (readable (get_or l 0 0) (length l))) ∷ []
+ladder24 l = rung NoFrame (not (readable (get_or l 0 0) (length l))) ∷ []
 
 -- the frame that the bytes are, or refused
-unfoldable pub readFrame : List ℕ → Frame
-readFrame l = pick (readable (get_or l 0 0) (length l)) (frameByKind (get_or l 0 0) l) Refused
+unfoldable pub readFrame : List ℕ → Result Frame Refusal
+readFrame l = pick (readable (get_or l 0 0) (length l)) (frameByKind (get_or l 0 0) l) (Err NoFrame)
 
 -- the values of a command's bytes
 abbrev pub taskValues : Task → List ℕ
 taskValues t = t.lba ∷ t.device ∷ t.count ∷ []
 
--- what each answer of the reader tells: its kind and its named fields in the order of the rules, or 24
-unfoldable pub frameAnswer : Frame → Answer
-frameAnswer (Host f) = record { number = 0; values = 0x27 ∷ bitNumber f.command_bit ∷ f.command ∷ f.features ∷ taskValues f.task ++ f.features_high ∷ f.control ∷ [] }
-frameAnswer (Device f) = record { number = 0; values = 0x34 ∷ bitNumber f.interrupt ∷ f.status ∷ f.error ∷ taskValues f.task }
-frameAnswer (Bits f) = record { number = 0; values = 0xA1 ∷ bitNumber f.interrupt ∷ f.status ∷ f.error ∷ f.active ∷ [] }
-frameAnswer (Setup f) = record { number = 0; values = 0x41 ∷ bitNumber f.auto ∷ bitNumber f.interrupt ∷ bitNumber f.to_host ∷ f.tag ∷ f.offset ∷ f.count ∷ [] }
-frameAnswer Activate = record { number = 0; values = 0x39 ∷ [] }
-frameAnswer (Data n) = record { number = 0; values = 0x46 ∷ n ∷ [] }
-frameAnswer Bist = record { number = 0; values = 0x58 ∷ [] }
-frameAnswer (Pio f) = record { number = 0; values = 0x5F ∷ bitNumber f.interrupt ∷ bitNumber f.to_host ∷ f.status ∷ f.error ∷ taskValues f.task ++ f.ending ∷ f.bytes ∷ [] }
-frameAnswer Refused = record { number = 24; values = [] }
+-- what a frame tells: its kind and its named fields in the order of the rules
+abbrev pub frame_values : Frame → List ℕ
+frame_values (Host f) = 0x27 ∷ bitNumber f.command_bit ∷ f.command ∷ f.features ∷ taskValues f.task ++ f.features_high ∷ f.control ∷ []
+frame_values (Device f) = 0x34 ∷ bitNumber f.interrupt ∷ f.status ∷ f.error ∷ taskValues f.task
+frame_values (Bits f) = 0xA1 ∷ bitNumber f.interrupt ∷ f.status ∷ f.error ∷ f.active ∷ []
+frame_values (Setup f) = 0x41 ∷ bitNumber f.auto ∷ bitNumber f.interrupt ∷ bitNumber f.to_host ∷ f.tag ∷ f.offset ∷ f.count ∷ []
+frame_values Activate = 0x39 ∷ []
+frame_values (Data n) = 0x46 ∷ n ∷ []
+frame_values Bist = 0x58 ∷ []
+frame_values (Pio f) = 0x5F ∷ bitNumber f.interrupt ∷ bitNumber f.to_host ∷ f.status ∷ f.error ∷ taskValues f.task ++ f.ending ∷ f.bytes ∷ []
+
+-- what each answer of the reader tells: 0 and the frame's values, or the refusal's number
+unfoldable pub frameAnswer : Result Frame Refusal → Answer
+frameAnswer (Ok f) = record { number = 0; values = frame_values f }
+frameAnswer (Err r) = record { number = number r; values = [] }
 
 -- what the reader promises: the frame that the bytes are, and the refusal exactly by its list
-pub record FrameGiven (l : List ℕ) (r : Frame) : Type 0 where
+pub record FrameGiven (l : List ℕ) (r : Result Frame Refusal) : Type 0 where
   pub answer : r ≡ readFrame l
-  pub refusal : (frameAnswer r).number ≡ first_of (ladder24 l)
+  pub refusal : refusal_in r ≡ first_of (ladder24 l)

@@ -4,7 +4,7 @@ use Rattle.std.specs.Int.Bits.{bit_and}
 use Rattle.bits.specs.Pick.{pick}
 use Rattle.frames.specs.Write.{FrameValue, host, device, setBits, setup, activate, payload, bist, pio}
 use Rattle.frames.specs.declared.shapes.Frame.{Frame}
-use Rattle.frames.specs.declared.shapes.Frame.TheVariants.{Host, Device, Bits, Setup, Activate, Data, Bist, Pio, Refused}
+use Rattle.frames.specs.declared.shapes.Frame.TheVariants.{Host, Device, Bits, Setup, Activate, Data, Bist, Pio}
 
 -- what the reader sees of a frame; of a payload, its length
 abbrev pub readBack : FrameValue → Frame
@@ -17,7 +17,7 @@ readBack (payload p) = Data (length p)
 readBack bist = Bist
 readBack (pio f) = Pio f
 
--- what was read of l, to be sent again; for a refusal an empty payload, which no writer takes
+-- what was read of l, to be sent again
 abbrev pub again : List ℕ → Frame → FrameValue
 again l (Host f) = host f
 again l (Device f) = device f
@@ -27,7 +27,6 @@ again l Activate = activate
 again l (Data n) = payload (drop 4 l)
 again l Bist = bist
 again l (Pio f) = pio f
-again l Refused = payload []
 
 -- the named bits of each kind, byte by byte; every other bit is written 0 and dropped on reading
 unfoldable pub namedBits : ℕ → List ℕ

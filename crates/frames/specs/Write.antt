@@ -1,5 +1,5 @@
 -- The frames as they are written: unnamed bits and bytes are 0. Assumes nothing.
-use Rattle.std.specs.Prelude.{Bool, true, false, not, ◌&&◌, List, [], ◌∷◌, ◌++◌, ℕ, length}
+use Rattle.std.specs.Prelude.{Bool, true, false, not, ◌&&◌, List, [], ◌∷◌, ◌++◌, ℕ, length, Result}
 use Rattle.bits.specs.Bit.{bitIn}
 use Rattle.bits.specs.Little.{le_bytes}
 use Rattle.frame_parts.specs.Shared.{flags_of, halvesOf, registerBytes, below, taskFits}
@@ -10,7 +10,7 @@ use Rattle.frames.specs.declared.shapes.DevReg.{DevReg}
 use Rattle.frames.specs.declared.shapes.SetBits.{SetBits}
 use Rattle.frames.specs.declared.shapes.DmaSetup.{DmaSetup}
 use Rattle.frames.specs.declared.shapes.PioSetup.{PioSetup}
-use Rattle.frame_parts.specs.declared.emitting.Written.{Written}
+use Rattle.refusals.specs.declared.reasons.Refusal.{Refusal}
 
 -- a frame that can be sent: its values, and of a data frame its payload
 pub data FrameValue : Type 0 where
@@ -56,5 +56,5 @@ fits bist = true
 fits (pio f) = below 8 f.status && below 8 f.error && below 8 f.ending && below 16 f.bytes && taskFits f.task
 
 -- what a writer promises of its frame
-abbrev pub FrameWriteGiven : FrameValue → List ℕ → Written → List ℕ → Type 0
+abbrev pub FrameWriteGiven : FrameValue → List ℕ → Result ℕ Refusal → List ℕ → Type 0
 FrameWriteGiven f d r d' = WriteGiven (fits f) (encode f) d r d'

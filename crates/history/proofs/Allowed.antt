@@ -1,5 +1,5 @@
 -- What the device's own contracts allow, and sequences of such results: what is said of the code. Assumes nothing.
-use Rattle.std.specs.Prelude.{List, ℕ}
+use Rattle.std.specs.Prelude.{List, ℕ, Option, Result}
 use contract.Lifetimes.{Lfts}
 use Rattle.std.specs.Borrow.{Bor, MutBor}
 use Rattle.bits.specs.Contract.{Allows}
@@ -12,7 +12,7 @@ use Rattle.rules.specs.Call.{hostFrame, openPhase, sendData, finishTags, mediaEr
 use Rattle.device.specs.Lent.{Lent, lent, Gave, gave}
 use Rattle.history.specs.Run.{Done}
 use Rattle.history.specs.Follows.{FollowsBy}
-use Rattle.page_rows.specs.declared.shown.Counter.{Counter}
+use Rattle.refusals.specs.declared.reasons.Refusal.{Refusal}
 
 -- one call of the state d, as it may go: each case is a public function of the device, and what it holds is that function's own contract, its `Post`; what the function is not lent stays as it was
 pub data Allowed (d : Device) : Lent → Gave → Type 0 where
@@ -37,9 +37,9 @@ pub record BeganCode (s : Settings) (r : Outcome) (xs : List Done) : Type 0 wher
   pub follows : FollowsBy Allowed r.state xs
 
 -- an answer that the contract of `Device::counter` allows
-pub data CounterCode : Device → ℕ → Counter → Type 0 where
-  counted : (κs : Lfts 1) (d : Bor Device) (number : ℕ) (c : Counter) → Allows said.counter.ended calls.counter.Reads.Post κs (d, (number, tt)) c (tt, (tt, tt)) → CounterCode d.now number c
+pub data CounterCode : Device → ℕ → Result (Option ℕ) Refusal → Type 0 where
+  counted : (κs : Lfts 1) (d : Bor Device) (number : ℕ) (c : Result (Option ℕ) Refusal) → Allows said.counter.ended calls.counter.Reads.Post κs (d, (number, tt)) c (tt, (tt, tt)) → CounterCode d.now number c
 
 -- an answer that the contract of `Device::outstanding_count` allows
-pub data CountCode : Device → Counter → Type 0 where
-  summed : (κs : Lfts 1) (d : Bor Device) (c : Counter) → Allows said.outstanding_count.ended calls.outstanding_count.Reads.Post κs (d, tt) c (tt, tt) → CountCode d.now c
+pub data CountCode : Device → Result ℕ Refusal → Type 0 where
+  summed : (κs : Lfts 1) (d : Bor Device) (c : Result ℕ Refusal) → Allows said.outstanding_count.ended calls.outstanding_count.Reads.Post κs (d, tt) c (tt, tt) → CountCode d.now c

@@ -3,17 +3,18 @@ use mathlib.Core.Path.{◌≡◌, refl, sym, ap, ap₂, subst, ◌∙◌}
 use mathlib.Core.Bool.{Bool, true, false, not, ◌&&◌, ◌||◌, false≢true}
 use mathlib.Core.List.{List, [], ◌∷◌, map}
 use mathlib.Core.Logic.{⊎_elim}
-use Prim.Native.Nat.{ℕ, ◌+◌, ◌-◌, ◌*◌, min}
-use native.Mathlib.Omega.{arith}
+use Prim.Native.Nat.{ℕ, ◌-◌, ◌*◌, min}
 use lib.Dec.{eqb, ltb, leb}
 use lib.ListN.{length}
-use borrow.Author.Tests.{eqb-true, eqb-false, lt-ltb, le-ltb, leb-true, leb-false}
+use borrow.Author.Tests.{eqb-true, lt-ltb, le-ltb, leb-true, leb-false}
+use Rattle.std.proofs.Common.{is_none, Ok, Err, Some, unwrap_or}
 use Rattle.bits.specs.Pick.{pick}
 use Rattle.bits.specs.Bit.{bitIn}
 use Rattle.bits.proofs.Picks.{tested, pick_yes, pick_no, and_left, and_right}
 use Rattle.frame_parts.specs.Shared.{taskFits}
 use Rattle.frames.specs.Read.{readFrame}
 use Rattle.frames.specs.RoundTrip as trip
+use Rattle.frames.specs.Write.{FrameValue}
 use Rattle.frames.specs.declared.shapes.HostReg.{HostReg}
 use Rattle.frames.specs.declared.shapes.Frame.{Frame}
 use Rattle.frames.specs.declared.shapes.Frame.TheVariants as fs
@@ -23,46 +24,51 @@ use Rattle.device_state.specs.declared.shapes.Settings.{Settings}
 use Rattle.device_state.proofs.EchoLaws.{echo-task}
 use Rattle.rules.specs.Call.{Call, hostFrame}
 use Rattle.rules.specs.Decide.{tagAsked, otherAct, registerAct, frameAct}
+use Rattle.refusals.specs.First.{first_of}
+use Rattle.refusals.proofs.FirstLaws.{unless-ok}
+use Rattle.rules.specs.Tests.{tests}
 use Rattle.rules.specs.Act.{does, act}
-use Rattle.rules.specs.Number.{number_of}
 use Rattle.rules.specs.Positions.{left_of, move_of}
 use Rattle.rules.specs.Medium.{touch_of, span_of, part_of}
 use Rattle.rules.specs.declared.facts.Facts.{Facts}
 use Rattle.rules.specs.declared.acts.Act.{Act}
 use Rattle.rules.specs.declared.acts.Act.TheVariants.{Store, Open}
 use Rattle.rules.proofs.Ruled as by
-use Rattle.rules.proofs.Numbers.{not-refused, decided-is}
 use Rattle.replies.specs.Replies.{repliesOf, activateIf}
 use Rattle.replies.proofs.Fits.{page10-long, page11-long}
 use Rattle.device.specs.Device.{powerOn, contradictoryDevice}
 use Rattle.device.specs.Lent.{Lent, lent, Typed}
 use Rattle.device.specs.FactsOf.{facts_of, openTag}
-use Rattle.device.specs.Step.{shown, actOf, step}
+use Rattle.device.specs.Step.{Step, shown, stepBy, actOf, step}
 use Rattle.device.specs.declared.state.Device.{Device}
 use Rattle.device.proofs.Sized.{SizedRecord}
 use Rattle.device.proofs.Busy.{whole_is}
 use Rattle.device.proofs.Doing.{heard-unsent}
 use Rattle.device.proofs.Fitting.{ReadFits, read_fits, record-fits}
 use Rattle.device.proofs.Keeping.{both-kept}
-use Rattle.device.proofs.Refusals.{refused-keeps}
 use Rattle.device.proofs.Rooms.{move-within}
+use Rattle.device.proofs.Turns.{by-turn, act-ruled}
 use Rattle.device.proofs.Zeros.{zeros}
 use Rattle.history.specs.Event.{Event, taken}
-use Rattle.history.specs.Replied.{frames, some}
+use Rattle.history.specs.Replied.{FrameRead, frames, some}
 use Rattle.history.specs.Seen.{seen}
 use Rattle.history.specs.Fates.{Command, commands, ownTag, outstanding, total, All}
 use Rattle.history.specs.Run.{Done, result, done, event, AllTyped, run, run_from, history}
 use Rattle.history.specs.ByHistory.{isOut, underWayAfter, leftOf}
 use Rattle.history.specs.Answered.{hostReplies, openedBy, openedReplies, repliesBy, Answers}
-use Rattle.history.proofs.Frames.{read-frames, read_step}
+use Rattle.history.proofs.Counts.{eventBy, eventOf}
+use Rattle.history.proofs.Views.{readIn}
+use Rattle.history.proofs.Frames.{Read, read-frames, read_step}
 use Rattle.history.proofs.Events.{part-long}
 use Rattle.history.proofs.CoreSteps.{ones-some}
 use Rattle.history.proofs.Core.{Inv, inv-total}
 use Rattle.history.proofs.Table.{Standing, Following, Tracked}
 use Rattle.history.proofs.Transfers.{transfer-open}
 use Rattle.history.proofs.Runs.{Held, held-step, held-power}
+use Rattle.history.proofs.Soundness.{by-power}
 use Rattle.history.proofs.Knows.{Known}
 use Rattle.history.proofs.Otherwise.{same-other, Paged, by-other, names-ten, names-eleven}
+use Rattle.device.proofs.Phases.{some-open, open-tag}
 
 -- a state and the history before it, as every run has them
 pub record Stands (d : Device) (h : List Event) : Type 0 where
@@ -80,8 +86,17 @@ abbrev By : Device → List Event → Call → List Frame
 By d h c = repliesBy d.settings.depth d.settings.capacity h c
 
 -- and a host frame
-abbrev ByHost : Device → List Event → Frame → List Frame
+abbrev ByHost : Device → List Event → FrameRead → List Frame
 ByHost d h f = hostReplies d.settings.depth d.settings.capacity h f
+
+-- frames, each as the reader answers it
+abbrev asRead : List Frame → List FrameRead
+asRead fs = map Ok fs
+
+-- what the reader sees of frames that are sent: each is read, and as it was sent
+seen-back : (rs : List FrameValue) → readIn rs ≡ asRead (map trip.readBack rs)
+seen-back [] = refl
+seen-back (r ∷ rs) = ap (λ (l : List FrameRead). Ok (trip.readBack r) ∷ l) (seen-back rs)
 
 -- an Activate, or none
 activates : (b : Bool) → map trip.readBack (activateIf b) ≡ pick b (fs.Activate ∷ []) []
@@ -100,14 +115,13 @@ module _ (d : Device) (h : List Event) (k : Stands d h) where
   busy_is = ap (ltb 0) (inv-total k.inv) ∙ ones-some d.status.outstanding
 
   -- what is left of the open phase, in its direction
-  left-is : contradictoryDevice d ≡ false → eqb d.status.phase 0 ≡ false → (b : Bool) → (entry_of d.entries (openTag d.status.phase)).write ≡ not b
+  left-is : contradictoryDevice d ≡ false → is_none d.status.phase ≡ false → (b : Bool) → (entry_of d.entries (openTag d.status.phase)).write ≡ not b
       → leftOf b (underWayAfter h) ≡ left_of (entry_of d.entries (openTag d.status.phase))
   unfolding openTag pick
   left-is g p b w =
-      let t : ℕ = d.status.phase - 1 in
-      let n = eqb-false d.status.phase 0 p in
-      let o : d.status.phase ≡ t + 1 = omega (arith, n) in
-      let q : openTag d.status.phase ≡ t = pick_no (eqb d.status.phase 0) 32 t p in
+      let t : ℕ = unwrap_or d.status.phase 0 in
+      let o : d.status.phase ≡ Some t = some-open d.status.phase p in
+      let q : openTag d.status.phase ≡ t = open-tag d.status.phase p in
       let e : Entry = entry_of d.entries t in
       let way : leftOf b (underWayAfter h) ≡ pick (pick b (not e.write) (not (not e.write))) (512 * e.count - e.moved) 0 = ap (leftOf b) (k.tracked.under ∙ transfer-open d t o) in
       let due : pick (pick b (not e.write) (not (not e.write))) (512 * e.count - e.moved) 0 ≡ left_of e =
@@ -131,7 +145,7 @@ module _ (d : Device) (h : List Event) (k : Stands d h) where
 
   -- a command that is not queued
   others : (v : Facts) (f : HostReg) → v.status.halted ≡ d.status.halted → v.status.outstanding ≡ d.status.outstanding → contradictoryDevice d ≡ false → taskFits f.task ≡ true → by.TimelyCommand v f false
-      → Reads d [] (frameAct v (fs.Host f)) ≡ ByHost d h (fs.Host f)
+      → Reads d [] (frameAct v (Ok (fs.Host f))) ≡ ByHost d h (Ok (fs.Host f))
   unfolding frameAct registerAct otherAct pick
   others v f x o g t c =
       rw (c.command, c.kind)
@@ -139,15 +153,15 @@ module _ (d : Device) (h : List Event) (k : Stands d h) where
       ∙ same-other v.status.halted _ f.task (x ∙ sym k.known.halted) (names-ten f t) (names-eleven f t) (ap (λ (n : ℕ). not (eqb n 0)) o ∙ sym busy_is))
 
   -- host data
-  due-answers : (n : ℕ) → contradictoryDevice d ≡ false → eqb d.status.phase 0 ≡ false → (entry_of d.entries (openTag d.status.phase)).write ≡ true
-      → Reads d [] (Store (move_of d.status (entry_of d.entries (openTag d.status.phase)) n)) ≡ ByHost d h (fs.Data n)
+  due-answers : (n : ℕ) → contradictoryDevice d ≡ false → is_none d.status.phase ≡ false → (entry_of d.entries (openTag d.status.phase)).write ≡ true
+      → Reads d [] (Store (move_of d.status (entry_of d.entries (openTag d.status.phase)) n)) ≡ ByHost d h (Ok (fs.Data n))
   unfolding repliesOf move_of
   due-answers n g p w =
       let l : ℕ = left_of (entry_of d.entries (openTag d.status.phase)) in
       activates (not (leb l n)) ∙ ap (λ (b : Bool). pick b (fs.Activate ∷ []) []) (not-leb l n ∙ ap (ltb n) (sym (left-is g p false w)))
 
   -- by the rule that holds
-  heard-answers : (x m b : List ℕ) {f : Frame} {a : Act} → contradictoryDevice d ≡ false → ReadFits f → by.Heard (facts_of d (lent (hostFrame x) m b)) f a → a ≡ frameAct (facts_of d (lent (hostFrame x) m b)) f
+  heard-answers : (x m b : List ℕ) {f : FrameRead} {a : Act} → contradictoryDevice d ≡ false → ReadFits f → by.Heard (facts_of d (lent (hostFrame x) m b)) f a → a ≡ frameAct (facts_of d (lent (hostFrame x) m b)) f
       → Reads d [] a ≡ ByHost d h f
   unfolding repliesOf ReadFits pick
   heard-answers x m b g t (by.srst f c s) e = rw (c, s) refl
@@ -220,26 +234,27 @@ module _ (d : Device) (h : List Event) (k : Stands d h) where
   own-answers m b (by.linked r g x) = refl
   own-answers m b (by.renewed g s) = refl
 
-  -- a call that was decided, and is done
-  ruled-answers : (m b : List ℕ) {c : Call} {a : Act} → Typed c → by.Ruled (facts_of d (lent c m b)) c a → number_of a ≡ 0 → a ≡ does (facts_of d (lent c m b)) c → Reads d (part_of (span_of a) m) a ≡ By d h c
-  unfolding number_of does repliesBy
-  ruled-answers m b t (by.refused c n x e) z i = absurd (x z)
-  ruled-answers m b t (by.host f a g w s y) z i =
+  -- a call that is taken
+  ruled-answers : (m b : List ℕ) {c : Call} {a : Act} → Typed c → by.Ruled (facts_of d (lent c m b)) c (Ok a) → a ≡ does (facts_of d (lent c m b)) c → Reads d (part_of (span_of a) m) a ≡ By d h c
+  unfolding does repliesBy
+  ruled-answers m b {c} {a} t (by.host f _ g w s y) i =
       subst (λ (p : List ℕ). Reads d p a ≡ ByHost d h (readFrame f)) (heard-unsent (facts_of d (lent (hostFrame f) m b)) m y) (heard-answers f m b g (read_fits f t.0) y i)
-  ruled-answers m b t (by.own o) z i = own-answers m b o
+  ruled-answers m b t (by.own o) i = own-answers m b o
 
-  -- every taken call
-  pub answers-here : (l : Lent) → Typed l.call → (step d l).refusal ≡ 0 → frames (event (done l (result d l))) ≡ By d h l.call
+  -- what it does
+  act-done : (l : Lent) (a : Act) → Ok a ≡ actOf d l → a ≡ does (facts_of d l) l.call
   unfolding actOf act
-  answers-here l t z =
-      let v : Facts = facts_of d l in
-      read-frames (event (done l (result d l))) (step d l).frames (read_step d l t k.sized)
-      ∙ ruled-answers l.medium l.buffer t (by.ruled v l.call) z (decided-is _ (does v l.call) (not-refused _ (does v l.call) z))
+  act-done l a o = (unless-ok (first_of (tests (facts_of d l) l.call)) (does (facts_of d l) l.call) a o).1
 
--- every taken call, with the settings that the device has
-pub answers-step : (d : Device) (l : Lent) (h : List Event) (deep cap : ℕ) → Typed l.call → Stands d h → d.settings.depth ≡ deep → d.settings.capacity ≡ cap → (step d l).refusal ≡ 0
-    → frames (event (done l (result d l))) ≡ repliesBy deep cap h l.call
-answers-step d l h deep cap t k x y z = answers-here d h k l t z ∙ ap₂ (λ (m n : ℕ). repliesBy m n h l.call) x y
+  -- every call: a taken one is answered as the history says, a refused one not at all
+  pub answers-here : (l : Lent) → Typed l.call → frames (eventOf d l) ≡ map Ok (pick (taken (eventOf d l)) (By d h l.call) [])
+  unfolding pick
+  answers-here l t =
+      by-turn d l (λ (s : Step). Read (eventBy l s) s.frames → frames (eventBy l s) ≡ map Ok (pick (is_none s.refusal) (By d h l.call) [])) (λ r _ q. read-frames (eventBy l (stepBy d l (Err r))) [] q)
+      (λ a o q.
+      let s : Step = stepBy d l (Ok a) in
+      read-frames (eventBy l s) s.frames q ∙ seen-back s.frames ∙ ap asRead (ruled-answers l.medium l.buffer t (act-ruled d l a o) (act-done l a o)))
+      (read_step d l t k.sized)
 
 -- ---- runs
 
@@ -247,35 +262,17 @@ answers-step d l h deep cap t k x y z = answers-here d h k l t z ∙ ap₂ (λ (
 abbrev KnownOn : Device → List Done → Type 0
 KnownOn d h = (as' : List Lent) → AllTyped as' → Known (run d h as').state (map event (run d h as').calls)
 
--- a taken call of a run
-taken-answers : (s : Settings) (d : Device) (h : List Event) (a : Lent) → Typed a.call → Held s d h → Known d h → taken (event (done a (result d a))) ≡ true
-    → frames (event (done a (result d a))) ≡ repliesBy s.depth s.capacity h a.call
-taken-answers s d h a t i w y =
-    let z : (step d a).refusal ≡ 0 = eqb-true (step d a).refusal 0 y in
-    ⊎_elim
-    (λ (x : eqb (powerOn s).refusal 0 ≡ true).
-    let e = i.sound.settings (eqb-true (powerOn s).refusal 0 x) in
-    answers-step d a h s.depth s.capacity t (record { sized = i.wide.sized; known = w; inv = i.inv; tracked = i.tracked }) (ap (λ (q : Settings). q.depth) e) (ap (λ (q : Settings). q.capacity) e) z)
-    (λ (x : eqb (powerOn s).refusal 0 ≡ false).
-    let e = i.sound.zeros (eqb-false (powerOn s).refusal 0 x) in
-    absurd (not-both _ z (ap (λ (q : Device). (step q a).refusal) e ∙ zeros a)))
-    (tested (eqb (powerOn s).refusal 0))
-  where
-    not-both : (n : ℕ) → n ≡ 0 → n ≡ 1 → ⊥
-    not-both n p q = omega arith
-
--- every call of a run, a refused one too: it sends nothing
+-- every call of a run, with the settings of power-on: after a refused one every call is refused
 run-answers : (s : Settings) (d : Device) (h : List Event) (a : Lent) → Typed a.call → Held s d h → Known d h
-    → frames (event (done a (result d a))) ≡ pick (taken (event (done a (result d a)))) (repliesBy s.depth s.capacity h a.call) []
+    → frames (eventOf d a) ≡ map Ok (pick (taken (eventOf d a)) (repliesBy s.depth s.capacity h a.call) [])
 run-answers s d h a t i w =
-    let e : Event = event (done a (result d a)) in
-    let r : List Frame = repliesBy s.depth s.capacity h a.call in
-    ⊎_elim (λ (y : taken e ≡ true). taken-answers s d h a t i w y ∙ sym (pick_yes (taken e) r [] y))
-    (λ (n : taken e ≡ false).
-    read-frames e (step d a).frames (read_step d a t i.wide.sized)
-    ∙ ap (map trip.readBack) (refused-keeps d a (eqb-false (step d a).refusal 0 n)).frames
-    ∙ sym (pick_no (taken e) r [] n))
-    (tested (taken e))
+    let e : Event = eventOf d a in
+    let told : ℕ → ℕ → List FrameRead = λ deep cap. asRead (pick (taken e) (repliesBy deep cap h a.call) []) in
+    let here = answers-here d h (record { sized = i.wide.sized; known = w; inv = i.inv; tracked = i.tracked }) a t in
+    by-power s (λ z. here ∙ ap (λ (q : Settings). told q.depth q.capacity) (i.sound.settings z))
+    (λ n.
+    let never : taken e ≡ false = ap (λ (q : Device). is_none (step q a).refusal) (i.sound.zeros n) ∙ ap is_none (zeros a) in
+    here ∙ ap asRead (pick_no (taken e) (By d h a.call) [] never ∙ sym (pick_no (taken e) (repliesBy s.depth s.capacity h a.call) [] never)))
 
 -- a run
 answered-run : (s : Settings) (d : Device) (h : List Done) (as' : List Lent) → AllTyped as' → KnownOn d h → Held s d (map event h) → Answers s.depth s.capacity (map event h)

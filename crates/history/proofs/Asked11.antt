@@ -2,17 +2,14 @@
 use mathlib.Core.Path.{◌≡◌, refl, ap, ◌∙◌}
 use mathlib.Core.List.{List}
 use Prim.Native.Nat.{ℕ}
-use lib.Dec.{eqb, lit<}
-use borrow.Author.Tests.{eq-eqb}
+use lib.Dec.{lit<}
+use Rattle.std.proofs.Common.{Option, Some, None, Ok}
 use Rattle.bits.specs.Pick.{pick}
-use Rattle.bits.specs.First.{first_of}
-use Rattle.bits.proofs.Firsts as firsts
-use Rattle.bits.proofs.Picks.{pick_yes}
+use Rattle.refusals.specs.First.{first_of, unless}
+use Rattle.refusals.specs.declared.reasons.Refusal.{Refusal}
+use Rattle.refusals.proofs.FirstLaws as firsts
 use Rattle.page_rows.specs.Rows.{kept, row_of}
 use Rattle.page_rows.specs.Made11.{onRow, shownFor}
-use Rattle.page_rows.specs.declared.rows.Place.{Place}
-use Rattle.page_rows.specs.declared.rows.Place.TheVariants.{Row, Nowhere}
-use Rattle.page_rows.specs.declared.shown.Counter.TheVariants.{Value, Absent, Refused}
 use Rattle.page_rows.proofs.RowLaws.{row-only}
 use Rattle.device_state.specs.declared.shapes.Settings.{Settings}
 use Rattle.device.specs.Counter.{counterTests, counterOf}
@@ -26,21 +23,21 @@ use Rattle.history.proofs.Tally.{ValuesTell, Counting}
 use Rattle.history.proofs.Pages.{Masked}
 use Rattle.history.proofs.Counters.{counting-true, masked-true}
 
--- what is shown of a row is what the history tells
-told-shown : (mask : ℕ) (values : List ℕ) (h : List Event) → ValuesTell values h → (number : ℕ) (p : Place) → row_of number ≡ p → onRow mask values p ≡ toldAt mask h p
+-- what is shown of a row, if there is one, is what the history tells
+told-shown : (mask : ℕ) (values : List ℕ) (h : List Event) → ValuesTell values h → (number : ℕ) (row : Option ℕ) → row_of number ≡ row → onRow mask values row ≡ toldAt mask h row
 unfolding onRow
-told-shown mask values h i number (Row k) e = ap (λ (x : ℕ). pick (kept mask k) (Value x) Absent) (i.value k (row-only number k e).0)
-told-shown mask values h i number Nowhere e = refl
+told-shown mask values h i number (Some k) e = ap (λ (x : ℕ). pick (kept mask k) (Some x) None) (i.value k (row-only number k e).0)
+told-shown mask values h i number None e = refl
 
 -- a counter that is not refused, asked for by its number
-pub counter-tells : (mask : ℕ) (d : Device) (h : List Event) → Masked mask d → Counting d h → (number : ℕ) → first_of (counterTests d number) ≡ 0 → counterOf d number ≡ toldFor mask h number
+pub counter-tells : (mask : ℕ) (d : Device) (h : List Event) → Masked mask d → Counting d h → (number : ℕ) → first_of (counterTests d number) ≡ None → counterOf d number ≡ Ok (toldFor mask h number)
 unfolding counterOf shownFor
 counter-tells mask d h k i number z =
     let good = (firsts.first-exactly (counterTests d number) tt).none.0 z 0 (lit< tt) in
-    pick_yes (eqb (first_of (counterTests d number)) 0) (shownFor d.settings.mask d.values number) (Refused (first_of (counterTests d number))) (eq-eqb (first_of (counterTests d number)) 0 z)
-    ∙ told-shown d.settings.mask d.values h i number (row_of number) refl ∙ ap (λ (x : ℕ). toldFor x h number) (k (settings-good d good))
+    ap (λ (r : Option Refusal). unless r (shownFor d.settings.mask d.values number)) z
+    ∙ ap (λ (c : Option ℕ). Ok c) (told-shown d.settings.mask d.values h i number (row_of number) refl ∙ ap (λ (x : ℕ). toldFor x h number) (k (settings-good d good)))
 
 -- at the end of every run from power-on
-pub counter-true : (s : Settings) (as' : List Lent) → AllTyped as' → (number : ℕ) → first_of (counterTests (run_from s as').state number) ≡ 0
-    → counterOf (run_from s as').state number ≡ toldFor s.mask (history s as') number
+pub counter-true : (s : Settings) (as' : List Lent) → AllTyped as' → (number : ℕ) → first_of (counterTests (run_from s as').state number) ≡ None
+    → counterOf (run_from s as').state number ≡ Ok (toldFor s.mask (history s as') number)
 counter-true s as' t number z = counter-tells s.mask (run_from s as').state (history s as') (masked-true s as') (counting-true s as' t) number z

@@ -6,7 +6,7 @@ use Prim.Native.Nat.{ℕ, ◌+◌, ◌-◌, ◌*◌, ◌<◌, min}
 use native.Mathlib.Omega.{arith}
 use lib.Dec.{eqb, leb}
 use mathlib.Core.Logic.{⊎_elim}
-use borrow.Author.Tests.{eqb-true, eqb-false, eq-eqb, ne_eqb, not-false, leb-true, leb-false, le-leb, lt-leb}
+use borrow.Author.Tests.{eqb-true, eq-eqb, ne_eqb, not-false, leb-true, leb-false, le-leb, lt-leb}
 use Rattle.bits.specs.Pick.{pick}
 use Rattle.bits.specs.Bit.{bitIn}
 use Rattle.bits.proofs.Picks.{tested, or_left, or_right}
@@ -30,6 +30,8 @@ use Rattle.history.specs.FrameAsks.{registerAsks}
 use Rattle.history.specs.Seen.{Seen}
 use Rattle.history.proofs.Class.{Same, Took, Carried}
 use Rattle.history.proofs.Sets.{no-busy}
+use Rattle.device.proofs.Phases.{some-open, own-open, no-phase}
+use Rattle.std.proofs.Common.{Some, None, is_none, unwrap_or}
 
 -- the same state
 pub same : (d : Device) → Same d d
@@ -76,7 +78,7 @@ module _ (d : Device) (g : contradictoryDevice d ≡ false) where
       go false e = e
 
   -- rule 4: the tag is outstanding, and its entry is what the command asks for
-  pub took_by : (h : HostReg) (e : Seen) → e.asks ≡ registerAsks h → d.status.halted ≡ false → d.status.phase ≡ 0 → bitIn 32 d.status.outstanding (tagAsked h) ≡ false
+  pub took_by : (h : HostReg) (e : Seen) → e.asks ≡ registerAsks h → d.status.halted ≡ false → d.status.phase ≡ None → bitIn 32 d.status.outstanding (tagAsked h) ≡ false
       → Took d e (acceptedBy d (record { tag = tagAsked h; entry = entryFor h }))
   unfolding acceptedBy
   took_by h e a calm shut free =
@@ -100,18 +102,17 @@ module _ (d : Device) (g : contradictoryDevice d ≡ false) where
       })
 
   -- bytes move in the open phase: some, and no more than are left
-  pub carried-by : (n : eqb d.status.phase 0 ≡ false) (k : ℕ) → 0 < k
-      → let e : Entry = entry_of d.entries (d.status.phase - 1) in
-      Carried (d.status.phase - 1) (min k (left_of e)) d (movedBy d (move_of d.status e k))
+  pub carried-by : (n : is_none d.status.phase ≡ false) (k : ℕ) → 0 < k
+      → let e : Entry = entry_of d.entries (unwrap_or d.status.phase 0) in
+      Carried (unwrap_or d.status.phase 0) (min k (left_of e)) d (movedBy d (move_of d.status e k))
   unfolding movedBy move_of advancedBy
   carried-by n k pos =
-      let t : ℕ = d.status.phase - 1 in
+      let t : ℕ = unwrap_or d.status.phase 0 in
       let e : Entry = entry_of d.entries t in
-      let some = eqb-false d.status.phase 0 n in
-      let back : d.status.phase ≡ t + 1 = omega (arith, some) in
+      let back : d.status.phase ≡ Some t = some-open d.status.phase n in
       let busy = phase-busy d.status d.errors.set (status-good d g) n in
       let l = busy-below d.status.outstanding t busy in
-      let more = phase-more d t g busy (eq-eqb d.status.phase (t + 1) back) in
+      let more = phase-more d t g busy (own-open d.status.phase t back) in
       let whole = whole_is d t g busy in
       let p = placed_same d.entries t (advancedBy e (min k (left_of e))) l in
       let last : leb (left_of e) k ≡ leb (512 * e.count) (e.moved + min k (left_of e)) = last-is (whole_of e.count) (512 * e.count) e.moved k whole more in
@@ -122,7 +123,7 @@ module _ (d : Device) (g : contradictoryDevice d ≡ false) where
         within = omega (arith, more, whole);
         settings = refl;
         outstanding = refl;
-        phase = ap (λ (b : Bool). pick b 0 d.status.phase) last;
+        phase = ap (λ (b : Bool). pick b None d.status.phase) last;
         halted = refl;
         write = ap (λ (x : Entry). x.write) p;
         first = ap (λ (x : Entry). x.first) p;
@@ -132,13 +133,13 @@ module _ (d : Device) (g : contradictoryDevice d ≡ false) where
       }
 
   -- a command whose phase is closed and that is not wholly moved has not moved at all
-  pub unmoved : (t : ℕ) → bitIn 32 d.status.outstanding t ≡ true → d.status.phase ≡ 0 → eqb (entry_of d.entries t).moved (whole_of (entry_of d.entries t).count) ≡ false
+  pub unmoved : (t : ℕ) → bitIn 32 d.status.outstanding t ≡ true → d.status.phase ≡ None → eqb (entry_of d.entries t).moved (whole_of (entry_of d.entries t).count) ≡ false
       → (entry_of d.entries t).moved ≡ 0
   unfolding busyBad movedBad
   unmoved t b p n =
       let e : Entry = entry_of d.entries t in
       let low = (aboveDepth d.settings t || pastCapacity d.settings e) || (countZero e || (otherTag e t || otherRange e)) in
-      let shut : phaseOf d t ≡ false = ne_eqb d.status.phase (t + 1) (λ z. omega arith) in
+      let shut : phaseOf d t ≡ false = no-phase d.status.phase t p in
       let high = (movedAbove e || movedOdd e) || (movedBetween e (phaseOf d t) || phaseDone e (phaseOf d t)) in
       let between = or_left (movedBetween e (phaseOf d t)) (phaseDone e (phaseOf d t))
       (or_right (movedAbove e || movedOdd e) (movedBetween e (phaseOf d t) || phaseDone e (phaseOf d t)) (or_right low high (busy-good d t g b))) in

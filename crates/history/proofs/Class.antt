@@ -8,6 +8,7 @@ use Rattle.bits.specs.Bit.{bitIn, withBitIn, clearIn}
 use Rattle.device_state.specs.Table.{entry_of}
 use Rattle.device.specs.declared.state.Device.{Device}
 use Rattle.history.specs.Seen.{Seen, Transfer, underWay, accepts}
+use Rattle.std.proofs.Common.{Some, None}
 
 -- no tag
 abbrev pub none : ℕ → Bool
@@ -42,13 +43,13 @@ pub record Same (d d' : Device) : Type 0 where
 pub record Emptied (ha : Bool) (d d' : Device) : Type 0 where
   pub settings : d'.settings ≡ d.settings
   pub outstanding : d'.status.outstanding ≡ 0
-  pub phase : d'.status.phase ≡ 0
+  pub phase : d'.status.phase ≡ None
   pub halted : d'.status.halted ≡ ha
 
 -- a command that was accepted: its tag was free and below the depth, and its entry is what was asked for
 pub record Took (d : Device) (e : Seen) (d' : Device) : Type 0 where
   pub calm : d.status.halted ≡ false
-  pub shut : d.status.phase ≡ 0
+  pub shut : d.status.phase ≡ None
   pub small : e.asks.tag < 32
   pub free : bitIn 32 d.status.outstanding e.asks.tag ≡ false
   pub settings : d'.settings ≡ d.settings
@@ -63,26 +64,26 @@ pub record Took (d : Device) (e : Seen) (d' : Device) : Type 0 where
 
 -- a phase that was opened for a tag: it was closed before, and nothing of the command has moved
 pub record Opened (tag : ℕ) (d : Device) (e : Seen) (d' : Device) : Type 0 where
-  pub shut : d.status.phase ≡ 0
+  pub shut : d.status.phase ≡ None
   pub busy : bitIn 32 d.status.outstanding tag ≡ true
   pub moved : (entry_of d.entries tag).moved ≡ 0
   pub some : 0 < (entry_of d.entries tag).count
   pub begins : (x : Transfer) → e.begins x ≡ underWay (not (entry_of d.entries tag).write) tag 0 (512 * (entry_of d.entries tag).count)
   pub settings : d'.settings ≡ d.settings
   pub outstanding : d'.status.outstanding ≡ d.status.outstanding
-  pub phase : d'.status.phase ≡ tag + 1
+  pub phase : d'.status.phase ≡ Some tag
   pub halted : d'.status.halted ≡ d.status.halted
   pub entries : d'.entries ≡ d.entries
 
 -- n bytes that moved in the open phase of a tag, which closes at nothing left; n is not 0, and no more than is left
 pub record Carried (tag n : ℕ) (d d' : Device) : Type 0 where
-  pub phased : d.status.phase ≡ tag + 1
+  pub phased : d.status.phase ≡ Some tag
   pub busy : bitIn 32 d.status.outstanding tag ≡ true
   pub some : 0 < n
   pub within : (entry_of d.entries tag).moved + n ≤ 512 * (entry_of d.entries tag).count
   pub settings : d'.settings ≡ d.settings
   pub outstanding : d'.status.outstanding ≡ d.status.outstanding
-  pub phase : d'.status.phase ≡ pick (leb (512 * (entry_of d.entries tag).count) ((entry_of d.entries tag).moved + n)) 0 d.status.phase
+  pub phase : d'.status.phase ≡ pick (leb (512 * (entry_of d.entries tag).count) ((entry_of d.entries tag).moved + n)) None d.status.phase
   pub halted : d'.status.halted ≡ d.status.halted
   pub write : (entry_of d'.entries tag).write ≡ (entry_of d.entries tag).write
   pub first : (entry_of d'.entries tag).first ≡ (entry_of d.entries tag).first
@@ -93,7 +94,7 @@ pub record Carried (tag n : ℕ) (d d' : Device) : Type 0 where
 -- a set of tags that was finished: each was outstanding and wholly moved, and no phase was open
 pub record Ended (set : ℕ) (d d' : Device) : Type 0 where
   pub calm : d.status.halted ≡ false
-  pub shut : d.status.phase ≡ 0
+  pub shut : d.status.phase ≡ None
   pub width : set < 2 ^ 32
   pub ready : (t : ℕ) → t < 32 → bitIn 32 set t ≡ true → (bitIn 32 d.status.outstanding t ≡ true) × ((entry_of d.entries t).moved ≡ 512 * (entry_of d.entries t).count)
   pub settings : d'.settings ≡ d.settings
@@ -117,7 +118,7 @@ pub data Class (d : Device) (e : Seen) (d' : Device) : Type 0 where
   resets : Is e false false false false true false none none 0 0 → Unbegun e → Emptied false d d' → Class d e d'
   -- the sweep clears every bit, and the halt ends
   sweeps : (clears : ℕ → Bool) → ((t : ℕ) → t < 32 → clears t ≡ true) → Is e false false false false false true none clears 0 0 → Unbegun e
-      → d.status.halted ≡ true → d.status.outstanding ≡ 0 → d.status.phase ≡ 0 → Emptied false d d' → Class d e d'
+      → d.status.halted ≡ true → d.status.outstanding ≡ 0 → d.status.phase ≡ None → Emptied false d d' → Class d e d'
   takes : Is e true true false false false false none none 0 0 → Unbegun e → Took d e d' → Class d e d'
   opens : (tag : ℕ) → Is e false false false false false false none none 0 0 → Opened tag d e d' → Class d e d'
   -- a read sends, a write brings

@@ -1,12 +1,11 @@
 -- The data of one call: read, they are what the medium held at the command's place; written, the medium holds them there, whole, and is otherwise as it was. Assumes nothing.
-use mathlib.Core.Path.{◌≡◌, refl, sym, ap, subst, subst⁻¹, ◌∙◌}
+use mathlib.Core.Path.{◌≡◌, refl, ap, subst, subst⁻¹, ◌∙◌}
 use mathlib.Core.Bool.{true, not}
 use mathlib.Core.List.{List}
-use Prim.Native.Nat.{ℕ, zero, suc, ◌+◌, ◌-◌, ◌*◌, ◌<◌}
-use native.Mathlib.Numerals.{add-one}
+use Prim.Native.Nat.{ℕ, ◌+◌, ◌*◌, ◌<◌}
 use native.Mathlib.Omega.{arith}
 use lib.Dec.{eqb}
-use borrow.Author.Tests.{eqb-true, ne_eqb}
+use borrow.Author.Tests.{eqb-true}
 use Rattle.bits.specs.Pick.{pick}
 use Rattle.bits.specs.Bit.{bitIn}
 use Rattle.bits.proofs.Picks.{and_left}
@@ -34,14 +33,12 @@ use Rattle.history.proofs.Strays.{due, transfer-since}
 use Rattle.history.proofs.Owners.{owned}
 use Rattle.history.proofs.Placed.{SentFrom, Placed, left-same}
 use Rattle.history.proofs.Kept.{call_lies, call-sent}
+use Rattle.std.proofs.Common.{Option, Some, None}
 
 -- the place of the open phase: that of its tag's entry
-phase-place : (d : Device) (t : ℕ) → d.status.phase ≡ t + 1 → place_of (phaseEntry d) ≡ place_of (deviceEntry d t)
-unfolding openTag pick
-phase-place d t p = rw (p, ne_eqb (t + 1) 0 (λ z. omega arith)) (ap (λ (u : ℕ). place_of (deviceEntry d u)) (back t))
-  where
-    back : (t : ℕ) → t + 1 - 1 ≡ t
-    back t = omega arith
+phase-place : (d : Device) (t : ℕ) → d.status.phase ≡ Some t → place_of (phaseEntry d) ≡ place_of (deviceEntry d t)
+unfolding openTag
+phase-place d t p = rw p refl
 
 -- every call's data stand at the next byte of the open phase's command
 pub placed : (d : Device) (l : Lent) → Typed l.call → SizedRecord d → Placed (event (done l (result d l))) (place_of (phaseEntry d))
@@ -62,9 +59,9 @@ command-moved d x t c p s b =
 each-moved : (d : Device) (x : Event) (c : Command) → Placed x (place_of (phaseEntry d)) → Following d c → outstanding c ≡ true → MovedOf x c (transfer c.after)
 each-moved d x c p f o = subst⁻¹ (MovedOf x c) f.under (go d.status.phase refl)
   where
-    go : (k : ℕ) → d.status.phase ≡ k → MovedOf x c (transferOf d)
-    go zero e = subst⁻¹ (MovedOf x c) (transfer-shut d e) tt
-    go (suc t) e = let q = e ∙ sym (add-one t) in subst⁻¹ (MovedOf x c) (transfer-open d t q) (command-moved d x t c (subst (Placed x) (phase-place d t q) p) (f.stands o))
+    go : (k : Option ℕ) → d.status.phase ≡ k → MovedOf x c (transferOf d)
+    go None e = subst⁻¹ (MovedOf x c) (transfer-shut d e) tt
+    go (Some t) e = subst⁻¹ (MovedOf x c) (transfer-open d t e) (command-moved d x t c (subst (Placed x) (phase-place d t e) p) (f.stands o))
 
 -- the Setup of the open phase reaches to the end of its command's range
 command-reaches : (d : Device) (t : ℕ) (c : Command) → Standing d c → Reaches c (transferFor (deviceEntry d t) t)
@@ -75,9 +72,9 @@ command-reaches d t c s b =
 each-reaches : (d : Device) (c : Command) → Following d c → outstanding c ≡ true → Reaches c (transfer c.after)
 each-reaches d c f o = subst⁻¹ (Reaches c) f.under (go d.status.phase refl)
   where
-    go : (k : ℕ) → d.status.phase ≡ k → Reaches c (transferOf d)
-    go zero e = subst⁻¹ (Reaches c) (transfer-shut d e) tt
-    go (suc t) e = subst⁻¹ (Reaches c) (transfer-open d t (e ∙ sym (add-one t))) (command-reaches d t c (f.stands o))
+    go : (k : Option ℕ) → d.status.phase ≡ k → Reaches c (transferOf d)
+    go None e = subst⁻¹ (Reaches c) (transfer-shut d e) tt
+    go (Some t) e = subst⁻¹ (Reaches c) (transfer-open d t e) (command-reaches d t c (f.stands o))
 
 -- one call after a history that the state follows
 pub moves : (d : Device) (l : Lent) (h : List Seen) → Typed l.call → SizedRecord d → Tracked d h

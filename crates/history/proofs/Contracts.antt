@@ -12,11 +12,12 @@ use Rattle.history.specs.Event.{Event}
 use Rattle.device.specs.Lent.{Lent, Gave}
 use Rattle.history.specs.Run.{result, Done, done, event, Run, run, run_from, history}
 use Rattle.device.specs.Counter.{CounterGiven, CountGiven}
-use Rattle.page_rows.specs.declared.shown.Counter.{Counter}
+use Rattle.std.proofs.Common.{Option, Result}
+use Rattle.refusals.specs.declared.reasons.Refusal.{Refusal}
 use Rattle.history.specs.Follows.{FollowsBy, newestFirst, final, lents, historyOf, Began}
 use Rattle.history.proofs.Allowed.{Allowed, hosted, opened, sent, finished, failed, linked, reset, BeganCode, CounterCode, counted, CountCode, summed}
 
-same-gave : {d d' : Device} {n n' l l' : ℕ} {m m' b b' : List ℕ} → d ≡ d' → n ≡ n' → l ≡ l' → m ≡ m' → b ≡ b'
+same-gave : {d d' : Device} {n n' : Option Refusal} {l l' : ℕ} {m m' b b' : List ℕ} → d ≡ d' → n ≡ n' → l ≡ l' → m ≡ m' → b ≡ b'
     → ◌≡◌ {A = Gave} (record { outcome = record { state = d; refusal = n; len = l }; medium = m; buffer = b }) (record { outcome = record { state = d'; refusal = n'; len = l' }; medium = m'; buffer = b' })
 same-gave p q r s t = cc
 
@@ -45,10 +46,10 @@ pub began-code : (s : Settings) (r : Outcome) (xs : List Done) → BeganCode s r
 began-code s r xs b = record { power = b.power; follows = allowed-follows xs r.state b.follows }
 
 -- the contracts of the two calls that leave the state promise their answers
-pub counter-code : (d : Device) (number : ℕ) (c : Counter) → CounterCode d number c → CounterGiven d number c
+pub counter-code : (d : Device) (number : ℕ) (c : Result (Option ℕ) Refusal) → CounterCode d number c → CounterGiven d number c
 counter-code d number c (counted κs b n r p) = p
 
-pub count-code : (d : Device) (c : Counter) → CountCode d c → CountGiven d c
+pub count-code : (d : Device) (c : Result ℕ Refusal) → CountCode d c → CountGiven d c
 count-code d c (summed κs b r p) = p
 
 -- a contract allows just what the definitions give

@@ -16,9 +16,9 @@ use Prim.Native.Nat.{ℕ}
 use mathlib.Core.Path.{◌≡◌}
 use mathlib.Core.List.{map}
 use Rattle.device.specs.Device.{powerOn}
-use Rattle.page_11h.specs.Page11.{counterAnswer}
-use Rattle.page_rows.specs.declared.shown.Counter.{Counter}
-use Rattle.page_rows.specs.declared.shown.Counter.TheVariants.{Value}
+use Rattle.std.proofs.Common.{Option, None, Result, Ok}
+use Rattle.refusals.specs.First.{refusal_in}
+use Rattle.refusals.specs.declared.reasons.Refusal.{Refusal}
 use Rattle.history.specs.Seen.{seen}
 use Rattle.history.specs.Fates.{total}
 use Rattle.history.specs.Counted.{toldFor}
@@ -98,8 +98,8 @@ log-code s r xs b = log-given s r xs (began-code s r xs b)
 -- what the history h tells of the state d, and of each answer about it that the contracts of `Device::counter` and `Device::outstanding_count` allow
 pub record CodeAgrees (s : Settings) (d : Device) (h : List Event) : Type 0 where
   pub agrees : StateAgrees s d h
-  pub asked : (number : ℕ) (c : Counter) → CounterCode d number c → (counterAnswer c).number ≡ 0 → c ≡ toldFor s.mask h number
-  pub count : (powerOn s).refusal ≡ 0 → (c : Counter) → CountCode d c → c ≡ Value (total (map seen h))
+  pub asked : (number : ℕ) (c : Result (Option ℕ) Refusal) → CounterCode d number c → refusal_in c ≡ None → c ≡ Ok (toldFor s.mask h number)
+  pub count : (powerOn s).refusal ≡ None → (c : Result ℕ Refusal) → CountCode d c → c ≡ Ok (total (map seen h))
 
 -- and their last state, and every answer about it, is what their history tells
 pub told-code : (s : Settings) (r : Outcome) (xs : List Done) → BeganCode s r xs → AllTyped (lents xs) → CodeAgrees s (final r.state xs) (historyOf xs)

@@ -2,7 +2,7 @@
 use mathlib.Core.Path.{◌≡◌, refl, sym, ap, subst, ◌∙◌}
 use mathlib.Core.Bool.{Bool, true, false, not, ◌||◌, true≢false}
 use mathlib.Core.List.{List}
-use Prim.Native.Nat.{ℕ, ◌+◌, ◌-◌, ◌*◌, ◌^◌, ◌≤◌, ◌<◌, min}
+use Prim.Native.Nat.{ℕ, ◌+◌, ◌*◌, ◌^◌, ◌≤◌, ◌<◌, min}
 use native.Mathlib.Omega.{arith}
 use native.Mathlib.Nat.{zero-add}
 use lib.Dec.{eqb, lit<}
@@ -10,7 +10,7 @@ use lib.ListN.{length, length-take, length-drop}
 use borrow.Author.Tests.{eqb-true, eqb-false, not-false}
 use Rattle.bits.specs.Pick.{pick}
 use Rattle.bits.specs.Bit.{bitIn}
-use Rattle.bits.proofs.Picks.{by-test, pick_no, or_left, or_right}
+use Rattle.bits.proofs.Picks.{by-test, or_left, or_right}
 use Rattle.frames.specs.declared.shapes.DmaSetup.{DmaSetup}
 use Rattle.device_state.specs.State.{whole_of}
 use Rattle.device_state.specs.Table.{entry_of}
@@ -36,12 +36,14 @@ use Rattle.history.proofs.Class.{Class, Same, plain, halts, resets, opens, carri
 use Rattle.history.proofs.Sets.{no-busy, no_bits}
 use Rattle.history.proofs.Views.{view, is-silent, is-finish, is-failed, is-reset, is-setup, setup-begins, is-sent, silent-unbegun, answer-unbegun, bits-unbegun, sent-unbegun}
 use Rattle.history.proofs.Changes.{halted-empty, carried-by, unmoved, cleared-other}
+use Rattle.device.proofs.Phases.{open-tag}
+use Rattle.std.proofs.Common.{None, is_none, unwrap_or}
 
 -- an act's part of the medium, and what is seen of it
 abbrev pub Happens : Device → List ℕ → Act → Type 0
 Happens d part a = Class d (view quiet (repliesOf (shown d) part a)) (after_of d a)
 
-pub opened-comes : (d : Device) (part : List ℕ) (tag : ℕ) → contradictoryDevice d ≡ false → bitIn 32 d.status.outstanding tag ≡ true → d.status.phase ≡ 0
+pub opened-comes : (d : Device) (part : List ℕ) (tag : ℕ) → contradictoryDevice d ≡ false → bitIn 32 d.status.outstanding tag ≡ true → d.status.phase ≡ None
     → allMoved (entry_of d.entries tag) ≡ false → Happens d part (Open (record { tag = tag; entry = entry_of d.entries tag }))
 unfolding repliesOf after_of openedFor
 opened-comes d part tag g busy shut left =
@@ -62,12 +64,12 @@ opened-comes d part tag g busy shut left =
     })
 
 -- what is due is sent, in a read phase
-sent-comes : (d : Device) (part : List ℕ) → contradictoryDevice d ≡ false → (p : eqb d.status.phase 0 ≡ false)
-    → let e : Entry = entry_of d.entries (d.status.phase - 1) in
+sent-comes : (d : Device) (part : List ℕ) → contradictoryDevice d ≡ false → (p : is_none d.status.phase ≡ false)
+    → let e : Entry = entry_of d.entries (unwrap_or d.status.phase 0) in
     e.write ≡ false → length part ≡ min 8192 (left_of e) → Happens d part (Send (move_of d.status e 8192))
 unfolding repliesOf after_of pick
 sent-comes d part g p w l =
-    let t : ℕ = d.status.phase - 1 in
+    let t : ℕ = unwrap_or d.status.phase 0 in
     let e : Entry = entry_of d.entries t in
     carries t (min 8192 (left_of e)) (rw (w, ← l) (is-sent part)) (sent-unbegun quiet part) (carried-by d g p 8192 (lit< tt))
 
@@ -76,22 +78,22 @@ pub part-long : (m : List ℕ) (at size : ℕ) → at + size ≤ length m → le
 part-long m at size h = simp (length-take, length-drop) (omega arith)
 
 -- the entry of the open phase is that of its tag
-at_tag : (d : Device) (m : List ℕ) → contradictoryDevice d ≡ false → (p : eqb d.status.phase 0 ≡ false)
+at_tag : (d : Device) (m : List ℕ) → contradictoryDevice d ≡ false → (p : is_none d.status.phase ≡ false)
     → let x : Entry → Act = λ e. Send (move_of d.status e 8192) in
     let e : Entry = entry_of d.entries (openTag d.status.phase) in
     e.write ≡ false → length (part_of (span_of (x e)) m) ≡ (move_of d.status e 8192).size → Happens d (part_of (span_of (x e)) m) (x e)
 unfolding openTag move_of touch_of
 at_tag d m g p =
-    let t : ℕ = d.status.phase - 1 in
+    let t : ℕ = unwrap_or d.status.phase 0 in
     subst
     (λ (u : ℕ).
     let e : Entry = entry_of d.entries u in
     e.write ≡ false → length (part_of (span_of (Send (move_of d.status e 8192))) m) ≡ (move_of d.status e 8192).size → Happens d (part_of (span_of (Send (move_of d.status e 8192))) m) (Send (move_of d.status e 8192)))
-    (sym (pick_no (eqb d.status.phase 0) 32 t p))
+    (sym (open-tag d.status.phase p))
     (λ w l. sent-comes d (part_of (span_of (Send (move_of d.status (entry_of d.entries t) 8192))) m) g p w l)
 
 -- send
-pub send-comes : (d : Device) (m : List ℕ) → contradictoryDevice d ≡ false → mediumWrong d.settings.capacity (length m) ≡ false → eqb d.status.phase 0 ≡ false
+pub send-comes : (d : Device) (m : List ℕ) → contradictoryDevice d ≡ false → mediumWrong d.settings.capacity (length m) ≡ false → is_none d.status.phase ≡ false
     → let e : Entry = entry_of d.entries (openTag d.status.phase) in e.write ≡ false → Happens d (part_of (span_of (Send (move_of d.status e 8192))) m) (Send (move_of d.status e 8192))
 unfolding touch_of
 send-comes d m g w p r =
@@ -116,7 +118,7 @@ some-busy d g set l n all = go d.status.halted refl
     go false e = e
 
 -- a set of tags, each outstanding and wholly moved
-pub finished-comes : (d : Device) (part : List ℕ) (set : ℕ) → contradictoryDevice d ≡ false → set < 2 ^ 32 → d.status.phase ≡ 0 → eqb set 0 ≡ false
+pub finished-comes : (d : Device) (part : List ℕ) (set : ℕ) → contradictoryDevice d ≡ false → set < 2 ^ 32 → d.status.phase ≡ None → eqb set 0 ≡ false
     → someUnready d.entries d.status.outstanding set ≡ false → Happens d part (Finish set)
 unfolding repliesOf after_of finishedBy someUnready
 finished-comes d part set g l shut some ready =

@@ -7,8 +7,6 @@ use Rattle.bits.specs.Pick.{pick}
 use Rattle.frame_parts.specs.Cut.{cut}
 use Rattle.frames.specs.Read.{readFrame}
 use Rattle.frames.specs.Write.{FrameValue, encode}
-use Rattle.frames.specs.RoundTrip as trip
-use Rattle.frames.specs.declared.shapes.Frame.{Frame}
 use Rattle.replies.proofs.Fit.{Fitting}
 use Rattle.device.proofs.Sized.{SizedRecord}
 use Rattle.device.specs.Lent.{Lent, Typed}
@@ -18,10 +16,10 @@ use Rattle.device.proofs.Sending.{whole}
 use Rattle.history.specs.Event.{Event}
 use Rattle.history.specs.FrameAsks.{Asked}
 use Rattle.history.specs.Asked.{asks}
-use Rattle.history.specs.Replied.{frames, repliesIn, some, isPio, payloads, page, sent}
+use Rattle.history.specs.Replied.{FrameRead, frames, repliesIn, some, isPio, payloads, page, sent}
 use Rattle.history.specs.Seen.{seenIn, seen}
 use Rattle.history.specs.Run.{result, done, event}
-use Rattle.history.proofs.Views.{view, all_read, all-payloads, payloadsOf, pageIn, sentIn}
+use Rattle.history.proofs.Views.{readIn, view, all_read, all-payloads, payloadsOf, pageIn, sentIn}
 
 -- the reply bytes of an event are those of the frames fs, each of which can be written
 pub record Read (x : Event) (fs : List FrameValue) : Type 0 where
@@ -30,7 +28,7 @@ pub record Read (x : Event) (fs : List FrameValue) : Type 0 where
 
 module _ (x : Event) (fs : List FrameValue) (r : Read x fs) where
   -- the reader sees them
-  pub read-frames : frames x ≡ map trip.readBack fs
+  pub read-frames : frames x ≡ readIn fs
   read-frames = ap (map readFrame) r.cuts ∙ all_read fs r.fitting
 
   -- and their payloads
@@ -39,18 +37,18 @@ module _ (x : Event) (fs : List FrameValue) (r : Read x fs) where
 
   -- what is sent that is no page
   pub read-sent : sent x ≡ sentIn fs
-  read-sent = ap₂ (λ (l : List Frame) (p : List ℕ). pick (some isPio l) [] p) read-frames read-payloads
+  read-sent = ap₂ (λ (l : List FrameRead) (p : List ℕ). pick (some isPio l) [] p) read-frames read-payloads
 
   -- and what is sent that is one
   pub read-page : page x ≡ pageIn fs
-  read-page = ap₂ (λ (l : List Frame) (p : List ℕ). pick (some isPio l) p []) read-frames read-payloads
+  read-page = ap₂ (λ (l : List FrameRead) (p : List ℕ). pick (some isPio l) p []) read-frames read-payloads
 
   -- all that demand 3 reads
   pub read-seen : (a : Asked) → asks x ≡ a → seen x ≡ view a fs
   unfolding seen view
   read-seen a e =
       ap (λ (k : Asked). seenIn k (frames x) (length (sent x))) e
-      ∙ ap₂ (λ (l : List Frame) (p : List ℕ). seenIn a l (length p)) read-frames read-sent
+      ∙ ap₂ (λ (l : List FrameRead) (p : List ℕ). seenIn a l (length p)) read-frames read-sent
 
 -- every call: its frames stand whole in the reply buffer
 pub read_step : (d : Device) (l : Lent) → Typed l.call → SizedRecord d → Read (event (done l (result d l))) (step d l).frames

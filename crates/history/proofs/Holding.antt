@@ -1,37 +1,37 @@
 -- Reset is held by the state where it is by the history: what each call does to it. Assumes nothing.
-use mathlib.Core.Path.{◌≡◌, refl, sym, ap, ◌∙◌}
+use mathlib.Core.Path.{◌≡◌, refl, sym, ◌∙◌}
 use mathlib.Core.Bool.{Bool, true, false, not, ◌&&◌, ◌||◌, true≢false}
 use mathlib.Core.List.{List, [], ◌∷◌}
-use mathlib.Core.Logic.{⊎_elim}
 use Prim.Native.Nat.{ℕ}
 use lib.Dec.{eqb}
-use borrow.Author.Tests.{eqb-true, eqb-false, ne_eqb, not-false}
+use borrow.Author.Tests.{ne_eqb, not-false}
+use Rattle.std.proofs.Common.{Ok}
 use Rattle.bits.specs.Pick.{pick}
 use Rattle.bits.specs.Bit.{bitIn}
-use Rattle.bits.proofs.Picks.{tested, or_left, by-test}
-use Rattle.frames.specs.declared.shapes.Frame.{Frame}
+use Rattle.bits.proofs.Picks.{or_left}
 use Rattle.contradictions.specs.Clauses.{statusBad, stoppedBusy, haltedHeld, heldRecord, phaseIdle}
 use Rattle.rules.specs.Call.{Call, hostFrame}
-use Rattle.rules.specs.Number.{number_of}
 use Rattle.rules.specs.Positions.{move_of}
 use Rattle.rules.specs.declared.acts.Act.{Act}
 use Rattle.rules.specs.declared.facts.Facts.{Facts}
 use Rattle.rules.proofs.Ruled as by
-use Rattle.device.specs.Device.{contradictoryDevice, powerOn, freshDevice, zeroDevice, powerNumber}
+use Rattle.device.specs.Device.{contradictoryDevice, powerOn, freshDevice}
 use Rattle.device_state.specs.declared.shapes.Settings.{Settings}
 use Rattle.device.specs.Lent.{Lent, lent}
 use Rattle.device.specs.After.{after_of, haltWith, resetHeld, released, acceptedBy, unhalted, zeroedIf, movedBy, openedFor, finishedBy, failedBy, renewed, withValue}
 use Rattle.device.specs.FactsOf.{facts_of}
-use Rattle.device.specs.Step.{actOf, step}
+use Rattle.device.specs.Step.{Step, step}
 use Rattle.device.specs.declared.state.Device.{Device}
 use Rattle.device.proofs.Parts.{status-good}
-use Rattle.device.proofs.Refusals.{refused-keeps}
 use Rattle.history.specs.Event.{Event}
 use Rattle.history.specs.FrameReading.{frameAsks}
 use Rattle.history.specs.Reading.{callAsks}
 use Rattle.history.specs.ByHistory.{frameFrees, frees, holding}
-use Rattle.history.specs.Run.{result, done, event}
+use Rattle.history.specs.Replied.{FrameRead}
+use Rattle.history.proofs.Counts.{eventBy, eventOf}
+use Rattle.history.proofs.Decided.{by-decided}
 use Rattle.history.proofs.Sets.{no-busy}
+use Rattle.history.proofs.Soundness.{from-power}
 
 -- held next, from what a taken call frees and resets
 abbrev next : Bool → Bool → Bool → Bool
@@ -51,7 +51,7 @@ busy-free d g t b =
     go false false e x y = refl
 
 -- a host frame that is not turned down
-heard-holds : (d : Device) (v : Facts) {f : Frame} {a : Act} → v.status ≡ d.status → by.Heard v f a → next (frameFrees f) (frameAsks f).resets d.status.held ≡ (after_of d a).status.held
+heard-holds : (d : Device) (v : Facts) {f : FrameRead} {a : Act} → v.status ≡ d.status → by.Heard v f a → next (frameFrees f) (frameAsks f).resets d.status.held ≡ (after_of d a).status.held
 unfolding pick after_of resetHeld released acceptedBy unhalted zeroedIf movedBy haltWith move_of
 heard-holds d v e (by.srst h c s) = rw (c, s)
 heard-holds d v e (by.release h c s y) = rw (c, s)
@@ -78,25 +78,18 @@ own-holds d m b (by.failed t e x g s o y w) = busy-free d g t o
 own-holds d m b (by.linked r g x) = refl
 own-holds d m b (by.renewed g s) = refl
 
--- a call that was decided
-ruled-holds : (d : Device) (m b : List ℕ) {c : Call} {a : Act} → by.Ruled (facts_of d (lent c m b)) c a → number_of a ≡ 0 → next (frees c) (callAsks c).resets d.status.held ≡ (after_of d a).status.held
-unfolding number_of
-ruled-holds d m b (by.refused c n h e) z = absurd (h z)
-ruled-holds d m b (by.host f a g w s h) z = heard-holds d (facts_of d (lent (hostFrame f) m b)) refl h
-ruled-holds d m b (by.own o) z = own-holds d m b o
+-- a call that is taken
+ruled-holds : (d : Device) (m b : List ℕ) {c : Call} {a : Act} → by.Ruled (facts_of d (lent c m b)) c (Ok a) → next (frees c) (callAsks c).resets d.status.held ≡ (after_of d a).status.held
+ruled-holds d m b (by.host f a g w s h) = heard-holds d (facts_of d (lent (hostFrame f) m b)) refl h
+ruled-holds d m b (by.own o) = own-holds d m b o
 
 -- every call
-pub holding-step : (d : Device) (l : Lent) (h : List Event) → holding h ≡ d.status.held → holding (event (done l (result d l)) ∷ h) ≡ (step d l).state.status.held
-unfolding holding pick actOf
+pub holding-step : (d : Device) (l : Lent) (h : List Event) → holding h ≡ d.status.held → holding (eventOf d l ∷ h) ≡ (step d l).state.status.held
+unfolding holding pick
 holding-step d l h k =
-    ⊎_elim
-    (λ (y : eqb (step d l).refusal 0 ≡ true).
-    rw (y, k) (ruled-holds d l.medium l.buffer (by.ruled (facts_of d l) l.call) (eqb-true (step d l).refusal 0 y)))
-    (λ (y : eqb (step d l).refusal 0 ≡ false).
-    rw y (k ∙ sym (ap (λ (x : Device). x.status.held) (refused-keeps d l (eqb-false (step d l).refusal 0 y)).state)))
-    (tested (eqb (step d l).refusal 0))
+    by-decided d l (λ (s : Step). holding (eventBy l s ∷ h) ≡ s.state.status.held) (λ _. k) (λ a r. rw k (ruled-holds d l.medium l.buffer r))
 
 -- power-on
 pub holding-power : (s : Settings) → holding [] ≡ (powerOn s).state.status.held
-unfolding holding powerOn freshDevice
-holding-power s = by-test (λ (d : Device). false ≡ d.status.held) (eqb (powerNumber s) 0) (freshDevice s) zeroDevice (λ _. refl) (λ _. refl)
+unfolding holding freshDevice
+holding-power s = from-power (λ (d : Device). false ≡ d.status.held) s refl refl

@@ -6,11 +6,11 @@ use Prim.Native.Nat.{ℕ, ◌-◌, ◌/◌, ◌%◌, ◌^◌, ◌<◌, min}
 use native.Mathlib.Nat.{zero-div}
 use native.Mathlib.Omega.{arith}
 use lib.Dec.{eqb, ltb, leb, lit<}
-use borrow.Author.Tests.{eqb-true, eqb-false, lt-ltb, ltb-false, leb-true}
+use borrow.Author.Tests.{eqb-false, lt-ltb, ltb-false, leb-true}
 use Rattle.bits.specs.Pick.{pick}
 use Rattle.bits.specs.Bit.{bitIn}
 use Rattle.bits.proofs.Masks.{bit_not}
-use Rattle.bits.proofs.Picks.{pick_no, and_left}
+use Rattle.bits.proofs.Picks.{and_left}
 use Rattle.frame_parts.specs.Shared.{srstOf}
 use Rattle.frame_parts.specs.Size.{payloadSize}
 use Rattle.frame_parts.specs.declared.shared.Task.{Task}
@@ -31,6 +31,8 @@ use Rattle.history.specs.Seen.{Seen}
 use Rattle.history.proofs.Class.{none, Is, Class, plain, again, freely, halts, resets, sweeps, takes, carries}
 use Rattle.history.proofs.Views.{view, is-silent, is-bad, is-good, is-page, is-swept, is-brought, silent-unbegun, answer-unbegun, page-unbegun, swept-unbegun, active-unbegun}
 use Rattle.history.proofs.Changes.{same, halted-empty, took_by, carried-by}
+use Rattle.device.proofs.Phases.{none-open, open-tag}
+use Rattle.std.proofs.Common.{None, is_some, is_none, unwrap_or}
 
 -- what is seen of an act that answers what was asked, with a part of the medium
 abbrev pub actSeen : Device → List ℕ → Asked → Act → Seen
@@ -71,7 +73,7 @@ module _ (d : Device) (g : contradictoryDevice d ≡ false) where
     queued-faulted t e c q x = faulted false t e c x (let u : k.queued ≡ true = rw (c, q) in rw u)
 
     -- rule 4
-    pub accepted : h.command_bit ≡ true → isQueued h ≡ true → d.status.halted ≡ false → d.status.phase ≡ 0 → bitIn 32 d.status.outstanding (tagAsked h) ≡ false
+    pub accepted : h.command_bit ≡ true → isQueued h ≡ true → d.status.halted ≡ false → d.status.phase ≡ None → bitIn 32 d.status.outstanding (tagAsked h) ≡ false
         → Comes d [] k (Accept (record { tag = tagAsked h; entry = entryFor h }))
     unfolding repliesOf after_of view
     accepted c y x p f =
@@ -102,16 +104,16 @@ module _ (d : Device) (g : contradictoryDevice d ≡ false) where
         freely (subst (λ (b : Bool). Is (actSeen d [] k (bad h e)) b false true false false false none none 0 0) q (is-bad k _ refl c (no-reset c) refl)) (answer-unbegun k _) x z (same d)
 
     -- page 10h: by whether the device was halted
-    paged-ten : (b : Bool) → d.status.halted ≡ b → (task : Task) (page : List ℕ) → h.command_bit ≡ true → k.queued ≡ false → eqb d.status.phase 0 ≡ true
+    paged-ten : (b : Bool) → d.status.halted ≡ b → (task : Task) (page : List ℕ) → h.command_bit ≡ true → k.queued ≡ false → is_some d.status.phase ≡ false
         → Class d (view k (logReplies b task page)) (unhalted d)
     unfolding unhalted pick
     paged-ten true x task page c q p =
-        sweeps (λ t. bitIn 32 0xFFFF_FFFF t || false) all-bits (is-swept k _ _ _ refl c q (no-reset c) refl) (swept-unbegun k _ _ _) x (halted-empty d g x) (eqb-true d.status.phase 0 p)
-        (record { settings = refl; outstanding = halted-empty d g x; phase = eqb-true d.status.phase 0 p; halted = refl })
+        sweeps (λ t. bitIn 32 0xFFFF_FFFF t || false) all-bits (is-swept k _ _ _ refl c q (no-reset c) refl) (swept-unbegun k _ _ _) x (halted-empty d g x) (none-open d.status.phase p)
+        (record { settings = refl; outstanding = halted-empty d g x; phase = none-open d.status.phase p; halted = refl })
     paged-ten false x task page c q p =
         plain (is-page k _ _ q (no-reset c) refl) (page-unbegun k _ _) (record { settings = refl; outstanding = refl; phase = refl; halted = sym x; entries = refl })
 
-    pub ten-comes : h.command_bit ≡ true → k.queued ≡ false → eqb d.status.phase 0 ≡ true → Comes d [] k (Log10 h.task)
+    pub ten-comes : h.command_bit ≡ true → k.queued ≡ false → is_some d.status.phase ≡ false → Comes d [] k (Log10 h.task)
     unfolding repliesOf after_of
     ten-comes = paged-ten d.status.halted refl h.task (page10Of d.errors)
 
@@ -142,17 +144,17 @@ module _ (d : Device) (g : contradictoryDevice d ≡ false) where
     idle c s = plain (subst (λ (b : Bool). Is (actSeen d [] k Nothing) false false false false b false none none 0 0) (let r : k.resets ≡ false = rw (c, s) in r) (is-silent k (rw c))) (silent-unbegun k) (same d)
 
   abbrev t : ℕ
-  t = d.status.phase - 1
+  t = unwrap_or d.status.phase 0
 
   -- host data: some bytes of what is left have come, in a write phase
-  kept-comes : (n : ℕ) → eqb d.status.phase 0 ≡ false → (entry_of d.entries t).write ≡ true → 0 < n → n ≡ min n (left_of (entry_of d.entries t))
+  kept-comes : (n : ℕ) → is_none d.status.phase ≡ false → (entry_of d.entries t).write ≡ true → 0 < n → n ≡ min n (left_of (entry_of d.entries t))
       → Comes d [] (dataAsks n) (Store (move_of d.status (entry_of d.entries t) n))
   unfolding repliesOf after_of move_of pick
   kept-comes n p w pos e =
       let i = is-brought n (not (move_of d.status (entry_of d.entries t) n).last) in
       carries t (min n (left_of (entry_of d.entries t))) (rw (w, ← e) i) (active-unbegun (dataAsks n) (not (move_of d.status (entry_of d.entries t) n).last)) (carried-by d g p n pos)
 
-  pub data-comes : (n : ℕ) → payloadSize n ≡ true → eqb d.status.phase 0 ≡ false → let e = entry_of d.entries (openTag d.status.phase) in e.write ≡ true → ltb (left_of e) n ≡ false
+  pub data-comes : (n : ℕ) → payloadSize n ≡ true → is_none d.status.phase ≡ false → let e = entry_of d.entries (openTag d.status.phase) in e.write ≡ true → ltb (left_of e) n ≡ false
       → Comes d [] (dataAsks n) (Store (move_of d.status e n))
   unfolding openTag
   data-comes n size p w y =
@@ -160,7 +162,7 @@ module _ (d : Device) (g : contradictoryDevice d ≡ false) where
       let some = leb-true 4 n (and_left (leb 4 n) (leb n 8192) (and_left (leb 4 n && leb n 8192) (eqb (n % 4) 0) size)) in
       let most = ltb-false (left_of e) n y in
       let s : n ≡ min n (left_of e) = omega arith in
-      let q : openTag d.status.phase ≡ t = pick_no (eqb d.status.phase 0) 32 t p in
+      let q : openTag d.status.phase ≡ t = open-tag d.status.phase p in
       subst (λ (u : ℕ). Comes d [] (dataAsks n) (Store (move_of d.status (entry_of d.entries u) n))) (sym q)
       (kept-comes n p (subst (λ (u : ℕ). (entry_of d.entries u).write ≡ true) q w) (omega arith) (subst (λ (u : ℕ). n ≡ min n (left_of (entry_of d.entries u))) q s))
 

@@ -1,5 +1,6 @@
 -- what a call can do, and what the host sees of it
 pub mod Sets
+pub mod Decided
 pub mod Class
 pub mod Views
 pub mod Frames

@@ -1,21 +1,20 @@
 -- The error record of the state is what the history tells of the last error: what each call does to it. Assumes nothing.
-use mathlib.Core.Path.{◌≡◌, refl, sym, ap, ap₂, subst, ◌∙◌}
+use mathlib.Core.Path.{◌≡◌, refl, ap, ap₂, subst, ◌∙◌}
 use mathlib.Core.Bool.{Bool, true, false, not}
 use mathlib.Core.List.{List, [], ◌∷◌, map}
 use mathlib.Core.Logic.{⊎_elim}
 use Prim.Native.Nat.{ℕ, ◌+◌, ◌<◌, ◌^◌}
 use native.Mathlib.Omega.{arith}
 use lib.Dec.{eqb, ltb, leb}
-use borrow.Author.Tests.{eqb-true, eqb-false, leb-false}
+use borrow.Author.Tests.{eqb-false, leb-false}
+use Rattle.std.proofs.Common.{Ok, Err}
 use Rattle.bits.specs.Pick.{pick}
 use Rattle.bits.specs.Bit.{bitIn}
-use Rattle.bits.proofs.Picks.{tested, by-test, or_right}
+use Rattle.bits.proofs.Picks.{tested, or_right}
 use Rattle.frame_parts.specs.declared.shared.Task.{Task}
 use Rattle.frame_parts.proofs.TaskLaws.{same-task}
 use Rattle.frames.specs.Write.{FrameValue}
-use Rattle.frames.specs.RoundTrip as trip
 use Rattle.frames.specs.declared.shapes.HostReg.{HostReg}
-use Rattle.frames.specs.declared.shapes.Frame.{Frame}
 use Rattle.page_10h.specs.declared.page10.ErrorLog.{ErrorLog}
 use Rattle.device_state.specs.State.{taskIn, echoOf}
 use Rattle.device_state.specs.Table.{entry_of}
@@ -25,18 +24,17 @@ use Rattle.device_state.proofs.EchoLaws.{echo-task, echo-lba}
 use Rattle.rules.specs.Call.{Call, hostFrame}
 use Rattle.rules.specs.Act.{failing}
 use Rattle.rules.specs.Medium.{span_of, part_of}
-use Rattle.rules.specs.Number.{number_of}
 use Rattle.rules.specs.Positions.{move_of}
 use Rattle.rules.specs.Tests.{outside}
 use Rattle.rules.specs.declared.acts.Queued.{Queued}
 use Rattle.rules.specs.declared.acts.Act.{Act}
 use Rattle.rules.proofs.Ruled as by
 use Rattle.replies.specs.Replies.{signature, logOf, setupReply, logReplies, activateIf, repliesOf}
-use Rattle.device.specs.Device.{contradictoryDevice, powerOn, freshDevice, zeroDevice, powerNumber}
+use Rattle.device.specs.Device.{contradictoryDevice, powerOn, freshDevice}
 use Rattle.device.specs.Lent.{Lent, lent, Typed}
 use Rattle.device.specs.After.{after_of, haltWith, resetHeld, released, acceptedBy, unhalted, zeroedIf, movedBy, openedFor, finishedBy, failedBy, renewed, withValue}
 use Rattle.device.specs.FactsOf.{facts_of}
-use Rattle.device.specs.Step.{shown, actOf, step}
+use Rattle.device.specs.Step.{Step, shown, stepBy, step}
 use Rattle.device.specs.declared.state.Device.{Device}
 use Rattle.device.proofs.Busy.{range-within}
 use Rattle.device.proofs.Doing.{heard-unsent}
@@ -44,24 +42,24 @@ use Rattle.device.proofs.Entering.{capacity-most}
 use Rattle.device.proofs.Fitting.{ReadFits, read_fits}
 use Rattle.device.proofs.Keeping.{settings-good}
 use Rattle.device.proofs.Never.{and-never}
-use Rattle.device.proofs.Refusals.{refused-keeps}
 use Rattle.device.proofs.Sized.{SizedRecord}
 use Rattle.history.specs.Event.{Event}
 use Rattle.history.specs.FrameAsks.{Asked, quiet, registerAsks, dataAsks, resetAsks}
 use Rattle.history.specs.FrameReading.{frameAsks}
 use Rattle.history.specs.Reading.{callAsks}
 use Rattle.history.specs.Asked.{asks}
-use Rattle.history.specs.Replied.{some, registerIn, collect}
+use Rattle.history.specs.Replied.{FrameRead, some, registerIn, collect}
 use Rattle.history.specs.Seen.{Seen, seen}
 use Rattle.history.specs.Fates.{total}
 use Rattle.history.specs.Waits.{waits}
-use Rattle.history.specs.Run.{result, done, event}
 use Rattle.history.specs.Logged.{registerLog, firstError, frameLog, callLog, haltsAt, blankLog, logBy}
-use Rattle.history.proofs.Views.{view, is-setup, is-brought}
+use Rattle.history.proofs.Views.{readIn, view, is-setup, is-brought}
 use Rattle.history.proofs.Frames.{Read, read-frames, read-seen, read_step}
 use Rattle.history.proofs.Changes.{halted-empty, busy-calm}
-use Rattle.history.proofs.Steps.{asks-taken, asks-refused}
+use Rattle.history.proofs.Counts.{eventBy, eventOf}
+use Rattle.history.proofs.Decided.{by-decided}
 use Rattle.history.proofs.Naming.{Named}
+use Rattle.history.proofs.Soundness.{from-power}
 
 -- the bytes of a command with a failing sector in them
 failing-task : (e : Echo) (sector : ℕ) (t : Task) → sector < 2 ^ 48 → taskIn e ≡ t → taskIn (failing e sector) ≡ record { lba = sector; device = t.device; count = t.count }
@@ -80,7 +78,7 @@ sector-small d t sector g o w =
 
 -- the error byte of the first 34h sent
 abbrev errorOf : List FrameValue → ℕ
-errorOf rs = firstError (collect registerIn (map trip.readBack rs))
+errorOf rs = firstError (collect registerIn (readIn rs))
 
 module _ (d : Device) (h : List Event) (w : waits (map seen h) ≡ d.status.halted) (u : ltb 0 (total (map seen h)) ≡ not (eqb d.status.outstanding 0)) (n : Named d h) (k : logBy h ≡ logOf d.errors) where
   -- the record next, from what was asked and sent, and what the call leaves to be read if it raises an error
@@ -117,7 +115,7 @@ module _ (d : Device) (h : List Event) (w : waits (map seen h) ≡ d.status.halt
   paged-logged f false p r c = stays (registerAsks f) (logReplies false f.task p) r (rw c refl) refl (rw c refl)
 
   -- a host frame that is not turned down
-  heard-logged : (x m b : List ℕ) {f : Frame} {a : Act} → contradictoryDevice d ≡ false → ReadFits f → by.Heard (facts_of d (lent (hostFrame x) m b)) f a
+  heard-logged : (x m b : List ℕ) {f : FrameRead} {a : Act} → contradictoryDevice d ≡ false → ReadFits f → by.Heard (facts_of d (lent (hostFrame x) m b)) f a
       → Next (frameAsks f) (repliesOf (shown d) [] a) (frameLog (errorOf (repliesOf (shown d) [] a)) f) ≡ logOf (after_of d a).errors
   unfolding view some collect pick repliesOf ReadFits after_of haltWith resetHeld released acceptedBy unhalted zeroedIf movedBy move_of
   heard-logged x m b g t (by.srst f c s) = reset-logged (registerAsks f) [] (registerLog 0 f) (rw c refl) refl (rw (c, s) refl)
@@ -146,37 +144,30 @@ module _ (d : Device) (h : List Event) (w : waits (map seen h) ≡ d.status.halt
   own-logged m b (by.linked r g x) = k
   own-logged m b (by.renewed g s) = reset-logged resetAsks (signature ∷ []) blankLog refl refl refl
 
-  -- a call that was decided
-  ruled-logged : (m b : List ℕ) {c : Call} {a : Act} → Typed c → by.Ruled (facts_of d (lent c m b)) c a → number_of a ≡ 0
+  -- a call that is taken
+  ruled-logged : (m b : List ℕ) {c : Call} {a : Act} → Typed c → by.Ruled (facts_of d (lent c m b)) c (Ok a)
       → Next (callAsks c) (repliesOf (shown d) (part_of (span_of a) m) a) (callLog (errorOf (repliesOf (shown d) (part_of (span_of a) m) a)) h c) ≡ logOf (after_of d a).errors
-  unfolding number_of
-  ruled-logged m b t (by.refused c i x e) z = absurd (x z)
-  ruled-logged m b {c} {a} t (by.host f _ g v s y) z =
+  ruled-logged m b {c} {a} t (by.host f _ g v s y) =
       subst (λ (p : List ℕ). Next (callAsks c) (repliesOf (shown d) p a) (callLog (errorOf (repliesOf (shown d) p a)) h c) ≡ logOf (after_of d a).errors)
       (heard-unsent (facts_of d (lent (hostFrame f) m b)) m y) (heard-logged f m b g (read_fits f t.0) y)
-  ruled-logged m b t (by.own o) z = own-logged m b o
+  ruled-logged m b t (by.own o) = own-logged m b o
+
+  -- what the history tells of an event, from what was asked and sent
+  told-next : (x : Event) (rs : List FrameValue) → Read x rs → (q : Asked) → asks x ≡ q → logBy (x ∷ h) ≡ Next q rs (callLog (errorOf rs) h x.call)
+  unfolding logBy
+  told-next x rs r q e =
+      ap₂ (λ (y : Seen) (fs : List FrameRead). pick (haltsAt y (map seen h)) (callLog (firstError (collect registerIn fs)) h x.call) (pick y.asks.resets blankLog (logBy h))) (read-seen x rs r q e) (read-frames x rs r)
 
   -- every call
-  pub logged-step : (l : Lent) → Typed l.call → SizedRecord d → logBy (event (done l (result d l)) ∷ h) ≡ logOf (step d l).state.errors
-  unfolding logBy actOf view some collect pick
+  pub logged-step : (l : Lent) → Typed l.call → SizedRecord d → logBy (eventOf d l ∷ h) ≡ logOf (step d l).state.errors
+  unfolding view some collect pick
   logged-step l t s =
-      let x : Event = event (done l (result d l)) in
-      let rs : List FrameValue = (step d l).frames in
-      let r : Read x rs = read_step d l t s in
-      let told : (q : Asked) → asks x ≡ q → logBy (x ∷ h) ≡ Next q rs (callLog (errorOf rs) h l.call) =
-      λ q e. ap₂ (λ (y : Seen) (fs : List Frame). pick (haltsAt y (map seen h)) (callLog (firstError (collect registerIn fs)) h l.call) (pick y.asks.resets blankLog (logBy h))) (read-seen x rs r q e) (read-frames x rs r) in
-      ⊎_elim
-      (λ (y : eqb (step d l).refusal 0 ≡ true).
-      let z = eqb-true (step d l).refusal 0 y in
-      told (callAsks l.call) (asks-taken x z) ∙ ruled-logged l.medium l.buffer t (by.ruled (facts_of d l) l.call) z)
-      (λ (y : eqb (step d l).refusal 0 ≡ false).
-      let i = eqb-false (step d l).refusal 0 y in
-      told quiet (asks-refused x i)
-      ∙ ap (λ (fs : List FrameValue). Next quiet fs (callLog (errorOf fs) h l.call)) (refused-keeps d l i).frames
-      ∙ k ∙ sym (ap (λ (e : Device). logOf e.errors) (refused-keeps d l i).state))
-      (tested (eqb (step d l).refusal 0))
+      by-decided d l (λ (y : Step). Read (eventBy l y) y.frames → logBy (eventBy l y ∷ h) ≡ logOf y.state.errors)
+      (λ r z. told-next (eventBy l (stepBy d l (Err r))) [] z quiet refl ∙ k)
+      (λ a o z. told-next (eventBy l (stepBy d l (Ok a))) (stepBy d l (Ok a)).frames z (callAsks l.call) refl ∙ ruled-logged l.medium l.buffer t o)
+      (read_step d l t s)
 
 -- power-on: a blank record
 pub logged-power : (s : Settings) → logBy [] ≡ logOf (powerOn s).state.errors
-unfolding logBy powerOn freshDevice pick
-logged-power s = by-test (λ (d : Device). blankLog ≡ logOf d.errors) (eqb (powerNumber s) 0) (freshDevice s) zeroDevice (λ _. refl) (λ _. refl)
+unfolding logBy freshDevice pick
+logged-power s = from-power (λ (d : Device). blankLog ≡ logOf d.errors) s refl refl

@@ -3,22 +3,22 @@ use mathlib.Core.Path.{◌≡◌, refl, ap, subst⁻¹, ◌∙◌}
 use mathlib.Core.Bool.{true, false, false≢true}
 use mathlib.Core.List.{List, []}
 use Prim.Native.Nat.{ℕ}
-use lib.Dec.{eqb}
+use Rattle.std.proofs.Common.{Option, Some, None, Ok}
 use lib.ListN.{length, get_or}
 use borrow.Author.Tests.{eq-eqb}
 use Rattle.bits.specs.Pick.{pick}
-use Rattle.bits.specs.First.{first_of}
-use Rattle.bits.proofs.Picks.{by-test, pick_yes}
+use Rattle.bits.proofs.Picks.{pick_yes}
+use Rattle.refusals.specs.First.{first_of}
+use Rattle.refusals.specs.declared.reasons.Refusal.{Refusal}
 use Rattle.frame_parts.specs.Shared.{registerBytes}
 use Rattle.page_sum.specs.Sum.{sum256, sealed}
 use Rattle.page_10h.specs.Page10.{page10, fits10, fields10, read_log}
 use Rattle.page_10h.specs.declared.page10.ErrorLog.{ErrorLog}
-use Rattle.page_10h.specs.declared.page10.Page10.TheVariants.{Fields}
 use Rattle.page_10h.proofs.Trip10.{length-10, sums-to-zero}
 use Rattle.device_state.specs.declared.shapes.Settings.{Settings}
 use Rattle.replies.specs.Replies.{logOf, page10Of}
 use Rattle.device.proofs.Sized.{SizedRecord}
-use Rattle.device.specs.Device.{contradictoryDevice, freshDevice, zeroDevice, powerNumber, powerOn}
+use Rattle.device.specs.Device.{contradictoryDevice, freshDevice, powerRefusal, powered, powerOn}
 use Rattle.device.specs.After.{withValue}
 use Rattle.device.specs.declared.state.Device.{Device}
 use Rattle.device.proofs.Fitting.{record-fits}
@@ -35,14 +35,19 @@ unfolding withValue
 raised-marked d row k = k
 
 -- power-on, refused or not
+powered-marked : (r : Option Refusal) (s : Settings) → Marked (powered r s)
+unfolding freshDevice
+powered-marked None s h = absurd (false≢true h)
+powered-marked (Some r) s h = absurd (false≢true h)
+
 pub marked_start : (s : Settings) → Marked (powerOn s).state
-unfolding powerOn freshDevice
-marked_start s = by-test Marked (eqb (powerNumber s) 0) (freshDevice s) zeroDevice (λ _ h. absurd (false≢true h)) (λ _ h. absurd (false≢true h))
+unfolding powerOn
+marked_start s = powered-marked (powerRefusal s) s
 
 -- ---- the page
 
 -- page 10h is read as its fields
-fields_read : (f : ErrorLog) → read_log (page10 f) ≡ Fields (fields10 (page10 f))
+fields_read : (f : ErrorLog) → read_log (page10 f) ≡ Ok (fields10 (page10 f))
 unfolding read_log first_of pick
 fields_read f = rw (eq-eqb (length (page10 f)) 512 (length-10 f), eq-eqb (sum256 (page10 f)) 0 (sums-to-zero f))
 

@@ -20,6 +20,7 @@ use Rattle.history.proofs.Class.{Took, Carried, Ended, Class}
 use Rattle.history.proofs.Spans.{Empty, first-length-none, span-add, belongs-own, belongs-other}
 use Rattle.history.proofs.Transfers.{transferOf, transfer-open, empty_of, closing, b-halt, load-own}
 use Rattle.history.proofs.Sets.{no-busy}
+use Rattle.std.proofs.Common.{Some, None}
 
 -- the entry of a tag
 abbrev pub deviceEntry : Device → ℕ → Entry
@@ -40,7 +41,7 @@ pub record Stays (d : Device) (e : Seen) (d' : Device) (t : ℕ) : Type 0 where
 
 -- a command that is accepted: its entry is what was asked for, and nothing has moved
 pub record New (e : Seen) (d' : Device) : Type 0 where
-  pub shut : d'.status.phase ≡ 0
+  pub shut : d'.status.phase ≡ None
   pub busy : busyAt d' e.asks.tag ≡ true
   pub write : (deviceEntry d' e.asks.tag).write ≡ e.asks.write
   pub first : (deviceEntry d' e.asks.tag).first ≡ e.asks.first
@@ -115,7 +116,7 @@ took-new d d' e k =
     }
 
 -- the tag whose data moved
-own-positions : (d : Device) (e : Seen) (tag n : ℕ) → d.status.phase ≡ tag + 1 → load (not (deviceEntry d tag).write) e ≡ n
+own-positions : (d : Device) (e : Seen) (tag n : ℕ) → d.status.phase ≡ Some tag → load (not (deviceEntry d tag).write) e ≡ n
     → (start : ℕ) → positions start (deviceEntry d tag).write tag e (transferOf d) ≡ span (start + (deviceEntry d tag).moved) n
 own-positions d e tag n p l start =
     let w = (deviceEntry d tag).write in
@@ -124,7 +125,7 @@ own-positions d e tag n p l start =
     ∙ ap (span (start + (deviceEntry d tag).moved)) l
 
 -- a tag whose data did not move
-other-positions : (d : Device) (e : Seen) (tag t : ℕ) (w : Bool) → d.status.phase ≡ tag + 1 → (t ≡ tag → ⊥) → (start : ℕ) → positions start w t e (transferOf d) ≡ []
+other-positions : (d : Device) (e : Seen) (tag t : ℕ) (w : Bool) → d.status.phase ≡ Some tag → (t ≡ tag → ⊥) → (start : ℕ) → positions start w t e (transferOf d) ≡ []
 other-positions d e tag t w p x start =
     let z = not (deviceEntry d tag).write in
     ap (positions start w t e) (transfer-open d tag p)

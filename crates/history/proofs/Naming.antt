@@ -3,16 +3,16 @@ use mathlib.Core.Path.{◌≡◌, refl, sym, ap, subst, ◌∙◌}
 use mathlib.Core.Bool.{Bool, true, false, not, ◌&&◌, ◌||◌}
 use mathlib.Core.List.{List, [], ◌∷◌}
 use mathlib.Core.Logic.{⊎_elim}
-use Prim.Native.Nat.{ℕ, ◌-◌, ◌^◌, ◌<◌}
+use Prim.Native.Nat.{ℕ, ◌^◌, ◌<◌}
 use lib.Dec.{eqb}
 use borrow.Author.Tests.{eqb-true, eqb-false, not-true}
+use Rattle.std.proofs.Common.{Ok, Err, is_none, unwrap_or}
 use Rattle.bits.specs.Pick.{pick}
 use Rattle.bits.specs.Bit.{bitIn}
-use Rattle.bits.proofs.Picks.{tested, by-test, pick_no, and_left, and_right}
+use Rattle.bits.proofs.Picks.{tested, and_left, and_right}
 use Rattle.frame_parts.specs.declared.shared.Task.{Task}
 use Rattle.frames.specs.Write.{FrameValue}
 use Rattle.frames.specs.declared.shapes.HostReg.{HostReg}
-use Rattle.frames.specs.declared.shapes.Frame.{Frame}
 use Rattle.device_state.specs.State.{taskIn}
 use Rattle.device_state.specs.Table.{entry_of}
 use Rattle.device_state.specs.declared.shapes.Entry.{Entry}
@@ -21,23 +21,21 @@ use Rattle.device_state.proofs.EchoLaws.{echo-task}
 use Rattle.rules.specs.Call.{Call, hostFrame}
 use Rattle.rules.specs.Decide.{tagAsked, entryFor}
 use Rattle.rules.specs.Medium.{span_of, part_of}
-use Rattle.rules.specs.Number.{number_of}
 use Rattle.rules.specs.Positions.{move_of, advancedBy}
 use Rattle.rules.specs.declared.acts.Queued.{Queued}
 use Rattle.rules.specs.declared.acts.Act.{Act}
 use Rattle.rules.proofs.Ruled as by
 use Rattle.replies.specs.Replies.{setupReply, logReplies, activateIf, page10Of, page11Of, repliesOf}
-use Rattle.device.specs.Device.{powerOn, freshDevice, zeroDevice, powerNumber}
+use Rattle.device.specs.Device.{powerOn, freshDevice}
 use Rattle.device.specs.Lent.{Lent, lent, Typed}
 use Rattle.device.specs.After.{after_of, haltWith, resetHeld, released, acceptedBy, unhalted, zeroedIf, movedBy, openedFor, finishedBy, failedBy, renewed, withValue}
 use Rattle.device.specs.FactsOf.{facts_of, openTag}
-use Rattle.device.specs.Step.{shown, actOf, step}
+use Rattle.device.specs.Step.{Step, shown, stepBy, step}
 use Rattle.device.specs.declared.state.Device.{Device}
 use Rattle.device.proofs.Doing.{heard-unsent}
 use Rattle.device.proofs.Entering.{tag_small}
 use Rattle.device.proofs.Fitting.{ReadFits, read_fits}
 use Rattle.device.proofs.Never.{and-never}
-use Rattle.device.proofs.Refusals.{refused-keeps}
 use Rattle.device.proofs.Sized.{SizedRecord}
 use Rattle.device.proofs.Tags.{bit-with, bit-without, busy-below}
 use Rattle.history.specs.Event.{Event}
@@ -45,16 +43,18 @@ use Rattle.history.specs.FrameAsks.{Asked, quiet, registerAsks, dataAsks}
 use Rattle.history.specs.FrameReading.{frameAsks}
 use Rattle.history.specs.Reading.{callAsks}
 use Rattle.history.specs.Asked.{asks}
-use Rattle.history.specs.Replied.{some, collect}
+use Rattle.history.specs.Replied.{FrameRead, some, collect}
 use Rattle.history.specs.Seen.{Seen, accepts}
-use Rattle.history.specs.Run.{result, done, event}
 use Rattle.history.specs.Logged.{noTask, frameTask, callTask, namedBy}
 use Rattle.history.proofs.Views.{view, is-setup, is-brought}
 use Rattle.history.proofs.Frames.{Read, read-seen, read_step}
 use Rattle.history.proofs.Changes.{placed_same, placed-other, cleared-other}
-use Rattle.history.proofs.Steps.{asks-taken, asks-refused}
+use Rattle.history.proofs.Counts.{eventBy, eventOf}
+use Rattle.history.proofs.Decided.{by-decided}
 use Rattle.history.proofs.Moving.{deviceEntry, busyAt}
 use Rattle.history.proofs.Sets.{no-busy}
+use Rattle.history.proofs.Soundness.{from-power}
+use Rattle.device.proofs.Phases.{open-tag}
 
 -- what the bytes that are kept of tag t's command name
 abbrev kept : Device → ℕ → Task
@@ -73,12 +73,12 @@ empty-stay : (d d' : Device) → d'.status.outstanding ≡ 0 → Stay d d'
 empty-stay d d' z t b = absurd (no-busy d'.status.outstanding t z b)
 
 -- a part of the open phase's command moves: its bytes stay
-moved-stay : (d : Device) (n : ℕ) → eqb d.status.phase 0 ≡ false → Stay d (movedBy d (move_of d.status (entry_of d.entries (openTag d.status.phase)) n))
+moved-stay : (d : Device) (n : ℕ) → is_none d.status.phase ≡ false → Stay d (movedBy d (move_of d.status (entry_of d.entries (openTag d.status.phase)) n))
 unfolding movedBy move_of advancedBy openTag
 moved-stay d n p t b =
-    let u : ℕ = d.status.phase - 1 in
+    let u : ℕ = unwrap_or d.status.phase 0 in
     let d' : Device = movedBy d (move_of d.status (entry_of d.entries (openTag d.status.phase)) n) in
-    let q : openTag d.status.phase ≡ u = pick_no (eqb d.status.phase 0) 32 u p in
+    let q : openTag d.status.phase ≡ u = open-tag d.status.phase p in
     let l = busy-below d.status.outstanding t b in (
       b,
       ⊎_elim
@@ -156,7 +156,7 @@ module _ (d : Device) (h : List Event) (n : Named d h) where
   by-act q part task a e s = stays q (repliesOf (shown d) part a) task (after_of d a) e s
 
   -- a host frame that is not turned down
-  heard-named : (x m b : List ℕ) {y : Frame} {a : Act} → ReadFits y → by.Heard (facts_of d (lent (hostFrame x) m b)) y a → Names (frameAsks y) (repliesOf (shown d) [] a) (frameTask y) (after_of d a)
+  heard-named : (x m b : List ℕ) {y : FrameRead} {a : Act} → ReadFits y → by.Heard (facts_of d (lent (hostFrame x) m b)) y a → Names (frameAsks y) (repliesOf (shown d) [] a) (frameTask y) (after_of d a)
   unfolding view some collect pick repliesOf ReadFits after_of haltWith resetHeld released acceptedBy unhalted zeroedIf
   heard-named x m b {y} {a} t (by.srst f c s) = by-act (frameAsks y) [] (frameTask y) a (rw c refl) (empty-stay d (after_of d a) refl)
   heard-named x m b {y} {a} t (by.release f c s z) = by-act (frameAsks y) [] (frameTask y) a (rw c refl) same
@@ -183,34 +183,27 @@ module _ (d : Device) (h : List Event) (n : Named d h) where
   own-named m b y (by.linked r g x) = λ u o. n u o
   own-named m b {c} {a} y (by.renewed g s) = by-act (callAsks c) (part_of (span_of a) m) (callTask c) a refl (empty-stay d (after_of d a) refl)
 
-  -- a call that was decided
-  ruled-named : (m b : List ℕ) {c : Call} {a : Act} → Typed c → by.Ruled (facts_of d (lent c m b)) c a → number_of a ≡ 0 → Names (callAsks c) (repliesOf (shown d) (part_of (span_of a) m) a) (callTask c) (after_of d a)
-  unfolding number_of
-  ruled-named m b t (by.refused c i x e) z = absurd (x z)
-  ruled-named m b {c} {a} t (by.host f _ g v s y) z =
+  -- a call that is taken
+  ruled-named : (m b : List ℕ) {c : Call} {a : Act} → Typed c → by.Ruled (facts_of d (lent c m b)) c (Ok a) → Names (callAsks c) (repliesOf (shown d) (part_of (span_of a) m) a) (callTask c) (after_of d a)
+  ruled-named m b {c} {a} t (by.host f _ g v s y) =
       subst (λ (p : List ℕ). Names (callAsks c) (repliesOf (shown d) p a) (callTask c) (after_of d a)) (heard-unsent (facts_of d (lent (hostFrame f) m b)) m y) (heard-named f m b (read_fits f t.0) y)
-  ruled-named m b t (by.own o) z = own-named m b t o
+  ruled-named m b t (by.own o) = own-named m b t o
+
+  -- what the history tells of an event, from what was asked and sent
+  told-next : (x : Event) (rs : List FrameValue) → Read x rs → (q : Asked) → asks x ≡ q → (t : ℕ) → namedBy t (x ∷ h) ≡ Next q rs (callTask x.call) t
+  unfolding namedBy
+  told-next x rs r q e t = ap (λ (y : Seen). pick (accepts y && eqb y.asks.tag t) (callTask x.call) (namedBy t h)) (read-seen x rs r q e)
 
   -- every call
-  pub named-step : (l : Lent) → Typed l.call → SizedRecord d → Named (step d l).state (event (done l (result d l)) ∷ h)
-  unfolding namedBy actOf view some collect pick
-  named-step l t s u o =
-      let x : Event = event (done l (result d l)) in
-      let rs : List FrameValue = (step d l).frames in
-      let r : Read x rs = read_step d l t s in
-      let told : (q : Asked) → asks x ≡ q → namedBy u (x ∷ h) ≡ Next q rs (callTask l.call) u =
-      λ q e. ap (λ (y : Seen). pick (accepts y && eqb y.asks.tag u) (callTask l.call) (namedBy u h)) (read-seen x rs r q e) in
-      ⊎_elim
-      (λ (y : eqb (step d l).refusal 0 ≡ true).
-      let z = eqb-true (step d l).refusal 0 y in
-      ruled-named l.medium l.buffer t (by.ruled (facts_of d l) l.call) z u o ∙ sym (told (callAsks l.call) (asks-taken x z)))
-      (λ (y : eqb (step d l).refusal 0 ≡ false).
-      let i = eqb-false (step d l).refusal 0 y in
-      let e = (refused-keeps d l i).state in
-      ap (λ (p : Device). kept p u) e ∙ n u (subst (λ (p : Device). busyAt p u ≡ true) e o) ∙ sym (told quiet (asks-refused x i)))
-      (tested (eqb (step d l).refusal 0))
+  pub named-step : (l : Lent) → Typed l.call → SizedRecord d → Named (step d l).state (eventOf d l ∷ h)
+  unfolding view some collect pick
+  named-step l t s =
+      by-decided d l (λ (y : Step). Read (eventBy l y) y.frames → Named y.state (eventBy l y ∷ h))
+      (λ r k u o. n u o ∙ sym (told-next (eventBy l (stepBy d l (Err r))) [] k quiet refl u))
+      (λ a i k u o. ruled-named l.medium l.buffer t i u o ∙ sym (told-next (eventBy l (stepBy d l (Ok a))) (stepBy d l (Ok a)).frames k (callAsks l.call) refl u))
+      (read_step d l t s)
 
 -- power-on: nothing is outstanding
 pub named-power : (s : Settings) → Named (powerOn s).state []
-unfolding powerOn freshDevice
-named-power s = by-test (λ (d : Device). Named d []) (eqb (powerNumber s) 0) (freshDevice s) zeroDevice (λ _ t b. absurd (no-busy 0 t refl b)) (λ _ t b. absurd (no-busy 0 t refl b))
+unfolding freshDevice
+named-power s = from-power (λ (d : Device). Named d []) s (λ t b. absurd (no-busy 0 t refl b)) (λ t b. absurd (no-busy 0 t refl b))

@@ -1,6 +1,6 @@
 -- What a command that is not queued is answered, by the tests of its rules; and those tests by the fields that were read. Assumes nothing.
 use mathlib.Core.Path.{◌≡◌, refl, sym, ◌∙◌}
-use mathlib.Core.Bool.{Bool, true, false, not, ◌&&◌, ◌||◌, true≢false}
+use mathlib.Core.Bool.{Bool, true, false, not, ◌&&◌, ◌||◌}
 use mathlib.Core.List.{List, [], ◌∷◌, ◌++◌, map}
 use mathlib.Core.Logic.{⊎_elim}
 use Prim.Native.Nat.{ℕ, ◌%◌, ◌^◌, ◌<◌}
@@ -8,6 +8,7 @@ use native.Mathlib.Omega.{arith}
 use lib.Dec.{eqb}
 use lib.ListN.{length}
 use borrow.Author.Tests.{eqb-true, eqb-false, ltb-true}
+use Rattle.std.proofs.Common.{Option, Some, None}
 use Rattle.bits.specs.Pick.{pick}
 use Rattle.bits.specs.Little.{byte_of}
 use Rattle.bits.proofs.Picks.{tested, and_left, and_right}
@@ -19,7 +20,10 @@ use Rattle.frames.specs.declared.shapes.Frame.{Frame}
 use Rattle.device_state.specs.State.{echoOf}
 use Rattle.device_state.specs.declared.shapes.Echo.{Echo}
 use Rattle.device_state.proofs.EchoLaws.{echo-task}
-use Rattle.rules.specs.Decide.{pageAsked, logPage, otherAct}
+use Rattle.verdicts.specs.Other.{asksErrors, asksCounters}
+use Rattle.verdicts.specs.declared.commands.LogPage.{LogPage}
+use Rattle.verdicts.specs.declared.commands.LogPage.TheVariants.{Errors, Counters}
+use Rattle.rules.specs.Decide.{pageNamed, pageAsked, logPage, otherAct}
 use Rattle.rules.specs.declared.facts.Facts.{Facts}
 use Rattle.replies.specs.Replies.{repliesOf, page10Of, page11Of}
 use Rattle.replies.specs.declared.shown.Shown.{Shown}
@@ -45,19 +49,20 @@ module _ (v : Facts) (s : Shown) (part : List ℕ) (h : HostReg) (same : s.halte
   abbrev Answer : Bool → Bool → Bool → Bool → Type 0
   Answer x ten eleven busy = map trip.readBack (repliesOf s part (otherAct v h)) ≡ otherBy x ten eleven busy h.task
 
-  by-tests : (x ten eleven busy : Bool) → v.status.halted ≡ x → eqb (pageAsked h) 0x10 ≡ ten → eqb (pageAsked h) 0x11 ≡ eleven → not (eqb v.status.outstanding 0) ≡ busy → Answer x ten eleven busy
+  by-tests : (x : Bool) (page : Option LogPage) (busy : Bool) → v.status.halted ≡ x → pageAsked h ≡ page → not (eqb v.status.outstanding 0) ≡ busy → Answer x (asksErrors page) (asksCounters page) busy
   unfolding otherAct repliesOf pick
-  by-tests true false eleven busy x t e b = rw (x, t) refl
-  by-tests true true eleven true x t e b = rw (x, t, b, echo-task h.task fit) refl
-  by-tests true true eleven false x t e b = rw (x, t, b, same, x, pages.ten) refl
-  by-tests false ten eleven true x t e b = rw (x, b, echo-task h.task fit) refl
-  by-tests false true eleven false x t e b = rw (x, t, b, same, x, pages.ten) refl
-  by-tests false false true false x t e b = rw (x, t, e, b, pages.eleven) refl
-  by-tests false false false false x t e b = rw (x, t, e, b) refl
+  by-tests true None busy x p b = rw (x, p) refl
+  by-tests true (Some Counters) busy x p b = rw (x, p) refl
+  by-tests true (Some Errors) true x p b = rw (x, p, b, echo-task h.task fit) refl
+  by-tests true (Some Errors) false x p b = rw (x, p, b, same, x, pages.ten) refl
+  by-tests false page true x p b = rw (x, b, echo-task h.task fit) refl
+  by-tests false (Some Errors) false x p b = rw (x, p, b, same, x, pages.ten) refl
+  by-tests false (Some Counters) false x p b = rw (x, p, b, pages.eleven) refl
+  by-tests false None false x p b = rw (x, p, b) refl
 
   -- as the device tests: by the page that it asks for
-  pub by-other : Answer v.status.halted (eqb (pageAsked h) 0x10) (eqb (pageAsked h) 0x11) (not (eqb v.status.outstanding 0))
-  by-other = by-tests _ _ _ _ refl refl refl refl
+  pub by-other : Answer v.status.halted (asksErrors (pageAsked h)) (asksCounters (pageAsked h)) (not (eqb v.status.outstanding 0))
+  by-other = by-tests _ _ _ refl refl refl
 
 -- ---- the page that a command names
 
@@ -82,43 +87,52 @@ and-always true = refl
 and-always false = refl
 
 -- as the device tests it, and as the fields say it
-page-test : (a b c g : Bool) (x n : ℕ) → eqb 0 n ≡ false → (eqb x n ≡ true → eqb x 0x10 || eqb x 0x11 ≡ true)
-    → eqb (pick (a && (eqb x 0x10 || eqb x 0x11) && (b && c) && g) x 0) n ≡ a && (eqb x n && (b && (c && g)))
+page-test : (asks : Option LogPage → Bool) (a b c g w : Bool) (page : Option LogPage) → asks None ≡ false → asks page ≡ w → asks (pick (a && (b && c) && g) page None) ≡ a && (w && (b && (c && g)))
 unfolding pick
-page-test false b c g x n z f = z
-page-test true b c g x n z f = go (eqb x 0x10 || eqb x 0x11) b c g (eqb x n) refl f
+page-test asks false b c g w page z e = z
+page-test asks true false c g w page z e = z ∙ sym (and-never w)
+page-test asks true true false g w page z e = z ∙ sym (and-never w)
+page-test asks true true true false w page z e = z ∙ sym (and-never w)
+page-test asks true true true true w page z e = e ∙ sym (and-always w)
+
+-- byte 4 names page 10h
+ten-named : (n : ℕ) → asksErrors (pageNamed n) ≡ eqb n 0x10
+unfolding pick
+ten-named n = go (eqb n 0x10) (eqb n 0x11)
   where
-    go : (y b c g w : Bool) → eqb x n ≡ w → (w ≡ true → y ≡ true) → eqb (pick (y && (b && c) && g) x 0) n ≡ w && (b && (c && g))
-    go true true true true w e f = e ∙ sym (and-always w)
-    go true true true false w e f = z ∙ sym (and-never w)
-    go true true false g w e f = z ∙ sym (and-never w)
-    go true false c g w e f = z ∙ sym (and-never w)
-    go false b c g true e f = absurd (true≢false (sym (f refl)))
-    go false b c g false e f = z
+    go : (p q : Bool) → asksErrors (pick p (Some Errors) (pick q (Some Counters) None)) ≡ p
+    go true q = refl
+    go false true = refl
+    go false false = refl
+
+-- and page 11h
+eleven-named : (n : ℕ) → asksCounters (pageNamed n) ≡ eqb n 0x11
+unfolding pick
+eleven-named n = go (eqb n 0x10) (eqb n 0x11) (λ y. rw (eqb-true n 0x10 y) refl)
+  where
+    go : (p q : Bool) → (p ≡ true → q ≡ false) → asksCounters (pick p (Some Errors) (pick q (Some Counters) None)) ≡ q
+    go true q f = sym (f refl)
+    go false true f = refl
+    go false false f = refl
 
 module _ (h : HostReg) (fit : taskFits h.task ≡ true) where
   small_count : h.task.count < 2 ^ 16
   small_count = ltb-true h.task.count (2 ^ 16) (and_right (below 8 h.task.device) (below 16 h.task.count) (and_left (below 8 h.task.device && below 16 h.task.count) (below 48 h.task.lba) fit))
 
-  -- of a page other than 0
-  named : (n : ℕ) → eqb 0 n ≡ false → (eqb (echoOf h.task).b4 n ≡ true → eqb (echoOf h.task).b4 0x10 || eqb (echoOf h.task).b4 0x11 ≡ true) → eqb (pageAsked h) n ≡ wellFormed n h
+  named : (asks : Option LogPage → Bool) (n : ℕ) → asks None ≡ false → asks (pageNamed (echoOf h.task).b4) ≡ eqb (echoOf h.task).b4 n → asks (pageAsked h) ≡ wellFormed n h
   unfolding logPage echoOf
-  named n z f =
+  named asks n z f =
       let e : Echo = echoOf h.task in
-      page-test (eqb h.command 0x2F) (eqb e.b5 0) (eqb e.b9 0) (eqb e.b12 1 && eqb e.b13 0) e.b4 n z f
+      page-test asks (eqb h.command 0x2F) (eqb e.b5 0) (eqb e.b9 0) (eqb e.b12 1 && eqb e.b13 0) (eqb e.b4 n) (pageNamed e.b4) z f
       ∙ rw (count_one h.task.count small_count, first_byte h.task) refl
     where
       first_byte : (t : Task) → byte_of t.lba 0 ≡ t.lba % 256
       first_byte t = omega arith
 
   -- page 10h
-  pub names-ten : eqb (pageAsked h) 0x10 ≡ wellFormed 0x10 h
-  names-ten = named 0x10 refl (λ y. rw y refl)
+  pub names-ten : asksErrors (pageAsked h) ≡ wellFormed 0x10 h
+  names-ten = named asksErrors 0x10 refl (ten-named (echoOf h.task).b4)
 
   -- page 11h
-  pub names-eleven : eqb (pageAsked h) 0x11 ≡ wellFormed 0x11 h
-  names-eleven = named 0x11 refl (λ y. or-last (eqb (echoOf h.task).b4 0x10) y)
-    where
-      or-last : (a : Bool) {b : Bool} → b ≡ true → a || b ≡ true
-      or-last true y = refl
-      or-last false y = y
+  pub names-eleven : asksCounters (pageAsked h) ≡ wellFormed 0x11 h
+  names-eleven = named asksCounters 0x11 refl (eleven-named (echoOf h.task).b4)

@@ -1,11 +1,9 @@
 -- All that is proved of a device event that is taken: one row an event. Assumes nothing.
 use mathlib.Core.Path.{◌≡◌, refl}
-use mathlib.Core.Bool.{Bool, true, false, not, false≢true}
+use mathlib.Core.Bool.{Bool, true, false, false≢true}
 use mathlib.Core.List.{List, [], ◌∷◌}
 use mathlib.Core.Logic.{inl, inr}
 use Prim.Native.Nat.{ℕ}
-use lib.Dec.{eqb}
-use borrow.Author.Tests.{eqb-true, not-false}
 use Rattle.bits.specs.Pick.{pick}
 use Rattle.bits.specs.Bit.{bitIn}
 use Rattle.frames.specs.Write.{FrameValue}
@@ -36,6 +34,8 @@ use Rattle.history.proofs.Impact.{Reckons, raised-values, renewed-values, failed
 use Rattle.history.proofs.Hearing.{pioIn}
 use Rattle.history.proofs.Shaped.{kindsOf, erring, sendsFaulty, CallShaped, unblamed}
 use Rattle.history.proofs.Speechless.{SpokenBy, Utters, none-finished, event-utters}
+use Rattle.device.proofs.Phases.{none-open}
+use Rattle.std.proofs.Common.{None, is_some}
 
 -- the replies rs of an event: no page, of a shape that they may have, and they say no more than they may
 pub record OwnReplies (c : Call) (rs : List FrameValue) : Type 0 where
@@ -68,8 +68,8 @@ setup-replies tag q false = own-replies _ _ refl (inl refl) refl refl refl (none
 -- ---- each event
 
 -- no phase is open
-shut : (d : Device) → not (eqb d.status.phase 0) ≡ false → d.status.phase ≡ 0
-shut d p = eqb-true d.status.phase 0 (not-false (eqb d.status.phase 0) p)
+shut : (d : Device) → is_some d.status.phase ≡ false → d.status.phase ≡ None
+shut d p = none-open d.status.phase p
 
 -- by the rule that holds
 pub own-goes : (d : Device) (m b : List ℕ) {c : Call} {a : Act} → by.Own (facts_of d (lent c m b)) c a → OwnGoes d m c a

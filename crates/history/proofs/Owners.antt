@@ -3,8 +3,7 @@ use mathlib.Core.Path.{◌≡◌, refl, sym, ap, ap₂, subst⁻¹, ◌∙◌}
 use mathlib.Core.Bool.{Bool, true, false, not, ◌&&◌}
 use mathlib.Core.Logic.{⊎_elim}
 use mathlib.Core.List.{List, [], ◌∷◌}
-use Prim.Native.Nat.{ℕ, zero, suc, ◌+◌, ◌<◌}
-use native.Mathlib.Numerals.{add-one}
+use Prim.Native.Nat.{ℕ, ◌+◌, ◌<◌}
 use lib.Dec.{eqb}
 use borrow.Author.Tests.{eqb-true, eqb-false, eq-eqb, ne_eqb}
 use Rattle.bits.specs.Pick.{pick}
@@ -21,6 +20,7 @@ use Rattle.history.proofs.Alls.{all-imp}
 use Rattle.history.proofs.Transfers.{transferFor, transfer-shut, transfer-open}
 use Rattle.history.proofs.Moving.{deviceEntry}
 use Rattle.history.proofs.Table.{Following, Tracked}
+use Rattle.std.proofs.Common.{Option, Some, None}
 
 -- tests that agree of every command hold of as many
 pub many-same : (p q : Command → Bool) (cs : List Command) → All (λ c. p c ≡ q c) cs → howMany p cs ≡ howMany q cs
@@ -59,7 +59,7 @@ phase-own d t c f =
 
 module _ (d : Device) (h : List Seen) (i : Tracked d h) (counts : (t : ℕ) → t < 32 → totalWith t h ≡ one (bitIn 32 d.status.outstanding t)) where
   -- an open phase: one command
-  owned-open : (t : ℕ) → d.status.phase ≡ t + 1 → Owned (transferFor (deviceEntry d t) t) (commands h)
+  owned-open : (t : ℕ) → d.status.phase ≡ Some t → Owned (transferFor (deviceEntry d t) t) (commands h)
   unfolding totalWith
   owned-open t p =
       let busy = i.phased.busy t p in
@@ -71,6 +71,6 @@ module _ (d : Device) (h : List Seen) (i : Tracked d h) (counts : (t : ℕ) → 
   pub owned : Owned (transfer h) (commands h)
   owned = go d.status.phase refl
     where
-      go : (p : ℕ) → d.status.phase ≡ p → Owned (transfer h) (commands h)
-      go zero e = subst⁻¹ (λ (x : Transfer). Owned x (commands h)) (i.under ∙ transfer-shut d e) tt
-      go (suc t) e = let p = e ∙ sym (add-one t) in subst⁻¹ (λ (x : Transfer). Owned x (commands h)) (i.under ∙ transfer-open d t p) (owned-open t p)
+      go : (p : Option ℕ) → d.status.phase ≡ p → Owned (transfer h) (commands h)
+      go None e = subst⁻¹ (λ (x : Transfer). Owned x (commands h)) (i.under ∙ transfer-shut d e) tt
+      go (Some t) e = subst⁻¹ (λ (x : Transfer). Owned x (commands h)) (i.under ∙ transfer-open d t e) (owned-open t e)

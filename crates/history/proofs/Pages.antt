@@ -1,27 +1,26 @@
 -- Every page 11h that is sent shows the events since the last zeroing before it. Assumes nothing.
 use mathlib.Core.Path.{◌≡◌, refl, sym, ap, ◌∙◌, subst}
-use mathlib.Core.Bool.{Bool, true, false, ◌&&◌, false≢true}
+use mathlib.Core.Bool.{Bool, true, false, false≢true}
 use mathlib.Core.List.{List, [], ◌∷◌, map, append-nil}
 use Prim.Native.Nat.{ℕ, ◌<◌}
 use native.Mathlib.Omega.{arith}
 use lib.Dec.{ltb}
 use lib.ListN.{get_or}
-use borrow.Author.Tests.{eqb-true, ltb-false}
+use borrow.Author.Tests.{ltb-false}
+use Rattle.std.proofs.Common.{Option, Some, None, Result, Ok}
+use Rattle.std.specs.Option.{option_map}
 use Rattle.bits.specs.Pick.{pick}
 use Rattle.bits.proofs.Picks.{pick_yes, pick_no, and_left, and_right, or_left, or_right}
 use Rattle.frame_parts.specs.declared.shared.Task.{Task}
 use Rattle.frames.specs.Write.{payload, encode}
-use Rattle.frames.specs.RoundTrip.{readBack}
 use Rattle.frames.specs.Read.{readFrame}
 use Rattle.page_rows.specs.Rows.{kept, keepsBoth, row_of}
-use Rattle.page_11h.specs.Page11.{readCounter, noNumber}
+use Rattle.page_11h.specs.Page11.{readCounter, rowValue, noNumber}
+use Rattle.page_11h.specs.declared.value.CounterValue.{CounterValue}
+use Rattle.refusals.specs.declared.reasons.Refusal.{Refusal}
 use Rattle.page_rows.specs.Made11.{page11}
-use Rattle.page_rows.specs.declared.rows.Place.{Place}
-use Rattle.page_rows.specs.declared.rows.Place.TheVariants.{Row, Nowhere}
-use Rattle.page_rows.specs.declared.shown.Counter.TheVariants.{Value, Absent}
 use Rattle.page_rows.proofs.RowLaws.{row-found, row-only, row-missing}
 use Rattle.page_11h.proofs.Trip11.{unkept-absent, kept-reads}
-use Rattle.rules.specs.Number.{number_of}
 use Rattle.rules.specs.Medium.{span_of, part_of}
 use Rattle.rules.specs.declared.acts.Act.{Act}
 use Rattle.rules.proofs.Ruled as by
@@ -31,45 +30,59 @@ use Rattle.device.specs.declared.state.Device.{Device}
 use Rattle.contradictions.specs.Clauses.{settingsOut}
 use Rattle.device.proofs.Keeping.{settings-good, both-kept}
 use Rattle.rules.specs.Call.{Call}
-use Rattle.history.specs.Event.{Event, taken}
+use Rattle.history.specs.Event.{Event}
 use Rattle.history.specs.Replied.{repliesIn, frames, some, isPio, payloads, page}
 use Rattle.history.specs.Reading.{callReads}
 use Rattle.history.specs.Replied.{paged}
 use Rattle.history.specs.Counted.{sends11, toldAt, toldFor}
 use Rattle.device.specs.Lent.{Lent, lent}
 use Rattle.device.specs.FactsOf.{facts_of}
-use Rattle.device.specs.Step.{shown, actOf, step}
+use Rattle.device.specs.Step.{Step, shown, stepBy}
 use Rattle.history.proofs.Tally.{ValuesTell, Counting, tells-small}
 use Rattle.history.proofs.Hearing.{pioIn, Logs}
 use Rattle.history.proofs.Hosted.{host-goes}
 use Rattle.history.proofs.Own.{own-goes}
-use Rattle.history.proofs.Counts.{eventOf, Replies}
+use Rattle.history.proofs.Counts.{eventBy, eventOf, Replies}
+use Rattle.history.proofs.Decided.{by-decided}
 use Rattle.history.proofs.Frames.{Read, read-frames}
+use Rattle.history.proofs.Views.{readAs, readIn}
 
 -- ---- what the reader gives of a page made of counters that tell a history
 
+-- a count, or that there is none, as the reader gives it
+abbrev pub counterRead : Option ℕ → Result (Option CounterValue) Refusal
+counterRead c = Ok (option_map rowValue c)
+
+-- what the reader must give of a row, if there is one, after a history
+abbrev TellsAt : ℕ → List ℕ → List Event → ℕ → Option ℕ → Type 0
+TellsAt mask values h number row = readCounter (page11 mask values) number ≡ counterRead (toldAt mask h row)
+
 module _ (mask : ℕ) (values : List ℕ) (h : List Event) (i : ValuesTell values h) (number : ℕ) (low : 0 < number) (high : number < 4096) where
   -- a kept row's number gives its count, that of a row that is not kept is absent
-  told-row : (k : ℕ) → row_of number ≡ Row k → (b : Bool) → kept mask k ≡ b → readCounter (page11 mask values) number ≡ toldAt mask h (Row k)
+  told-row : (k : ℕ) → row_of number ≡ Some k → (b : Bool) → kept mask k ≡ b → TellsAt mask values h number (Some k)
   told-row k e true y =
       let o = row-only number k e in
-      subst (λ (x : ℕ). readCounter (page11 mask values) x ≡ Value (get_or values k 0)) o.1 (kept-reads mask values (tells-small values h i) k o.0 y)
-      ∙ ap Value (i.value k o.0) ∙ sym (pick_yes (kept mask k) (Value _) Absent y)
+      subst (λ (x : ℕ). readCounter (page11 mask values) x ≡ counterRead (Some (get_or values k 0))) o.1 (kept-reads mask values (tells-small values h i) k o.0 y)
+      ∙ ap (λ (v : ℕ). counterRead (Some v)) (i.value k o.0) ∙ sym (ap counterRead (pick_yes (kept mask k) (Some _) None y))
   told-row k e false n =
       unkept-absent mask values (tells-small values h i) number low high
       (λ j l s.
-      let q : Row j ≡ Row k = sym (row-found j l) ∙ ap row_of s ∙ e in
+      let q : Some j ≡ Some k = sym (row-found j l) ∙ ap row_of s ∙ e in
       let z : j ≡ k = cc in
       ap (kept mask) z ∙ n)
-      ∙ sym (pick_no (kept mask k) (Value _) Absent n)
+      ∙ sym (ap counterRead (pick_no (kept mask k) (Some _) None n))
 
-  -- any place
-  told-place : (p : Place) → row_of number ≡ p → readCounter (page11 mask values) number ≡ toldAt mask h p
-  told-place (Row k) e = told-row k e (kept mask k) refl
-  told-place Nowhere e = unkept-absent mask values (tells-small values h i) number low high (λ k l s. absurd (row-missing number e k l s))
+  -- of any row, and of none
+  told-place : (row : Option ℕ) → row_of number ≡ row → TellsAt mask values h number row
+  told-place (Some k) e = told-row k e (kept mask k) refl
+  told-place None e = unkept-absent mask values (tells-small values h i) number low high (λ k l s. absurd (row-missing number e k l s))
+
+-- what the reader must give of a page for a number
+abbrev pub TellsFor : ℕ → List ℕ → List Event → ℕ → Type 0
+TellsFor mask p h number = readCounter p number ≡ counterRead (toldFor mask h number)
 
 -- of every number 1 to FFFh
-pub page-tells : (mask : ℕ) (values : List ℕ) (h : List Event) → ValuesTell values h → (number : ℕ) → noNumber number ≡ false → readCounter (page11 mask values) number ≡ toldFor mask h number
+pub page-tells : (mask : ℕ) (values : List ℕ) (h : List Event) → ValuesTell values h → (number : ℕ) → noNumber number ≡ false → TellsFor mask (page11 mask values) h number
 page-tells mask values h i number n =
     let a = ltb-false number 1 (or_left (ltb number 1) (ltb 4095 number) n) in
     let z = ltb-false 4095 number (or_right (ltb number 1) (ltb 4095 number) n) in
@@ -82,16 +95,16 @@ abbrev pageIn : List (List ℕ) → List ℕ
 pageIn ps = pick (some isPio (map readFrame ps)) (payloads ps) []
 
 -- a PIO Setup and a data frame behind it: the data is the page
-page-sent : (task : Task) (l : List ℕ) → readFrame (encode (pioReply task)) ≡ readBack (pioReply task) → readFrame (encode (payload l)) ≡ readBack (payload l)
+page-sent : (task : Task) (l : List ℕ) → readFrame (encode (pioReply task)) ≡ readAs (pioReply task) → readFrame (encode (payload l)) ≡ readAs (payload l)
     → pageIn (map encode (pioReply task ∷ payload l ∷ [])) ≡ l
 unfolding some payloads pick encode
 page-sent task l x y = rw (x, y) (append-nil l)
 
-page-is : (e : Event) (task : Task) (l : List ℕ) → repliesIn e ≡ map encode (pioReply task ∷ payload l ∷ []) → frames e ≡ map readBack (pioReply task ∷ payload l ∷ []) → page e ≡ l
+page-is : (e : Event) (task : Task) (l : List ℕ) → repliesIn e ≡ map encode (pioReply task ∷ payload l ∷ []) → frames e ≡ readIn (pioReply task ∷ payload l ∷ []) → page e ≡ l
 page-is e task l p q =
-    let w : map readFrame (map encode (pioReply task ∷ payload l ∷ [])) ≡ map readBack (pioReply task ∷ payload l ∷ []) = ap (map readFrame) (sym p) ∙ q in
-    let x : readFrame (encode (pioReply task)) ≡ readBack (pioReply task) = cc in
-    let y : readFrame (encode (payload l)) ≡ readBack (payload l) = cc in
+    let w : map readFrame (map encode (pioReply task ∷ payload l ∷ [])) ≡ readIn (pioReply task ∷ payload l ∷ []) = ap (map readFrame) (sym p) ∙ q in
+    let x : readFrame (encode (pioReply task)) ≡ readAs (pioReply task) = cc in
+    let y : readFrame (encode (payload l)) ≡ readAs (payload l) = cc in
     ap pageIn p ∙ page-sent task l x y
 
 -- ---- every call
@@ -102,36 +115,33 @@ Masked mask d = settingsOut d.settings ≡ false → d.settings.mask ≡ mask
 
 -- page 11h, if it was sent, read for every number, gives what the history before it tells
 abbrev pub PageShows : ℕ → Event → List Event → Type 0
-PageShows mask e h = sends11 e ≡ true → (number : ℕ) → noNumber number ≡ false → readCounter (page e) number ≡ toldFor mask h number
+PageShows mask e h = sends11 e ≡ true → (number : ℕ) → noNumber number ≡ false → TellsFor mask (page e) h number
 
 -- the page of a call whose act is a read of page 11h
-shown-page : (d : Device) (l : Lent) (h : List Event) (a : Act) → contradictoryDevice d ≡ false → Counting d h → Logs a → Read (eventOf d l) (repliesOf (shown d) (part_of (span_of a) l.medium) a)
-    → (number : ℕ) → noNumber number ≡ false → readCounter (page (eventOf d l)) number ≡ toldFor d.settings.mask h number
+shown-page : (d : Device) (e : Event) (part : List ℕ) (h : List Event) (a : Act) → contradictoryDevice d ≡ false → Counting d h → Logs a → Read e (repliesOf (shown d) part a)
+    → (number : ℕ) → noNumber number ≡ false → TellsFor d.settings.mask (page e) h number
 unfolding repliesOf pick
-shown-page d l h a g i w r number n =
+shown-page d e part h a g i w r number n =
     let mask = d.settings.mask in
     let k = w.log in
-    let e = eventOf d l in
     let fs = logReplies false k.task (page11Of mask d.values) in
-    let q : Read e fs = subst (λ (x : Act). Read e (repliesOf (shown d) (part_of (span_of x) l.medium) x)) w.is r in
+    let q : Read e fs = subst (λ (x : Act). Read e (repliesOf (shown d) part x)) w.is r in
     ap (λ (y : List ℕ). readCounter y number) (page-is e k.task (page11Of mask d.values) q.cuts (read-frames e fs q) ∙ pick_yes (keepsBoth mask) (page11 mask d.values) [] (both-kept d g))
     ∙ page-tells mask d.values h i number n
 
 -- a taken call that reads page 11h and is answered with a page: its act is such a read
-ruled-logs : (d : Device) (m b : List ℕ) {c : Call} {a : Act} → by.Ruled (facts_of d (lent c m b)) c a → number_of a ≡ 0 → pioIn (repliesOf (shown d) (part_of (span_of a) m) a) ≡ true → callReads 0x11 c ≡ true
+ruled-logs : (d : Device) (m b : List ℕ) {c : Call} {a : Act} → by.Ruled (facts_of d (lent c m b)) c (Ok a) → pioIn (repliesOf (shown d) (part_of (span_of a) m) a) ≡ true → callReads 0x11 c ≡ true
     → (contradictoryDevice d ≡ false) × Logs a
-unfolding number_of
-ruled-logs d m b (by.refused c n h e) z p q = absurd (h z)
-ruled-logs d m b (by.host f a g w s h) z p q = (g, (host-goes d f m b g h).heard.shown p q)
-ruled-logs d m b (by.own o) z p q = absurd (false≢true (sym (own-goes d m b o).replies.pageless ∙ p))
+ruled-logs d m b (by.host f a g w s h) p q = (g, (host-goes d f m b g h).heard.shown p q)
+ruled-logs d m b (by.own o) p q = absurd (false≢true (sym (own-goes d m b o).replies.pageless ∙ p))
 
 -- every call: a page 11h in its replies shows what the history before it tells
 pub counters-step : (mask : ℕ) (d : Device) (l : Lent) (h : List Event) → Masked mask d → Counting d h → Replies d l → PageShows mask (eventOf d l) h
-unfolding actOf
-counters-step mask d l h k i r s number n =
-    let e : Event = eventOf d l in
-    let t = eqb-true (step d l).refusal 0 (and_left (taken e) (paged e && callReads 0x11 l.call) s) in
-    let u = and_right (taken e) (paged e && callReads 0x11 l.call) s in
-    let w = ruled-logs d l.medium l.buffer (by.ruled (facts_of d l) l.call) t
-    (sym (ap (some isPio) (read-frames e (step d l).frames r)) ∙ and_left (paged e) (callReads 0x11 l.call) u) (and_right (paged e) (callReads 0x11 l.call) u) in
-    shown-page d l h (actOf d l) w.0 i w.1 r number n ∙ ap (λ (x : ℕ). toldFor x h number) (k (settings-good d w.0))
+counters-step mask d l h k i =
+    by-decided d l (λ (s : Step). Read (eventBy l s) s.frames → PageShows mask (eventBy l s) h) (λ r _ s. absurd (false≢true s))
+    (λ a y r s number n.
+    let t : Step = stepBy d l (Ok a) in
+    let e : Event = eventBy l t in
+    let w = ruled-logs d l.medium l.buffer y
+    (sym (ap (some isPio) (read-frames e t.frames r)) ∙ and_left (paged e) (callReads 0x11 l.call) s) (and_right (paged e) (callReads 0x11 l.call) s) in
+    shown-page d e (part_of (span_of a) l.medium) h a w.0 i w.1 r number n ∙ ap (λ (x : ℕ). counterRead (toldFor x h number)) (k (settings-good d w.0)))

@@ -6,13 +6,15 @@ use mathlib.Core.Logic.{⊎_elim}
 use Prim.Native.Nat.{ℕ, zero, suc, ◌-◌, ◌*◌, ◌<◌}
 use native.Mathlib.Omega.{arith}
 use lib.Dec.{eqb, ltb, leb}
-use borrow.Author.Tests.{eqb-true, eqb-false, ne_eqb, not-false}
+use borrow.Author.Tests.{ne_eqb, not-false, not-true}
+use Rattle.std.proofs.Common.{Option, Some, None, Ok, is_some, is_none, unwrap_or}
 use Rattle.bits.specs.Pick.{pick}
 use Rattle.bits.specs.Bit.{bitIn}
-use Rattle.bits.specs.First.{first_of}
-use Rattle.bits.proofs.Picks.{tested, pick_no, or_left, or_right}
-use Rattle.frames.specs.declared.shapes.Frame.{Frame}
+use Rattle.bits.proofs.Picks.{tested, or_left, or_right}
 use Rattle.frames.specs.declared.shapes.Frame.TheVariants as fs
+use Rattle.refusals.specs.First.{first_of}
+use Rattle.refusals.specs.declared.reasons.Refusal.{Refusal}
+use Rattle.refusals.specs.declared.reasons.Refusal.TheVariants.{Contradiction}
 use Rattle.device_state.specs.State.{whole_of}
 use Rattle.device_state.specs.Table.{someBelow}
 use Rattle.device_state.specs.declared.shapes.Settings.{Settings}
@@ -28,13 +30,16 @@ use Rattle.device.specs.declared.state.Device.{Device}
 use Rattle.device.proofs.Busy.{whole_is, moves-on}
 use Rattle.device.proofs.Parts.{status-good}
 use Rattle.device.proofs.StatusLaws.{phase-busy}
+use Rattle.device.proofs.Turns.{none-some}
 use Rattle.history.specs.Event.{Event}
+use Rattle.history.specs.Replied.{FrameRead}
 use Rattle.history.specs.Seen.{Transfer, underWay}
 use Rattle.history.specs.ByHistory.{isOut, outstandingWith, whole, covers, isOpen, leftOf}
 use Rattle.history.specs.Refused.{outOfBounds, notHeard, writeOpen, untimely, tooLong, someTag, unfit, noRow}
 use Rattle.history.proofs.Transfers.{transferOf, transfer-shut, transfer-open}
 use Rattle.history.proofs.Moving.{deviceEntry, busyAt}
 use Rattle.history.proofs.Knows.{Known, below-not}
+use Rattle.device.proofs.Phases.{none-open, some-open, open-tag}
 
 -- ---- settings
 
@@ -58,26 +63,30 @@ bounds-out s =
     (ap₂ (λ (a b : Bool). not (a && b) || not (bitIn 16 s.mask 0 && bitIn 16 s.mask 9)) (most-not 1 s.capacity) (most-not s.capacity 65536))
     ∙ bounds-test (ltb s.depth 1) (ltb 32 s.depth) (ltb s.capacity 1) (ltb 65536 s.capacity) (bitIn 16 s.mask 0 && bitIn 16 s.mask 9)
 
+-- what the settings are refused with
+abbrev turnedFor : Bool → Option Refusal
+turnedFor out = pick out (Some Contradiction) None
+
 -- power-on is refused where the settings are out of bounds
-power-out : (s : Settings) → (powerOn s).refusal ≡ pick (settingsOut s) 1 0
+power-out : (s : Settings) → (powerOn s).refusal ≡ turnedFor (settingsOut s)
 unfolding powerOn first_of
 power-out s = refl
 
 -- so a power-on that was taken had settings within them
-pub power-taken : (s : Settings) → (powerOn s).refusal ≡ 0 → outOfBounds s.depth s.capacity s.mask ≡ false
+pub power-taken : (s : Settings) → (powerOn s).refusal ≡ None → outOfBounds s.depth s.capacity s.mask ≡ false
 unfolding pick
 power-taken s z = go (settingsOut s) (bounds-out s) (sym (power-out s) ∙ z)
   where
-    go : (b : Bool) → outOfBounds s.depth s.capacity s.mask ≡ b → ◌≡◌ {A = ℕ} (pick b 1 0) 0 → outOfBounds s.depth s.capacity s.mask ≡ false
-    go true e y = absurd (omega arith)
+    go : (b : Bool) → outOfBounds s.depth s.capacity s.mask ≡ b → turnedFor b ≡ None → outOfBounds s.depth s.capacity s.mask ≡ false
+    go true e y = absurd (none-some Contradiction y)
     go false e y = e
 
 -- and one that was refused did not
-pub power-refused : (s : Settings) → ((powerOn s).refusal ≡ 0 → ⊥) → outOfBounds s.depth s.capacity s.mask ≡ true
+pub power-refused : (s : Settings) → ((powerOn s).refusal ≡ None → ⊥) → outOfBounds s.depth s.capacity s.mask ≡ true
 unfolding pick
 power-refused s n = go (settingsOut s) (bounds-out s) (power-out s)
   where
-    go : (b : Bool) → outOfBounds s.depth s.capacity s.mask ≡ b → (powerOn s).refusal ≡ pick b 1 0 → outOfBounds s.depth s.capacity s.mask ≡ true
+    go : (b : Bool) → outOfBounds s.depth s.capacity s.mask ≡ b → (powerOn s).refusal ≡ turnedFor b → outOfBounds s.depth s.capacity s.mask ≡ true
     go true e y = e
     go false e y = absurd (n y)
 
@@ -93,24 +102,23 @@ row-same mask r = go (eqb r 0) (eqb r 9) (ltb 15 r || not (bitIn 16 mask r))
 
 module _ (d : Device) where
   -- the open phase, while one is open
-  phase-at : eqb d.status.phase 0 ≡ false → transferOf d ≡ underWay (not (phaseEntry d).write) (d.status.phase - 1) (phaseEntry d).moved (512 * (phaseEntry d).count)
+  phase-at : is_none d.status.phase ≡ false → transferOf d ≡ underWay (not (phaseEntry d).write) (unwrap_or d.status.phase 0) (phaseEntry d).moved (512 * (phaseEntry d).count)
   unfolding openTag
   phase-at n =
-      let q = eqb-false d.status.phase 0 n in
-      let t = d.status.phase - 1 in
-      rw (pick_no (eqb d.status.phase 0) 32 t n) (transfer-open d t (omega (arith, q)))
+      let t = unwrap_or d.status.phase 0 in
+      rw (open-tag d.status.phase n) (transfer-open d t (some-open d.status.phase n))
 
   -- 5 and 8 of a phase
   pub open-same : isOpen (transferOf d) ≡ linkBusy d
   open-same =
-      ⊎_elim (λ (x : eqb d.status.phase 0 ≡ true). rw (x, transfer-shut d (eqb-true d.status.phase 0 x)))
-      (λ (x : eqb d.status.phase 0 ≡ false). rw (x, phase-at x)) (tested (eqb d.status.phase 0))
+      ⊎_elim (λ (x : is_none d.status.phase ≡ true). rw (not-true (is_some d.status.phase) x, transfer-shut d (none-open d.status.phase (not-true (is_some d.status.phase) x))))
+      (λ (x : is_none d.status.phase ≡ false). rw (not-false (is_some d.status.phase) x, phase-at x)) (tested (is_none d.status.phase))
 
   -- 5 of data: no write phase
-  write-open-same : (eqb d.status.phase 0 || not (phaseEntry d).write) ≡ not (writeOpen (transferOf d))
+  write-open-same : (is_none d.status.phase || not (phaseEntry d).write) ≡ not (writeOpen (transferOf d))
   write-open-same =
-      ⊎_elim (λ (x : eqb d.status.phase 0 ≡ true). rw (x, transfer-shut d (eqb-true d.status.phase 0 x)))
-      (λ (x : eqb d.status.phase 0 ≡ false). rw (x, phase-at x) (go (phaseEntry d).write)) (tested (eqb d.status.phase 0))
+      ⊎_elim (λ (x : is_none d.status.phase ≡ true). rw (not-true (is_some d.status.phase) x, transfer-shut d (none-open d.status.phase (not-true (is_some d.status.phase) x))))
+      (λ (x : is_none d.status.phase ≡ false). rw (not-false (is_some d.status.phase) x, phase-at x) (go (phaseEntry d).write)) (tested (is_none d.status.phase))
     where
       go : (w : Bool) → not w ≡ not (not (not w))
       go true = refl
@@ -118,28 +126,28 @@ module _ (d : Device) where
 
   module _ (g : contradictoryDevice d ≡ false) where
     -- all of the open phase's command
-    phase-whole : eqb d.status.phase 0 ≡ false → whole_of (phaseEntry d).count ≡ 512 * (phaseEntry d).count
+    phase-whole : is_none d.status.phase ≡ false → whole_of (phaseEntry d).count ≡ 512 * (phaseEntry d).count
     unfolding openTag
     phase-whole n =
-        let t = d.status.phase - 1 in
-        rw (pick_no (eqb d.status.phase 0) 32 t n) (whole_is d t g (phase-busy d.status d.errors.set (status-good d g) n))
+        let t = unwrap_or d.status.phase 0 in
+        rw (open-tag d.status.phase n) (whole_is d t g (phase-busy d.status d.errors.set (status-good d g) n))
 
     -- 6: what is left of an open write phase
     left-same : not (writeOpen (transferOf d)) ≡ false → left_of (phaseEntry d) ≡ leftOf false (transferOf d)
     unfolding pick
     left-same y =
-        let z : (eqb d.status.phase 0 || not (phaseEntry d).write) ≡ false = write-open-same ∙ y in
-        let n = or_left (eqb d.status.phase 0) (not (phaseEntry d).write) z in
-        let w = not-false (phaseEntry d).write (or_right (eqb d.status.phase 0) (not (phaseEntry d).write) z) in
+        let z : (is_none d.status.phase || not (phaseEntry d).write) ≡ false = write-open-same ∙ y in
+        let n = or_left (is_none d.status.phase) (not (phaseEntry d).write) z in
+        let w = not-false (phaseEntry d).write (or_right (is_none d.status.phase) (not (phaseEntry d).write) z) in
         rw (phase-at n, w, phase-whole n)
 
     -- 10: no read phase
-    pub reading-same : (eqb d.status.phase 0 || (phaseEntry d).write) ≡ eqb (leftOf true (transferOf d)) 0
+    pub reading-same : (is_none d.status.phase || (phaseEntry d).write) ≡ eqb (leftOf true (transferOf d)) 0
     unfolding pick
     reading-same =
-        ⊎_elim (λ (x : eqb d.status.phase 0 ≡ true). rw (x, transfer-shut d (eqb-true d.status.phase 0 x)))
-        (λ (x : eqb d.status.phase 0 ≡ false). rw (x, phase-at x) (go (phaseEntry d).write (phaseEntry d).moved (512 * (phaseEntry d).count) (let m = moves-on d g x in let e = phase-whole x in omega arith)))
-        (tested (eqb d.status.phase 0))
+        ⊎_elim (λ (x : is_none d.status.phase ≡ true). rw (not-true (is_some d.status.phase) x, transfer-shut d (none-open d.status.phase (not-true (is_some d.status.phase) x))))
+        (λ (x : is_none d.status.phase ≡ false). rw (not-false (is_some d.status.phase) x, phase-at x) (go (phaseEntry d).write (phaseEntry d).moved (512 * (phaseEntry d).count) (let m = moves-on d g x in let e = phase-whole x in omega arith)))
+        (tested (is_none d.status.phase))
       where
         go : (w : Bool) (m a : ℕ) → m < a → w ≡ eqb (pick (pick true (not w) (not (not w))) (a - m) 0) 0
         go true m a l = refl
@@ -148,17 +156,12 @@ module _ (d : Device) where
 -- ---- each call
 
 -- 4
-pub kind-same : (f : Frame) → wrongKind f ≡ notHeard f
+pub kind-same : (f : FrameRead) → wrongKind f ≡ notHeard f
 unfolding wrongKind
-kind-same (fs.Host f) = refl
-kind-same (fs.Device f) = refl
-kind-same (fs.Bits f) = refl
-kind-same (fs.Setup f) = refl
-kind-same fs.Activate = refl
-kind-same (fs.Data n) = refl
-kind-same fs.Bist = refl
-kind-same (fs.Pio f) = refl
-kind-same fs.Refused = refl
+kind-same (Ok (fs.Host f)) = refl
+kind-same (Ok (fs.Data n)) = refl
+kind-same (Ok fs.Bist) = refl
+kind-same _ = refl
 
 -- some tag is so, whichever end it is looked for from
 some-same : (n : ℕ) (p q : ℕ → Bool) → ((t : ℕ) → p t ≡ q t) → someBelow n p ≡ someTag n q
@@ -174,17 +177,12 @@ some-same (suc n) p q e = turn (someBelow n p) (p n) ∙ ap₂ ◌||◌ (e n) (s
 
 module _ (d : Device) (h : List Event) (k : Known d h) where
   -- 5
-  pub time-same : (m b x : List ℕ) (f : Frame) → wrongTime (facts_of d (lent (hostFrame x) m b)) f ≡ untimely f h
+  pub time-same : (m b x : List ℕ) (f : FrameRead) → wrongTime (facts_of d (lent (hostFrame x) m b)) f ≡ untimely f h
   unfolding wrongTime
-  time-same m b x (fs.Host r) = ap₂ (λ (u w : Bool). r.command_bit && (u || w)) (sym k.held) (sym (ap isOpen k.phase ∙ open-same d))
-  time-same m b x (fs.Device f) = refl
-  time-same m b x (fs.Bits f) = refl
-  time-same m b x (fs.Setup f) = refl
-  time-same m b x fs.Activate = refl
-  time-same m b x (fs.Data n) = write-open-same d ∙ ap (λ (y : Transfer). not (writeOpen y)) (sym k.phase)
-  time-same m b x fs.Bist = sym (ap isOpen k.phase ∙ open-same d)
-  time-same m b x (fs.Pio f) = refl
-  time-same m b x fs.Refused = refl
+  time-same m b x (Ok (fs.Host r)) = ap₂ (λ (u w : Bool). r.command_bit && (u || w)) (sym k.held) (sym (ap isOpen k.phase ∙ open-same d))
+  time-same m b x (Ok (fs.Data n)) = write-open-same d ∙ ap (λ (y : Transfer). not (writeOpen y)) (sym k.phase)
+  time-same m b x (Ok fs.Bist) = sym (ap isOpen k.phase ∙ open-same d)
+  time-same m b x _ = refl
 
   -- a tag that 7 lets pass is outstanding
   pub passed : (t : ℕ) → not (isOut t h) ≡ false → busyAt d t ≡ true
@@ -192,18 +190,11 @@ module _ (d : Device) (h : List Event) (k : Known d h) where
 
   module _ (g : contradictoryDevice d ≡ false) where
     -- 6, where 5 does not hold
-    pub size-same : (m b x : List ℕ) (f : Frame) → untimely f h ≡ false → wrongSize (facts_of d (lent (hostFrame x) m b)) f ≡ tooLong f h
+    pub size-same : (m b x : List ℕ) (f : FrameRead) → untimely f h ≡ false → wrongSize (facts_of d (lent (hostFrame x) m b)) f ≡ tooLong f h
     unfolding wrongSize
-    size-same m b x (fs.Host r) y = refl
-    size-same m b x (fs.Device f) y = refl
-    size-same m b x (fs.Bits f) y = refl
-    size-same m b x (fs.Setup f) y = refl
-    size-same m b x fs.Activate y = refl
-    size-same m b x (fs.Data n) y =
+    size-same m b x (Ok (fs.Data n)) y =
         ap (λ (z : ℕ). ltb z n) (left-same d g (ap (λ (z : Transfer). not (writeOpen z)) (sym k.phase) ∙ y) ∙ ap (leftOf false) (sym k.phase))
-    size-same m b x fs.Bist y = refl
-    size-same m b x (fs.Pio f) y = refl
-    size-same m b x fs.Refused y = refl
+    size-same m b x _ y = refl
 
     -- 9, where 7 does not hold
     pub moved-same : (t : ℕ) → busyAt d t ≡ true → allMoved (deviceEntry d t) ≡ outstandingWith t whole h

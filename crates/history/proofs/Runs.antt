@@ -2,17 +2,14 @@
 use mathlib.Core.Path.{◌≡◌, refl, ap, subst, ◌∙◌}
 use mathlib.Core.Bool.{Bool, true, false}
 use mathlib.Core.List.{List, [], ◌∷◌, map}
-use mathlib.Core.Logic.{⊎_elim}
 use Prim.Native.Nat.{◌≤◌}
 use native.Mathlib.Nat.{le_trans, le_of_eq}
 use native.Mathlib.Omega.{arith}
-use lib.Dec.{eqb, ltb}
+use lib.Dec.{ltb}
 use lib.Count.{ones}
-use borrow.Author.Tests.{eqb-true, eqb-false}
 use Rattle.bits.specs.Bit.{bitIn}
-use Rattle.bits.proofs.Picks.{by-test, tested}
 use Rattle.device_state.specs.declared.shapes.Settings.{Settings}
-use Rattle.device.specs.Device.{powerOn, freshDevice, zeroDevice, powerNumber}
+use Rattle.device.specs.Device.{powerOn, freshDevice}
 use Rattle.device.specs.declared.state.Device.{Device}
 use Rattle.device.proofs.Opens.{ones-most}
 use Rattle.history.specs.Event.{Event}
@@ -41,7 +38,8 @@ use Rattle.history.proofs.Naming.{Named, named-step, named-power}
 use Rattle.history.proofs.Logging.{logged-step, logged-power}
 use Rattle.history.proofs.Showing.{told-step}
 use Rattle.history.proofs.CoreSteps.{ones-some}
-use Rattle.history.proofs.Soundness.{Sound, sound-power, sound-step}
+use Rattle.history.proofs.Soundness.{by-power, from-power, Sound, sound-power, sound-step}
+use Rattle.std.proofs.Common.{None}
 
 -- the state and the history, held together
 pub record Held (s : Settings) (d : Device) (h : List Event) : Type 0 where
@@ -86,11 +84,11 @@ held-step s d a h t i =
 
 -- power-on
 pub held-power : (s : Settings) → Held s (powerOn s).state []
-unfolding powerOn freshDevice Contents AllReplyRules Refusals LogTold
+unfolding freshDevice Contents AllReplyRules Refusals LogTold
 held-power s =
     let d : Device = (powerOn s).state in
-    let v : Inv d.status.outstanding d.status.halted [] = by-test (λ (d : Device). Inv d.status.outstanding d.status.halted []) (eqb (powerNumber s) 0) (freshDevice s) zeroDevice (λ _. inv-start) (λ _. inv-start) in
-    let k : Tracked d [] = tracked-start d (by-test (λ (d : Device). d.status.phase ≡ 0) (eqb (powerNumber s) 0) (freshDevice s) zeroDevice (λ _. refl) (λ _. refl)) in
+    let v : Inv d.status.outstanding d.status.halted [] = from-power (λ (d : Device). Inv d.status.outstanding d.status.halted []) s inv-start inv-start in
+    let k : Tracked d [] = tracked-start d (from-power (λ (d : Device). d.status.phase ≡ None) s refl refl) in
     record {
       wide = wide-start s;
       marked = marked_start s;
@@ -133,15 +131,10 @@ log-told s as' t = (held s as' t).log-told
 within-depth : (s : Settings) (d : Device) (h : List Event) → Held s d h → total (map seen h) ≤ s.depth
 unfolding freshDevice ones
 within-depth s d h i =
-    ⊎_elim
-    (λ (x : eqb (powerOn s).refusal 0 ≡ true).
-    let z = eqb-true (powerOn s).refusal 0 x in
-    le_trans (le_of_eq (inv-total i.inv)) (subst (λ (y : Settings). ones d.status.outstanding ≤ y.depth) (i.sound.settings z) (ones-most d i.inv.bound (i.sound.good z))))
-    (λ (x : eqb (powerOn s).refusal 0 ≡ false).
-    let e = i.sound.zeros (eqb-false (powerOn s).refusal 0 x) in
-    let none : total (map seen h) ≡ 0 = inv-total i.inv ∙ ap (λ (y : Device). ones y.status.outstanding) e in
+    by-power s (λ z. le_trans (le_of_eq (inv-total i.inv)) (subst (λ (y : Settings). ones d.status.outstanding ≤ y.depth) (i.sound.settings z) (ones-most d i.inv.bound (i.sound.good z))))
+    (λ n.
+    let none : total (map seen h) ≡ 0 = inv-total i.inv ∙ ap (λ (y : Device). ones y.status.outstanding) (i.sound.zeros n) in
     omega (arith, none))
-    (tested (eqb (powerOn s).refusal 0))
 
 module _ (s : Settings) (as' : List Lent) (t : AllTyped as') where
   -- each accepted queued command is exactly one of the four, and once not outstanding it never changes

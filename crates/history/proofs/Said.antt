@@ -1,41 +1,40 @@
 -- What the replies of each act may hold: an A1h answers a host frame only with page 10h, which tells an error, and a page only a read of 10h or 11h. Assumes nothing.
 use mathlib.Core.Path.{◌≡◌, refl, sym, subst⁻¹, ◌∙◌}
 use mathlib.Core.Bool.{Bool, true, false, ◌&&◌, ◌||◌, false≢true}
-use mathlib.Core.List.{List, map, append-nil}
+use mathlib.Core.List.{List, append-nil}
 use Prim.Native.Nat.{ℕ}
+use Rattle.std.proofs.Common.{Ok}
 use Rattle.bits.specs.Pick.{pick}
 use Rattle.frame_parts.specs.declared.shared.Task.{Task}
 use Rattle.frames.specs.Write.{FrameValue}
-use Rattle.frames.specs.RoundTrip as trip
 use Rattle.frames.specs.declared.shapes.SetBits.{SetBits}
 use Rattle.frames.specs.declared.shapes.HostReg.{HostReg}
-use Rattle.frames.specs.declared.shapes.Frame.{Frame}
 use Rattle.frames.specs.declared.shapes.Frame.TheVariants as fs
 use Rattle.page_10h.specs.Page10.{read_log}
 use Rattle.replies.specs.Replies.{logReplies, activateIf, page10Of}
 use Rattle.replies.specs.declared.shown.Shown.{Shown}
 use Rattle.history.specs.FrameReading.{frameReads}
-use Rattle.history.specs.Replied.{some, setBitsIn, collect}
+use Rattle.history.specs.Replied.{FrameRead, some, setBitsIn, collect}
 use Rattle.history.specs.ReplyRules.{TellsError}
-use Rattle.history.proofs.Views.{pageIn}
+use Rattle.history.proofs.Views.{readIn, pageIn}
 use Rattle.history.proofs.Hearing.{pioIn}
 
 -- the A1h frames of what is sent
 abbrev pub bitsIn : List FrameValue → List SetBits
-bitsIn rs = collect setBitsIn (map trip.readBack rs)
+bitsIn rs = collect setBitsIn (readIn rs)
 
 -- some A1h
 abbrev pub someBits : List FrameValue → Bool
 someBits rs = some (λ f. true) (bitsIn rs)
 
 -- of a host frame that is read as f, and its replies
-pub record FrameSays (f : Frame) (rs : List FrameValue) : Type 0 where
+pub record FrameSays (f : FrameRead) (rs : List FrameValue) : Type 0 where
   pub swept : someBits rs ≡ true → frameReads 0x10 f && pioIn rs ≡ true
   pub tells : someBits rs ≡ true → TellsError (read_log (pageIn rs))
   pub paged : pioIn rs ≡ true → frameReads 0x10 f || frameReads 0x11 f ≡ true
 
 -- no A1h and no page
-pub mild : (f : Frame) (rs : List FrameValue) → someBits rs ≡ false → pioIn rs ≡ false → FrameSays f rs
+pub mild : (f : FrameRead) (rs : List FrameValue) → someBits rs ≡ false → pioIn rs ≡ false → FrameSays f rs
 mild f rs a b = record { swept = λ x. absurd (false≢true (sym a ∙ x)); tells = λ x. absurd (false≢true (sym a ∙ x)); paged = λ x. absurd (false≢true (sym b ∙ x)) }
 
 or-true : (a b : Bool) → b ≡ true → a || b ≡ true
@@ -47,19 +46,19 @@ abbrev pub Telling : Shown → Type 0
 Telling s = TellsError (read_log (page10Of s.errors))
 
 -- page 10h, with or without the sweep
-pub ten-said : (h : HostReg) (task : Task) (page : List ℕ) → frameReads 0x10 (fs.Host h) ≡ true → (on : Bool) → (on ≡ true → TellsError (read_log page)) → FrameSays (fs.Host h) (logReplies on task page)
+pub ten-said : (h : HostReg) (task : Task) (page : List ℕ) → frameReads 0x10 (Ok (fs.Host h)) ≡ true → (on : Bool) → (on ≡ true → TellsError (read_log page)) → FrameSays (Ok (fs.Host h)) (logReplies on task page)
 unfolding some collect pick
 ten-said h task page t true k = record { swept = λ _. rw t; tells = λ _. subst⁻¹ (λ (l : List ℕ). TellsError (read_log l)) (append-nil page) (k refl); paged = λ _. rw t }
 ten-said h task page t false k = record { swept = λ _. rw t; tells = λ x. absurd (false≢true x); paged = λ _. rw t }
 
 -- page 11h
-pub eleven-said : (h : HostReg) (task : Task) (page : List ℕ) → frameReads 0x11 (fs.Host h) ≡ true → FrameSays (fs.Host h) (logReplies false task page)
+pub eleven-said : (h : HostReg) (task : Task) (page : List ℕ) → frameReads 0x11 (Ok (fs.Host h)) ≡ true → FrameSays (Ok (fs.Host h)) (logReplies false task page)
 unfolding some collect pick
 eleven-said h task page t =
-    record { swept = λ x. absurd (false≢true x); tells = λ x. absurd (false≢true x); paged = λ _. or-true (frameReads 0x10 (fs.Host h)) (frameReads 0x11 (fs.Host h)) t }
+    record { swept = λ x. absurd (false≢true x); tells = λ x. absurd (false≢true x); paged = λ _. or-true (frameReads 0x10 (Ok (fs.Host h))) (frameReads 0x11 (Ok (fs.Host h))) t }
 
 -- an Activate or none
-pub kept-said : (f : Frame) (on : Bool) → FrameSays f (activateIf on)
+pub kept-said : (f : FrameRead) (on : Bool) → FrameSays f (activateIf on)
 unfolding some collect pick
 kept-said f true = mild _ _ refl refl
 kept-said f false = mild _ _ refl refl

@@ -1,6 +1,7 @@
--- Sets of 32 tags, and the empty one. Assumes nothing.
-use mathlib.Core.Path.{◌≡◌, sym, ap, ◌∙◌}
-use mathlib.Core.Bool.{true, false, true≢false, and-false}
+-- Sets of 32 tags, and the empty one; and the test whether something is there. Assumes nothing.
+use mathlib.Core.Path.{◌≡◌, refl, sym, ap, ◌∙◌}
+use mathlib.Core.Bool.{true, false, true≢false, false≢true, and-false}
+use Rattle.std.proofs.Common.{Option, Some, None, is_none}
 use Prim.Native.Nat.{ℕ, ◌/◌, ◌%◌, ◌^◌, ◌<◌}
 use native.Mathlib.Nat.{zero-div}
 use native.Mathlib.Omega.{arith}
@@ -24,3 +25,18 @@ no_bits m l h =
     (λ t u.
     let e : eqb (m / 2 ^ t % 2) 1 ≡ false = rw (lt-ltb t 32 u) at (h t u) in
     omega (arith, eqb-false (m / 2 ^ t % 2) 1 e, bit-lt m t, ap (λ (n : ℕ). n % 2) (zero-div (2 ^ t))))
+
+-- ---- nothing is there, or something
+
+pub is_none-true : {A : Type 0} (o : Option A) → is_none o ≡ true → o ≡ None
+is_none-true None e = refl
+is_none-true (Some x) e = absurd (false≢true e)
+
+pub is_none-false : {A : Type 0} (o : Option A) → is_none o ≡ false → o ≡ None → ⊥
+is_none-false None e z = true≢false e
+is_none-false (Some x) e z = false≢true (ap is_none z)
+
+-- and back
+pub is_none-some : {A : Type 0} (o : Option A) → (o ≡ None → ⊥) → is_none o ≡ false
+is_none-some None n = absurd (n refl)
+is_none-some (Some x) n = refl

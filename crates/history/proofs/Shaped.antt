@@ -4,12 +4,11 @@ use mathlib.Core.Bool.{Bool, true, false, not, false≢true, true≢false}
 use mathlib.Core.List.{List, [], ◌∷◌, map}
 use mathlib.Core.Logic.{inl, inr}
 use Prim.Native.Nat.{ℕ}
+use Rattle.std.proofs.Common.{Ok}
 use Rattle.bits.specs.Pick.{pick}
 use Rattle.frame_parts.specs.declared.shared.Task.{Task}
 use Rattle.frames.specs.Write.{FrameValue}
-use Rattle.frames.specs.RoundTrip as trip
 use Rattle.frames.specs.declared.shapes.HostReg.{HostReg}
-use Rattle.frames.specs.declared.shapes.Frame.{Frame}
 use Rattle.frames.specs.declared.shapes.Frame.TheVariants as fs
 use Rattle.rules.specs.Decide.{isQueued}
 use Rattle.replies.specs.Replies.{activateIf, logReplies}
@@ -17,32 +16,33 @@ use Rattle.rules.specs.Call.{Call}
 use Rattle.history.specs.FrameAsks.{Asked, dataAsks}
 use Rattle.history.specs.FrameReading.{frameAsks, frameReplies}
 use Rattle.history.specs.Reading.{callAsks, callReplies}
-use Rattle.history.specs.Replied.{some, errIn, registerIn, collect, faultyIn}
+use Rattle.history.specs.Replied.{FrameRead, some, errIn, registerIn, collect, faultyIn}
 use Rattle.history.specs.Shapes.{kind_of, OneOf, commandReplies}
+use Rattle.history.proofs.Views.{readIn}
 
 -- the kinds of what is sent
 abbrev pub kindsOf : List FrameValue → List ℕ
-kindsOf rs = map kind_of (map trip.readBack rs)
+kindsOf rs = map kind_of (readIn rs)
 
 -- a 34h with ERR stands among frames
-abbrev pub erringIn : List Frame → Bool
+abbrev pub erringIn : List FrameRead → Bool
 erringIn l = some (λ r. errIn r.status) (collect registerIn l)
 
 -- and is sent
 abbrev pub erring : List FrameValue → Bool
-erring rs = erringIn (map trip.readBack rs)
+erring rs = erringIn (readIn rs)
 
 -- a 34h without ERR stands among frames
-abbrev pub grantingIn : List Frame → Bool
+abbrev pub grantingIn : List FrameRead → Bool
 grantingIn l = some (λ r. not (errIn r.status)) (collect registerIn l)
 
 -- and is sent
 abbrev pub granting : List FrameValue → Bool
-granting rs = grantingIn (map trip.readBack rs)
+granting rs = grantingIn (readIn rs)
 
 -- a 5Fh with ERR is sent
 abbrev pub sendsFaulty : List FrameValue → Bool
-sendsFaulty rs = faultyIn (map trip.readBack rs)
+sendsFaulty rs = faultyIn (readIn rs)
 
 -- what is sent is one of what may be, and its ERR is where it may be
 pub record Shaped (may : List (List ℕ)) (k : Asked) (rs : List FrameValue) : Type 0 where
@@ -64,23 +64,23 @@ unblamed rs c o e f = record { shape = o; blames = λ y. absurd (false≢true (s
 -- a command
 module _ (h : HostReg) (c : h.command_bit ≡ true) where
   -- that is queued: one 34h
-  pub to-queued : isQueued h ≡ true → (rs : List FrameValue) → kindsOf rs ≡ 0x34 ∷ [] → sendsFaulty rs ≡ false → Shaped (frameReplies (fs.Host h)) (frameAsks (fs.Host h)) rs
+  pub to-queued : isQueued h ≡ true → (rs : List FrameValue) → kindsOf rs ≡ 0x34 ∷ [] → sendsFaulty rs ≡ false → Shaped (frameReplies (Ok (fs.Host h))) (frameAsks (Ok (fs.Host h))) rs
   unfolding pick
   to-queued q rs o f = record { shape = rw c (inl o); blames = λ _. c; ungranted = λ _ n. absurd (true≢false (sym (rw (c, q)) ∙ n)); faultless = f }
 
   -- that is not
-  pub to-other : (rs : List FrameValue) → OneOf (kindsOf rs) commandReplies → granting rs ≡ false → sendsFaulty rs ≡ false → Shaped (frameReplies (fs.Host h)) (frameAsks (fs.Host h)) rs
+  pub to-other : (rs : List FrameValue) → OneOf (kindsOf rs) commandReplies → granting rs ≡ false → sendsFaulty rs ≡ false → Shaped (frameReplies (Ok (fs.Host h))) (frameAsks (Ok (fs.Host h))) rs
   unfolding pick
   to-other rs o g f = record { shape = rw c o; blames = λ _. c; ungranted = λ _ _. g; faultless = f }
 
   -- by a page, behind the sweep or not
-  pub to-log : (on : Bool) (task : Task) (page : List ℕ) → Shaped (frameReplies (fs.Host h)) (frameAsks (fs.Host h)) (logReplies on task page)
+  pub to-log : (on : Bool) (task : Task) (page : List ℕ) → Shaped (frameReplies (Ok (fs.Host h))) (frameAsks (Ok (fs.Host h))) (logReplies on task page)
   unfolding pick some collect
   to-log true task page = to-other _ (inr (inr (inl refl))) refl refl
   to-log false task page = to-other _ (inr (inl refl)) refl refl
 
 -- host data: an Activate if more is left
-pub to-data : (n : ℕ) (on : Bool) → Shaped (frameReplies (fs.Data n)) (dataAsks n) (activateIf on)
+pub to-data : (n : ℕ) (on : Bool) → Shaped (frameReplies (Ok (fs.Data n))) (dataAsks n) (activateIf on)
 unfolding pick some collect
 to-data n true = unblamed _ refl (inr (inl refl)) refl refl
 to-data n false = unblamed [] refl (inl refl) refl refl

@@ -7,59 +7,52 @@ use native.Mathlib.Omega.{arith}
 use lib.Dec.{eqb}
 use lib.ListN.{length, drop}
 use lib.Seq.{take_at}
-use borrow.Author.Tests.{eqb-true, le-ltb}
+use borrow.Author.Tests.{eqb-true}
+use Rattle.std.proofs.Common.{Ok}
 use Rattle.bits.specs.Pick.{pick}
-use Rattle.bits.specs.First.{first_of}
 use Rattle.bits.specs.Laid.{laid}
 use Rattle.bits.proofs.Picks.{pick_yes, and_left, and_right}
-use Rattle.frame_parts.specs.Emit.{writeNumber}
+use Rattle.frame_parts.proofs.EmitLaws.{emitted-done}
 use Rattle.frame_parts.specs.declared.shared.Task.{Task}
 use Rattle.frames.specs.Write.{FrameValue}
 use Rattle.frames.specs.declared.shapes.HostReg.{HostReg}
-use Rattle.frames.specs.declared.shapes.Frame.{Frame}
 use Rattle.page_10h.specs.Page10.{page10, fits10, read_log}
 use Rattle.page_10h.specs.declared.page10.ErrorLog.{ErrorLog}
-use Rattle.page_10h.specs.declared.page10.Page10.TheVariants.{Fields}
 use Rattle.page_10h.proofs.Trip10.{read-write}
 use Rattle.rules.specs.Call.{Call, hostFrame}
 use Rattle.rules.specs.Decide.{pageAsked}
 use Rattle.rules.specs.Medium.{span_of, part_of}
-use Rattle.rules.specs.Number.{number_of}
 use Rattle.rules.specs.declared.acts.Act.{Act}
 use Rattle.rules.proofs.Ruled as by
 use Rattle.replies.specs.Replies.{logOf, logReplies, activateIf, page10Of, repliesOf}
 use Rattle.device.specs.Device.{contradictoryDevice}
 use Rattle.device.specs.Lent.{Lent, lent, Typed}
 use Rattle.device.specs.FactsOf.{facts_of}
-use Rattle.device.specs.Step.{shown, actOf, step}
+use Rattle.device.specs.Step.{Step, shown, stepBy}
 use Rattle.device.specs.declared.state.Device.{Device}
 use Rattle.device.proofs.Doing.{heard-unsent}
 use Rattle.device.proofs.Fitting.{record-fits}
 use Rattle.device.proofs.Sized.{SizedRecord}
-use Rattle.history.specs.Event.{Event, taken}
+use Rattle.verdicts.specs.Other.{asksCounters}
+use Rattle.history.specs.Event.{Event}
 use Rattle.history.specs.FrameReading.{frameReads}
 use Rattle.history.specs.Logs.{readsLog}
 use Rattle.history.specs.Reading.{callReads}
-use Rattle.history.specs.Replied.{some, isPio, paged, page}
-use Rattle.history.specs.Run.{result, done, event}
+use Rattle.history.specs.Replied.{FrameRead, some, isPio, paged, page}
 use Rattle.history.specs.Logged.{logBy, sends10, TellsHalt}
+use Rattle.history.proofs.Counts.{eventBy, eventOf}
+use Rattle.history.proofs.Decided.{by-decided}
 use Rattle.history.proofs.Views.{pageIn}
 use Rattle.history.proofs.Frames.{Read, read-frames, read_step}
 use Rattle.history.proofs.Frames as frames
-use Rattle.history.proofs.Hearing.{pioIn, reads-page}
+use Rattle.history.proofs.Hearing.{pioIn, reads-counters}
 use Rattle.history.proofs.Own.{own-goes}
 
 -- a page that can be written is read as what it was made of
-reads-back : (f : ErrorLog) → fits10 f ≡ true → read_log (page10 f) ≡ Fields f
-unfolding writeNumber first_of pick
+reads-back : (f : ErrorLog) → fits10 f ≡ true → read_log (page10 f) ≡ Ok f
 reads-back f fit =
     let s : List ℕ = page10 f in
-    let n : ℕ = length s in
-    let z : eqb (writeNumber (fits10 f) n n) 0 ≡ true = rw (fit, le-ltb n n (omega arith)) refl in
-    ap read_log (sym (take_at s (drop n s) n refl))
-    ∙ read-write f s (laid s s) (record { number = 0; len = n })
-    (record { number = sym (eqb-true (writeNumber (fits10 f) n n) 0 z); len = sym (pick_yes (eqb (writeNumber (fits10 f) n n) 0) n 0 z); bytes = sym (pick_yes (eqb (writeNumber (fits10 f) n n) 0) (laid s s) s z) })
-    refl
+    ap read_log (sym (take_at s (drop (length s) s) (length s) refl)) ∙ read-write f s (laid s s) (length s) (emitted-done (fits10 f) s s (length s) (laid s s) fit (omega arith) refl refl)
 
 -- page 10h in its replies, with or without the sweep
 ten-page : (on : Bool) (task : Task) (l : List ℕ) → pageIn (logReplies on task l) ≡ l
@@ -74,17 +67,17 @@ active-pageless true = refl
 active-pageless false = refl
 
 -- a read of page 11h is none of page 10h
-not-ten : (h : HostReg) → h.command_bit ≡ true → eqb (pageAsked h) 0x11 ≡ true → readsLog 0x10 h ≡ true → ⊥
+not-ten : (h : HostReg) → h.command_bit ≡ true → asksCounters (pageAsked h) ≡ true → readsLog 0x10 h ≡ true → ⊥
 not-ten h c p r =
     let names : (n : ℕ) → readsLog n h ≡ true → h.task.lba % 256 ≡ n =
     λ n q. eqb-true (h.task.lba % 256) n (and_right (eqb h.command 0x2F) (eqb (h.task.lba % 256) n) (and_right h.command_bit (eqb h.command 0x2F && eqb (h.task.lba % 256) n) q)) in
     let a = names 0x10 r in
-    let b = names 0x11 (reads-page 0x11 h refl c p) in
+    let b = names 0x11 (reads-counters h c p) in
     omega arith
 
 module _ (d : Device) where
   -- the page sent to a host frame that reads page 10h is the record's
-  heard-page : (x m b : List ℕ) {f : Frame} {a : Act} → by.Heard (facts_of d (lent (hostFrame x) m b)) f a → pioIn (repliesOf (shown d) [] a) ≡ true → frameReads 0x10 f ≡ true
+  heard-page : (x m b : List ℕ) {f : FrameRead} {a : Act} → by.Heard (facts_of d (lent (hostFrame x) m b)) f a → pioIn (repliesOf (shown d) [] a) ≡ true → frameReads 0x10 f ≡ true
       → pageIn (repliesOf (shown d) [] a) ≡ page10Of d.errors
   unfolding repliesOf some
   heard-page x m b (by.srst f c s) p q = absurd (false≢true p)
@@ -103,28 +96,25 @@ module _ (d : Device) where
   heard-page x m b (by.bist y) p q = absurd (false≢true p)
 
   -- a taken call that reads page 10h and is answered with a page
-  ruled-page : (m b : List ℕ) {c : Call} {a : Act} → by.Ruled (facts_of d (lent c m b)) c a → number_of a ≡ 0 → pioIn (repliesOf (shown d) (part_of (span_of a) m) a) ≡ true → callReads 0x10 c ≡ true
+  ruled-page : (m b : List ℕ) {c : Call} {a : Act} → by.Ruled (facts_of d (lent c m b)) c (Ok a) → pioIn (repliesOf (shown d) (part_of (span_of a) m) a) ≡ true → callReads 0x10 c ≡ true
       → (contradictoryDevice d ≡ false) × (pageIn (repliesOf (shown d) (part_of (span_of a) m) a) ≡ page10Of d.errors)
-  unfolding number_of
-  ruled-page m b (by.refused c i x e) z p q = absurd (x z)
-  ruled-page m b {c} {a} (by.host f _ g v s y) z p q = (
+  ruled-page m b {c} {a} (by.host f _ g v s y) p q = (
     g,
     subst (λ (l : List ℕ). pioIn (repliesOf (shown d) l a) ≡ true → pageIn (repliesOf (shown d) l a) ≡ page10Of d.errors) (heard-unsent (facts_of d (lent (hostFrame f) m b)) m y) (λ o. heard-page f m b y o q) p,
   )
-  ruled-page m b (by.own o) z p q = absurd (false≢true (sym (own-goes d m b o).replies.pageless ∙ p))
+  ruled-page m b (by.own o) p q = absurd (false≢true (sym (own-goes d m b o).replies.pageless ∙ p))
 
 -- every call: a page 10h in its replies tells the record
-pub told-step : (d : Device) (l : Lent) (h : List Event) → Typed l.call → SizedRecord d → logBy h ≡ logOf d.errors → sends10 (event (done l (result d l))) ≡ true → TellsHalt (event (done l (result d l))) h
-unfolding actOf
-told-step d l h t s k y =
-    let x : Event = event (done l (result d l)) in
-    let rs : List FrameValue = (step d l).frames in
-    let r : Read x rs = read_step d l t s in
-    let z = eqb-true (step d l).refusal 0 (and_left (taken x) (paged x && callReads 0x10 l.call) y) in
-    let u = and_right (taken x) (paged x && callReads 0x10 l.call) y in
-    let v = ruled-page d l.medium l.buffer (by.ruled (facts_of d l) l.call) z
+pub told-step : (d : Device) (l : Lent) (h : List Event) → Typed l.call → SizedRecord d → logBy h ≡ logOf d.errors → sends10 (eventOf d l) ≡ true → TellsHalt (eventOf d l) h
+told-step d l h t s k =
+    by-decided d l (λ (y : Step). Read (eventBy l y) y.frames → sends10 (eventBy l y) ≡ true → TellsHalt (eventBy l y) h) (λ r _ z. absurd (false≢true z))
+    (λ a o r u.
+    let x : Event = eventBy l (stepBy d l (Ok a)) in
+    let rs : List FrameValue = (stepBy d l (Ok a)).frames in
+    let v = ruled-page d l.medium l.buffer o
     (sym (ap (some isPio) (read-frames x rs r)) ∙ and_left (paged x) (callReads 0x10 l.call) u) (and_right (paged x) (callReads 0x10 l.call) u) in
     let fit : fits10 (logOf d.errors) ≡ true = record-fits d s v.0 in
     let e : page x ≡ page10 (logBy h) =
     frames.read-page x rs r ∙ v.1 ∙ pick_yes (fits10 (logOf d.errors)) (page10 (logOf d.errors)) [] fit ∙ ap page10 (sym k) in
-    record { bytes = e; fields = ap read_log e ∙ subst (λ (f : ErrorLog). read_log (page10 f) ≡ Fields f) (sym k) (reads-back (logOf d.errors) fit) }
+    record { bytes = e; fields = ap read_log e ∙ subst (λ (f : ErrorLog). read_log (page10 f) ≡ Ok f) (sym k) (reads-back (logOf d.errors) fit) })
+    (read_step d l t s)

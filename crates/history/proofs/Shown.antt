@@ -1,37 +1,35 @@
 -- The truth of the counters over every run: each page 11h ever sent shows the events since the last zeroing before it. Assumes nothing.
-use mathlib.Core.Path.{◌≡◌, refl, ap, ◌∙◌}
-use mathlib.Core.Bool.{true, false, true≢false}
+use mathlib.Core.Path.{refl, ap, ◌∙◌}
+use mathlib.Core.Bool.{true≢false}
 use mathlib.Core.List.{List, [], ◌∷◌, map}
-use mathlib.Core.Logic.{⊎_elim}
 use Prim.Native.Nat.{ℕ}
-use lib.Dec.{eqb}
-use Rattle.bits.specs.Pick.{pick}
-use Rattle.bits.proofs.Picks.{tested}
 use Rattle.contradictions.specs.Clauses.{settingsOut}
 use Rattle.device_state.specs.declared.shapes.Settings.{Settings}
-use Rattle.device.specs.Device.{freshDevice, powerNumber, powerOn}
+use Rattle.device.specs.Device.{freshDevice, powerOn}
 use Rattle.device.specs.declared.state.Device.{Device}
 use Rattle.history.specs.Demand3.{Counters}
 use Rattle.device.specs.Lent.{Lent, Typed}
 use Rattle.history.specs.Run.{Done, done, event, result, AllTyped, run, run_from, history}
 use Rattle.history.proofs.Tally.{Counting, counting-start}
-use Rattle.device.specs.Step.{actOf}
+use Rattle.device.specs.Step.{Step}
 use Rattle.device.proofs.Effects.{act-settings}
 use Rattle.history.proofs.Counts.{Replies, counting-step}
+use Rattle.history.proofs.Decided.{by-decided}
 use Rattle.history.proofs.Pages.{Masked, counters-step}
+use Rattle.history.proofs.Soundness.{from-power}
 
 -- power-on leaves the settings that it was given, or none within bounds
 pub masked-start : (s : Settings) → Masked s.mask (powerOn s).state
-unfolding powerOn freshDevice settingsOut pick
-masked-start s =
-    ⊎_elim (λ (t : eqb (powerNumber s) 0 ≡ true). rw t (λ _. refl)) (λ (f : eqb (powerNumber s) 0 ≡ false). rw f (λ e. absurd (true≢false e)))
-    (tested (eqb (powerNumber s) 0))
+unfolding freshDevice settingsOut
+masked-start s = from-power (Masked s.mask) s (λ _. refl) (λ e. absurd (true≢false e))
 
 -- and no call changes them
 pub masked-step : (mask : ℕ) (d : Device) (a : Lent) → Masked mask d → Masked mask (result d a).outcome.state
 masked-step mask d a k =
-    let e = act-settings d (actOf d a) in
-    λ o. ap (λ (s : Settings). s.mask) e ∙ k (rw e at o)
+    by-decided d a (λ (s : Step). Masked mask s.state) (λ _. k)
+    (λ x _ o.
+    let e = act-settings d x in
+    ap (λ (s : Settings). s.mask) e ∙ k (rw e at o))
 
 -- nor does a run
 pub masked-run : (mask : ℕ) (d : Device) (h : List Done) (as' : List Lent) → Masked mask d → Masked mask (run d h as').state

@@ -4,13 +4,13 @@ use mathlib.Core.Bool.{Bool, true, false, not, ◌&&◌, ◌||◌, true≢false,
 use mathlib.Core.List.{List, [], ◌∷◌}
 use mathlib.Core.Logic.{⊎_elim}
 use Prim.Native.Nat.{ℕ, ◌%◌}
+use Rattle.std.proofs.Common.{Ok}
 use lib.Dec.{eqb}
 use Rattle.bits.specs.Bit.{bitIn}
 use Rattle.bits.proofs.Picks.{tested, and_left, and_right}
 use Rattle.frames.specs.Read.{readFrame}
 use Rattle.frames.specs.Write.{FrameValue}
 use Rattle.frames.specs.declared.shapes.SetBits.{SetBits}
-use Rattle.frames.specs.declared.shapes.Frame.{Frame}
 use Rattle.frames.specs.declared.shapes.Frame.TheVariants as fs
 use Rattle.page_10h.specs.Page10.{read_log}
 use Rattle.rules.specs.Call.{Call, hostFrame}
@@ -18,7 +18,7 @@ use Rattle.device.proofs.Never.{and-never}
 use Rattle.history.specs.FrameAsks.{Asked}
 use Rattle.history.specs.FrameReading.{frameAsks, frameReads}
 use Rattle.history.specs.Reading.{Speech, noneFinished, setFinished, errorTold, callAsks, callReads, callSays}
-use Rattle.history.specs.Replied.{some}
+use Rattle.history.specs.Replied.{FrameRead, some}
 use Rattle.history.specs.Seen.{Seen}
 use Rattle.history.specs.ReplyRules.{TellsError}
 use Rattle.history.proofs.Views.{pageIn, view}
@@ -47,19 +47,12 @@ some-none p [] e = refl
 some-none p (f ∷ l) e = absurd (true≢false e)
 
 -- a frame that reads a page is a command
-reads-command : (n : ℕ) (f : Frame) → frameReads n f ≡ true → (frameAsks f).command ≡ true
-reads-command n (fs.Host h) e = and_left h.command_bit (eqb h.command 0x2F && eqb (h.task.lba % 256) n) e
-reads-command n (fs.Device f) e = absurd (false≢true e)
-reads-command n (fs.Bits f) e = absurd (false≢true e)
-reads-command n (fs.Setup f) e = absurd (false≢true e)
-reads-command n fs.Activate e = absurd (false≢true e)
-reads-command n (fs.Data k) e = absurd (false≢true e)
-reads-command n fs.Bist e = absurd (false≢true e)
-reads-command n (fs.Pio f) e = absurd (false≢true e)
-reads-command n fs.Refused e = absurd (false≢true e)
+reads-command : (n : ℕ) (f : FrameRead) → frameReads n f ≡ true → (frameAsks f).command ≡ true
+reads-command n (Ok (fs.Host h)) e = and_left h.command_bit (eqb h.command 0x2F && eqb (h.task.lba % 256) n) e
+reads-command n _ e = absurd (false≢true e)
 
 -- no host frame finishes anything
-pub host-finishes : (f : Frame) (rs : List FrameValue) → FrameSays f rs → (t : ℕ) → (view (frameAsks f) rs).finishes t ≡ false
+pub host-finishes : (f : FrameRead) (rs : List FrameValue) → FrameSays f rs → (t : ℕ) → (view (frameAsks f) rs).finishes t ≡ false
 unfolding view
 host-finishes f rs y t =
     ⊎_elim

@@ -3,11 +3,12 @@ use mathlib.Core.Path.{sym, ap, subst, ◌∙◌}
 use mathlib.Core.List.{List}
 use Prim.Native.Nat.{ℕ, ◌≤◌}
 use lib.Count.{ones}
-use Rattle.bits.proofs.Picks.{pick_no}
-use Rattle.page_rows.specs.declared.shown.Counter.TheVariants.{Value, Refused}
-use Rattle.device.specs.Device.{contradictoryDevice}
+use mathlib.Core.Bool.{Bool}
+use Rattle.std.proofs.Common.{Ok}
+use Rattle.bits.specs.Pick.{pick}
+use Rattle.refusals.specs.First.{first_of, unless}
+use Rattle.refusals.specs.Ladders.{powerLadder}
 use Rattle.device.specs.Counter.{count_of}
-use Rattle.device.specs.declared.state.Device.{Device}
 use Rattle.device_state.specs.declared.shapes.Settings.{Settings}
 use Rattle.device.specs.Lent.{Lent}
 use Rattle.history.specs.Run.{AllTyped, run_from, history}
@@ -42,10 +43,10 @@ module _ (s : Settings) (as' : List Lent) (t : AllTyped as') where
 
   -- and so is the answer of `Device::outstanding_count`
   pub told-count : AgreesCount s (run_from s as').state (history s as')
-  unfolding count_of
+  unfolding count_of first_of pick
   told-count z c p =
-      let d : Device = (run_from s as').state in
-      p.answer ∙ pick_no (contradictoryDevice d) (Refused 1) (Value (ones d.status.outstanding)) ((held s as' t).sound.good z) ∙ ap Value (sym (inv-total (held s as' t).inv))
+      let n : ℕ = ones (run_from s as').state.status.outstanding in
+      p.answer ∙ ap (λ (b : Bool). unless (first_of (powerLadder b)) n) ((held s as' t).sound.good z) ∙ ap (λ (k : ℕ). Ok k) (sym (inv-total (held s as' t).inv))
 
   -- the state does not contradict itself
   pub told-consistent : AgreesConsistent s (run_from s as').state

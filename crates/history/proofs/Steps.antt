@@ -4,19 +4,17 @@ use mathlib.Core.Bool.{true, false}
 use mathlib.Core.List.{List, []}
 use mathlib.Core.Logic.{⊎_elim}
 use Prim.Native.Nat.{ℕ}
-use lib.Dec.{eqb}
-use borrow.Author.Tests.{eqb-true, eqb-false, ne_eqb}
+use Rattle.std.proofs.Common.{None, Ok, is_none}
 use Rattle.bits.specs.Pick.{pick}
 use Rattle.bits.proofs.Picks.{tested}
 use Rattle.rules.specs.Call.{Call}
-use Rattle.rules.specs.Number.{number_of}
 use Rattle.rules.specs.Medium.{span_of, part_of}
 use Rattle.rules.specs.declared.acts.Act.{Act}
 use Rattle.rules.proofs.Ruled as by
 use Rattle.device.specs.Lent.{Lent, lent, Typed}
 use Rattle.device.specs.After.{after_of}
 use Rattle.device.specs.FactsOf.{facts_of}
-use Rattle.device.specs.Step.{actOf, step}
+use Rattle.device.specs.Step.{Step, step}
 use Rattle.device.specs.declared.state.Device.{Device}
 use Rattle.device.proofs.Sized.{SizedRecord}
 use Rattle.device.proofs.Refusals.{refused-keeps}
@@ -26,6 +24,8 @@ use Rattle.history.specs.Reading.{callAsks}
 use Rattle.history.specs.Asked.{asks}
 use Rattle.history.specs.Seen.{Seen, seen}
 use Rattle.history.specs.Run.{result, done, event}
+use Rattle.history.proofs.Sets.{is_none-true, is_none-false, is_none-some}
+use Rattle.history.proofs.Decided.{by-decided, by-taken}
 use Rattle.history.proofs.Class.{Class, plain}
 use Rattle.history.proofs.Views.{view, is-silent, silent-unbegun}
 use Rattle.history.proofs.Frames.{Read, read-seen, read_step}
@@ -36,13 +36,13 @@ use Rattle.history.proofs.Hosted.{host-goes}
 use Rattle.history.proofs.Own.{own-goes}
 
 -- what is asked, taken and refused
-pub asks-taken : (x : Event) → x.refusal ≡ 0 → asks x ≡ callAsks x.call
+pub asks-taken : (x : Event) → x.refusal ≡ None → asks x ≡ callAsks x.call
 unfolding pick
 asks-taken x z = rw z
 
-pub asks-refused : (x : Event) → (x.refusal ≡ 0 → ⊥) → asks x ≡ quiet
+pub asks-refused : (x : Event) → (x.refusal ≡ None → ⊥) → asks x ≡ quiet
 unfolding pick
-asks-refused x n = rw (ne_eqb x.refusal 0 n)
+asks-refused x n = rw (is_none-some x.refusal n)
 
 -- nothing happens in a refused call
 nothing_seen : (d d' : Device) → d' ≡ d → Class d (view quiet []) d'
@@ -53,39 +53,35 @@ module _ (d : Device) (l : Lent) (t : Typed l.call) (s : SizedRecord d) where
   x = event (done l (result d l))
 
   -- what holds of what is seen of a call, by whether it is refused
-  pub by-view : (P : Seen → Type 0) → ((step d l).refusal ≡ 0 → P (view (callAsks l.call) (step d l).frames)) → (((step d l).refusal ≡ 0 → ⊥) → P (view quiet [])) → P (seen x)
+  pub by-view : (P : Seen → Type 0) → ((step d l).refusal ≡ None → P (view (callAsks l.call) (step d l).frames)) → (((step d l).refusal ≡ None → ⊥) → P (view quiet [])) → P (seen x)
   by-view P go keep =
       let r : Read x (step d l).frames = read_step d l t s in
       ⊎_elim
-      (λ (y : eqb (step d l).refusal 0 ≡ true).
-      let z = eqb-true (step d l).refusal 0 y in
+      (λ (y : is_none (step d l).refusal ≡ true).
+      let z = is_none-true (step d l).refusal y in
       subst P (sym (read-seen x (step d l).frames r (callAsks l.call) (asks-taken x z))) (go z))
-      (λ (y : eqb (step d l).refusal 0 ≡ false).
-      let n = eqb-false (step d l).refusal 0 y in
+      (λ (y : is_none (step d l).refusal ≡ false).
+      let n = is_none-false (step d l).refusal y in
       subst P (sym (read-seen x (step d l).frames r quiet (asks-refused x n) ∙ ap (view quiet) (refused-keeps d l n).frames)) (keep n))
-      (tested (eqb (step d l).refusal 0))
+      (tested (is_none (step d l).refusal))
 
--- a call that was decided
-ruled-comes : (d : Device) (m b : List ℕ) {c : Call} {a : Act} → Typed c → by.Ruled (facts_of d (lent c m b)) c a → number_of a ≡ 0 → Comes d (part_of (span_of a) m) (callAsks c) a
-unfolding number_of
-ruled-comes d m b t (by.refused c n h e) z = absurd (h z)
-ruled-comes d m b t (by.host f a g w s h) z = (host-goes d f m b g h).comes
-ruled-comes d m b t (by.own o) z = (own-goes d m b o).comes t
+-- a taken call, by the rule that holds
+ruled-comes : (d : Device) (m b : List ℕ) {c : Call} {a : Act} → Typed c → by.Ruled (facts_of d (lent c m b)) c (Ok a) → Comes d (part_of (span_of a) m) (callAsks c) a
+ruled-comes d m b t (by.host f a g w s h) = (host-goes d f m b g h).comes
+ruled-comes d m b t (by.own o) = (own-goes d m b o).comes t
 
 -- every call
 pub comes : (d : Device) (l : Lent) → Typed l.call → SizedRecord d → Class d (seen (event (done l (result d l)))) (step d l).state
-unfolding actOf
 comes d l t s =
-    by-view d l t s (λ (e : Seen). Class d e (step d l).state) (ruled-comes d l.medium l.buffer t (by.ruled (facts_of d l) l.call)) (λ n. nothing_seen d (step d l).state (refused-keeps d l n).state)
+    by-view d l t s (λ (e : Seen). Class d e (step d l).state)
+    (by-taken d l (λ (x : Step). Class d (view (callAsks l.call) x.frames) x.state) (λ a r. ruled-comes d l.medium l.buffer t r))
+    (λ n. nothing_seen d (step d l).state (refused-keeps d l n).state)
 
--- a call that was decided: a halt keeps its record
-ruled-marked : (d : Device) (m b : List ℕ) {c : Call} {a : Act} → by.Ruled (facts_of d (lent c m b)) c a → Marked d → Marked (after_of d a)
-unfolding after_of
-ruled-marked d m b (by.refused c n h e) k = k
+-- a taken call, by the rule that holds: a halt keeps its record
+ruled-marked : (d : Device) (m b : List ℕ) {c : Call} {a : Act} → by.Ruled (facts_of d (lent c m b)) c (Ok a) → Marked d → Marked (after_of d a)
 ruled-marked d m b (by.host f a g w s h) k = (host-goes d f m b g h).marked k
 ruled-marked d m b (by.own o) k = (own-goes d m b o).marked k
 
 -- every call
 pub marked_step : (d : Device) (l : Lent) → Marked d → Marked (step d l).state
-unfolding actOf
-marked_step d l = ruled-marked d l.medium l.buffer (by.ruled (facts_of d l) l.call)
+marked_step d l k = by-decided d l (λ (x : Step). Marked x.state) (λ r. k) (λ a r. ruled-marked d l.medium l.buffer r k)

@@ -3,8 +3,7 @@ use mathlib.Core.Path.{◌≡◌, refl, sym, ap, ◌∙◌}
 use mathlib.Core.Bool.{true, false}
 use mathlib.Core.List.{List, [], ◌∷◌}
 use mathlib.Core.Logic.{⊎_elim}
-use lib.Dec.{eqb}
-use borrow.Author.Tests.{eqb-false}
+use Rattle.std.proofs.Common.{is_none}
 use Rattle.bits.proofs.Picks.{tested, pick_yes, pick_no}
 use Rattle.device_state.specs.declared.shapes.Settings.{Settings}
 use Rattle.device.specs.Device.{powerOn}
@@ -14,30 +13,31 @@ use Rattle.device.specs.declared.state.Device.{Device}
 use Rattle.device.proofs.Refusals.{refused-keeps}
 use Rattle.history.specs.Run.{Done, done, result, Run, run, run_from}
 use Rattle.history.specs.Struck.{takenOf, lentTaken}
+use Rattle.history.proofs.Sets.{is_none-false}
 
 abbrev ran : Device → List Done → Run
 ran d h = record { state = d; calls = h }
 
 -- a refused call leaves the state
-keeps : (d : Device) (a : Lent) → eqb (result d a).outcome.refusal 0 ≡ false → (result d a).outcome.state ≡ d
-keeps d a n = (refused-keeps d a (eqb-false (step d a).refusal 0 n)).state
+keeps : (d : Device) (a : Lent) → is_none (result d a).outcome.refusal ≡ false → (result d a).outcome.state ≡ d
+keeps d a n = (refused-keeps d a (is_none-false (step d a).refusal n)).state
 
 -- a taken call stays
-taken-yes : (x : Done) (xs : List Done) → eqb x.gave.outcome.refusal 0 ≡ true → takenOf (x ∷ xs) ≡ x ∷ takenOf xs
+taken-yes : (x : Done) (xs : List Done) → is_none x.gave.outcome.refusal ≡ true → takenOf (x ∷ xs) ≡ x ∷ takenOf xs
 unfolding takenOf
-taken-yes x xs y = pick_yes (eqb x.gave.outcome.refusal 0) (x ∷ takenOf xs) _ y
+taken-yes x xs y = pick_yes (is_none x.gave.outcome.refusal) (x ∷ takenOf xs) _ y
 
 -- a refused one is struck out
-taken-no : (x : Done) (xs : List Done) → eqb x.gave.outcome.refusal 0 ≡ false → takenOf (x ∷ xs) ≡ takenOf xs
+taken-no : (x : Done) (xs : List Done) → is_none x.gave.outcome.refusal ≡ false → takenOf (x ∷ xs) ≡ takenOf xs
 unfolding takenOf
-taken-no x xs n = pick_no (eqb x.gave.outcome.refusal 0) (x ∷ takenOf xs) (takenOf xs) n
+taken-no x xs n = pick_no (is_none x.gave.outcome.refusal) (x ∷ takenOf xs) (takenOf xs) n
 
 -- from any state on, behind any calls
 pub struck-run : (as' : List Lent) (d : Device) (h : List Done) → run d (takenOf h) (lentTaken d as') ≡ ran (run d h as').state (takenOf (run d h as').calls)
 unfolding run takenOf lentTaken
 struck-run [] d h = refl
 struck-run (a ∷ as') d h =
-    let b = eqb (result d a).outcome.refusal 0 in
+    let b = is_none (result d a).outcome.refusal in
     let d' : Device = (result d a).outcome.state in
     let x : Done = done a (result d a) in
     let rest = lentTaken d' as' in

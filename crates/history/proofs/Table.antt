@@ -17,6 +17,7 @@ use Rattle.history.proofs.Alls.{freshCommand, all-imp, all_start, all-step}
 use Rattle.history.proofs.Spans.{span_none, carried-after, carried-while, carried_none, finished-over}
 use Rattle.history.proofs.Transfers.{transferOf, Phased, phased-shut, phased-step, whole-transfer-step, whole-transfer-start}
 use Rattle.history.proofs.Moving.{deviceEntry, busyAt, New, Moving, moving}
+use Rattle.std.proofs.Common.{None}
 
 -- an outstanding command against its tag's entry: outstanding there too, asking for the same, and with as much moved as was carried
 pub record Standing (d : Device) (c : Command) : Type 0 where
@@ -175,7 +176,7 @@ pub record Tracked (d : Device) (h : List Seen) : Type 0 where
   pub commands : All (Following d) (commands h)
 
 -- before any call, with no phase open
-pub tracked-start : (d : Device) → d.status.phase ≡ 0 → Tracked d []
+pub tracked-start : (d : Device) → d.status.phase ≡ None → Tracked d []
 tracked-start d p = record { phased = phased-shut d p; under = whole-transfer-start d p; commands = follows-start d }
 
 -- each kind of effect keeps it

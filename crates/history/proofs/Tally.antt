@@ -5,15 +5,17 @@ use mathlib.Core.List.{List, [], ◌∷◌}
 use mathlib.Core.Logic.{⊎_elim}
 use Prim.Native.Nat.{ℕ, zero, suc, ◌+◌, ◌^◌, ◌≤◌, ◌<◌, min}
 use native.Mathlib.Omega.{arith}
+use Rattle.std.proofs.Common.{Option, Some, None}
 use lib.Dec.{eqb, ltb}
 use lib.ListN.{length, get_or, set, replicate, length-set, length-replicate, get_or-eq_default}
 use lib.Seq.{get_or-set_same, get_or-set_other}
 use borrow.Author.Tests.{eqb-true, eqb-false, ne_eqb, ltb-true, ltb-false}
 use Rattle.bits.specs.Pick.{pick}
 use Rattle.bits.proofs.Picks.{by-test, tested, pick_yes}
+use Rattle.refusals.specs.declared.reasons.Refusal.{Refusal}
 use Rattle.counter_values.specs.Counts.{bumped}
 use Rattle.device_state.specs.declared.shapes.Settings.{Settings}
-use Rattle.device.specs.Device.{freshDevice, powerOn, powerNumber}
+use Rattle.device.specs.Device.{freshDevice, powerRefusal, powered, powerOn}
 use Rattle.device.specs.declared.state.Device.{Device}
 use Rattle.history.specs.Event.{Event}
 use Rattle.history.specs.Counted.{zeroes, raisesRow, countedIn, told}
@@ -115,7 +117,11 @@ tells-small values h i r =
     (tested (ltb r 16))
 
 -- power-on, refused or not: all counters are zero, and nothing has happened
+powered-counting : (r : Option Refusal) (s : Settings) → Counting (powered r s) []
+unfolding freshDevice
+powered-counting None s = tells-zeros
+powered-counting (Some r) s = tells-zeros
+
 pub counting-start : (s : Settings) → Counting (powerOn s).state []
-unfolding powerOn freshDevice pick
-counting-start s =
-    ⊎_elim (λ (t : eqb (powerNumber s) 0 ≡ true). rw t tells-zeros) (λ (f : eqb (powerNumber s) 0 ≡ false). rw f tells-zeros) (tested (eqb (powerNumber s) 0))
+unfolding powerOn
+counting-start s = powered-counting (powerRefusal s) s

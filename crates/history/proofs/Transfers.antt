@@ -2,9 +2,7 @@
 use mathlib.Core.Path.{◌≡◌, refl, sym, ap, ap₂, ◌∙◌}
 use mathlib.Core.Bool.{Bool, true, false, not, ◌&&◌, ◌||◌, false≢true}
 use mathlib.Core.List.{List, [], ◌∷◌}
-use Prim.Native.Nat.{ℕ, zero, suc, ◌+◌, ◌*◌}
-use native.Mathlib.Numerals.{add-one}
-use native.Mathlib.Omega.{arith}
+use Prim.Native.Nat.{ℕ, ◌+◌, ◌*◌}
 use lib.Dec.{eqb, ltb, leb}
 use borrow.Author.Tests.{lt-ltb, le-ltb, leb-true, leb-false}
 use Rattle.bits.specs.Pick.{pick}
@@ -18,15 +16,16 @@ use Rattle.history.specs.Carried.{load, onward, advanced, transfer}
 use Rattle.history.proofs.Class.{Is, Unbegun, Same, Carried, Class, plain, again, freely, halts, resets, sweeps, takes, opens, carries, ends}
 use Rattle.history.proofs.Spans.{Empty, advanced-none, onward-some}
 use Rattle.history.proofs.Sets.{no-busy}
+use Rattle.std.proofs.Common.{Option, Some, None, is_some, unwrap_or, true≢false}
 
 -- what an entry's open phase stands for: a read's data go to the host; the next byte is behind those moved
 abbrev pub transferFor : Entry → ℕ → Transfer
 transferFor x t = underWay (not x.write) t x.moved (512 * x.count)
 
 -- of a table and a phase: none is open, or that of a tag
-abbrev pub transferAt : List Entry → ℕ → Transfer
-transferAt es zero = noTransfer
-transferAt es (suc t) = transferFor (entry_of es t) t
+abbrev pub transferAt : List Entry → Option ℕ → Transfer
+transferAt es None = noTransfer
+transferAt es (Some t) = transferFor (entry_of es t) t
 
 -- what the state's phase stands for
 abbrev pub transferOf : Device → Transfer
@@ -34,45 +33,45 @@ transferOf d = transferAt d.entries d.status.phase
 
 -- the tag of an open phase is outstanding
 pub record Phased (d : Device) : Type 0 where
-  pub busy : (t : ℕ) → d.status.phase ≡ t + 1 → bitIn 32 d.status.outstanding t ≡ true
+  pub busy : (t : ℕ) → d.status.phase ≡ Some t → bitIn 32 d.status.outstanding t ≡ true
 
 -- a closed phase stands for nothing
-pub transfer-shut : (d : Device) → d.status.phase ≡ 0 → transferOf d ≡ noTransfer
+pub transfer-shut : (d : Device) → d.status.phase ≡ None → transferOf d ≡ noTransfer
 transfer-shut d p = ap (transferAt d.entries) p
 
 -- an open one for its entry's data
-pub transfer-open : (d : Device) (t : ℕ) → d.status.phase ≡ t + 1 → transferOf d ≡ transferFor (entry_of d.entries t) t
-transfer-open d t p = ap (transferAt d.entries) (p ∙ add-one t)
+pub transfer-open : (d : Device) (t : ℕ) → d.status.phase ≡ Some t → transferOf d ≡ transferFor (entry_of d.entries t) t
+transfer-open d t p = ap (transferAt d.entries) p
 
 -- the same phase and table stand for the same
 pub transfer-same : (d d' : Device) → Same d d' → transferOf d' ≡ transferOf d
 transfer-same d d' s = ap₂ transferAt s.entries s.phase
 
 -- nothing outstanding: no phase is open
-pub phase-none : (d : Device) → Phased d → d.status.outstanding ≡ 0 → d.status.phase ≡ 0
+pub phase-none : (d : Device) → Phased d → d.status.outstanding ≡ 0 → d.status.phase ≡ None
 phase-none d i o = go d.status.phase refl
   where
-    go : (p : ℕ) → d.status.phase ≡ p → d.status.phase ≡ 0
-    go zero e = e
-    go (suc t) e = absurd (no-busy d.status.outstanding t o (i.busy t (e ∙ sym (add-one t))))
+    go : (p : Option ℕ) → d.status.phase ≡ p → d.status.phase ≡ None
+    go None e = e
+    go (Some t) e = absurd (no-busy d.status.outstanding t o (i.busy t e))
 
 -- a state without a phase
-pub phased-shut : (d : Device) → d.status.phase ≡ 0 → Phased d
-phased-shut d p = record { busy = λ t e. absurd (omega arith) }
+pub phased-shut : (d : Device) → d.status.phase ≡ None → Phased d
+phased-shut d p = record { busy = λ t e. absurd (true≢false (ap is_some (sym e ∙ p))) }
 
 -- a state with the same phase and commands
 pub phased-same : (d d' : Device) → Phased d → d'.status.phase ≡ d.status.phase → d'.status.outstanding ≡ d.status.outstanding → Phased d'
 phased-same d d' i p o = record { busy = λ t e. ap (λ (m : ℕ). bitIn 32 m t) o ∙ i.busy t (sym p ∙ e) }
 
 -- data moved: the phase is closed, or as it was
-phased-on : (d d' : Device) (b : Bool) → Phased d → d'.status.phase ≡ pick b 0 d.status.phase → d'.status.outstanding ≡ d.status.outstanding → Phased d'
+phased-on : (d d' : Device) (b : Bool) → Phased d → d'.status.phase ≡ pick b None d.status.phase → d'.status.outstanding ≡ d.status.outstanding → Phased d'
 unfolding pick
 phased-on d d' true i p o = phased-shut d' p
 phased-on d d' false i p o = phased-same d d' i p o
 
 -- a phase is open for one tag only
-opened-tag : (t u p : ℕ) → p ≡ t + 1 → p ≡ u + 1 → t ≡ u
-opened-tag t u p x y = omega arith
+opened-tag : (t u : ℕ) (phase : Option ℕ) → phase ≡ Some t → phase ≡ Some u → t ≡ u
+opened-tag t u phase x y = ap (λ (p : Option ℕ). unwrap_or p 0) (sym x ∙ y)
 
 -- each kind of effect keeps it so
 pub phased-step : (d d' : Device) (e : Seen) → Phased d → Class d e d' → Phased d'
@@ -124,7 +123,7 @@ load-own true e k s b = b
 load-own false e k s b = s
 
 -- a phase at its end: used up, or further on
-on-transfer : (b : Bool) (d' : Device) (x : Entry) (tag p n : ℕ) → b ≡ leb (512 * x.count) (x.moved + n) → p ≡ tag + 1 → d'.status.phase ≡ pick b 0 p
+on-transfer : (b : Bool) (d' : Device) (x : Entry) (tag : ℕ) (p : Option ℕ) (n : ℕ) → b ≡ leb (512 * x.count) (x.moved + n) → p ≡ Some tag → d'.status.phase ≡ pick b None p
     → (entry_of d'.entries tag).write ≡ x.write → (entry_of d'.entries tag).count ≡ x.count → (entry_of d'.entries tag).moved ≡ x.moved + n
     → transferOf d' ≡ pick (ltb (x.moved + n) (512 * x.count)) (underWay (not x.write) tag (x.moved + n) (512 * x.count)) noTransfer
 unfolding pick
@@ -167,6 +166,6 @@ whole-transfer-step d d' e n i f (carries tag k s u c) =
 whole-transfer-step d d' e n i f (ends set s u k) = transfer-stays e n (closing s) u (empty_of s) ∙ f ∙ transfer-shut d k.shut ∙ sym (transfer-shut d' (k.phase ∙ k.shut))
 
 -- before any call, with no phase open
-pub whole-transfer-start : (d : Device) → d.status.phase ≡ 0 → transfer [] ≡ transferOf d
+pub whole-transfer-start : (d : Device) → d.status.phase ≡ None → transfer [] ≡ transferOf d
 unfolding transfer
 whole-transfer-start d p = sym (transfer-shut d p)

@@ -4,6 +4,7 @@ use mathlib.Core.Bool.{Bool, true, false, not, ◌&&◌, ◌||◌}
 use mathlib.Core.List.{List, [], ◌∷◌, ◌++◌, map, append-nil}
 use Prim.Native.Nat.{ℕ, ◌+◌}
 use lib.ListN.{length}
+use Rattle.std.proofs.Common.{Ok}
 use Rattle.bits.specs.Pick.{pick}
 use Rattle.bits.specs.Bit.{bitIn}
 use Rattle.frames.specs.Read.{readFrame}
@@ -13,16 +14,23 @@ use Rattle.frames.specs.declared.shapes.DevReg.{DevReg}
 use Rattle.frames.specs.declared.shapes.SetBits.{SetBits}
 use Rattle.frames.specs.declared.shapes.DmaSetup.{DmaSetup}
 use Rattle.frames.specs.declared.shapes.PioSetup.{PioSetup}
-use Rattle.frames.specs.declared.shapes.Frame.{Frame}
 use Rattle.frames.proofs.RoundTrip.{read-encoded}
 use Rattle.replies.proofs.Fit.{Fitting}
 use Rattle.replies.specs.Replies.{activateIf}
 use Rattle.device.proofs.Never.{and-never}
 use Rattle.history.specs.FrameAsks.{Asked, quiet, dataAsks, resetAsks}
-use Rattle.history.specs.Replied.{some, errIn, collect, isPio, dataIn, payloads}
+use Rattle.history.specs.Replied.{FrameRead, some, errIn, collect, isPio, dataIn, payloads}
 use Rattle.history.specs.Seen.{Seen, seenIn, names, begun, Transfer, underWay}
 use Rattle.history.proofs.Sets.{no-bit}
 use Rattle.history.proofs.Class.{none, Is, Unbegun}
+
+-- what the reader sees of a frame that is sent
+abbrev pub readAs : FrameValue → FrameRead
+readAs f = Ok (trip.readBack f)
+
+-- and of frames
+abbrev pub readIn : List FrameValue → List FrameRead
+readIn fs = map readAs fs
 
 -- the payload of a frame that is sent
 abbrev pub payloadOf : FrameValue → List ℕ
@@ -42,23 +50,23 @@ payloadsOf (f ∷ fs) = payloadOf f ++ payloadsOf fs
 
 -- what is sent that is no page
 abbrev pub sentIn : List FrameValue → List ℕ
-sentIn fs = pick (some isPio (map trip.readBack fs)) [] (payloadsOf fs)
+sentIn fs = pick (some isPio (readIn fs)) [] (payloadsOf fs)
 
 -- the page that is sent
 abbrev pub pageIn : List FrameValue → List ℕ
-pageIn fs = pick (some isPio (map trip.readBack fs)) (payloadsOf fs) []
+pageIn fs = pick (some isPio (readIn fs)) (payloadsOf fs) []
 
 -- what demand 3 reads of frames that were sent
 unfoldable pub view : Asked → List FrameValue → Seen
-view a fs = seenIn a (map trip.readBack fs) (length (sentIn fs))
+view a fs = seenIn a (readIn fs) (length (sentIn fs))
 
 -- frames that can be written are read as they were sent
-pub all_read : (fs : List FrameValue) → Fitting fs → map readFrame (map encode fs) ≡ map trip.readBack fs
+pub all_read : (fs : List FrameValue) → Fitting fs → map readFrame (map encode fs) ≡ readIn fs
 unfolding Fitting
 all_read [] h = refl
-all_read (f ∷ fs) h = ap₂ (λ (x : Frame) (l : List Frame). x ∷ l) (read-encoded f h.0) (all_read fs h.1)
+all_read (f ∷ fs) h = ap₂ (λ (x : FrameRead) (l : List FrameRead). x ∷ l) (read-encoded f h.0) (all_read fs h.1)
 
-data_of : (f : FrameValue) → dataIn (encode f) (trip.readBack f) ≡ payloadOf f
+data_of : (f : FrameValue) → dataIn (encode f) (readAs f) ≡ payloadOf f
 unfolding encode
 data_of (host f) = refl
 data_of (device f) = refl

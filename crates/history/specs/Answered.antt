@@ -1,15 +1,15 @@
 -- What every call is answered, frame by frame, by the history before it: from settings, calls, lengths, and the refusals and frames of the calls before it. What the frame reader drops, and what a data frame holds, is not told here. Assumes nothing.
-use Rattle.std.specs.Prelude.{◌≡◌, Bool, true, false, not, ◌&&◌, ◌||◌, List, [], ◌∷◌, ◌++◌, map, ℕ, ◌+◌, ◌/◌, ◌%◌, ◌^◌, min, eqb, leb, ltb}
+use Rattle.std.specs.Prelude.{◌≡◌, Bool, true, false, not, ◌&&◌, ◌||◌, List, [], ◌∷◌, ◌++◌, map, ℕ, ◌+◌, ◌/◌, ◌%◌, ◌^◌, min, eqb, leb, ltb, Ok, Err}
 use Rattle.bits.specs.Pick.{pick}
 use Rattle.frame_parts.specs.Shared.{srstOf, tag_of, sectorsOf}
 use Rattle.frame_parts.specs.declared.shared.Task.{Task}
 use Rattle.frames.specs.Read.{readFrame}
 use Rattle.frames.specs.declared.shapes.HostReg.{HostReg}
 use Rattle.frames.specs.declared.shapes.Frame.{Frame}
-use Rattle.frames.specs.declared.shapes.Frame.TheVariants.{Host, Device, Bits, Setup, Activate, Data, Bist, Pio, Refused}
+use Rattle.frames.specs.declared.shapes.Frame.TheVariants.{Host, Device, Bits, Setup, Activate, Data, Bist, Pio}
 use Rattle.rules.specs.Call.{Call, hostFrame, openPhase, sendData, finishTags, mediaError, linkEvent, comReset}
 use Rattle.history.specs.Event.{Event, taken}
-use Rattle.history.specs.Replied.{frames}
+use Rattle.history.specs.Replied.{FrameRead, frames}
 use Rattle.history.specs.Seen.{seen}
 use Rattle.history.specs.Fates.{Command, commands, ownTag, outstanding, total}
 use Rattle.history.specs.Waits.{waits}
@@ -80,16 +80,16 @@ registerReplies deep capacity h f =
 abbrev pub dataReplies : List Event → ℕ → List Frame
 dataReplies h n = pick (ltb n (leftOf false (underWayAfter h))) (Activate ∷ []) []
 
-abbrev pub hostReplies : ℕ → ℕ → List Event → Frame → List Frame
-hostReplies deep capacity h (Host f) = registerReplies deep capacity h f
-hostReplies deep capacity h (Device f) = []
-hostReplies deep capacity h (Bits f) = []
-hostReplies deep capacity h (Setup f) = []
-hostReplies deep capacity h Activate = []
-hostReplies deep capacity h (Data n) = dataReplies h n
-hostReplies deep capacity h Bist = []
-hostReplies deep capacity h (Pio f) = []
-hostReplies deep capacity h Refused = []
+abbrev pub hostReplies : ℕ → ℕ → List Event → FrameRead → List Frame
+hostReplies deep capacity h (Ok (Host f)) = registerReplies deep capacity h f
+hostReplies deep capacity h (Ok (Device f)) = []
+hostReplies deep capacity h (Ok (Bits f)) = []
+hostReplies deep capacity h (Ok (Setup f)) = []
+hostReplies deep capacity h (Ok Activate) = []
+hostReplies deep capacity h (Ok (Data n)) = dataReplies h n
+hostReplies deep capacity h (Ok Bist) = []
+hostReplies deep capacity h (Ok (Pio f)) = []
+hostReplies deep capacity h (Err r) = []
 
 -- ---- device events
 
@@ -115,4 +115,4 @@ repliesBy deep capacity h comReset = signatureReply ∷ []
 -- a taken event has just these replies, each read by the frame reader's own definition, and a refused one has none
 unfoldable pub Answers : ℕ → ℕ → List Event → Type 0
 Answers deep capacity [] = Unit
-Answers deep capacity (e ∷ h) = (frames e ≡ pick (taken e) (repliesBy deep capacity h e.call) []) × Answers deep capacity h
+Answers deep capacity (e ∷ h) = (frames e ≡ map Ok (pick (taken e) (repliesBy deep capacity h e.call) [])) × Answers deep capacity h

@@ -1,14 +1,13 @@
 -- What a history tells of the device's business: which tags are outstanding, what has moved of them, which phase is open, and whether reset is held. From calls, refusals and frames alone. Assumes nothing.
-use Rattle.std.specs.Prelude.{Bool, true, false, not, ◌&&◌, ◌||◌, List, [], ◌∷◌, map, ℕ, ◌+◌, ◌-◌, eqb, leb, ltb, length}
+use Rattle.std.specs.Prelude.{Bool, true, false, not, ◌&&◌, ◌||◌, List, [], ◌∷◌, map, ℕ, ◌+◌, ◌-◌, eqb, leb, ltb, length, Ok}
 use Rattle.bits.specs.Pick.{pick}
 use Rattle.frame_parts.specs.Shared.{srstOf}
 use Rattle.frames.specs.Read.{readFrame}
-use Rattle.frames.specs.declared.shapes.Frame.{Frame}
-use Rattle.frames.specs.declared.shapes.Frame.TheVariants.{Host, Device, Bits, Setup, Activate, Data, Bist, Pio, Refused}
-use Rattle.rules.specs.Call.{Call, hostFrame, openPhase, sendData, finishTags, mediaError, linkEvent, comReset}
+use Rattle.frames.specs.declared.shapes.Frame.TheVariants.{Host}
+use Rattle.rules.specs.Call.{Call, hostFrame, comReset}
 use Rattle.history.specs.Event.{Event, taken}
 use Rattle.history.specs.Asked.{asks}
-use Rattle.history.specs.Replied.{some}
+use Rattle.history.specs.Replied.{FrameRead, some}
 use Rattle.history.specs.Seen.{seen, Transfer, noTransfer, underWay}
 use Rattle.history.specs.Fates.{Command, commands, ownTag, outstanding}
 use Rattle.history.specs.Carried.{transfer, carried, size}
@@ -44,8 +43,8 @@ leftOf d noTransfer = 0
 leftOf d (underWay x t a z) = pick (pick d x (not x)) (z - a) 0
 
 -- a frame ends a held reset: a control frame (C 0) with SRST 0
-abbrev pub frameFrees : Frame → Bool
-frameFrees (Host h) = not h.command_bit && not (srstOf h.control)
+abbrev pub frameFrees : FrameRead → Bool
+frameFrees (Ok (Host h)) = not h.command_bit && not (srstOf h.control)
 frameFrees _ = false
 
 -- and so does COMRESET, which is SRST and release together

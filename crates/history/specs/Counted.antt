@@ -1,11 +1,7 @@
 -- The events that a counter has counted since its zeroing, from calls and replies alone. Assumes nothing.
-use Rattle.std.specs.Prelude.{Bool, ◌&&◌, List, [], ◌∷◌, ℕ, ◌+◌, min, eqb}
+use Rattle.std.specs.Prelude.{Bool, ◌&&◌, List, [], ◌∷◌, ℕ, ◌+◌, min, eqb, Option, Some, None}
 use Rattle.bits.specs.Pick.{pick}
 use Rattle.page_rows.specs.Rows.{kept, row_of}
-use Rattle.page_rows.specs.declared.rows.Place.{Place}
-use Rattle.page_rows.specs.declared.rows.Place.TheVariants.{Row, Nowhere}
-use Rattle.page_rows.specs.declared.shown.Counter.{Counter}
-use Rattle.page_rows.specs.declared.shown.Counter.TheVariants.{Value, Absent}
 use Rattle.history.specs.Event.{Event, taken}
 use Rattle.history.specs.Replied.{paged}
 use Rattle.history.specs.Reading.{rowRaised, callZeroes, callReads}
@@ -31,11 +27,11 @@ countedIn r (e ∷ h) = pick (zeroes e) 0 (pick (raisesRow r e) 1 0 + countedIn 
 abbrev pub told : ℕ → List Event → ℕ
 told r h = min 4294967295 (countedIn r h)
 
--- what a page must show of a place: for a kept row its count, and absent for every other number
-abbrev pub toldAt : ℕ → List Event → Place → Counter
-toldAt mask h (Row k) = pick (kept mask k) (Value (told k h)) Absent
-toldAt mask h Nowhere = Absent
+-- what a page must show of a row: for a kept one its count; absent for one that is not kept, and where there is no row
+abbrev pub toldAt : ℕ → List Event → Option ℕ → Option ℕ
+toldAt mask h (Some k) = pick (kept mask k) (Some (told k h)) None
+toldAt mask h None = None
 
 -- of a counter's number
-abbrev pub toldFor : ℕ → List Event → ℕ → Counter
+abbrev pub toldFor : ℕ → List Event → ℕ → Option ℕ
 toldFor mask h number = toldAt mask h (row_of number)

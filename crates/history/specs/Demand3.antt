@@ -1,6 +1,7 @@
 -- Demand 3 and the truth of the counters, said of a history: of calls, refusals and bytes. The newest event stands first. Assumes nothing.
-use Rattle.std.specs.Prelude.{◌≡◌, Bool, true, false, ◌&&◌, ◌||◌, List, [], ◌∷◌, ◌++◌, map, ℕ, ◌+◌, ◌≤◌, ◌<◌, ltb, length, take, drop}
-use Rattle.page_11h.specs.Page11.{readCounter, noNumber}
+use Rattle.std.specs.Prelude.{◌≡◌, Bool, true, false, ◌&&◌, ◌||◌, List, [], ◌∷◌, ◌++◌, map, ℕ, ◌+◌, ◌≤◌, ◌<◌, ltb, length, take, drop, Ok}
+use Rattle.std.specs.Option.{option_map}
+use Rattle.page_11h.specs.Page11.{readCounter, rowValue, noNumber}
 use Rattle.history.specs.Event.{Event}
 use Rattle.history.specs.Asked.{brought}
 use Rattle.history.specs.Replied.{page, sent}
@@ -101,7 +102,7 @@ AllReplyRules (e ∷ h) = ReplyRules e (map seen h) × AllReplyRules h
 -- every page 11h ever sent, read by the reader's definition, gives for each kept row its events since its zeroing, held at the top, and absent for every other number
 unfoldable pub Counters : ℕ → List Event → Type 0
 Counters mask [] = Unit
-Counters mask (e ∷ h) = (sends11 e ≡ true → (number : ℕ) → noNumber number ≡ false → readCounter (page e) number ≡ toldFor mask h number) × Counters mask h
+Counters mask (e ∷ h) = (sends11 e ≡ true → (number : ℕ) → noNumber number ≡ false → readCounter (page e) number ≡ Ok (option_map rowValue (toldFor mask h number))) × Counters mask h
 
 -- demand 3 whole, and the truth of the counters
 pub record Demand3 (deep mask : ℕ) (h : List Event) : Type 0 where

@@ -1,10 +1,10 @@
 -- How a history reads a host frame: one row a kind. Assumes nothing.
-use Rattle.std.specs.Prelude.{Bool, true, false, ◌&&◌, List, [], ◌∷◌, ℕ}
+use Rattle.std.specs.Prelude.{Bool, true, false, ◌&&◌, List, [], ◌∷◌, ℕ, Ok}
 use Rattle.bits.specs.Pick.{pick}
 use Rattle.frame_parts.specs.Shared.{srstOf}
 use Rattle.frames.specs.declared.shapes.HostReg.{HostReg}
-use Rattle.frames.specs.declared.shapes.Frame.{Frame}
-use Rattle.frames.specs.declared.shapes.Frame.TheVariants.{Host, Device, Bits, Setup, Activate, Data, Bist, Pio, Refused}
+use Rattle.frames.specs.declared.shapes.Frame.TheVariants.{Host, Data, Bist}
+use Rattle.history.specs.Replied.{FrameRead}
 use Rattle.history.specs.FrameAsks.{Asked, quiet, registerAsks, dataAsks}
 use Rattle.history.specs.Logs.{readsLog, zeroesLog}
 use Rattle.history.specs.Shapes.{commandReplies, controlReplies}
@@ -34,31 +34,31 @@ dataReading n = record { asks = dataAsks n; zeroes = λ on. false; reads = λ pa
 abbrev pub bistReading : FrameReading
 bistReading = record { asks = quiet; zeroes = λ on. true; reads = λ page. false; replies = [] ∷ [] }
 
--- a frame of any other kind is never taken, so that no reply will do
+-- a frame of any other kind, or none, is never taken, so that no reply will do
 abbrev pub neverTaken : FrameReading
 neverTaken = record { asks = quiet; zeroes = λ on. false; reads = λ page. false; replies = [] }
 
 -- by its kind
-abbrev pub frameReading : Frame → FrameReading
-frameReading (Host h) = registerReading h
-frameReading (Data n) = dataReading n
-frameReading Bist = bistReading
+abbrev pub frameReading : FrameRead → FrameReading
+frameReading (Ok (Host h)) = registerReading h
+frameReading (Ok (Data n)) = dataReading n
+frameReading (Ok Bist) = bistReading
 frameReading _ = neverTaken
 
 -- ---- each column
 
 -- what it asks for
-abbrev pub frameAsks : Frame → Asked
+abbrev pub frameAsks : FrameRead → Asked
 frameAsks f = (frameReading f).asks
 
 -- it zeroes the counters
-abbrev pub frameZeroes : Bool → Frame → Bool
+abbrev pub frameZeroes : Bool → FrameRead → Bool
 frameZeroes on f = (frameReading f).zeroes on
 
 -- it asks for a page
-abbrev pub frameReads : ℕ → Frame → Bool
+abbrev pub frameReads : ℕ → FrameRead → Bool
 frameReads page f = (frameReading f).reads page
 
 -- the replies that it may have
-abbrev pub frameReplies : Frame → List (List ℕ)
+abbrev pub frameReplies : FrameRead → List (List ℕ)
 frameReplies f = (frameReading f).replies

@@ -1,20 +1,18 @@
 -- What page 10h tells, whenever it is sent: the last error that was raised since the last reset, with the bytes of the command that raised it. From calls, refusals and frames alone. Assumes nothing.
-use Rattle.std.specs.Prelude.{◌≡◌, Bool, true, false, not, ◌&&◌, List, [], ◌∷◌, map, ℕ, eqb}
+use Rattle.std.specs.Prelude.{◌≡◌, Bool, true, false, not, ◌&&◌, List, [], ◌∷◌, map, ℕ, eqb, Ok}
 use Rattle.bits.specs.Pick.{pick}
 use Rattle.frame_parts.specs.declared.shared.Task.{Task}
 use Rattle.frames.specs.Read.{readFrame}
 use Rattle.frames.specs.declared.shapes.HostReg.{HostReg}
 use Rattle.frames.specs.declared.shapes.DevReg.{DevReg}
-use Rattle.frames.specs.declared.shapes.Frame.{Frame}
-use Rattle.frames.specs.declared.shapes.Frame.TheVariants.{Host, Device, Bits, Setup, Activate, Data, Bist, Pio, Refused}
+use Rattle.frames.specs.declared.shapes.Frame.TheVariants.{Host}
 use Rattle.page_10h.specs.Page10.{page10, read_log}
 use Rattle.page_10h.specs.declared.page10.ErrorLog.{ErrorLog}
-use Rattle.page_10h.specs.declared.page10.Page10.TheVariants.{Fields}
-use Rattle.rules.specs.Call.{Call, hostFrame, openPhase, sendData, finishTags, mediaError, linkEvent, comReset}
+use Rattle.rules.specs.Call.{Call, hostFrame, mediaError}
 use Rattle.history.specs.Event.{Event, taken}
 use Rattle.history.specs.FrameAsks.{registerAsks}
 use Rattle.history.specs.Reading.{callReads}
-use Rattle.history.specs.Replied.{frames, registerIn, collect, paged, page}
+use Rattle.history.specs.Replied.{FrameRead, frames, registerIn, collect, paged, page}
 use Rattle.history.specs.Seen.{Seen, seen, accepts}
 use Rattle.history.specs.Waits.{raises, waits}
 
@@ -25,8 +23,8 @@ abbrev pub noTask : Task
 noTask = record { lba = 0; device = 0; count = 0 }
 
 -- bytes 4-10 and 12-13 of a register frame
-abbrev pub frameTask : Frame → Task
-frameTask (Host f) = f.task
+abbrev pub frameTask : FrameRead → Task
+frameTask (Ok (Host f)) = f.task
 frameTask _ = noTask
 
 -- of a call; a device event brings none
@@ -59,8 +57,8 @@ abbrev pub registerLog : ℕ → HostReg → ErrorLog
 registerLog error f = record { nq = not (registerAsks f).queued; tag = pick (registerAsks f).queued (registerAsks f).tag 0; status = 0x41; error = error; task = f.task }
 
 -- by its kind: no other frame is a command
-abbrev pub frameLog : ℕ → Frame → ErrorLog
-frameLog error (Host f) = registerLog error f
+abbrev pub frameLog : ℕ → FrameRead → ErrorLog
+frameLog error (Ok (Host f)) = registerLog error f
 frameLog error _ = blankLog
 
 -- a media error: its tag, its error byte, and the bytes of the command of this tag, but 4-6 and 8-10 hold the failing sector
@@ -91,7 +89,7 @@ sends10 e = taken e && (paged e && callReads 0x10 e.call)
 -- it tells the record, byte for byte, and its reader gives each field
 pub record TellsHalt (e : Event) (h : List Event) : Type 0 where
   pub bytes : page e ≡ page10 (logBy h)
-  pub fields : read_log (page e) ≡ Fields (logBy h)
+  pub fields : read_log (page e) ≡ Ok (logBy h)
 
 -- of every page 10h, however often it is read
 unfoldable pub LogTold : List Event → Type 0

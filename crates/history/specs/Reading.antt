@@ -3,9 +3,8 @@ use Rattle.std.specs.Prelude.{Bool, false, List, [], ◌∷◌, ℕ}
 use Rattle.bits.specs.Pick.{pick}
 use Rattle.bits.specs.Bit.{bitIn}
 use Rattle.frames.specs.Read.{readFrame}
-use Rattle.frames.specs.declared.shapes.Frame.{Frame}
 use Rattle.rules.specs.Call.{Call, hostFrame, openPhase, sendData, finishTags, mediaError, linkEvent, comReset}
-use Rattle.history.specs.Replied.{dataIn}
+use Rattle.history.specs.Replied.{FrameRead, dataIn}
 use Rattle.history.specs.FrameAsks.{Asked, quiet, resetAsks}
 use Rattle.history.specs.FrameReading.{frameAsks, frameZeroes, frameReads, frameReplies}
 
@@ -27,7 +26,7 @@ pub record Reading : Type 0 where
   pub replies : List (List ℕ)
 
 -- a host frame, read by the frame reader's own definition
-abbrev pub hostReading : List ℕ → Frame → Reading
+abbrev pub hostReading : List ℕ → FrameRead → Reading
 hostReading p f = record { asks = frameAsks f; hostData = dataIn p f; row = 16; zeroes = λ on. frameZeroes on f; reads = λ page. frameReads page f; says = noneFinished; replies = frameReplies f }
 
 -- a device event brings no host data, zeroes nothing and asks for no page

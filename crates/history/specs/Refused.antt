@@ -1,12 +1,13 @@
 -- What every event is turned down for, by the history before it: the table of refusals, from settings, calls, lengths, and the refusals and frames of the calls before it. Assumes nothing.
-use Rattle.std.specs.Prelude.{◌≡◌, Bool, true, false, not, ◌&&◌, ◌||◌, List, [], ◌∷◌, ℕ, zero, suc, ◌*◌, eqb, leb, ltb, length}
+use Rattle.std.specs.Prelude.{◌≡◌, Bool, true, false, not, ◌&&◌, ◌||◌, List, [], ◌∷◌, ℕ, zero, suc, ◌*◌, eqb, leb, ltb, length, Ok}
 use Rattle.bits.specs.Bit.{bitIn}
-use Rattle.bits.specs.First.{Rung, rung, first_of}
+use Rattle.refusals.specs.First.{Rung, rung, first_of}
+use Rattle.refusals.specs.declared.reasons.Refusal.TheVariants.{Contradiction, MediumLength, ReplyShort, NoHostFrame, WrongTime, TooLong, TagIdle, PhaseOpen, AllMoved, NoReadPhase, SetUnready, OutsideCommand, NoRow}
 use Rattle.frames.specs.Read.{readFrame}
-use Rattle.frames.specs.declared.shapes.Frame.{Frame}
-use Rattle.frames.specs.declared.shapes.Frame.TheVariants.{Host, Device, Bits, Setup, Activate, Data, Bist, Pio, Refused}
+use Rattle.frames.specs.declared.shapes.Frame.TheVariants.{Host, Data, Bist}
 use Rattle.rules.specs.Call.{Call, hostFrame, openPhase, sendData, finishTags, mediaError, linkEvent, comReset}
 use Rattle.history.specs.Event.{Event}
+use Rattle.history.specs.Replied.{FrameRead}
 use Rattle.history.specs.Seen.{Transfer, noTransfer, underWay}
 use Rattle.history.specs.ByHistory.{outstandingWith, isOut, whole, covers, underWayAfter, isOpen, leftOf, holding}
 
@@ -23,10 +24,10 @@ abbrev pub shortBuffer : Event → Bool
 shortBuffer e = ltb e.room 8196
 
 -- 4: frame type not 27h, 46h, 58h; or not read at all, for its length
-abbrev pub notHeard : Frame → Bool
-notHeard (Host h) = false
-notHeard (Data n) = false
-notHeard Bist = false
+abbrev pub notHeard : FrameRead → Bool
+notHeard (Ok (Host h)) = false
+notHeard (Ok (Data n)) = false
+notHeard (Ok Bist) = false
 notHeard _ = true
 
 -- a write phase is open
@@ -35,15 +36,15 @@ writeOpen noTransfer = false
 writeOpen (underWay d t a z) = not d
 
 -- 5: command while reset is held or a phase is open; BIST while a phase is open; data with no write phase
-abbrev pub untimely : Frame → List Event → Bool
-untimely (Host f) h = f.command_bit && (holding h || isOpen (underWayAfter h))
-untimely (Data n) h = not (writeOpen (underWayAfter h))
-untimely Bist h = isOpen (underWayAfter h)
+abbrev pub untimely : FrameRead → List Event → Bool
+untimely (Ok (Host f)) h = f.command_bit && (holding h || isOpen (underWayAfter h))
+untimely (Ok (Data n)) h = not (writeOpen (underWayAfter h))
+untimely (Ok Bist) h = isOpen (underWayAfter h)
 untimely _ h = false
 
 -- 6, as request 1 has it: the payload is longer than what is left
-abbrev pub tooLong : Frame → List Event → Bool
-tooLong (Data n) h = ltb (leftOf false (underWayAfter h)) n
+abbrev pub tooLong : FrameRead → List Event → Bool
+tooLong (Ok (Data n)) h = ltb (leftOf false (underWayAfter h)) n
 tooLong _ h = false
 
 -- some tag below n is so
@@ -66,16 +67,16 @@ noRow mask r = eqb r 0 || (eqb r 9 || (ltb 15 r || not (bitIn 16 mask r)))
 -- 2 to 13 of each call, in the order of their numbers, after a history h
 unfoldable pub ownTests : ℕ → ℕ → Event → List Event → Call → List Rung
 ownTests capacity mask e h (hostFrame f) =
-    rung 2 (wrongMedium capacity e) ∷ rung 3 (shortBuffer e) ∷ rung 4 (notHeard (readFrame f)) ∷ rung 5 (untimely (readFrame f) h) ∷ rung 6 (tooLong (readFrame f) h) ∷ []
+    rung MediumLength (wrongMedium capacity e) ∷ rung ReplyShort (shortBuffer e) ∷ rung NoHostFrame (notHeard (readFrame f)) ∷ rung WrongTime (untimely (readFrame f) h) ∷ rung TooLong (tooLong (readFrame f) h) ∷ []
 ownTests capacity mask e h (openPhase t) =
-    rung 3 (shortBuffer e) ∷ rung 7 (not (isOut t h)) ∷ rung 8 (isOpen (underWayAfter h)) ∷ rung 9 (outstandingWith t whole h) ∷ []
-ownTests capacity mask e h sendData = rung 2 (wrongMedium capacity e) ∷ rung 3 (shortBuffer e) ∷ rung 10 (eqb (leftOf true (underWayAfter h)) 0) ∷ []
-ownTests capacity mask e h (finishTags s) = rung 3 (shortBuffer e) ∷ rung 8 (isOpen (underWayAfter h)) ∷ rung 11 (unfit s h) ∷ []
-ownTests capacity mask e h (mediaError t error sector) = rung 3 (shortBuffer e) ∷ rung 7 (not (isOut t h)) ∷ rung 12 (wrongError t error sector h) ∷ []
-ownTests capacity mask e h (linkEvent r) = rung 13 (noRow mask r) ∷ []
-ownTests capacity mask e h comReset = rung 3 (shortBuffer e) ∷ []
+    rung ReplyShort (shortBuffer e) ∷ rung TagIdle (not (isOut t h)) ∷ rung PhaseOpen (isOpen (underWayAfter h)) ∷ rung AllMoved (outstandingWith t whole h) ∷ []
+ownTests capacity mask e h sendData = rung MediumLength (wrongMedium capacity e) ∷ rung ReplyShort (shortBuffer e) ∷ rung NoReadPhase (eqb (leftOf true (underWayAfter h)) 0) ∷ []
+ownTests capacity mask e h (finishTags s) = rung ReplyShort (shortBuffer e) ∷ rung PhaseOpen (isOpen (underWayAfter h)) ∷ rung SetUnready (unfit s h) ∷ []
+ownTests capacity mask e h (mediaError t error sector) = rung ReplyShort (shortBuffer e) ∷ rung TagIdle (not (isOut t h)) ∷ rung OutsideCommand (wrongError t error sector h) ∷ []
+ownTests capacity mask e h (linkEvent r) = rung NoRow (noRow mask r) ∷ []
+ownTests capacity mask e h comReset = rung ReplyShort (shortBuffer e) ∷ []
 
--- every event is refused with the number of the first that holds, and taken where none does: so no event that should be heard is turned down
+-- every event is refused with the first that holds, and taken where none does: so no event that should be heard is turned down
 unfoldable pub Refusals : ℕ → ℕ → ℕ → List Event → Type 0
 Refusals deep capacity mask [] = Unit
-Refusals deep capacity mask (e ∷ h) = (e.refusal ≡ first_of (rung 1 (outOfBounds deep capacity mask) ∷ ownTests capacity mask e h e.call)) × Refusals deep capacity mask h
+Refusals deep capacity mask (e ∷ h) = (e.refusal ≡ first_of (rung Contradiction (outOfBounds deep capacity mask) ∷ ownTests capacity mask e h e.call)) × Refusals deep capacity mask h

@@ -1,5 +1,5 @@
 -- What the replies of a call say: its reply bytes cut into frames, each read by the frame reader's own definition. Assumes nothing.
-use Rattle.std.specs.Prelude.{Bool, true, false, ◌||◌, List, [], ◌∷◌, ◌++◌, map, ℕ, drop}
+use Rattle.std.specs.Prelude.{Bool, true, false, ◌||◌, List, [], ◌∷◌, ◌++◌, map, ℕ, drop, Result, Ok}
 use Rattle.bits.specs.Pick.{pick}
 use Rattle.bits.specs.Bit.{bitIn}
 use Rattle.frame_parts.specs.Cut.{cut}
@@ -9,15 +9,20 @@ use Rattle.frames.specs.declared.shapes.SetBits.{SetBits}
 use Rattle.frames.specs.declared.shapes.DmaSetup.{DmaSetup}
 use Rattle.frames.specs.declared.shapes.PioSetup.{PioSetup}
 use Rattle.frames.specs.declared.shapes.Frame.{Frame}
-use Rattle.frames.specs.declared.shapes.Frame.TheVariants.{Host, Device, Bits, Setup, Activate, Data, Bist, Pio, Refused}
+use Rattle.frames.specs.declared.shapes.Frame.TheVariants.{Device, Bits, Setup, Data, Pio}
+use Rattle.refusals.specs.declared.reasons.Refusal.{Refusal}
 use Rattle.history.specs.Event.{Event}
+
+-- a frame as its reader answers it: what it reads, or a refusal
+abbrev pub FrameRead : Type 0
+FrameRead = Result Frame Refusal
 
 -- the replies, each as its bytes
 abbrev pub repliesIn : Event → List (List ℕ)
 repliesIn e = cut e.reply
 
 -- the replies as the reader sees them
-abbrev pub frames : Event → List Frame
+abbrev pub frames : Event → List FrameRead
 frames e = map readFrame (repliesIn e)
 
 -- some element of a list is so
@@ -30,41 +35,41 @@ abbrev pub errIn : ℕ → Bool
 errIn status = bitIn 8 status 0
 
 -- a 34h
-abbrev pub registerIn : Frame → List DevReg
-registerIn (Device f) = f ∷ []
+abbrev pub registerIn : FrameRead → List DevReg
+registerIn (Ok (Device f)) = f ∷ []
 registerIn _ = []
 
 -- an A1h
-abbrev pub setBitsIn : Frame → List SetBits
-setBitsIn (Bits f) = f ∷ []
+abbrev pub setBitsIn : FrameRead → List SetBits
+setBitsIn (Ok (Bits f)) = f ∷ []
 setBitsIn _ = []
 
 -- a 41h
-abbrev pub setupIn : Frame → List DmaSetup
-setupIn (Setup f) = f ∷ []
+abbrev pub setupIn : FrameRead → List DmaSetup
+setupIn (Ok (Setup f)) = f ∷ []
 setupIn _ = []
 
 -- a 5Fh
-abbrev pub pioSetupIn : Frame → List PioSetup
-pioSetupIn (Pio f) = f ∷ []
+abbrev pub pioSetupIn : FrameRead → List PioSetup
+pioSetupIn (Ok (Pio f)) = f ∷ []
 pioSetupIn _ = []
 
 -- whether a frame is one
-abbrev pub isPio : Frame → Bool
+abbrev pub isPio : FrameRead → Bool
 isPio f = some (λ s. true) (pioSetupIn f)
 
 -- all of a kind that stand in a reply
-unfoldable pub collect : {A : Type 0} → (Frame → List A) → List Frame → List A
+unfoldable pub collect : {A : Type 0} → (FrameRead → List A) → List FrameRead → List A
 collect f [] = []
 collect f (x ∷ xs) = f x ++ collect f xs
 
 -- some 5Fh has ERR, in its status or in its ending status
-abbrev pub faultyIn : List Frame → Bool
+abbrev pub faultyIn : List FrameRead → Bool
 faultyIn fs = some (λ p. errIn p.status || errIn p.ending) (collect pioSetupIn fs)
 
 -- the payload of a reply that is a data frame; of any other none
-abbrev pub dataIn : List ℕ → Frame → List ℕ
-dataIn p (Data n) = drop 4 p
+abbrev pub dataIn : List ℕ → FrameRead → List ℕ
+dataIn p (Ok (Data n)) = drop 4 p
 dataIn p _ = []
 
 -- the payloads of replies, one behind the other

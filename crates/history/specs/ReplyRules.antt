@@ -1,10 +1,10 @@
 -- What an event may say after those before it: which replies, in which order, and which tags, errors and pages they may tell of.
 -- Of what stands in a reply besides, such as an error byte or the command's bytes, nothing is said here: the calls' contracts do. Assumes nothing.
-use Rattle.std.specs.Prelude.{◌≡◌, true, false, ◌&&◌, ◌||◌, List, [], ℕ, ◌+◌, ◌<◌}
+use Rattle.std.specs.Prelude.{◌≡◌, true, false, ◌&&◌, ◌||◌, List, [], ℕ, ◌+◌, ◌<◌, Result, Ok, Err}
 use Rattle.bits.specs.Bit.{bitIn}
 use Rattle.page_10h.specs.Page10.{read_log}
-use Rattle.page_10h.specs.declared.page10.Page10.{Page10}
-use Rattle.page_10h.specs.declared.page10.Page10.TheVariants.{Fields, Refused}
+use Rattle.refusals.specs.declared.reasons.Refusal.{Refusal}
+use Rattle.page_10h.specs.declared.page10.ErrorLog.{ErrorLog}
 use Rattle.history.specs.Event.{Event, taken}
 use Rattle.history.specs.Asked.{asks}
 use Rattle.history.specs.Reading.{Speech, noneFinished, setFinished, errorTold, callReads, callSays, callReplies}
@@ -25,9 +25,9 @@ Spoken e (setFinished s) = taken e ≡ true → ((seen e).fails ≡ false) × ((
 Spoken e errorTold = (taken e ≡ true → (seen e).fails ≡ true) × FinishesNone e
 
 -- page 10h as its reader answers: it is not refused, and its status has ERR
-abbrev pub TellsError : Page10 → Type 0
-TellsError (Fields f) = errIn f.status ≡ true
-TellsError (Refused n) = ⊥
+abbrev pub TellsError : Result ErrorLog Refusal → Type 0
+TellsError (Ok f) = errIn f.status ≡ true
+TellsError (Err r) = ⊥
 
 -- the sweep in an event e after a history h: sent only while an error waits, to a read of page 10h and with the page; it has no ERR itself, and the page behind it has
 pub record Swept (e : Event) (h : List Seen) : Type 0 where

@@ -3,11 +3,10 @@ use Rattle.std.specs.Prelude.{Bool, true, not, ◌&&◌, ◌||◌, List, [], ◌
 use Rattle.bits.specs.Bit.{bitIn}
 use Rattle.frames.specs.declared.shapes.SetBits.{SetBits}
 use Rattle.frames.specs.declared.shapes.DmaSetup.{DmaSetup}
-use Rattle.frames.specs.declared.shapes.Frame.{Frame}
 use Rattle.history.specs.Event.{Event}
 use Rattle.history.specs.FrameAsks.{Asked}
 use Rattle.history.specs.Asked.{asks}
-use Rattle.history.specs.Replied.{frames, some, errIn, registerIn, setBitsIn, setupIn, collect, sent}
+use Rattle.history.specs.Replied.{FrameRead, frames, some, errIn, registerIn, setBitsIn, setupIn, collect, sent}
 
 -- what seems to be under way: nothing; or the data of a tag to the host (D 1) or from it (D 0), at its next byte, up to its end
 pub data Transfer : Type 0 where
@@ -42,7 +41,7 @@ abbrev pub names : ℕ → SetBits → Bool
 names t f = bitIn 32 f.active t
 
 -- what was asked for, the replies, and the bytes of data in them
-abbrev pub seenIn : Asked → List Frame → ℕ → Seen
+abbrev pub seenIn : Asked → List FrameRead → ℕ → Seen
 seenIn a fs n = record {
   asks = a;
   good = some (λ r. not (errIn r.status)) (collect registerIn fs);

@@ -1,22 +1,21 @@
 -- Replies by the kinds of their frames, and those that a taken command or control frame may have, in their order. Assumes nothing.
-use Rattle.std.specs.Prelude.{◌≡◌, Bool, List, [], ◌∷◌, map, ◌⊎◌, ℕ}
+use Rattle.std.specs.Prelude.{◌≡◌, Bool, List, [], ◌∷◌, map, ◌⊎◌, ℕ, Ok, Err}
 use Rattle.bits.specs.Pick.{pick}
-use Rattle.frames.specs.declared.shapes.Frame.{Frame}
-use Rattle.frames.specs.declared.shapes.Frame.TheVariants.{Host, Device, Bits, Setup, Activate, Data, Bist, Pio, Refused}
+use Rattle.frames.specs.declared.shapes.Frame.TheVariants.{Host, Device, Bits, Setup, Activate, Data, Bist, Pio}
 use Rattle.history.specs.Event.{Event}
-use Rattle.history.specs.Replied.{frames}
+use Rattle.history.specs.Replied.{FrameRead, frames}
 
 -- the kind of a frame, as its type byte; 0 stands for one that the reader refuses
-abbrev pub kind_of : Frame → ℕ
-kind_of (Host f) = 0x27
-kind_of (Device f) = 0x34
-kind_of (Bits f) = 0xA1
-kind_of (Setup f) = 0x41
-kind_of Activate = 0x39
-kind_of (Data n) = 0x46
-kind_of Bist = 0x58
-kind_of (Pio f) = 0x5F
-kind_of Refused = 0
+abbrev pub kind_of : FrameRead → ℕ
+kind_of (Ok (Host f)) = 0x27
+kind_of (Ok (Device f)) = 0x34
+kind_of (Ok (Bits f)) = 0xA1
+kind_of (Ok (Setup f)) = 0x41
+kind_of (Ok Activate) = 0x39
+kind_of (Ok (Data n)) = 0x46
+kind_of (Ok Bist) = 0x58
+kind_of (Ok (Pio f)) = 0x5F
+kind_of (Err r) = 0
 
 -- the kinds of the replies, in their order
 abbrev pub kinds : Event → List ℕ

@@ -1,10 +1,9 @@
 -- The state against the history: what the device keeps is what its calls, refusals and reply bytes tell. Assumes nothing.
-use Rattle.std.specs.Prelude.{◌≡◌, false, List, map, ℕ, ◌≤◌, ◌<◌, get_or}
+use Rattle.std.specs.Prelude.{◌≡◌, false, List, map, ℕ, ◌≤◌, ◌<◌, get_or, Option, None, Result, Ok}
 use Rattle.std.specs.Int.Count.{ones}
 use Rattle.bits.specs.Bit.{bitIn}
-use Rattle.page_11h.specs.Page11.{counterAnswer}
-use Rattle.page_rows.specs.declared.shown.Counter.{Counter}
-use Rattle.page_rows.specs.declared.shown.Counter.TheVariants.{Value}
+use Rattle.refusals.specs.First.{refusal_in}
+use Rattle.refusals.specs.declared.reasons.Refusal.{Refusal}
 use Rattle.device_state.specs.declared.shapes.Settings.{Settings}
 use Rattle.device.specs.Counter.{CounterGiven, CountGiven}
 use Rattle.device.specs.Device.{contradictoryDevice, powerOn, zeroDevice}
@@ -29,7 +28,7 @@ AgreesCounters d h = (row : ℕ) → row < 16 → get_or d.values row 0 ≡ told
 
 -- and so is every answer that `Device::counter` promises for its number, where it is not refused
 abbrev pub AgreesAsked : ℕ → Device → List Event → Type 0
-AgreesAsked mask d h = (number : ℕ) (c : Counter) → CounterGiven d number c → (counterAnswer c).number ≡ 0 → c ≡ toldFor mask h number
+AgreesAsked mask d h = (number : ℕ) (c : Result (Option ℕ) Refusal) → CounterGiven d number c → refusal_in c ≡ None → c ≡ Ok (toldFor mask h number)
 
 -- the ones of the mask are the commands outstanding, at most the depth
 pub record AgreesDepth (depth : ℕ) (d : Device) (h : List Event) : Type 0 where
@@ -38,12 +37,12 @@ pub record AgreesDepth (depth : ℕ) (d : Device) (h : List Event) : Type 0 wher
 
 -- and so is every answer that `Device::outstanding_count` promises, after a power-on that was taken
 abbrev pub AgreesCount : Settings → Device → List Event → Type 0
-AgreesCount s d h = (powerOn s).refusal ≡ 0 → (c : Counter) → CountGiven d c → c ≡ Value (total (map seen h))
+AgreesCount s d h = (powerOn s).refusal ≡ None → (c : Result ℕ Refusal) → CountGiven d c → c ≡ Ok (total (map seen h))
 
 -- after a power-on that was taken the state does not contradict itself; after a refused one it is all zeros
 pub record AgreesConsistent (s : Settings) (d : Device) : Type 0 where
-  pub good : (powerOn s).refusal ≡ 0 → contradictoryDevice d ≡ false
-  pub zeros : ((powerOn s).refusal ≡ 0 → ⊥) → d ≡ zeroDevice
+  pub good : (powerOn s).refusal ≡ None → contradictoryDevice d ≡ false
+  pub zeros : ((powerOn s).refusal ≡ None → ⊥) → d ≡ zeroDevice
 
 -- all of it
 pub record StateAgrees (s : Settings) (d : Device) (h : List Event) : Type 0 where

@@ -1,5 +1,5 @@
 -- Refused calls struck out of a sequence: a refused event counts as not having happened. Each call keeps what was lent to it. Assumes nothing.
-use Rattle.std.specs.Prelude.{List, [], ◌∷◌, eqb}
+use Rattle.std.specs.Prelude.{List, [], ◌∷◌, is_none}
 use Rattle.bits.specs.Pick.{pick}
 use Rattle.device.specs.Lent.{Lent}
 use Rattle.device.specs.declared.state.Device.{Device}
@@ -8,9 +8,9 @@ use Rattle.history.specs.Run.{Done, result}
 -- of calls as they went, those that were taken
 unfoldable pub takenOf : List Done → List Done
 takenOf [] = []
-takenOf (x ∷ xs) = pick (eqb x.gave.outcome.refusal 0) (x ∷ takenOf xs) (takenOf xs)
+takenOf (x ∷ xs) = pick (is_none x.gave.outcome.refusal) (x ∷ takenOf xs) (takenOf xs)
 
 -- of what is lent call by call, from the state d on, what is lent to those that are taken
 unfoldable pub lentTaken : Device → List Lent → List Lent
 lentTaken d [] = []
-lentTaken d (a ∷ as') = pick (eqb (result d a).outcome.refusal 0) (a ∷ lentTaken (result d a).outcome.state as') (lentTaken (result d a).outcome.state as')
+lentTaken d (a ∷ as') = pick (is_none (result d a).outcome.refusal) (a ∷ lentTaken (result d a).outcome.state as') (lentTaken (result d a).outcome.state as')

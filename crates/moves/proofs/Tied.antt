@@ -1,5 +1,5 @@
 -- Each public function's own contract: what it says, and that two answers which it allows are equal. Assumes nothing.
-use Rattle.moves.specs.Amounts.{leftIn, partIn, lastIn, dueIn, movedOn}
+use Rattle.moves.specs.Amounts.{leftIn, partIn, lastIn, dueIn, afterIn}
 use Rattle.moves.specs.Stored.{place_in, stored}
 use mathlib.Core.Path.{◌≡◌, refl}
 use Rattle.bits.specs.Contract.{Tied}
@@ -9,17 +9,17 @@ use Rattle.moves.specs.contracts.amounts as amounts-said
 use Rattle.moves.proofs.medium
 use Rattle.moves.specs.contracts.medium as medium-said
 
-pub tied-left : Tied amounts-said.left.ended amounts.left.Reads.Asked amounts.left.Reads.Post (λ κs a r ws. r ≡ leftIn a.0 a.1.0)
+pub tied-left : Tied amounts-said.Progress.left.ended amounts.Progress.left.Reads.Asked amounts.Progress.left.Reads.Post (λ κs a r ws. r ≡ leftIn a.0.whole a.0.moved)
 tied-left = named (say (λ κs a. tt) (λ κs a r ws p. p)) (λ κs a ws ws'. refl)
 
-pub tied-part : Tied amounts-said.part.ended amounts.part.Reads.Asked amounts.part.Reads.Post (λ κs a r ws. r ≡ partIn a.0 a.1.0 a.1.1.0)
+pub tied-part : Tied amounts-said.Progress.part.ended amounts.Progress.part.Reads.Asked amounts.Progress.part.Reads.Post (λ κs a r ws. r ≡ partIn a.0.whole a.0.moved a.1.0)
 tied-part = named (say (λ κs a. tt) (λ κs a r ws p. p)) (λ κs a ws ws'. refl)
 
-pub tied-is-last : Tied amounts-said.is_last.ended amounts.is_last.Reads.Asked amounts.is_last.Reads.Post (λ κs a r ws. r ≡ lastIn a.0 a.1.0 a.1.1.0)
+pub tied-is-last : Tied amounts-said.Progress.is_last.ended amounts.Progress.is_last.Reads.Asked amounts.Progress.is_last.Reads.Post (λ κs a r ws. r ≡ lastIn a.0.whole a.0.moved a.1.0)
 tied-is-last = named (say (λ κs a. tt) (λ κs a r ws p. p)) (λ κs a ws ws'. refl)
 
-pub tied-moved-on : Tied amounts-said.moved_on.ended amounts.moved_on.Reads.Asked amounts.moved_on.Reads.Post (λ κs a r ws. r ≡ movedOn a.1.0 (partIn a.0 a.1.0 a.1.1.0))
-tied-moved-on = named (say (λ κs a. tt) (λ κs a r ws p. p)) (λ κs a ws ws'. refl)
+pub tied-after : Tied amounts-said.Progress.after.ended amounts.Progress.after.Reads.Asked amounts.Progress.after.Reads.Post (λ κs a r ws. r ≡ afterIn a.0 a.1.0)
+tied-after = named (say (λ κs a. tt) (λ κs a r ws p. p)) (λ κs a ws ws'. refl)
 
 pub tied-due : Tied amounts-said.due.ended amounts.due.Reads.Asked amounts.due.Reads.Post (λ κs a r ws. r ≡ dueIn a.0 a.1.0)
 tied-due = named (say (λ κs a. tt) (λ κs a r ws p. p)) (λ κs a ws ws'. refl)

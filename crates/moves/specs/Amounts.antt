@@ -1,6 +1,7 @@
 -- Of the whole of a command's bytes: what is left, and what moves next. Assumes nothing.
 use Rattle.std.specs.Prelude.{Bool, ℕ, ◌+◌, ◌-◌, min, leb}
 use Rattle.bits.specs.Pick.{pick}
+use Rattle.moves.specs.declared.amounts.Progress.{Progress}
 
 -- what is left of the whole, once some have moved
 abbrev pub leftIn : ℕ → ℕ → ℕ
@@ -21,3 +22,7 @@ dueIn writing left = pick writing (min 8192 left) 4
 -- what has moved once n bytes more have
 abbrev pub movedOn : ℕ → ℕ → ℕ
 movedOn moved n = moved + n
+
+-- how far a command is once n bytes more have moved, or what is left
+abbrev pub afterIn : Progress → ℕ → Progress
+afterIn p n = record p { moved = movedOn p.moved (partIn p.whole p.moved n) }

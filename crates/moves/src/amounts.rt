@@ -1,56 +1,58 @@
 // Of the whole of a command's bytes: what is left, and what moves next.
 ghost use Rattle.std.specs.Prelude.{◌≡◌};
-ghost use Rattle.moves.specs.Amounts.{leftIn, partIn, lastIn, dueIn, movedOn};
+ghost use Rattle.moves.specs.Amounts.{leftIn, partIn, lastIn, dueIn, afterIn};
 
-// What is left, once some have moved.
-pub fn left(whole: u32, moved: u32) -> u32
-    ensures { result ≡ leftIn whole moved }
-{
-    if whole <= moved {
-        return 0;
+/// The whole of a command's bytes, and how many of them have moved.
+#[derive(Clone, Copy, Debug, PartialEq, Eq)]
+pub struct Progress {
+    pub whole: u32,
+    pub moved: u32,
+}
+
+impl Progress {
+    /// What is left, once some have moved.
+    pub fn left(self) -> u32
+        ensures { result ≡ leftIn self.whole self.moved }
+    {
+        self.whole.saturating_sub(self.moved)
     }
-    whole - moved
-}
 
-// At most so many bytes, of what is left.
-pub fn part(whole: u32, moved: u32, n: usize) -> u32
-    ensures { result ≡ partIn whole moved n }
-{
-    let rest = left(whole, moved);
-    if n < rest as usize {
-        return n as u32;
+    /// At most `n` bytes, of what is left.
+    pub fn part(self, n: usize) -> u32
+        ensures { result ≡ partIn self.whole self.moved n }
+    {
+        n.min(self.left() as usize) as u32
     }
-    rest
-}
 
-// Nothing is left once they have moved.
-pub fn is_last(whole: u32, moved: u32, n: usize) -> bool
-    ensures { result ≡ lastIn whole moved n }
-{
-    let rest = left(whole, moved);
-    rest as usize <= n
-}
+    /// Nothing is left once `n` bytes more have moved.
+    pub fn is_last(self, n: usize) -> bool
+        ensures { result ≡ lastIn self.whole self.moved n }
+    {
+        self.left() as usize <= n
+    }
 
-// What has moved then.
-pub fn moved_on(whole: u32, moved: u32, n: usize) -> u32
-    ensures { result ≡ movedOn moved (partIn whole moved n) }
-{
-    let size = part(whole, moved, n);
-    moved + size
+    /// How far it is once `n` bytes more have moved, or what is left.
+    pub fn after(self, n: usize) -> Progress
+        ensures { result ≡ afterIn self n }
+    {
+        Progress {
+            moved: self.moved + self.part(n),
+            ..self
+        }
+    }
 }
 
 // The most that one data frame holds.
 const FRAME_SIZE: u32 = 8192;
 
-// The length of the host data that is due, or 4 if no write phase is open.
+/// The length of the host data that is due, or 4 if no write phase is open.
+#[tactic(auto, unfolding(bits::specs::Pick::pick))]
 pub fn due(writing: bool, left: u32) -> usize
     ensures { result ≡ dueIn writing left }
 {
     if writing {
-        if FRAME_SIZE <= left {
-            return FRAME_SIZE as usize;
-        }
-        return left as usize;
+        FRAME_SIZE.min(left) as usize
+    } else {
+        4
     }
-    4
 }

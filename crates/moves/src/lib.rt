@@ -4,5 +4,5 @@
 mod amounts;
 mod medium;
 
-pub use amounts::{due, is_last, left, moved_on, part};
+pub use amounts::{Progress, due};
 pub use medium::{place, store};

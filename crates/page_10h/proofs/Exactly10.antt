@@ -1,25 +1,27 @@
 -- Each refusal of page 10h is given exactly when it should be. Assumes nothing.
-use mathlib.Core.Path.{◌≡◌, refl, sym, ap, ◌∙◌}
-use mathlib.Core.List.{List}
-use Prim.Native.Nat.{ℕ}
-use lib.Dec.{eqb}
-use borrow.Author.Tests.{eqb-true}
-use Rattle.bits.specs.First.{first_of, FirstExactly}
-use Rattle.bits.proofs.Picks.{by-test}
-use Rattle.bits.proofs.Firsts as firsts
+use Rattle.std.proofs.Common.{◌≡◌, refl, ap, ◌∙◌, List, ℕ, Result, Ok, Err}
+use Rattle.refusals.specs.First.{first_of, refusal_in, FirstExactly}
+use Rattle.refusals.specs.Number.{number_told}
+use Rattle.refusals.specs.declared.reasons.Refusal.{Refusal}
+use Rattle.refusals.proofs.FirstLaws as firsts
+use Rattle.refusals.proofs.FirstLaws.{refusal_in-unless}
 use Rattle.page_10h.specs.Page10.{fields10, ladder10, read_log, logAnswer, LogGiven}
-use Rattle.page_10h.specs.declared.page10.Page10.{Page10}
-use Rattle.page_10h.specs.declared.page10.Page10.TheVariants.{Fields, Refused}
+use Rattle.page_10h.specs.declared.page10.ErrorLog.{ErrorLog}
 
-number-first : (l : List ℕ) → (logAnswer (read_log l)).number ≡ first_of (ladder10 l)
-unfolding read_log logAnswer
-number-first l =
-    by-test (λ (r : Page10). (logAnswer r).number ≡ first_of (ladder10 l)) (eqb (first_of (ladder10 l)) 0) (Fields (fields10 l)) (Refused (first_of (ladder10 l)))
-    (λ t. sym (eqb-true (first_of (ladder10 l)) 0 t)) (λ _. refl)
+-- the refusal is that of the first rung that holds
+refusal_first : (l : List ℕ) → refusal_in (read_log l) ≡ first_of (ladder10 l)
+unfolding read_log
+refusal_first l = refusal_in-unless (first_of (ladder10 l)) (fields10 l)
 
-pub first-exactly : (l : List ℕ) → FirstExactly (ladder10 l) (logAnswer (read_log l)).number
-first-exactly l = rw (number-first l) (firsts.first-exactly (ladder10 l) tt)
+pub first-exactly : (l : List ℕ) → FirstExactly (ladder10 l) (refusal_in (read_log l))
+first-exactly l = rw (refusal_first l) (firsts.first-exactly (ladder10 l) tt)
+
+-- the number that an answer tells is that of its refusal, and 0 where it has none
+pub number-told : (r : Result ErrorLog Refusal) → (logAnswer r).number ≡ number_told (refusal_in r)
+unfolding logAnswer
+number-told (Ok f) = refl
+number-told (Err r) = refl
 
 -- the answer is all that the reader promises
-pub log-told : (l : List ℕ) (r : Page10) → r ≡ read_log l → LogGiven l r
-log-told l r e = record { answer = e; refusal = ap (λ (p : Page10). (logAnswer p).number) e ∙ number-first l }
+pub log-told : (l : List ℕ) (r : Result ErrorLog Refusal) → r ≡ read_log l → LogGiven l r
+log-told l r e = record { answer = e; refusal = ap refusal_in e ∙ refusal_first l }

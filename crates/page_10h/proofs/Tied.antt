@@ -10,8 +10,8 @@ use Rattle.page_10h.specs.contracts.page10 as page10-said
 use Rattle.page_10h.proofs.writing
 use Rattle.page_10h.specs.contracts.writing as writing-said
 
-pub tied-log-fits : Tied page10-said.log_fits.ended page10.log_fits.Reads.Asked page10.log_fits.Reads.Post (λ κs a r ws. r ≡ fits10 a.0)
-tied-log-fits = named (say (λ κs a. tt) (λ κs a r ws p. p)) (λ κs a ws ws'. refl)
+pub tied-fits : Tied page10-said.ErrorLog.fits.ended page10.ErrorLog.fits.Reads.Asked page10.ErrorLog.fits.Reads.Post (λ κs a r ws. r ≡ fits10 a.0)
+tied-fits = named (say (λ κs a. tt) (λ κs a r ws p. p)) (λ κs a ws ws'. refl)
 
 pub tied-page10-bytes : Tied page10-said.page10_bytes.ended page10.page10_bytes.Reads.Asked page10.page10_bytes.Reads.Post (λ κs a r ws. r ≡ page10 a.0)
 tied-page10-bytes = named (say (λ κs a. tt) (λ κs a r ws p. p)) (λ κs a ws ws'. refl)

@@ -10,18 +10,17 @@ use lib.Seq.{take_at}
 use borrow.Author.Tests.{ltb-true, eq-eqb, ne_eqb, eqb-true}
 use Rattle.bits.specs.Pick.{pick}
 use Rattle.bits.specs.Bit.{bitIn}
-use Rattle.bits.specs.First.{first_of}
+use Rattle.refusals.specs.First.{first_of}
+use Rattle.std.proofs.Common.{Ok}
 use Rattle.frame_parts.specs.Shared.{registerBytes, below, taskFits}
 use Rattle.frame_parts.specs.Emit.{WriteGiven}
 use Rattle.frame_parts.specs.declared.shared.Task.{Task}
-use Rattle.frame_parts.specs.declared.emitting.Written.{Written}
 use Rattle.bits.proofs.Picks.{and_left, and_right}
 use Rattle.frame_parts.proofs.EmitLaws.{wrote-all}
 use Rattle.frame_parts.proofs.TaskLaws.{task-all}
 use Rattle.page_sum.specs.Sum.{sum256, sealed}
 use Rattle.page_10h.specs.Page10.{firstByte, page10, fits10, tagShown, fields10, read_log}
 use Rattle.page_10h.specs.declared.page10.ErrorLog.{ErrorLog}
-use Rattle.page_10h.specs.declared.page10.Page10.TheVariants.{Fields}
 use Rattle.page_sum.proofs.Sealed.{sum-sealed}
 
 -- ---- byte 0
@@ -74,12 +73,12 @@ module _ (f : ErrorLog) where
         same_log (nq-back f.nq f.tag) (ap (tagShown (firstByte f.nq f.tag)) (nq-back f.nq f.tag) ∙ tag_back f.nq f.tag tag-ok nq-ok) refl refl
         (task-all (firstByte f.nq f.tag) 0 f.status f.error f.task 0 0 0 task-ok)
 
-    read-page : read_log (page10 f) ≡ Fields f
+    read-page : read_log (page10 f) ≡ Ok f
     unfolding read_log first_of pick
-    read-page = rw (eq-eqb (length (page10 f)) 512 length-10, eq-eqb (sum256 (page10 f)) 0 sums-to-zero) (ap Fields fields_back)
+    read-page = rw (eq-eqb (length (page10 f)) 512 length-10, eq-eqb (sum256 (page10 f)) 0 sums-to-zero) (ap (λ (x : ErrorLog). Ok x) fields_back)
 
 -- reading the page that was written gives its fields back
-pub read-write : (f : ErrorLog) (d d' : List ℕ) (r : Written) → WriteGiven (fits10 f) (page10 f) d r d' → r.number ≡ 0 → read_log (take r.len d') ≡ Fields f
-read-write f d d' r w z =
-    let a = wrote-all (fits10 f) (page10 f) d r d' w z in
+pub read-write : (f : ErrorLog) (d d' : List ℕ) (n : ℕ) → WriteGiven (fits10 f) (page10 f) d (Ok n) d' → read_log (take n d') ≡ Ok f
+read-write f d d' n w =
+    let a = wrote-all (fits10 f) (page10 f) d n d' w in
     rw (a.2, a.3, take_at (page10 f) (drop (length (page10 f)) d) (length (page10 f)) refl) (read-page f a.0)

@@ -1,14 +1,15 @@
 -- Log page 10h as it is made and as it is read. Assumes nothing.
-use Rattle.std.specs.Prelude.{◌≡◌, ℕ, ◌+◌, ◌%◌, Bool, not, ◌&&◌, ◌||◌, List, [], ◌∷◌, ◌++◌, length, get_or, replicate, eqb}
+use Rattle.std.specs.Prelude.{◌≡◌, ℕ, ◌+◌, ◌%◌, Bool, not, ◌&&◌, ◌||◌, List, [], ◌∷◌, ◌++◌, length, get_or, replicate, eqb, Result, Ok, Err}
 use Rattle.bits.specs.Pick.{pick}
 use Rattle.bits.specs.Bit.{bitIn, bitByte}
-use Rattle.bits.specs.First.{Rung, first_of, rung}
 use Rattle.bits.specs.Answer.{Answer, bitNumber}
 use Rattle.frame_parts.specs.Shared.{task_of, registerBytes, below, taskFits}
+use Rattle.refusals.specs.First.{Rung, first_of, rung, unless, refusal_in}
+use Rattle.refusals.specs.Number.{number}
+use Rattle.refusals.specs.declared.reasons.Refusal.{Refusal}
+use Rattle.refusals.specs.declared.reasons.Refusal.TheVariants.{PageLength, PageSum}
 use Rattle.page_sum.specs.Sum.{sum256, sealed}
 use Rattle.page_10h.specs.declared.page10.ErrorLog.{ErrorLog}
-use Rattle.page_10h.specs.declared.page10.Page10.{Page10}
-use Rattle.page_10h.specs.declared.page10.Page10.TheVariants.{Fields, Refused}
 
 -- byte 0 bit 7 NQ, bits 4:0 tag
 abbrev pub firstByte : Bool → ℕ → ℕ
@@ -38,18 +39,18 @@ fields10 l = record {
 
 -- 20: not 512 bytes; 21: sum wrong
 abbrev pub ladder10 : List ℕ → List Rung
-ladder10 l = rung 20 (not (eqb (length l) 512)) ∷ rung 21 (not (eqb (sum256 l) 0)) ∷ []
+ladder10 l = rung PageLength (not (eqb (length l) 512)) ∷ rung PageSum (not (eqb (sum256 l) 0)) ∷ []
 
 -- the fields, unless the page is refused
-unfoldable pub read_log : List ℕ → Page10
-read_log l = pick (eqb (first_of (ladder10 l)) 0) (Fields (fields10 l)) (Refused (first_of (ladder10 l)))
+unfoldable pub read_log : List ℕ → Result ErrorLog Refusal
+read_log l = unless (first_of (ladder10 l)) (fields10 l)
 
 -- what each answer tells: NQ, tag, status, error and the command's bytes, or the refusal's number
-unfoldable pub logAnswer : Page10 → Answer
-logAnswer (Fields f) = record { number = 0; values = bitNumber f.nq ∷ f.tag ∷ f.status ∷ f.error ∷ f.task.lba ∷ f.task.device ∷ f.task.count ∷ [] }
-logAnswer (Refused n) = record { number = n; values = [] }
+unfoldable pub logAnswer : Result ErrorLog Refusal → Answer
+logAnswer (Ok f) = record { number = 0; values = bitNumber f.nq ∷ f.tag ∷ f.status ∷ f.error ∷ f.task.lba ∷ f.task.device ∷ f.task.count ∷ [] }
+logAnswer (Err r) = record { number = number r; values = [] }
 
 -- what the reader promises: the fields or the refusal, and the refusal exactly by its list
-pub record LogGiven (l : List ℕ) (r : Page10) : Type 0 where
+pub record LogGiven (l : List ℕ) (r : Result ErrorLog Refusal) : Type 0 where
   pub answer : r ≡ read_log l
-  pub refusal : (logAnswer r).number ≡ first_of (ladder10 l)
+  pub refusal : refusal_in r ≡ first_of (ladder10 l)

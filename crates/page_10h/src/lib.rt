@@ -4,5 +4,5 @@
 mod page10;
 mod writing;
 
-pub use page10::{ErrorLog, Page10, read_log};
+pub use page10::{ErrorLog, read_log};
 pub use writing::write_log;

@@ -4,27 +4,31 @@ ghost use Rattle.page_10h.specs.Page10.{firstByte, tagShown, fits10, page10, fie
 
 use frame_parts::Task;
 use page_sum::{byte_sum, sum_byte};
+use refusals::Refusal;
 
-// The named fields of page 10h.
-#[derive(Clone, Copy)]
+/// The named fields of page 10h.
+#[derive(Clone, Copy, Debug, PartialEq, Eq)]
 pub struct ErrorLog {
     pub nq: bool,
+    /// 0 to 31, and 0 under NQ
     pub tag: u8,
     pub status: u8,
     pub error: u8,
+    /// the command's bytes
     pub task: Task,
 }
 
 impl ErrorLog {
-    // A log page has 512 bytes, whichever it is.
+    /// A log page has 512 bytes, whichever it is.
     pub const PAGE_SIZE: usize = 512;
-}
 
-// What reading page 10h gives: its fields, or the refusal's number.
-#[derive(Clone, Copy)]
-pub enum Page10 {
-    Fields(ErrorLog),
-    Refused(u8),
+    /// The tag has five bits, and is 0 under NQ. All else but the LBA has the width of its field.
+    #[tactic(auto, unfolding(crate::specs::Page10::fits10), using(frame_parts::proofs::SharedLaws::high_zero, std::proofs::lemmas::Bool::Decides::nat_tests))]
+    pub fn fits(self) -> bool
+        ensures { result ≡ fits10 self }
+    {
+        frame_parts::task_fits(self.task) && self.tag >> 5 == 0 && (!self.nq || self.tag == 0)
+    }
 }
 
 // Byte 0: bit 7 NQ, bits 4:0 tag.
@@ -34,21 +38,12 @@ fn first_byte(nq: bool, tag: u8) -> u8
     ((nq as u8) << 7) | (tag & 31)
 }
 
-// The tag has five bits, and is 0 under NQ. All else but the LBA has the width of its field.
-pub fn log_fits(f: ErrorLog) -> bool
-    ensures { result ≡ fits10 f }
+/// The page of a record. Private to the crate: a writer that refuses stands over it.
+pub fn page10_bytes(log: ErrorLog) -> [u8; 512]
+    ensures { result ≡ page10 log }
 {
-    let t = f.task;
-    frame_parts::task_fits(t) & (f.tag >> 5 == 0) & (!f.nq | (f.tag == 0))
-}
-
-// The page of a record. Private to the crate: a writer that refuses stands over it.
-pub fn page10_bytes(f: ErrorLog) -> [u8; 512]
-    ensures { result ≡ page10 f }
-{
-    let t = f.task;
-    let first = first_byte(f.nq, f.tag);
-    let head = frame_parts::register_bytes(first, 0, f.status, f.error, t, 0, 0, 0);
+    let first = first_byte(log.nq, log.tag);
+    let head = frame_parts::register_bytes(first, 0, log.status, log.error, log.task, 0, 0, 0);
     let mut page = [0u8; 512];
     bits::lay(&mut page, &head);
     page[511] = sum_byte(&page);
@@ -56,6 +51,7 @@ pub fn page10_bytes(f: ErrorLog) -> [u8; 512]
 }
 
 // The tag as it stands, and 0 under NQ.
+#[tactic(auto, unfolding(bits::specs::Pick::pick))]
 fn tag_shown(first: u8, nq: bool) -> u8
     ensures { result ≡ tagShown first nq }
 {
@@ -76,15 +72,16 @@ fn read_fields(page: &[u8]) -> ErrorLog
     }
 }
 
-// Page 10h is read.
-pub fn read_log(page: &[u8]) -> Page10
+/// Reads page 10h: its fields; `PageLength` where it is not 512 bytes long, else `PageSum` where its sum is wrong.
+#[tactic(auto, unfolding(crate::specs::Page10::read_log, refusals::specs::First::first_of, bits::specs::Pick::pick))]
+pub fn read_log(page: &[u8]) -> Result<ErrorLog, Refusal>
     ensures { LogGiven page.now result }
 {
-    if page.len() != 512 {
-        return Page10::Refused(20);
+    if page.len() != ErrorLog::PAGE_SIZE {
+        return Err(Refusal::PageLength);
     }
     if byte_sum(page) != 0 {
-        return Page10::Refused(21);
+        return Err(Refusal::PageSum);
     }
-    Page10::Fields(read_fields(page))
+    Ok(read_fields(page))
 }

@@ -7,5 +7,6 @@ pub mod Places11
 pub mod Trip11
 pub mod Straddle
 pub mod Written11
+pub mod Largest
 pub mod Tied
 pub mod TiedWalk

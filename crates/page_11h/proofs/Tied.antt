@@ -1,5 +1,6 @@
 -- Each public function's own contract: what it says, and that two answers which it allows are equal. Assumes nothing.
-use Rattle.page_11h.specs.Entries.{number_in, vendorOf}
+use Rattle.page_11h.specs.Entries.{idAsked}
+use Rattle.page_11h.specs.Top.{atTop}
 use Rattle.page_11h.specs.Page11.{PageCounterGiven}
 use Rattle.page_11h.specs.WalkStep.{stepAt}
 use mathlib.Core.Path.{◌≡◌, refl}
@@ -7,17 +8,19 @@ use Rattle.bits.specs.Contract.{Tied}
 use Rattle.bits.proofs.Tying.{same, say, by, named}
 use Rattle.page_11h.proofs.page11
 use Rattle.page_11h.specs.contracts.page11 as page11-said
+use Rattle.page_11h.proofs.value
+use Rattle.page_11h.specs.contracts.value as value-said
 use Rattle.page_11h.proofs.walk
 use Rattle.page_11h.specs.contracts.walk as walk-said
 
 pub tied-read-counter : Tied page11-said.read_counter.ended page11.read_counter.Reads.Asked page11.read_counter.Reads.Post (λ κs a r ws. PageCounterGiven a.0.now a.1.0 r)
 tied-read-counter = by (say (λ κs a. tt) (λ κs a r ws p. p)) (λ κs a r r' ws ws' p q. (same p.answer q.answer, refl))
 
-pub tied-number-in : Tied walk-said.number_in.ended walk.number_in.Reads.Asked walk.number_in.Reads.Post (λ κs a r ws. r ≡ number_in a.0)
-tied-number-in = named (say (λ κs a. tt) (λ κs a r ws p. p)) (λ κs a ws ws'. refl)
+pub tied-is-top : Tied value-said.CounterValue.is_top.ended value.CounterValue.is_top.Reads.Asked value.CounterValue.is_top.Reads.Post (λ κs a r ws. r ≡ atTop a.0)
+tied-is-top = named (say (λ κs a. tt) (λ κs a r ws p. p)) (λ κs a ws ws'. refl)
 
-pub tied-is-vendor : Tied walk-said.is_vendor.ended walk.is_vendor.Reads.Asked walk.is_vendor.Reads.Post (λ κs a r ws. r ≡ vendorOf a.0)
-tied-is-vendor = named (say (λ κs a. tt) (λ κs a r ws p. p)) (λ κs a ws ws'. refl)
+pub tied-is-asked : Tied walk-said.WalkEntry.is_asked.ended walk.WalkEntry.is_asked.Reads.Asked walk.WalkEntry.is_asked.Reads.Post (λ κs a r ws. r ≡ idAsked a.1.0 a.0.id)
+tied-is-asked = named (say (λ κs a. tt) (λ κs a r ws p. p)) (λ κs a ws ws'. refl)
 
 pub tied-entry-at : Tied walk-said.entry_at.ended walk.entry_at.Reads.Asked walk.entry_at.Reads.Post (λ κs a r ws. r ≡ stepAt a.0.now a.1.0)
 tied-entry-at = named (say (λ κs a. tt) (λ κs a r ws p. p)) (λ κs a ws ws'. refl)

@@ -1,16 +1,18 @@
 -- The contracts of the two functions over the held walk. Assumes nothing.
-use mathlib.Core.Path.{◌≡◌, refl}
+use Rattle.std.proofs.Common.{◌≡◌, refl, ap, sym, ◌∙◌, Option, Result}
 use mathlib.Core.List.{List}
 use Prim.Native.Nat.{ℕ}
 use denote.Ref.{Bor}
 use Rattle.bits.specs.Contract.{Tied}
-use Rattle.bits.proofs.Tying.{same, say, by, named}
-use Rattle.page_11h.specs.WalkStep.{stepAt}
+use Rattle.bits.proofs.Tying.{same, say, by}
+use Rattle.page_11h.specs.WalkStep.{Stepped, placeAfter}
 use Rattle.page_11h.specs.declared.walk.Walk.{Walk}
+use Rattle.page_11h.specs.declared.walk.WalkEntry.{WalkEntry}
+use Rattle.refusals.specs.declared.reasons.Refusal.{Refusal}
 use Rattle.page_11h.proofs.walk
 use Rattle.page_11h.specs.contracts.walk as walk-said
 
--- what `Walk::from` says: the walk holds just this page and this place
+-- what `Walk::new` says: the walk holds just this page and this place
 abbrev pub Begun : Bor (List ℕ) → ℕ → Walk → Type 0
 Begun p at r = (r.page ≡ p) × (r.at ≡ at)
 
@@ -21,8 +23,14 @@ same-walk p q = cc
 pub begun-once : (p : Bor (List ℕ)) (at : ℕ) (r r' : Walk) → Begun p at r → Begun p at r' → r ≡ r'
 begun-once p at r r' e f = same-walk (same e.0 f.0) (same e.1 f.1)
 
-pub tied-from : Tied walk-said.Walk.from.ended walk.Walk.from.Reads.Asked walk.Walk.from.Reads.Post (λ κs a r ws. Begun a.0 a.1.0 r)
-tied-from = by (say (λ κs a. tt) (λ κs a r ws p. p)) (λ κs a r r' ws ws' p q. (begun-once a.0 a.1.0 r r' p q, refl))
+pub tied-new : Tied walk-said.Walk.new.ended walk.Walk.new.Reads.Asked walk.Walk.new.Reads.Post (λ κs a r ws. Begun a.0 a.1.0 r)
+tied-new = by (say (λ κs a. tt) (λ κs a r ws p. p)) (λ κs a r r' ws ws' p q. (begun-once a.0 a.1.0 r r' p q, refl))
 
-pub tied-step : Tied walk-said.Walk.step.ended walk.Walk.step.Reads.Asked walk.Walk.step.Reads.Post (λ κs a r ws. r ≡ stepAt a.0.page.now a.0.at)
-tied-step = named (say (λ κs a. tt) (λ κs a r ws p. p)) (λ κs a ws ws'. refl)
+-- a step allows one answer and one walk only
+pub stepped-once : (w : Walk) (r r' : Result (Option WalkEntry) Refusal) (v v' : Walk) → Stepped w r v → Stepped w r' v' → (r ≡ r') × (v ≡ v')
+stepped-once w r r' v v' p q =
+    let e = same p.answer q.answer in
+    (e, same-walk (same p.page q.page) (p.at ∙ ap (placeAfter w.at) e ∙ sym q.at))
+
+pub tied-step : Tied walk-said.Walk.step.ended walk.Walk.step.Reads.Asked walk.Walk.step.Reads.Post (λ κs a r ws. Stepped a.0.now r ws.0)
+tied-step = by (say (λ κs a. tt) (λ κs a r ws p. p)) (λ κs a r r' ws ws' p q. let e = stepped-once _ r r' ws.0 ws'.0 p q in (e.0, λ i. (e.1 i, tt)))

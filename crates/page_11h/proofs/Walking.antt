@@ -1,27 +1,24 @@
--- The reader's walk: a row lies within 508 bytes and leads on, and one turn of the reader is one entry of the page. Assumes nothing.
-use mathlib.Core.Path.{◌≡◌, refl, ap, sym, ◌∙◌}
-use mathlib.Core.Bool.{Bool, true, false, ◌||◌}
+-- The reader's walk: an entry lies within 508 bytes and leads on, and one step of the walk is one entry of the page. Assumes nothing.
+use Rattle.std.proofs.Common.{◌≡◌, refl, ap, sym, ◌∙◌, Bool, true, false, List, [], ◌∷◌, ℕ, zero, suc, ◌+◌, ◌-◌, ◌<◌, ◌≤◌, length, arith, Option, Some, None, Result, Ok, Err}
+use mathlib.Core.Bool.{◌||◌}
 use mathlib.Core.Logic.{⊎_elim}
-use mathlib.Core.List.{List, [], ◌∷◌}
-use Prim.Native.Nat.{ℕ, zero, suc, ◌+◌, ◌-◌, ◌<◌, ◌≤◌, min}
-use native.Mathlib.Omega.{arith}
+use Prim.Native.Nat.{min}
 use lib.Dec.{ltb, leb, eqb}
-use lib.ListN.{length}
-use borrow.Author.Tests.{ltb-false, le-leb, le-ltb, eq-eqb}
+use borrow.Author.Tests.{ltb-false, leb-false, le-leb, le-ltb, eq-eqb}
 use Rattle.bits.specs.Pick.{pick}
-use Rattle.bits.specs.First.{first_of}
 use Rattle.bits.specs.Little.{leAt, NumberGiven}
 use Rattle.bits.proofs.Picks.{by-test, pick_yes, pick_no, tested, or_left, or_right}
+use Rattle.refusals.specs.First.{first_of, unless}
+use Rattle.refusals.specs.declared.reasons.Refusal.{Refusal}
+use Rattle.refusals.specs.declared.reasons.Refusal.TheVariants.{PageDamaged}
+use Rattle.page_sum.specs.Sum.{sum256}
 use Rattle.page_11h.specs.Entries.{CounterEntry, entry_at, id_at, end_of, bytesIn, width_of, wrongWidth, pastEnd, nameless, idAsked, entryAsked, entriesFrom, entries}
 use Rattle.page_11h.specs.Page11.{damaged, valueIn, readCounter}
-use Rattle.page_sum.specs.Sum.{sum256}
-use Rattle.page_11h.specs.WalkStep.{faulty, stepAt, hit, onStep, turn_of}
-use Rattle.page_11h.specs.declared.walk.WalkStep.{WalkStep}
-use Rattle.page_11h.specs.declared.walk.WalkStep.TheVariants.{Row, End, Fault}
-use Rattle.page_rows.specs.declared.shown.Counter.{Counter}
-use Rattle.page_rows.specs.declared.shown.Counter.TheVariants.{Value, Absent, Refused}
-use Rattle.page_11h.specs.declared.page11.Turn.{Turn}
-use Rattle.page_11h.specs.declared.page11.Turn.TheVariants.{Done, Next}
+use Rattle.page_11h.specs.WalkStep.{faulty, walkEntry, stepAt, Stepped}
+use Rattle.page_11h.specs.declared.value.CounterValue.{CounterValue}
+use Rattle.page_11h.specs.declared.walk.Walk.{Walk}
+use Rattle.page_11h.specs.declared.walk.WalkEntry.{WalkEntry}
+use Rattle.std.specs.Option.{is_some}
 use Rattle.page_11h.proofs.Rest.{rest_of, rest-none, rest-fault, rest-hit, rest-twice, rest-miss}
 
 pub id-read : (page : List ℕ) (at r : ℕ) → NumberGiven page at 2 r → r ≡ id_at page at
@@ -55,42 +52,22 @@ sized e h =
 sound : (e : CounterEntry) → faulty e ≡ false → Lies e.place (e.place + 2) (bytesIn e.id)
 sound e h = sized e (or_left (wrongWidth e || pastEnd e) (nameless e) h)
 
--- of a step at a place: if it is a row, where it lies
-unfoldable pub Placed : ℕ → WalkStep → Type 0
-Placed at End = Unit
-Placed at Fault = Unit
-Placed at (Row id start len) = Lies at start len
+-- of a step at a place: if it is an entry, where its value lies
+unfoldable pub Placed : ℕ → Result (Option WalkEntry) Refusal → Type 0
+Placed at (Ok None) = Unit
+Placed at (Err r) = Unit
+Placed at (Ok (Some e)) = Lies at e.start e.bytes
 
 pub step-placed : (page : List ℕ) (at : ℕ) → Placed at (stepAt page at)
 unfolding stepAt Placed
 step-placed page at = by-test (Placed at) _ _ _ (λ _. tt) (λ _. by-test (Placed at) _ _ _ (λ _. tt) (λ h. sound (entry_at page at) h))
 
-pub row_lies : (page : List ℕ) (at id start len : ℕ) → stepAt page at ≡ Row id start len → Lies at start len
+pub entry_lies : (page : List ℕ) (at : ℕ) (e : WalkEntry) → stepAt page at ≡ Ok (Some e) → Lies at e.start e.bytes
 unfolding Placed
-row_lies page at id start len e = rw e at (step-placed page at)
+entry_lies page at e q = rw q at (step-placed page at)
 
--- of a turn at a place: if it leads on, it leads at least 4 bytes on, and not past 508
-unfoldable pub Forward : ℕ → Turn → Type 0
-Forward at (Done r) = Unit
-Forward at (Next n found) = (at + 4 ≤ n) × (n ≤ 508)
-
-hit-forward : (at n v : ℕ) (found : Counter) → at + 4 ≤ n → n ≤ 508 → Forward at (hit found n v)
-unfolding Forward
-hit-forward at n v Absent h k = (h, k)
-hit-forward at n v (Value w) h k = tt
-hit-forward at n v (Refused w) h k = tt
-
-step-forward : (page : List ℕ) (number at : ℕ) (found : Counter) (e : WalkStep) → Placed at e → Forward at (onStep page number found e)
-unfolding Forward Placed
-step-forward page number at found End p = tt
-step-forward page number at found Fault p = tt
-step-forward page number at found (Row id start len) p =
-    let h : at + 4 ≤ start + len = omega arith in
-    by-test (Forward at) _ _ _ (λ _. hit-forward at _ _ found h p.within) (λ _. (h, p.within))
-
-pub next-forward : (page : List ℕ) (number at : ℕ) (found : Counter) (n : ℕ) (more : Counter) → turn_of page number at found ≡ Next n more → (at + 4 ≤ n) × (n ≤ 508)
-unfolding Forward turn_of
-next-forward page number at found n more t = rw t at (step-forward page number at found _ (step-placed page at))
+pub end_within : (page : List ℕ) (at : ℕ) (e : WalkEntry) → stepAt page at ≡ Ok (Some e) → e.start + e.bytes ≤ 508
+end_within page at e q = (entry_lies page at e q).within
 
 -- ---- the entries from a place on
 
@@ -121,17 +98,17 @@ module _ (page : List ℕ) (at : ℕ) where
       (pick_no (wrongWidth (entry_at page at) || pastEnd (entry_at page at)) [] (entriesFrom page fuel (end_of (entry_at page at)))
       (or_left (wrongWidth (entry_at page at) || pastEnd (entry_at page at)) (nameless (entry_at page at)) s))
 
-  pub step_end : ends ≡ true → stepAt page at ≡ End
+  pub step_end : ends ≡ true → stepAt page at ≡ Ok None
   unfolding stepAt
-  step_end h = pick_yes ends End _ h
+  step_end h = pick_yes ends (Ok None) _ h
 
-  pub step-fault : ends ≡ false → faulty (entry_at page at) ≡ true → stepAt page at ≡ Fault
+  pub step-fault : ends ≡ false → faulty (entry_at page at) ≡ true → stepAt page at ≡ Err PageDamaged
   unfolding stepAt
-  step-fault h s = pick_no ends End _ h ∙ pick_yes (faulty (entry_at page at)) Fault _ s
+  step-fault h s = pick_no ends (Ok None) _ h ∙ pick_yes (faulty (entry_at page at)) (Err PageDamaged) _ s
 
-  pub step_row : ends ≡ false → faulty (entry_at page at) ≡ false → stepAt page at ≡ Row (id_at page at) (at + 2) (bytesIn (id_at page at))
+  pub step_entry : ends ≡ false → faulty (entry_at page at) ≡ false → stepAt page at ≡ Ok (Some (walkEntry (id_at page at) (at + 2) (bytesIn (id_at page at))))
   unfolding stepAt
-  step_row h s = pick_no ends End _ h ∙ pick_no (faulty (entry_at page at)) Fault _ s
+  step_entry h s = pick_no ends (Ok None) _ h ∙ pick_no (faulty (entry_at page at)) (Err PageDamaged) _ s
 
 same-tail : (b : Bool) (xs ys : List CounterEntry) → (b ≡ false → xs ≡ ys) → pick b [] xs ≡ pick b [] ys
 unfolding pick
@@ -155,85 +132,131 @@ entries-fuel page (suc f) (suc g) at h k =
     ∙ sym (entries-some page at g n))
     (tested (ends page at))
 
--- ---- one turn of the reader is one entry
+-- ---- one step of the walk is one entry
 
-abbrev pub after_turn : (ℕ → Counter → Counter) → Turn → Counter
-after_turn rest (Done r) = r
-after_turn rest (Next at found) = rest at found
+-- the answer from a place on, with what is found so far
+abbrev pub fromHere : List ℕ → ℕ → ℕ → Option CounterValue → Result (Option CounterValue) Refusal
+fromHere page number at found = rest_of page number (entriesFrom page (508 - at) at) found
 
-module _ (page : List ℕ) (number fuel at : ℕ) where
-  -- the answer from a place on, with what is found so far
-  abbrev go : ℕ → Counter → Counter
-  go n more = rest_of page number (entriesFrom page fuel n) more
+-- the value of an entry as the walk finds it
+abbrev pub readOf : List ℕ → WalkEntry → CounterValue
+readOf page e = record { value = leAt page e.start e.bytes; bytes = e.bytes }
 
-  row-turn : (found : Counter) → faulty (entry_at page at) ≡ false
-      → rest_of page number (entry_at page at ∷ entriesFrom page fuel (end_of (entry_at page at))) found
-      ≡ after_turn go (onStep page number found (Row (id_at page at) (at + 2) (bytesIn (id_at page at))))
-  row-turn found s =
-      ⊎_elim
+-- behind an entry that is asked for: its value is what is found, or it stands there twice
+abbrev pub after_hit : List ℕ → ℕ → WalkEntry → Option CounterValue → Result (Option CounterValue) Refusal
+after_hit page number e None = fromHere page number (e.start + e.bytes) (Some (readOf page e))
+after_hit page number e (Some v) = Err PageDamaged
+
+-- the answer by what a step answers
+abbrev pub after_step : List ℕ → ℕ → Option CounterValue → Result (Option WalkEntry) Refusal → Result (Option CounterValue) Refusal
+after_step page number found (Ok None) = Ok found
+after_step page number found (Err r) = Err r
+after_step page number found (Ok (Some e)) = pick (idAsked number e.id) (after_hit page number e found) (fromHere page number (e.start + e.bytes) found)
+
+module _ (page : List ℕ) (number at : ℕ) where
+  -- an entry, and those behind it
+  from-entry : ends page at ≡ false → faulty (entry_at page at) ≡ false
+      → entriesFrom page (508 - at) at ≡ entry_at page at ∷ entriesFrom page (508 - end_of (entry_at page at)) (end_of (entry_at page at))
+  from-entry n s =
+      let h : at < 508 = leb-false 508 at (or_left (leb 508 at) (eqb (id_at page at) 0) n) in
+      let e : 508 - at ≡ suc (507 - at) = omega arith in
+      let l = sound (entry_at page at) s in
+      rw e
+      (entries-row page at (507 - at) n s
+      ∙ ap (λ (es : List CounterEntry). entry_at page at ∷ es)
+      (entries-fuel page (507 - at) (508 - end_of (entry_at page at)) (end_of (entry_at page at)) (omega arith) (omega arith)))
+
+  entry-rest : (found : Option CounterValue) → ends page at ≡ false → faulty (entry_at page at) ≡ false
+      → fromHere page number at found ≡ after_step page number found (Ok (Some (walkEntry (id_at page at) (at + 2) (bytesIn (id_at page at)))))
+  entry-rest found n s =
+      rw (from-entry n s)
+      (⊎_elim
       (λ (t : entryAsked number (entry_at page at) ≡ true).
-      asked-turn found t
-      ∙ ap (after_turn go) (sym (pick_yes (idAsked number (id_at page at)) (hit found (end_of (entry_at page at)) (leAt page (at + 2) (bytesIn (id_at page at)))) (Next (end_of (entry_at page at)) found) t)))
-      (λ (n : entryAsked number (entry_at page at) ≡ false).
-      rest-miss page number (entry_at page at) _ found s n
-      ∙ ap (after_turn go) (sym (pick_no (idAsked number (id_at page at)) (hit found (end_of (entry_at page at)) (leAt page (at + 2) (bytesIn (id_at page at)))) (Next (end_of (entry_at page at)) found) n)))
-      (tested (entryAsked number (entry_at page at)))
+      hit-rest found t ∙ sym (pick_yes (idAsked number (id_at page at)) (after_hit page number (walkEntry (id_at page at) (at + 2) (bytesIn (id_at page at))) found) _ t))
+      (λ (m : entryAsked number (entry_at page at) ≡ false).
+      rest-miss page number (entry_at page at) _ found s m ∙ sym (pick_no (idAsked number (id_at page at)) (after_hit page number (walkEntry (id_at page at) (at + 2) (bytesIn (id_at page at))) found) _ m))
+      (tested (entryAsked number (entry_at page at))))
     where
-      asked-turn : (more : Counter) → entryAsked number (entry_at page at) ≡ true
-          → rest_of page number (entry_at page at ∷ entriesFrom page fuel (end_of (entry_at page at))) more
-          ≡ after_turn go (hit more (end_of (entry_at page at)) (leAt page (at + 2) (bytesIn (id_at page at))))
-      asked-turn Absent t = rest-hit page number (entry_at page at) _ s t
-      asked-turn (Value v) t = rest-twice page number (entry_at page at) _ (Value v) t (λ e. absurd (let z : ◌≡◌ {A = ℕ} 0 1 = cc in omega arith))
-      asked-turn (Refused n) t = rest-twice page number (entry_at page at) _ (Refused n) t (λ e. absurd (let z : ◌≡◌ {A = ℕ} 0 1 = cc in omega arith))
+      hit-rest : (more : Option CounterValue) → entryAsked number (entry_at page at) ≡ true
+          → rest_of page number (entry_at page at ∷ entriesFrom page (508 - end_of (entry_at page at)) (end_of (entry_at page at))) more
+          ≡ after_hit page number (walkEntry (id_at page at) (at + 2) (bytesIn (id_at page at))) more
+      hit-rest None t = rest-hit page number (entry_at page at) _ s t
+      hit-rest (Some v) t = rest-twice page number (entry_at page at) _ v t
 
-  -- the answer from a place on is what the turn there answers, or the answer from where it leads
-  pub turn-rest : (found : Counter) → rest_of page number (entriesFrom page (suc fuel) at) found ≡ after_turn go (turn_of page number at found)
-  unfolding turn_of
+  fault-rest : (found : Option CounterValue) → ends page at ≡ false → faulty (entry_at page at) ≡ true → fromHere page number at found ≡ Err PageDamaged
+  fault-rest found n f =
+      let h : at < 508 = leb-false 508 at (or_left (leb 508 at) (eqb (id_at page at) 0) n) in
+      let e : 508 - at ≡ suc (507 - at) = omega arith in
+      rw (e, entries-some page at (507 - at) n) (rest-fault page number (entry_at page at) _ found f)
+
+  -- the answer from a place on is what the step there answers, or the answer from where it leads
+  pub turn-rest : (found : Option CounterValue) → fromHere page number at found ≡ after_step page number found (stepAt page at)
   turn-rest found =
       ⊎_elim
-      (λ (t : ends page at ≡ true). rw (entries-end page at (suc fuel) t, step_end page at t) (rest-none page number found))
+      (λ (t : ends page at ≡ true). rw (entries-end page at (508 - at) t, step_end page at t) (rest-none page number found))
       (λ (n : ends page at ≡ false).
       ⊎_elim
-      (λ (f : faulty (entry_at page at) ≡ true). rw (entries-some page at fuel n, step-fault page at n f) (rest-fault page number (entry_at page at) _ found f))
-      (λ (s : faulty (entry_at page at) ≡ false). rw (entries-row page at fuel n s, step_row page at n s) (row-turn found s))
+      (λ (f : faulty (entry_at page at) ≡ true). rw (step-fault page at n f) (fault-rest found n f))
+      (λ (s : faulty (entry_at page at) ≡ false). rw (step_entry page at n s) (entry-rest found n s))
       (tested (faulty (entry_at page at))))
       (tested (ends page at))
 
--- ---- the loop
+-- a step of a walk that holds the page
+module _ (page : List ℕ) (number : ℕ) (w w' : Walk) (r : Result (Option WalkEntry) Refusal) (t : Stepped w r w') (s : w.page.now ≡ page) (found : Option CounterValue) where
+  pub step-rest : fromHere page number w.at found ≡ after_step page number found r
+  step-rest = rw (t.answer, s) (turn-rest page number w.at found)
 
-module _ (page : List ℕ) (number at : ℕ) (found : Counter) where
-  -- the answer from a place on, with what is found so far
-  abbrev pub fromHere : Counter
-  fromHere = rest_of page number (entriesFrom page (508 - at) at) found
+  pub step-held : w'.page.now ≡ page
+  step-held = rw t.page s
 
-  pub walk_end : 508 ≤ at → fromHere ≡ found
-  walk_end h = rw (entries-end page at (508 - at) (ends-508 page at h)) (rest-none page number found)
+  pub fault-here : (x : Refusal) → r ≡ Err x → fromHere page number w.at found ≡ Err x
+  fault-here x q = step-rest ∙ rw q
 
-  pub walk-done : (r : Counter) → at < 508 → turn_of page number at found ≡ Done r → fromHere ≡ r
-  walk-done r h t =
-      let e : 508 - at ≡ suc (507 - at) = omega arith in
-      rw e (turn-rest page number (507 - at) at found ∙ rw t)
+  pub end-here : r ≡ Ok None → fromHere page number w.at found ≡ Ok found
+  end-here q = step-rest ∙ rw q
 
-  pub walk-next : (n : ℕ) (more : Counter) → at < 508 → turn_of page number at found ≡ Next n more → fromHere ≡ rest_of page number (entriesFrom page (508 - n) n) more
-  walk-next n more h t =
-      let e : 508 - at ≡ suc (507 - at) = omega arith in
-      let p = next-forward page number at found n more t in
-      rw e (turn-rest page number (507 - at) at found ∙ rw (t, entries-fuel page (507 - at) (508 - n) n (omega arith) (omega arith)))
+  module _ (e : WalkEntry) (q : r ≡ Ok (Some e)) where
+    pub entry-ahead : (w'.at ≡ e.start + e.bytes) × Lies w.at e.start e.bytes
+    entry-ahead = (t.at ∙ rw q, entry_lies w.page.now w.at e (sym t.answer ∙ q))
+
+    -- one that is not asked for is passed by
+    pub miss-ahead : idAsked number e.id ≡ false → fromHere page number w.at found ≡ fromHere page number w'.at found
+    unfolding pick
+    miss-ahead m = step-rest ∙ rw (entry-ahead.0, q, m)
+
+    -- the first that is asked for is found
+    pub hit-ahead : (v : ℕ) → idAsked number e.id ≡ true → is_some found ≡ false → NumberGiven page e.start (min e.bytes 8) v
+        → fromHere page number w.at found ≡ fromHere page number w'.at (Some (record { value = v; bytes = e.bytes }))
+    unfolding pick
+    hit-ahead v h o n = step-rest ∙ rw (entry-ahead.0, q, h, value_read page e.start e.bytes v entry-ahead.1.most n) (first found o)
+      where
+        first : (f : Option CounterValue) → is_some f ≡ false → after_hit page number e f ≡ fromHere page number (e.start + e.bytes) (Some (readOf page e))
+        first None o = refl
+        first (Some x) o = absurd (let z : true ≡ false = o in cc)
+
+    -- and a second is a fault
+    pub hit-twice : idAsked number e.id ≡ true → is_some found ≡ true → fromHere page number w.at found ≡ Err PageDamaged
+    unfolding pick
+    hit-twice h o = step-rest ∙ rw (q, h) (second found o)
+      where
+        second : (f : Option CounterValue) → is_some f ≡ true → after_hit page number e f ≡ Err PageDamaged
+        second None o = absurd (let z : false ≡ true = o in cc)
+        second (Some x) o = refl
 
 -- the walk starts at 4, with nothing found
-pub walk-starts : (page : List ℕ) (number : ℕ) → pick (damaged number (entries page)) (Refused 22) (valueIn page number (entries page)) ≡ fromHere page number 4 Absent
+pub walk-starts : (page : List ℕ) (number : ℕ) → pick (damaged number (entries page)) (Err PageDamaged) (Ok (valueIn page number (entries page))) ≡ fromHere page number 4 None
 unfolding entries rest_of
 walk-starts page number = rw (entries-fuel page 508 504 4 (omega arith) (omega arith))
 
 -- the last rung alone: 22, or what is found
-pub last-rung : (d : Bool) (v : Counter) → pick d (Refused 22) v ≡ pick (eqb (pick d 22 0) 0) v (Refused (pick d 22 0))
+pub last_rung : (d : Bool) (v : Option CounterValue) → pick d (Err PageDamaged) (Ok v) ≡ unless (pick d (Some PageDamaged) None) v
 unfolding pick
-last-rung true v = refl
-last-rung false v = refl
+last_rung true v = refl
+last_rung false v = refl
 
 -- a page that is refused neither for its length, nor for the number, nor for its sum is walked
-pub reads-walk : (page : List ℕ) (number : ℕ) → length page ≡ 512 → 0 < number → number < 4096 → sum256 page ≡ 0 → readCounter page number ≡ fromHere page number 4 Absent
+pub reads-walk : (page : List ℕ) (number : ℕ) → length page ≡ 512 → 0 < number → number < 4096 → sum256 page ≡ 0 → readCounter page number ≡ fromHere page number 4 None
 unfolding readCounter first_of pick
 reads-walk page number l p q s =
     simp (eq-eqb (length page) 512 l, le-ltb number 1 p, le-ltb 4095 number (omega arith), eq-eqb (sum256 page) 0 s)
-    (sym (last-rung (damaged number (entries page)) (valueIn page number (entries page))) ∙ walk-starts page number)
+    (sym (last_rung (damaged number (entries page)) (valueIn page number (entries page))) ∙ walk-starts page number)

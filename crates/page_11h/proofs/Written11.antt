@@ -10,18 +10,16 @@ use lib.Seq.{take_at}
 use borrow.Author.Tests.{eqb-true, eqb-false}
 use Rattle.bits.proofs.Picks.{pick_yes, pick_no, tested}
 use Rattle.frame_parts.specs.Emit.{WriteGiven}
-use Rattle.frame_parts.specs.declared.emitting.Written.{Written}
 use Rattle.frame_parts.proofs.EmitLaws.{wrote-all}
 use Rattle.page_rows.specs.Rows.{id_of, kept, keepsBoth, row_of}
 use Rattle.page_sum.specs.Sum.{sum256}
-use Rattle.page_11h.specs.Page11.{readCounter}
+use Rattle.page_11h.specs.Page11.{rowValue, readCounter}
 use Rattle.page_rows.specs.Made11.{page11, shownFor, onRow}
 use Rattle.page_rows.proofs.RowLaws.{row-only, row-missing, id_other}
 use Rattle.page_rows.proofs.Bytes11.{page-sum}
 use Rattle.page_11h.proofs.Trip11.{kept-reads, unkept-absent}
-use Rattle.page_rows.specs.declared.shown.Counter.TheVariants.{Value, Absent}
-use Rattle.page_rows.specs.declared.rows.Place.{Place}
-use Rattle.page_rows.specs.declared.rows.Place.TheVariants.{Row, Nowhere}
+use Rattle.std.proofs.Common.{Option, Some, None, Ok}
+use Rattle.std.specs.Option.{option_map}
 
 module _ (mask : ℕ) (values : List ℕ) where
   -- all bytes of page 11h sum to 0
@@ -35,24 +33,24 @@ module _ (mask : ℕ) (values : List ℕ) where
         ⊎_elim (λ (t : eqb j k ≡ true). ap (kept mask) (eqb-true j k t) ∙ off)
         (λ (f : eqb j k ≡ false). absurd (id_other j k hj hk (eqb-false j k f) (ej ∙ sym ek))) (tested (eqb j k))
 
-    by_place : (p : Place) → row_of number ≡ p → readCounter (page11 mask values) number ≡ onRow mask values p
+    by_row : (row : Option ℕ) → row_of number ≡ row → readCounter (page11 mask values) number ≡ Ok (option_map rowValue (onRow mask values row))
     unfolding onRow
-    by_place (Row k) e =
+    by_row (Some k) e =
         let o = row-only number k e in
         ⊎_elim
         (λ (t : kept mask k ≡ true).
-        ap (readCounter (page11 mask values)) (sym o.1) ∙ kept-reads mask values small k o.0 t ∙ sym (pick_yes (kept mask k) (Value (get_or values k 0)) Absent t))
+        ap (readCounter (page11 mask values)) (sym o.1) ∙ kept-reads mask values small k o.0 t ∙ rw (pick_yes (kept mask k) (Some (get_or values k 0)) None t))
         (λ (f : kept mask k ≡ false).
-        unkept-absent mask values small number some most (only_row k o.0 o.1 f) ∙ sym (pick_no (kept mask k) (Value (get_or values k 0)) Absent f)) (tested (kept mask k))
-    by_place Nowhere e = unkept-absent mask values small number some most (λ k h q. absurd (row-missing number e k h q))
+        unkept-absent mask values small number some most (only_row k o.0 o.1 f) ∙ rw (pick_no (kept mask k) (Some (get_or values k 0)) None f)) (tested (kept mask k))
+    by_row None e = unkept-absent mask values small number some most (λ k h q. absurd (row-missing number e k h q))
 
-    read_made : readCounter (page11 mask values) number ≡ shownFor mask values number
+    read_made : readCounter (page11 mask values) number ≡ Ok (option_map rowValue (shownFor mask values number))
     unfolding shownFor
-    read_made = by_place (row_of number) refl
+    read_made = by_row (row_of number) refl
 
-    -- reading the page that was written gives the value of each kept row, and absent for every other number
-    pub read-write : (d d' : List ℕ) (r : Written) → WriteGiven (keepsBoth mask) (page11 mask values) d r d' → r.number ≡ 0
-        → readCounter (take r.len d') number ≡ shownFor mask values number
-    read-write d d' r w z =
-        let a = wrote-all (keepsBoth mask) (page11 mask values) d r d' w z in
+    -- reading the page that was written gives the value of each kept row, in four bytes, and absent for every other number
+    pub read-write : (d d' : List ℕ) (n : ℕ) → WriteGiven (keepsBoth mask) (page11 mask values) d (Ok n) d'
+        → readCounter (take n d') number ≡ Ok (option_map rowValue (shownFor mask values number))
+    read-write d d' n w =
+        let a = wrote-all (keepsBoth mask) (page11 mask values) d n d' w in
         rw (a.2, a.3, take_at (page11 mask values) (drop (length (page11 mask values)) d) (length (page11 mask values)) refl) read_made

@@ -1,5 +1,5 @@
 -- The entries of page 11h. Assumes nothing.
-use Rattle.std.specs.Prelude.{ℕ, zero, suc, ◌+◌, ◌*◌, ◌/◌, ◌%◌, Bool, false, not, ◌&&◌, ◌||◌, List, [], ◌∷◌, ltb, leb, eqb}
+use Rattle.std.specs.Prelude.{ℕ, zero, suc, ◌+◌, ◌*◌, ◌/◌, ◌%◌, Bool, not, ◌&&◌, ◌||◌, List, [], ◌∷◌, ltb, leb, eqb}
 use Rattle.bits.specs.Pick.{pick}
 use Rattle.bits.specs.Bit.{bitIn}
 use Rattle.bits.specs.Little.{leAt}
@@ -71,13 +71,3 @@ entriesFrom page (suc fuel) at =
 -- the walk starts at 4
 unfoldable pub entries : List ℕ → List CounterEntry
 entries page = entriesFrom page 508 4
-
--- some entry of a list is so
-unfoldable pub someOf : (CounterEntry → Bool) → List CounterEntry → Bool
-someOf p [] = false
-someOf p (e ∷ es) = p e || someOf p es
-
--- how many entries of a list are so
-unfoldable pub countEntries : (CounterEntry → Bool) → List CounterEntry → ℕ
-countEntries p [] = 0
-countEntries p (e ∷ es) = pick (p e) 1 0 + countEntries p es

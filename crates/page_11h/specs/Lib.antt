@@ -1,3 +1,4 @@
 pub mod Entries
 pub mod Page11
 pub mod WalkStep
+pub mod Top

@@ -2,6 +2,8 @@
 #![tactic(auto)]
 
 mod page11;
+mod value;
 mod walk;
 
 pub use page11::read_counter;
+pub use value::CounterValue;

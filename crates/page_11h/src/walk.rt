@@ -2,96 +2,103 @@
 // Places are even: the walk starts at 4, an identifier takes 2 bytes and a value 2, 4, 6 or 8. So an identifier never
 // straddles 508 (`no-straddle`), and it is enough to test where each value ends.
 ghost use Rattle.std.specs.Prelude.{◌≡◌, ◌<◌};
-ghost use Rattle.page_11h.specs.Entries.{counterEntry, width_of, number_in, vendorOf};
-ghost use Rattle.page_11h.specs.WalkStep.{faulty, stepAt};
+ghost use Rattle.page_11h.specs.Entries.{counterEntry, width_of, number_in, vendorOf, idAsked};
+ghost use Rattle.page_11h.specs.WalkStep.{faulty, stepAt, Stepped};
 
-// What stands at a place: a row with its identifier, the place of its value and the value's length in bytes; the end;
-// or what no page may have.
-#[derive(Clone, Copy)]
-pub enum WalkStep {
-    Row { id: u64, start: usize, len: usize },
-    End,
-    Fault,
+use refusals::Refusal;
+
+/// An entry of the page: its identifier, where its value starts, and how many bytes the value has.
+#[derive(Clone, Copy, Debug, PartialEq, Eq)]
+pub struct WalkEntry {
+    pub id: u16,
+    pub start: usize,
+    pub bytes: usize,
 }
 
 // Bits 14:12 of an identifier.
-fn width_of(id: u64) -> usize
+fn width_of(id: u16) -> usize
     ensures { result ≡ width_of id }
 {
     ((id >> 12) & 7) as usize
 }
 
 // Bits 11:0 of an identifier: the counter's number.
-pub fn number_in(id: u64) -> u64
+fn number_in(id: u16) -> u16
     ensures { result ≡ number_in id }
 {
     id & 0xfff
 }
 
 // Bit 15 of an identifier.
-pub fn is_vendor(id: u64) -> bool
+fn is_vendor(id: u16) -> bool
     ensures { result ≡ vendorOf id }
 {
     (id >> 15) & 1 == 1
 }
 
 // Whether an entry is one that no page may have. A vendor's has a width too, but its low 12 bits may be 0.
-fn is_faulty(at: usize, id: u64) -> bool
+fn is_faulty(at: usize, id: u16) -> bool
     requires { at < 508 }
     ensures { result ≡ faulty (counterEntry at id) }
 {
     let width = width_of(id);
-    if width < 1 {
-        return true;
-    }
-    if 4 < width {
-        return true;
-    }
-    if 508 < at + 2 + 2 * width {
-        return true;
-    }
-    if is_vendor(id) {
-        return false;
-    }
-    number_in(id) == 0
+    !(1..=4).contains(&width) || 508 < at + 2 + 2 * width || (!is_vendor(id) && number_in(id) == 0)
 }
 
-// What stands at a place.
-pub fn entry_at(page: &[u8], at: usize) -> WalkStep
+impl WalkEntry {
+    /// Whether the entry is the asked counter's. Those with bit 15 are stepped over.
+    pub fn is_asked(self, number: u16) -> bool
+        ensures { result ≡ idAsked number self.id }
+    {
+        !is_vendor(self.id) && number_in(self.id) == number
+    }
+}
+
+/// What stands at a place: an entry; nothing more, at 508 or at 0000h; or what no page may have.
+#[tactic(auto, unfolding(crate::specs::WalkStep::stepAt, crate::specs::Entries::id_at, bits::specs::Pick::pick))]
+pub fn entry_at(page: &[u8], at: usize) -> Result<Option<WalkEntry>, Refusal>
     ensures { result ≡ stepAt page.now at }
 {
     if 508 <= at {
-        return WalkStep::End;
+        return Ok(None);
     }
-    let id = bits::le(page, at, 2);
+    let id = bits::le16(page, at);
     if id == 0 {
-        return WalkStep::End;
+        return Ok(None);
     }
     if is_faulty(at, id) {
-        return WalkStep::Fault;
+        return Err(Refusal::PageDamaged);
     }
-    let start = at + 2;
-    let len = 2 * width_of(id);
-    WalkStep::Row { id, start, len }
+    Ok(Some(WalkEntry {
+        id,
+        start: at + 2,
+        bytes: 2 * width_of(id),
+    }))
 }
 
-// The walk keeps its page and its place together.
-#[derive(Clone, Copy)]
+/// The walk keeps its page and its place together.
+#[derive(Clone, Copy, Debug)]
 pub struct Walk<'a> {
     pub page: &'a [u8],
     pub at: usize,
 }
 
 impl<'a> Walk<'a> {
-    pub fn from(page: &'a [u8], at: usize) -> Walk<'a>
+    pub fn new(page: &'a [u8], at: usize) -> Walk<'a>
         ensures { (result.page ≡ page.entry) × (result.at ≡ at) }
     {
         Walk { page, at }
     }
 
-    pub fn step(self) -> WalkStep
-        ensures { result ≡ stepAt self.entry.page.now self.entry.at }
+    /// What stands at the walk's place; behind an entry it goes on.
+    #[tactic(auto, using(crate::proofs::Walking::end_within))]
+    pub fn step(&mut self) -> Result<Option<WalkEntry>, Refusal>
+        ensures { Stepped self.old result self.new }
     {
-        entry_at(self.page, self.at)
+        let entry = entry_at(self.page, self.at)?;
+        if let Some(entry) = entry {
+            self.at = entry.start + entry.bytes;
+        }
+        Ok(entry)
     }
 }

@@ -1,13 +1,9 @@
 -- Log page 11h as it is made. Assumes nothing.
-use Rattle.std.specs.Prelude.{ℕ, zero, suc, ◌+◌, ◌-◌, List, [], ◌++◌, length, get_or, replicate}
+use Rattle.std.specs.Prelude.{ℕ, zero, suc, ◌+◌, ◌-◌, List, [], ◌++◌, length, get_or, replicate, Option, Some, None}
 use Rattle.bits.specs.Pick.{pick}
 use Rattle.bits.specs.Little.{le_bytes}
 use Rattle.page_rows.specs.Rows.{id_of, kept, row_of}
 use Rattle.page_sum.specs.Sum.{sealed}
-use Rattle.page_rows.specs.declared.rows.Place.{Place}
-use Rattle.page_rows.specs.declared.rows.Place.TheVariants.{Row, Nowhere}
-use Rattle.page_rows.specs.declared.shown.Counter.{Counter}
-use Rattle.page_rows.specs.declared.shown.Counter.TheVariants.{Value, Absent}
 
 -- a row: 2000h + identifier, which says 4 value bytes, then the value
 unfoldable pub rowBytes : ℕ → ℕ → List ℕ
@@ -26,11 +22,11 @@ openTo mask values n = (replicate 4 0 ++ rows_to mask values n) ++ replicate (50
 unfoldable pub page11 : ℕ → List ℕ → List ℕ
 page11 mask values = sealed (openTo mask values 16)
 
--- what the page shows of a row: its value if it is kept, and absent for a number that has no row
-unfoldable pub onRow : ℕ → List ℕ → Place → Counter
-onRow mask values (Row k) = pick (kept mask k) (Value (get_or values k 0)) Absent
-onRow mask values Nowhere = Absent
+-- what the page shows of a row: its value if it is kept; and of no row, nothing
+unfoldable pub onRow : ℕ → List ℕ → Option ℕ → Option ℕ
+onRow mask values (Some row) = pick (kept mask row) (Some (get_or values row 0)) None
+onRow mask values None = None
 
--- what the page shows of a counter's number
-unfoldable pub shownFor : ℕ → List ℕ → ℕ → Counter
+-- what the page shows of a counter's number: a value, or that it is absent
+unfoldable pub shownFor : ℕ → List ℕ → ℕ → Option ℕ
 shownFor mask values number = onRow mask values (row_of number)

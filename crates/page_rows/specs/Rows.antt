@@ -1,10 +1,7 @@
--- The sixteen rows of page 11h, in the order of document 001, figure 24. Assumes nothing.
-use Rattle.std.specs.Prelude.{ℕ, suc, Bool, ◌&&◌, List, [], ◌∷◌, get_or, eqb}
-use Rattle.bits.specs.Pick.{pick}
+-- The sixteen rows of page 11h, in the order in which the page has them. Assumes nothing.
+use Rattle.std.specs.Prelude.{ℕ, Bool, ◌&&◌, List, [], ◌∷◌, get_or, eqb, Option, Some, None, position}
 use Rattle.bits.specs.Bit.{bitIn}
 use Rattle.bits.specs.Answer.{Answer}
-use Rattle.page_rows.specs.declared.rows.Place.{Place}
-use Rattle.page_rows.specs.declared.rows.Place.TheVariants.{Row, Nowhere}
 
 -- 16 rows, in this order: 001h-00Bh, 00Dh, 00Fh, 010h, 012h, 013h
 unfoldable pub ids : List ℕ
@@ -22,16 +19,11 @@ kept mask row = bitIn 16 mask row
 abbrev pub keepsBoth : ℕ → Bool
 keepsBoth mask = kept mask 0 && kept mask 9
 
--- the first row of a list, counted from `row`, whose identifier is the number
-unfoldable pub rowFrom : ℕ → List ℕ → ℕ → Place
-rowFrom row [] number = Nowhere
-rowFrom row (id ∷ more) number = pick (eqb id number) (Row row) (rowFrom (suc row) more number)
+-- the row of an identifier, if it has one
+unfoldable pub row_of : ℕ → Option ℕ
+row_of number = position (λ id. eqb id number) ids
 
 -- what each place tells: its row, or none
-unfoldable pub placeAnswer : Place → Answer
-placeAnswer (Row k) = record { number = 0; values = k ∷ [] }
-placeAnswer Nowhere = record { number = 0; values = [] }
-
--- the row of an identifier
-unfoldable pub row_of : ℕ → Place
-row_of number = rowFrom 0 ids number
+unfoldable pub placeAnswer : Option ℕ → Answer
+placeAnswer (Some row) = record { number = 0; values = row ∷ [] }
+placeAnswer None = record { number = 0; values = [] }

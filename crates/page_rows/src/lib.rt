@@ -1,4 +1,6 @@
 // The sixteen rows of page 11h, and the page made and written of them. Every public function is total and has no `requires`.
+// Mask and values are two parameters: the device keeps the one among its settings and the others apart, so that a struct of
+// both would be put together at each call and be no plainer.
 #![tactic(auto)]
 
 mod made11;
@@ -6,6 +8,6 @@ mod rows;
 mod shown;
 mod writing;
 
-pub use rows::{Place, id_of, is_kept, row_of};
-pub use shown::{Counter, shown_at};
+pub use rows::{id_of, is_kept, row_of};
+pub use shown::shown_at;
 pub use writing::write_counters;

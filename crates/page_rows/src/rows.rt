@@ -8,43 +8,25 @@ const IDS: [u16; 16] = [
     0x010, 0x012, 0x013,
 ];
 
-// Where a counter's number stands in the table.
-#[derive(Clone, Copy)]
-pub enum Place {
-    Row(usize),
-    Nowhere,
-}
-
-// The identifier of a row; from 16 on there is none, and it is 0.
+/// The identifier of a row, 0 to 15; from 16 on there is none, and it is 0.
+#[tactic(auto, unfolding(crate::specs::Rows::ids))]
 pub fn id_of(row: usize) -> u16
     ensures { result ≡ id_of row }
 {
-    if 16 <= row {
-        return 0;
-    }
-    IDS[row]
+    if row < IDS.len() { IDS[row] } else { 0 }
 }
 
-// The row of an identifier.
-pub fn row_of(number: u16) -> Place
+/// The row of an identifier, 0 to 15, if it has one.
+#[tactic(auto, unfolding(crate::specs::Rows::row_of, crate::specs::Rows::ids))]
+pub fn row_of(number: u16) -> Option<usize>
     ensures { result ≡ row_of number }
 {
-    let mut row: usize = 0;
-    while row < 16 {
-        if id_of(row) == number {
-            return Place::Row(row);
-        }
-        row += 1;
-    }
-    Place::Nowhere
+    IDS.iter().position(|id| *id == number)
 }
 
-// Whether the mask keeps a row. From 16 on there is none.
+/// Whether the mask keeps a row. From 16 on there is none.
 pub fn is_kept(mask: u16, row: usize) -> bool
     ensures { result ≡ kept mask row }
 {
-    if 16 <= row {
-        return false;
-    }
-    bits::bit(mask as u32, row as u32)
+    row < 16 && bits::bit(mask as u32, row as u32)
 }

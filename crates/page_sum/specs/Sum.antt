@@ -1,14 +1,9 @@
 -- The sum of a page: all bytes sum to 0 modulo 256, byte 511 sees to it. Assumes nothing.
-use Rattle.std.specs.Prelude.{ℕ, zero, suc, ◌+◌, ◌-◌, ◌%◌, List, length, get_or, set}
-
--- the sum of the first n bytes
-unfoldable pub sum_to : List ℕ → ℕ → ℕ
-sum_to s zero = 0
-sum_to s (suc n) = sum_to s n + get_or s n 0
+use Rattle.std.specs.Prelude.{ℕ, ◌-◌, ◌%◌, List, set, sum}
 
 -- the sum of all bytes, modulo 256
 unfoldable pub sum256 : List ℕ → ℕ
-sum256 s = sum_to s (length s) % 256
+sum256 s = sum s % 256
 
 -- what is missing to 0 modulo 256
 abbrev pub sumByte : List ℕ → ℕ

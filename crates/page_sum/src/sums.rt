@@ -2,21 +2,21 @@
 ghost use Rattle.std.specs.Prelude.{◌≡◌};
 ghost use Rattle.page_sum.specs.Sum.{sum256, sumByte};
 
-// The sum of all bytes, modulo 256. The sum is cut to 8 bits at each byte, so that no length can overflow it.
-pub fn byte_sum(s: &[u8]) -> u8
-    ensures { result ≡ sum256 s.now }
+/// The sum of all bytes, modulo 256.
+#[tactic(auto, unfolding(crate::specs::Sum::sum256), using(std::proofs::lemmas::List::Sums::sum_by_more))]
+pub fn byte_sum(bytes: &[u8]) -> u8
+    ensures { result ≡ sum256 bytes.now }
 {
-    let mut sum: u32 = 0;
-    for b in s {
-        sum = (sum + *b as u32) & 0xff;
+    let mut sum: u8 = 0;
+    for byte in bytes {
+        sum = sum.wrapping_add(*byte);
     }
-    sum as u8
+    sum
 }
 
-// The byte that is missing to a sum of 0 modulo 256.
-pub fn sum_byte(s: &[u8]) -> u8
-    ensures { result ≡ sumByte s.now }
+/// The byte that is missing to a sum of 0 modulo 256.
+pub fn sum_byte(bytes: &[u8]) -> u8
+    ensures { result ≡ sumByte bytes.now }
 {
-    let sum = byte_sum(s) as u32;
-    ((256 - sum) & 0xff) as u8
+    byte_sum(bytes).wrapping_neg()
 }

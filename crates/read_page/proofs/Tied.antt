@@ -1,16 +1,29 @@
--- The contract of the program's function that reads: what it says. A read may go more than one way. Assumes nothing.
+-- The contracts of the program's functions that read and write, over any reader and writers: what they say. A read or a write may go more than one way. Assumes nothing.
+use mathlib.Core.List.{Mem}
+use Prim.Native.Nat.{ℕ}
 use denote.Param.Laws.{Laws}
 use denote.RattleType.{RattleType}
-use mathlib.Core.List.{Mem}
 use mir.Syntax.{Dict}
-use Prim.Native.Nat.{ℕ, ◌≤◌}
-use lib.ListN.{length}
 use Rattle.bits.specs.Contract.{SaysOver}
+use Rattle.std.specs.Prelude.{OnOk, IfOk}
+use Rattle.std.specs.Io.KnownBytes.{Appends}
 use Rattle.std.specs.declared.io.traits.Read as Reader
-use Rattle.read_page.proofs.input
-use Rattle.read_page.specs.contracts.input as input-said
+use Rattle.std.specs.declared.io.traits.Write as Writer
+use Rattle.read_page.specs.Told.{page_named, complaint, Ran}
+use Rattle.read_page.proofs as program
+use Rattle.read_page.proofs.output
+use Rattle.read_page.specs.contracts as program-said
+use Rattle.read_page.specs.contracts.output as output-said
 
-pub tied-read-all : (R : RattleType) (l : Laws R) (g : Reader.Ghosts R.Denot) (d : Dict)
-    → SaysOver (input-said.read_all.ended R g d) (λ κs a. (x : ℕ) → Mem x R.lives → Mem x κs.1.1.0) (input.read_all.Reads.Asked R l g d) (input.read_all.Reads.Post R l g d)
-    (λ κs a r ws. r.len ≤ length ws.1.0)
-tied-read-all R l g d = record { free = λ κs a h. h; says = λ κs a r ws p. p }
+pub tied-complain : (W : RattleType) (l : Laws W) (g : Writer.Ghosts W.Denot) (d : Dict)
+    → SaysOver (output-said.complain.ended W g d) (λ κs a. (x : ℕ) → Mem x W.lives → Mem x κs.1.0) (output.complain.Reads.Asked W l g d) (output.complain.Reads.Post W l g d)
+    (λ κs a r ws. OnOk r (Appends (g.contents a.0.now) (g.contents ws.0) complaint))
+tied-complain W l g d = record { free = λ κs a h. h; says = λ κs a r ws p. p }
+
+-- the whole run: all that it wrote, and what it complained of, by what it read and by the word
+pub tied-run : (R W E : RattleType) (l : Laws R) (m : Laws W) (n : Laws E) (g : Reader.Ghosts R.Denot) (d : Dict) (h : Writer.Ghosts W.Denot) (e : Dict) (i : Writer.Ghosts E.Denot) (j : Dict)
+    → SaysOver (program-said.run.ended R W E g d h e i j)
+    (λ κs a. ((x : ℕ) → Mem x R.lives → Mem x κs.1.1.1.1.0) × (((x : ℕ) → Mem x W.lives → Mem x κs.1.1.1.1.1.0) × ((x : ℕ) → Mem x E.lives → Mem x κs.1.1.1.1.1.1.0)))
+    (program.run.Reads.Asked R W E l m n g d h e i j) (program.run.Reads.Post R W E l m n g d h e i j)
+    (λ κs a r ws. IfOk r (λ told. Ran (page_named a.1.1.1.1.0.now) (g.remaining a.1.0.now) (h.contents a.1.1.0.now) (h.contents ws.1.1.0) (i.contents a.1.1.1.0.now) (i.contents ws.1.1.1.0) told))
+tied-run R W E l m n g d h e i j = record { free = λ κs a x. x; says = λ κs a r ws p. p }

@@ -3,76 +3,133 @@
 // All is written at once, and a write that fails is told on standard error.
 #![tactic(auto)]
 
-ghost use Rattle.std.specs.Prelude.{◌≤◌, length};
-ghost use Rattle.read_page.specs.Lines.{pageText, PageTextGiven};
+ghost use Rattle.std.specs.Prelude.{◌≡◌, Some, IfOk, OnOk, OnErr};
+ghost use Rattle.std.specs.Io.KnownBytes.{Appends};
+ghost use Rattle.streams.specs.Fronts.{AppendsFront};
+ghost use Rattle.read_page.specs.Told.{text_of, page_named, Writes, WritesFront, Ran};
 
-mod input;
 mod output;
 
-use output::{complain, show};
+use output::complain;
+use std::alloc::Global;
 use std::io;
 use std::io::{Read, Write};
 use std::rt::Env;
+use streams::put;
 
-#[derive(Clone, Copy)]
+// What was written: a page's text, that a read failed, or the question which page; or not all of it, and that was told.
+#[derive(Clone, Copy, Debug, PartialEq, Eq)]
+enum Told {
+    Text,
+    Stopped,
+    Question,
+    Lost,
+}
+
+#[derive(Clone, Copy, Debug, PartialEq, Eq)]
 enum Page {
     Errors,
     Counters,
 }
 
-// The page's whole text in front of a buffer, and its length. No text is longer: sixteen lines of at most 34 bytes.
-fn put_page(out: &mut [u8], which: Page, page: &[u8]) -> usize
-    requires { 1024 ≤ length out.old }
-    ensures { PageTextGiven (pageText which page.now) result out.new }
+#[tactic(auto, unfolding(crate::specs::Told::text_of))]
+fn write_page<W: Write>(out: &mut W, which: Page, page: &[u8]) -> io::Result<()>
+    ensures { OnOk result (Appends (W.contents out.old) (W.contents out.new) (text_of which page.now)) }
 {
     match which {
-        Page::Errors => page_10h_text::put_fields(out, page),
-        Page::Counters => page_11h_text::put_counters(out, page),
+        Page::Errors => page_text::write_fields(out, page),
+        Page::Counters => page_text::write_counters(out, page),
     }
 }
 
-fn show_page<W: Write>(out: &mut W, which: Page, page: &[u8]) -> io::Result<()> {
-    let mut text = [0u8; 1024];
-    let n = put_page(&mut text, which, page);
-    show(out, &text[0..n])
+// The text is put together before the first write, which so knows a front of it from all.
+fn show_page<W: Write>(alloc: Global, out: &mut W, which: Page, page: &[u8]) -> io::Result<()>
+    ensures ok { OnOk result (Appends (W.contents out.old) (W.contents out.new) (text_of which page.now)) }
+    ensures err { OnErr result (AppendsFront (W.contents out.old) (W.contents out.new) (text_of which page.now)) }
+{
+    let mut text = Vec::new(alloc);
+    write_page(&mut text, which, page)?;
+    put(out, &text)
 }
 
-// Of a page that is not 512 bytes long one byte more shows that it is too long.
-fn answer_page<R: Read, W: Write>(reader: &mut R, out: &mut W, which: Page) -> io::Result<()> {
-    let mut page = [0u8; 513];
-    let input = input::read_all(reader, &mut page);
-    if input.failed {
-        return show(out, b"stop\n");
+// Of a page that is not 512 bytes long one byte more shows that it is too long. A read that fails is told from an end:
+// what it keeps from us may be the rest of the page.
+fn answer_page<R: Read, W: Write>(
+    alloc: Global,
+    reader: &mut R,
+    out: &mut W,
+    which: Page,
+) -> io::Result<Told>
+    ensures ok { IfOk result (λ told. Writes (Some which) (R.remaining reader.old) (W.contents out.old) (W.contents out.new) told) }
+    ensures err { OnErr result (WritesFront (Some which) (R.remaining reader.old) (W.contents out.old) (W.contents out.new)) }
+{
+    let mut page = Vec::new(alloc);
+    if reader.take(513).read_to_end(&mut page).is_err() {
+        put(out, b"stop\n")?;
+        return Ok(Told::Stopped);
     }
-    let n = input.len;
-    show_page(out, which, &page[0..n])
+    show_page(alloc, out, which, &page)?;
+    Ok(Told::Text)
 }
 
-// Whether two words of at most eight bytes are the same, as the names of the pages are.
-fn is_word(s: &[u8], w: &[u8]) -> bool {
-    let same = bits::le(s, 0, 8) == bits::le(w, 0, 8);
-    same & (s.len() == w.len())
+fn page_named(word: &[u8]) -> Option<Page>
+    ensures { result ≡ page_named word.now }
+{
+    if word == b"10".as_slice() {
+        return Some(Page::Errors);
+    }
+    if word == b"11".as_slice() {
+        return Some(Page::Counters);
+    }
+    None
 }
 
 // The word is looked at before anything is read: without a page's name nobody waits for one. The one error is of a write.
-fn answer<R: Read, W: Write>(reader: &mut R, out: &mut W, word: &[u8]) -> io::Result<()> {
-    if is_word(word, b"10") {
-        return answer_page(reader, out, Page::Errors);
-    }
-    if is_word(word, b"11") {
-        return answer_page(reader, out, Page::Counters);
-    }
-    show(out, b"page 10 or 11?\n")
+fn answer<R: Read, W: Write>(
+    alloc: Global,
+    reader: &mut R,
+    out: &mut W,
+    word: &[u8],
+) -> io::Result<Told>
+    ensures ok { IfOk result (λ told. Writes (page_named word.now) (R.remaining reader.old) (W.contents out.old) (W.contents out.new) told) }
+    ensures err { OnErr result (WritesFront (page_named word.now) (R.remaining reader.old) (W.contents out.old) (W.contents out.new)) }
+{
+    let Some(which) = page_named(word) else {
+        put(out, b"page 10 or 11?\n")?;
+        return Ok(Told::Question);
+    };
+    answer_page(alloc, reader, out, which)
 }
 
-// No argument, or one that no buffer of this size holds, names no page.
+// All of the answer, or a front of it and a complaint. An error is left only where the complaint could not be written either.
+fn run<R: Read, W: Write, E: Write>(
+    alloc: Global,
+    reader: &mut R,
+    out: &mut W,
+    errors: &mut E,
+    word: &[u8],
+) -> io::Result<Told>
+    ensures { IfOk result (λ told. Ran (page_named word.now) (R.remaining reader.old) (W.contents out.old) (W.contents out.new) (E.contents errors.old) (E.contents errors.new) told) }
+{
+    match answer(alloc, reader, out, word) {
+        Ok(told) => Ok(told),
+        Err(_) => {
+            complain(errors)?;
+            Ok(Told::Lost)
+        }
+    }
+}
+
+// No argument, or one that no buffer of this size holds, names no page. Only this argument is looked at: `env::args` would
+// refuse them all for another that is no text.
 fn main(rt: HostRuntime) {
     let mut word = [0u8; 4096];
-    let n = match rt.arg(1, &mut word) {
-        Ok(n) => n,
-        Err(_) => 0,
-    };
-    if answer(&mut rt.stdin(), &mut rt.stdout(), &word[0..n]).is_err() {
-        complain(&mut rt.stderr());
-    }
+    let n = rt.arg(1, &mut word).unwrap_or(0);
+    let _ = run(
+        rt.alloc(),
+        &mut rt.stdin(),
+        &mut rt.stdout(),
+        &mut rt.stderr(),
+        &word[..n],
+    );
 }

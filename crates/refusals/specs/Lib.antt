@@ -1,1 +1,3 @@
+pub mod Number
+pub mod First
 pub mod Ladders

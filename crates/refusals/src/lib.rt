@@ -1,9 +1,8 @@
-// Each call's refusals in the order in which they are tried, over plain tests.
+// Refusals: their names and numbers, and the first of a list of tests that holds.
 #![tactic(auto)]
 
-mod numbers;
+mod firsts;
+mod reasons;
 
-pub use numbers::{
-    comreset_number, counter_number, finish_number, lent_number, link_number, media_number,
-    open_number, power_number, send_number,
-};
+pub use firsts::check;
+pub use reasons::Refusal;

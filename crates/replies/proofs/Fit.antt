@@ -13,7 +13,7 @@ use Rattle.page_rows.specs.Rows.{keepsBoth}
 use Rattle.device_state.specs.State.{placedBytes}
 use Rattle.replies.specs.declared.shown.Shown.{Shown}
 use Rattle.rules.specs.declared.acts.Act.{Act}
-use Rattle.rules.specs.declared.acts.Act.TheVariants.{Refuse, Nothing, Bad, BadAndHalt, Accept, Log10, Log11, Reset, Release, ZeroCounters, Store, Open, Send, Finish, Media, Count, Renew}
+use Rattle.rules.specs.declared.acts.Act.TheVariants.{Nothing, Bad, BadAndHalt, Accept, Log10, Log11, Reset, Release, ZeroCounters, Store, Open, Send, Finish, Media, Count, Renew}
 use Rattle.replies.specs.Replies.{logOf}
 
 -- every frame of a list can be written
@@ -23,7 +23,6 @@ Fitting (f ∷ fs) = (fits f ≡ true) × Fitting fs
 
 -- by the act
 unfoldable pub Fit : Shown → List ℕ → Act → Type 0
-Fit s part (Refuse n) = Unit
 Fit s part Nothing = Unit
 Fit s part (Bad b) = (b.error < 256) × (taskFits b.task ≡ true)
 Fit s part (BadAndHalt f) = (f.error < 256) × Bytes (placedBytes f.echo)

@@ -27,7 +27,7 @@ use Rattle.device_state.specs.declared.shapes.Echo.{Echo}
 use Rattle.device_state.specs.declared.shapes.ErrorRecord.{ErrorRecord}
 use Rattle.replies.specs.declared.shown.Shown.{Shown}
 use Rattle.rules.specs.declared.acts.Act.{Act}
-use Rattle.rules.specs.declared.acts.Act.TheVariants.{Refuse, Nothing, Bad, BadAndHalt, Accept, Log10, Log11, Reset, Release, ZeroCounters, Store, Open, Send, Finish, Media, Count, Renew}
+use Rattle.rules.specs.declared.acts.Act.TheVariants.{Nothing, Bad, BadAndHalt, Accept, Log10, Log11, Reset, Release, ZeroCounters, Store, Open, Send, Finish, Media, Count, Renew}
 use Rattle.replies.specs.Replies.{register, activateIf, pioReply, logOf, page10Of, page11Of, logReplies, repliesOf, sentBytes, sentAll, RepliesGiven}
 use Rattle.replies.proofs.Fit.{Fitting, Fit}
 
@@ -89,7 +89,6 @@ module _ (s : Shown) (part : List ℕ) where
   -- by the act
   pub replies-fit : (a : Act) → Fit s part a → Fitting (repliesOf s part a)
   unfolding Fit Fitting repliesOf fits
-  replies-fit (Refuse n) h = tt
   replies-fit Nothing h = tt
   replies-fit (Bad b) h = (register-fits true 0x41 b.error b.task (omega arith) h.0 h.1, tt)
   replies-fit (BadAndHalt f) h = (register-fits true 0x41 f.error (taskIn f.echo) (omega arith) h.0 (echo-fits f.echo h.1), tt)
@@ -112,7 +111,6 @@ module _ (s : Shown) (part : List ℕ) where
   -- a data frame comes last
   pub replies-data-last : (a : Act) → DataLast (repliesOf s part a)
   unfolding DataLast repliesOf
-  replies-data-last (Refuse n) = tt
   replies-data-last Nothing = tt
   replies-data-last (Bad x) = (off, tt)
   replies-data-last (BadAndHalt x) = (off, tt)

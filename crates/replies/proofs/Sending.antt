@@ -9,14 +9,17 @@ use native.Mathlib.Omega.{arith}
 use borrow.Rule.Slice.PartMut.{mid_of, put_mid}
 use lib.ListN.{length, take, drop, length-append}
 use lib.Seq.{take_at}
+use Rattle.std.specs.Prelude.{Result, Err}
+use Rattle.std.specs.Result.{result_unwrap_or}
+use Rattle.refusals.specs.declared.reasons.Refusal.{Refusal}
+use Rattle.refusals.specs.declared.reasons.Refusal.TheVariants.{Unfit}
 use Rattle.bits.specs.Pick.{pick}
 use Rattle.bits.specs.Laid.{laid}
 use Rattle.bits.proofs.Picks.{by-test}
 use Rattle.bits.proofs.Fronts.{laid_next}
 use Rattle.frame_parts.specs.Cut.{joined}
 use Rattle.frame_parts.specs.Emit.{WriteGiven}
-use Rattle.frame_parts.specs.declared.emitting.Written.{Written}
-use Rattle.frame_parts.proofs.EmitLaws.{number-large, wrote-room}
+use Rattle.frame_parts.proofs.EmitLaws.{write_refusal-unfit, wrote-room}
 use Rattle.frame_parts.specs.Shared.{registerBytes}
 use Rattle.frames.specs.Write.{FrameValue, activate, setBits, setup, payload, bitsBytes, setupBytes, encode, fits, FrameWriteGiven}
 use Rattle.frame_parts.specs.declared.shared.Task.{Task}
@@ -35,19 +38,24 @@ sent-one : (f : FrameValue) → sentAll (f ∷ []) ≡ sentBytes f
 unfolding sentAll joined
 sent-one f = append-nil (sentBytes f)
 
--- a writer that has room sends its frame if that fits, and else nothing
-one-fit : (b : Bool) (s d : List ℕ) (r : Written) (d' : List ℕ) → WriteGiven b s d r d' → length s ≤ length d → (r.len ≡ length (pick b s [])) × (d' ≡ laid (pick b s []) d)
-unfolding pick
-one-fit true s d r d' w h = let a = wrote-room true s d r d' w refl h in (a.1, a.2)
-one-fit false s d r d' w h =
-    let n = number-large (length s) (length d) in
-    (w.len ∙ rw n, w.bytes ∙ rw n)
+-- how many bytes a writer sent: none where it turned its values down
+abbrev sent : Result ℕ Refusal → ℕ
+sent r = result_unwrap_or r 0
 
-pub sends-one : (f : FrameValue) (d : List ℕ) (r : Written) (d' : List ℕ) → FrameWriteGiven f d r d' → length (encode f) ≤ length d → RepliesGiven (f ∷ []) d r.len d'
+-- a writer that has room sends its frame if that fits, and else nothing
+one-fit : (b : Bool) (s d : List ℕ) (r : Result ℕ Refusal) (d' : List ℕ) → WriteGiven b s d r d' → length s ≤ length d → (sent r ≡ length (pick b s [])) × (d' ≡ laid (pick b s []) d)
+unfolding pick
+one-fit true s d r d' w h = let a = wrote-room true s d r d' w refl h in (ap sent a.0, a.1)
+one-fit false s d r d' w h =
+    let n = write_refusal-unfit (length s) (length d) in
+    let e : r ≡ Err Unfit = w.answer ∙ rw n in
+    (ap sent e, w.bytes ∙ rw n)
+
+pub sends-one : (f : FrameValue) (d : List ℕ) (r : Result ℕ Refusal) (n : ℕ) (d' : List ℕ) → FrameWriteGiven f d r d' → n ≡ sent r → length (encode f) ≤ length d → RepliesGiven (f ∷ []) d n d'
 unfolding sentBytes
-sends-one f d r d' w h =
+sends-one f d r n d' w e h =
     let a = one-fit (fits f) (encode f) d r d' w h in
-    record { len = a.0 ∙ sym (ap length (sent-one f)); bytes = a.1 ∙ sym (ap (λ (s : List ℕ). laid s d) (sent-one f)) }
+    record { len = e ∙ a.0 ∙ sym (ap length (sent-one f)); bytes = a.1 ∙ sym (ap (λ (s : List ℕ). laid s d) (sent-one f)) }
 
 -- one list of frames behind another
 sent-append : (fs gs : List FrameValue) → sentAll (fs ++ gs) ≡ sentAll fs ++ sentAll gs
@@ -67,8 +75,8 @@ sends-next fs gs d xs ys n m a b = record {
 picked-short : (b : Bool) (s : List ℕ) → length (pick b s []) ≤ length s
 picked-short b s = by-test (λ (t : List ℕ). length t ≤ length s) b s [] (λ _. omega arith) (λ _. omega arith)
 
-pub one-most : (f : FrameValue) (d : List ℕ) (r : Written) (d' : List ℕ) → FrameWriteGiven f d r d' → length (encode f) ≤ length d → r.len ≤ length (encode f)
-one-most f d r d' w h =
+pub one-most : (f : FrameValue) (d : List ℕ) (r : Result ℕ Refusal) (n : ℕ) (d' : List ℕ) → FrameWriteGiven f d r d' → n ≡ sent r → length (encode f) ≤ length d → n ≤ length (encode f)
+one-most f d r n d' w e h =
     let a = (one-fit (fits f) (encode f) d r d' w h).0 in
     let b = picked-short (fits f) (encode f) in
     omega arith
@@ -112,13 +120,13 @@ pub sends-three : (a b c : List FrameValue) (d : List ℕ) (n : ℕ) (d' : List 
 sends-three a b c d n d' s = rw (append_assoc a b c) at s
 
 -- a page that was written into room enough is all that its length names
-pub page-taken : (b : Bool) (s d : List ℕ) (r : Written) (d' : List ℕ) → WriteGiven b s d r d' → length s ≤ length d → take r.len d' ≡ pick b s []
-page-taken b s d r d' w h =
+pub page-taken : (b : Bool) (s d : List ℕ) (r : Result ℕ Refusal) (n : ℕ) (d' : List ℕ) → WriteGiven b s d r d' → n ≡ sent r → length s ≤ length d → take n d' ≡ pick b s []
+page-taken b s d r n d' w e h =
     let a = one-fit b s d r d' w h in
-    rw (a.0, a.1) (take_at (pick b s []) (drop (length (pick b s [])) d) (length (pick b s [])) refl)
+    rw (e, a.0, a.1) (take_at (pick b s []) (drop (length (pick b s [])) d) (length (pick b s [])) refl)
 
-pub page-most : (b : Bool) (s d : List ℕ) (r : Written) (d' : List ℕ) → WriteGiven b s d r d' → length s ≤ length d → r.len ≤ length s
-page-most b s d r d' w h =
+pub page-most : (b : Bool) (s d : List ℕ) (r : Result ℕ Refusal) (n : ℕ) (d' : List ℕ) → WriteGiven b s d r d' → n ≡ sent r → length s ≤ length d → n ≤ length s
+page-most b s d r n d' w e h =
     let a = (one-fit b s d r d' w h).0 in
     let p = picked-short b s in
     omega arith

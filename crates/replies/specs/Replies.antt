@@ -14,7 +14,7 @@ use Rattle.device_state.specs.declared.shapes.ErrorRecord.{ErrorRecord}
 use Rattle.replies.specs.declared.shown.Shown.{Shown}
 use Rattle.rules.specs.declared.acts.Queued.{Queued}
 use Rattle.rules.specs.declared.acts.Act.{Act}
-use Rattle.rules.specs.declared.acts.Act.TheVariants.{Refuse, Nothing, Bad, BadAndHalt, Accept, Log10, Log11, Reset, Release, ZeroCounters, Store, Open, Send, Finish, Media, Count, Renew}
+use Rattle.rules.specs.declared.acts.Act.TheVariants.{Nothing, Bad, BadAndHalt, Accept, Log10, Log11, Reset, Release, ZeroCounters, Store, Open, Send, Finish, Media, Count, Renew}
 
 -- a device register reply
 abbrev pub register : Bool → ℕ → ℕ → Task → FrameValue
@@ -85,7 +85,6 @@ openReplies q = (setupReply q ∷ []) ++ activateIf q.entry.write
 
 -- the replies of an act; `part` is what of the medium it sends, and the rest is looked up in what the state shows
 unfoldable pub repliesOf : Shown → List ℕ → Act → List FrameValue
-repliesOf s part (Refuse n) = []
 repliesOf s part Nothing = []
 repliesOf s part (Bad b) = badReply b.error b.task ∷ []
 repliesOf s part (BadAndHalt f) = badReply f.error (taskIn f.echo) ∷ []

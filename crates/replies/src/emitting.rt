@@ -15,7 +15,7 @@ fn put_register(reply: &mut [u8], interrupt: bool, status: u8, error: u8, task: 
     requires { 20 ≤ length reply.old }
     ensures { RepliesGiven (register interrupt status error task ∷ []) reply.old result reply.new }
 {
-    let w = frames::write_device(
+    frames::write_device(
         reply,
         DevReg {
             interrupt,
@@ -23,8 +23,8 @@ fn put_register(reply: &mut [u8], interrupt: bool, status: u8, error: u8, task: 
             error,
             task,
         },
-    );
-    w.len
+    )
+    .unwrap_or(0)
 }
 
 fn put_signature(reply: &mut [u8]) -> usize
@@ -47,7 +47,7 @@ fn put_sweep_if(reply: &mut [u8], on: bool) -> usize
     if !on {
         return 0;
     }
-    let w = frames::write_bits(
+    frames::write_bits(
         reply,
         SetBits {
             interrupt: false,
@@ -55,8 +55,8 @@ fn put_sweep_if(reply: &mut [u8], on: bool) -> usize
             error: 0,
             active: 0xFFFF_FFFF,
         },
-    );
-    w.len
+    )
+    .unwrap_or(0)
 }
 
 fn put_activate_if(reply: &mut [u8], on: bool) -> usize
@@ -67,38 +67,35 @@ fn put_activate_if(reply: &mut [u8], on: bool) -> usize
     if !on {
         return 0;
     }
-    let w = frames::write_activate(reply);
-    w.len
+    frames::write_activate(reply).unwrap_or(0)
 }
 
-fn put_setup(reply: &mut [u8], q: Queued) -> usize
+fn put_setup(reply: &mut [u8], q: &Queued) -> usize
     requires { 28 ≤ length reply.old }
-    ensures bytes { RepliesGiven (setupReply q ∷ []) reply.old result reply.new }
+    ensures bytes { RepliesGiven (setupReply q.now ∷ []) reply.old result reply.new }
     ensures most { result ≤ 28 }
 {
-    let entry = q.entry;
-    let w = frames::write_setup(
+    frames::write_setup(
         reply,
         DmaSetup {
             auto: false,
             interrupt: false,
-            to_host: !entry.write,
+            to_host: !q.entry.write,
             tag: q.tag as u32,
             offset: 0,
-            count: device_state::whole_of(entry.count),
+            count: q.entry.whole(),
         },
-    );
-    w.len
+    )
+    .unwrap_or(0)
 }
 
 // DMA Setup, and for a write an Activate.
-fn put_open(reply: &mut [u8], q: Queued) -> usize
+fn put_open(reply: &mut [u8], q: &Queued) -> usize
     requires { 8196 ≤ length reply.old }
-    ensures { RepliesGiven (openReplies q) reply.old result reply.new }
+    ensures { RepliesGiven (openReplies q.now) reply.old result reply.new }
 {
     let first = put_setup(reply, q);
-    let entry = q.entry;
-    let second = put_activate_if(&mut reply[first..], entry.write);
+    let second = put_activate_if(&mut reply[first..], q.entry.write);
     first + second
 }
 
@@ -106,7 +103,7 @@ fn put_bits(reply: &mut [u8], status: u8, error: u8, active: u32) -> usize
     requires { 8 ≤ length reply.old }
     ensures { RepliesGiven (setBits (record { interrupt = true; status = status; error = error; active = active }) ∷ []) reply.old result reply.new }
 {
-    let w = frames::write_bits(
+    frames::write_bits(
         reply,
         SetBits {
             interrupt: true,
@@ -114,8 +111,8 @@ fn put_bits(reply: &mut [u8], status: u8, error: u8, active: u32) -> usize
             error,
             active,
         },
-    );
-    w.len
+    )
+    .unwrap_or(0)
 }
 
 fn put_pio(reply: &mut [u8], task: Task) -> usize
@@ -123,7 +120,7 @@ fn put_pio(reply: &mut [u8], task: Task) -> usize
     ensures bytes { RepliesGiven (pioReply task ∷ []) reply.old result reply.new }
     ensures most { result ≤ 20 }
 {
-    let w = frames::write_pio(
+    frames::write_pio(
         reply,
         PioSetup {
             interrupt: true,
@@ -134,8 +131,8 @@ fn put_pio(reply: &mut [u8], task: Task) -> usize
             ending: 0x40,
             bytes: ErrorLog::PAGE_SIZE as u16,
         },
-    );
-    w.len
+    )
+    .unwrap_or(0)
 }
 
 fn put_data(reply: &mut [u8], p: &[u8]) -> usize
@@ -143,8 +140,7 @@ fn put_data(reply: &mut [u8], p: &[u8]) -> usize
     ensures bytes { RepliesGiven (payload p.now ∷ []) reply.old result reply.new }
     ensures most { result ≤ 4 + length p.now }
 {
-    let w = frames::write_data(reply, p);
-    w.len
+    frames::write_data(reply, p).unwrap_or(0)
 }
 
 // A data frame of a part of the medium; one that is too long is no data frame's.
@@ -183,8 +179,7 @@ fn put_log10(reply: &mut [u8], sweep: bool, task: Task, r: ErrorRecord) -> usize
 {
     let mut page = page_room();
     let f = log_of(r);
-    let w = page_10h::write_log(&mut page, f);
-    let n = w.len;
+    let n = page_10h::write_log(&mut page, f).unwrap_or(0);
     put_log(reply, sweep, task, &page[..n])
 }
 
@@ -193,60 +188,38 @@ fn put_log11(reply: &mut [u8], task: Task, mask: u16, values: [u32; 16]) -> usiz
     ensures { RepliesGiven (logReplies false task (page11Of mask values)) reply.old result reply.new }
 {
     let mut page = page_room();
-    let w = page_rows::write_counters(&mut page, mask, values);
-    let n = w.len;
+    let n = page_rows::write_counters(&mut page, mask, values).unwrap_or(0);
     put_log(reply, false, task, &page[..n])
 }
 
-fn send(reply: &mut [u8], act: Act, shown: Shown, part: &[u8]) -> usize
+#[tactic(auto, unfolding(crate::specs::Replies::repliesOf, crate::specs::Replies::sentAll, frame_parts::specs::Cut::joined))]
+fn send(reply: &mut [u8], act: &Act, shown: &Shown, part: &[u8]) -> usize
     requires { 8196 ≤ length reply.old }
-    ensures { RepliesGiven (repliesOf shown part.now act) reply.old result reply.new }
+    ensures { RepliesGiven (repliesOf shown.now part.now act.now) reply.old result reply.new }
 {
     match act {
-        Act::Refuse(_) => 0,
-        Act::Nothing => 0,
-        Act::Bad(b) => {
-            let task = b.task;
-            put_register(reply, true, 0x41, b.error, task)
-        }
-        Act::BadAndHalt(f) => {
-            let echo = f.echo;
-            put_register(reply, true, 0x41, f.error, device_state::task_in(echo))
-        }
-        Act::Accept(q) => {
-            let entry = q.entry;
-            let echo = entry.echo;
-            put_register(reply, false, 0x40, 0, device_state::task_in(echo))
-        }
-        Act::Log10(task) => {
-            let errors = shown.errors;
-            put_log10(reply, shown.halted, task, errors)
-        }
-        Act::Log11(l) => {
-            let task = l.task;
-            let settings = shown.settings;
-            let values = shown.values;
-            put_log11(reply, task, settings.mask, values)
-        }
-        Act::Reset => 0,
-        Act::Release => put_signature(reply),
-        Act::ZeroCounters => 0,
+        Act::Bad(b) => put_register(reply, true, 0x41, b.error, b.task),
+        Act::BadAndHalt(f) => { put_register(reply, true, 0x41, f.error, Task::from(f.echo)) }
+        Act::Accept(q) => put_register(reply, false, 0x40, 0, Task::from(q.entry.echo)),
+        Act::Log10(task) => put_log10(reply, shown.halted, *task, shown.errors),
+        Act::Log11(l) => put_log11(reply, l.task, shown.settings.mask, shown.values),
+        Act::Release | Act::Renew => put_signature(reply),
         Act::Store(m) => put_activate_if(reply, !m.last),
         Act::Open(q) => put_open(reply, q),
         Act::Send(_) => put_part(reply, part),
-        Act::Finish(set) => put_bits(reply, 0x40, 0, set),
+        Act::Finish(set) => put_bits(reply, 0x40, 0, *set),
         Act::Media(f) => put_bits(reply, 0x41, f.error, 0),
-        Act::Count(_) => 0,
-        Act::Renew => put_signature(reply),
+        Act::Nothing | Act::Reset | Act::ZeroCounters | Act::Count(_) => 0,
     }
 }
 
-// The replies of an act; none where the buffer has not the room that every call asks for.
+/// The replies of an act, in front of `reply`, and how many bytes they are; none where `reply` has not the room that every call asks for.
+#[tactic(auto, unfolding(bits::specs::Pick::pick, crate::specs::Replies::sentAll, frame_parts::specs::Cut::joined))]
 pub fn emit(reply: &mut [u8], act: Act, shown: Shown, part: &[u8]) -> usize
     ensures { RepliesGiven (pick (leb 8196 (length reply.old)) (repliesOf shown part.now act) []) reply.old result reply.new }
 {
     if reply.len() < Settings::REPLY_SIZE {
         return 0;
     }
-    send(reply, act, shown, part)
+    send(reply, &act, &shown, part)
 }

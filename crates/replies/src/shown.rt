@@ -6,8 +6,8 @@ use device_state::{ErrorRecord, Settings};
 use frame_parts::Task;
 use page_10h::ErrorLog;
 
-// What replies show of the state.
-#[derive(Clone, Copy)]
+/// What replies show of the state.
+#[derive(Clone, Copy, Debug, PartialEq, Eq)]
 pub struct Shown {
     pub halted: bool,
     pub settings: Settings,
@@ -15,31 +15,25 @@ pub struct Shown {
     pub values: [u32; 16],
 }
 
-// The record as page 10h shows it.
+/// The record as page 10h shows it.
+#[tactic(auto, unfolding(bits::specs::Pick::pick))]
 pub fn log_of(r: ErrorRecord) -> ErrorLog
     ensures { result ≡ logOf r }
 {
     if r.set {
-        let echo = r.echo;
-        let task = device_state::task_in(echo);
         return ErrorLog {
             nq: r.nq,
             tag: r.tag,
             status: 0x41,
             error: r.error,
-            task,
+            task: Task::from(r.echo),
         };
     }
-    let task = Task {
-        lba: 0,
-        device: 0,
-        count: 0,
-    };
     ErrorLog {
         nq: true,
         tag: 0,
         status: 0,
         error: 0,
-        task,
+        task: Task::default(),
     }
 }

@@ -1,36 +1,39 @@
 -- How a call is decided: the rule that holds, with what it found. A proof about calls goes by these cases. Assumes nothing.
-use mathlib.Core.Path.{◌≡◌, refl, sym, ◌∙◌}
+use mathlib.Core.Path.{◌≡◌, refl}
 use mathlib.Core.Bool.{Bool, true, false, not, ◌&&◌, ◌||◌, true≢false, false≢true}
 use mathlib.Core.List.{List}
+use Rattle.std.proofs.Common.{Some, None, is_none, Result, Ok, Err}
 use Prim.Native.Nat.{ℕ, ◌+◌}
 use lib.Dec.{eqb, ltb, leb, lit<}
-use borrow.Author.Tests.{not-false, not-true, eqb-true, eqb-false}
+use borrow.Author.Tests.{not-false, not-true}
 use Rattle.bits.specs.Pick.{pick}
 use Rattle.bits.specs.Bit.{bitIn}
-use Rattle.bits.specs.First.{first_of}
+use Rattle.refusals.specs.First.{first_of}
+use Rattle.refusals.specs.declared.reasons.Refusal.{Refusal}
 use Rattle.bits.proofs.Picks.{by-test, or_left, or_right, and_left}
-use Rattle.bits.proofs.Firsts as firsts
+use Rattle.refusals.proofs.FirstLaws as firsts
 use Rattle.frame_parts.specs.Shared.{srstOf}
 use Rattle.frames.specs.Read.{readFrame}
 use Rattle.frames.specs.declared.shapes.HostReg.{HostReg}
 use Rattle.frames.specs.declared.shapes.Frame.{Frame}
-use Rattle.frames.specs.declared.shapes.Frame.TheVariants.{Host, Device, Bits, Setup, Activate, Data, Bist, Pio, Refused}
+use Rattle.frames.specs.declared.shapes.Frame.TheVariants.{Host, Data, Bist}
 use Rattle.verdicts.specs.Range.{tooFar}
 use Rattle.verdicts.specs.Queued.{tagRefused}
-use Rattle.verdicts.specs.declared.commands.QueuedRule.{QueuedRule}
-use Rattle.verdicts.specs.declared.commands.OtherRule.{OtherRule}
+use Rattle.verdicts.specs.Other.{asksErrors, asksCounters}
+use Rattle.verdicts.specs.declared.commands.LogPage.{LogPage}
+use Rattle.verdicts.specs.declared.commands.Bad as verdict
+use Rattle.verdicts.proofs.Rules.{by-page}
 use Rattle.contradictions.specs.Clauses.{rowRefused}
 use Rattle.rules.specs.Call.{Call, hostFrame, openPhase, sendData, finishTags, mediaError, linkEvent, comReset}
 use Rattle.rules.specs.Handed.{handed}
 use Rattle.rules.specs.Positions.{left_of, move_of}
 use Rattle.rules.specs.Tests.{wrongKind, wrongTime, wrongSize, allMoved, outside, tests}
 use Rattle.rules.specs.Decide.{bad, fault, tagAsked, countAsked, entryFor, pageAsked, isQueued, queuedDoes, queuedAct, otherDoes, otherAct, controlAct, registerAct, frameAct}
-use Rattle.rules.specs.Act.{failing, does, decided, act}
-use Rattle.rules.specs.Number.{number_of}
+use Rattle.rules.specs.Act.{failing, does, act}
 use Rattle.rules.specs.Medium.{leaves, touch_of, nowhere, span_of}
 use Rattle.rules.specs.declared.facts.Facts.{Facts}
 use Rattle.rules.specs.declared.acts.Act.{Act}
-use Rattle.rules.specs.declared.acts.Act.TheVariants.{Refuse, Nothing, Accept, Log10, Log11, Reset, Release, ZeroCounters, Store, Open, Send, Finish, Media, Count, Renew}
+use Rattle.rules.specs.declared.acts.Act.TheVariants.{Nothing, Accept, Log10, Log11, Reset, Release, ZeroCounters, Store, Open, Send, Finish, Media, Count, Renew}
 
 -- a command that comes at its time, queued or not
 pub record TimelyCommand (v : Facts) (h : HostReg) (queued : Bool) : Type 0 where
@@ -40,96 +43,87 @@ pub record TimelyCommand (v : Facts) (h : HostReg) (queued : Bool) : Type 0 wher
   pub kind : isQueued h ≡ queued
 
 -- a host frame that is not turned down, as it was read
-pub data Heard (v : Facts) : Frame → Act → Type 0 where
+pub data Heard (v : Facts) : Result Frame Refusal → Act → Type 0 where
   -- control frames
-  srst : (h : HostReg) → h.command_bit ≡ false → srstOf h.control ≡ true → Heard v (Host h) Reset
-  release : (h : HostReg) → h.command_bit ≡ false → srstOf h.control ≡ false → v.status.held ≡ true → Heard v (Host h) Release
-  nothing : (h : HostReg) → h.command_bit ≡ false → srstOf h.control ≡ false → v.status.held ≡ false → Heard v (Host h) Nothing
+  srst : (h : HostReg) → h.command_bit ≡ false → srstOf h.control ≡ true → Heard v (Ok (Host h)) Reset
+  release : (h : HostReg) → h.command_bit ≡ false → srstOf h.control ≡ false → v.status.held ≡ true → Heard v (Ok (Host h)) Release
+  nothing : (h : HostReg) → h.command_bit ≡ false → srstOf h.control ≡ false → v.status.held ≡ false → Heard v (Ok (Host h)) Nothing
   -- queued commands, rules 1 to 4
-  rule1 : (h : HostReg) → TimelyCommand v h true → v.status.halted ≡ true → Heard v (Host h) (bad h 0x04)
+  rule1 : (h : HostReg) → TimelyCommand v h true → v.status.halted ≡ true → Heard v (Ok (Host h)) (bad h 0x04)
   rule2 : (h : HostReg) → TimelyCommand v h true → v.status.halted ≡ false → leb v.settings.depth (tagAsked h) || bitIn 32 v.status.outstanding (tagAsked h) ≡ true
-      → Heard v (Host h) (fault h false (tagAsked h) 0x04)
+      → Heard v (Ok (Host h)) (fault h false (tagAsked h) 0x04)
   rule3 : (h : HostReg) → TimelyCommand v h true → v.status.halted ≡ false → leb v.settings.depth (tagAsked h) || bitIn 32 v.status.outstanding (tagAsked h) ≡ false
-      → ltb v.settings.capacity (h.task.lba + countAsked h) ≡ true → Heard v (Host h) (fault h false (tagAsked h) 0x10)
+      → ltb v.settings.capacity (h.task.lba + countAsked h) ≡ true → Heard v (Ok (Host h)) (fault h false (tagAsked h) 0x10)
   rule4 : (h : HostReg) → TimelyCommand v h true → v.status.halted ≡ false → leb v.settings.depth (tagAsked h) || bitIn 32 v.status.outstanding (tagAsked h) ≡ false
-      → ltb v.settings.capacity (h.task.lba + countAsked h) ≡ false → Heard v (Host h) (Accept (record { tag = tagAsked h; entry = entryFor h }))
+      → ltb v.settings.capacity (h.task.lba + countAsked h) ≡ false → Heard v (Ok (Host h)) (Accept (record { tag = tagAsked h; entry = entryFor h }))
   -- any other command
-  other-halted : (h : HostReg) → TimelyCommand v h false → v.status.halted ≡ true → Heard v (Host h) (bad h 0x04)
-  other-busy : (h : HostReg) → TimelyCommand v h false → eqb v.status.outstanding 0 ≡ false → Heard v (Host h) (fault h true 0 0x04)
-  page10 : (h : HostReg) → TimelyCommand v h false → eqb v.status.outstanding 0 ≡ true → eqb (pageAsked h) 0x10 ≡ true → Heard v (Host h) (Log10 h.task)
-  page11 : (h : HostReg) → TimelyCommand v h false → v.status.halted ≡ false → eqb v.status.outstanding 0 ≡ true → eqb (pageAsked h) 0x11 ≡ true
-      → Heard v (Host h) (Log11 (record { zero = bitIn 8 h.features 0; task = h.task }))
-  other-bad : (h : HostReg) → TimelyCommand v h false → v.status.halted ≡ false → eqb v.status.outstanding 0 ≡ true → Heard v (Host h) (bad h 0x04)
+  other-halted : (h : HostReg) → TimelyCommand v h false → v.status.halted ≡ true → Heard v (Ok (Host h)) (bad h 0x04)
+  other-busy : (h : HostReg) → TimelyCommand v h false → eqb v.status.outstanding 0 ≡ false → Heard v (Ok (Host h)) (fault h true 0 0x04)
+  page10 : (h : HostReg) → TimelyCommand v h false → eqb v.status.outstanding 0 ≡ true → asksErrors (pageAsked h) ≡ true → Heard v (Ok (Host h)) (Log10 h.task)
+  page11 : (h : HostReg) → TimelyCommand v h false → v.status.halted ≡ false → eqb v.status.outstanding 0 ≡ true → asksCounters (pageAsked h) ≡ true
+      → Heard v (Ok (Host h)) (Log11 (record { zero = bitIn 8 h.features 0; task = h.task }))
+  other-bad : (h : HostReg) → TimelyCommand v h false → v.status.halted ≡ false → eqb v.status.outstanding 0 ≡ true → Heard v (Ok (Host h)) (bad h 0x04)
   -- host data, BIST
-  due : (n : ℕ) → eqb v.status.phase 0 ≡ false → v.entry.write ≡ true → ltb (left_of v.entry) n ≡ false → Heard v (Data n) (Store (move_of v.status v.entry n))
-  bist : v.link_busy ≡ false → Heard v Bist ZeroCounters
+  due : (n : ℕ) → is_none v.status.phase ≡ false → v.entry.write ≡ true → ltb (left_of v.entry) n ≡ false → Heard v (Ok (Data n)) (Store (move_of v.status v.entry n))
+  bist : v.link_busy ≡ false → Heard v (Ok Bist) ZeroCounters
 
 -- a device event that is taken
 pub data Own (v : Facts) : Call → Act → Type 0 where
   opened : (t : ℕ) → v.contradicts ≡ false → v.reply_short ≡ false → bitIn 32 v.status.outstanding t ≡ true → v.link_busy ≡ false → allMoved v.entry ≡ false
       → Own v (openPhase t) (Open (record { tag = t; entry = v.entry }))
-  sent : v.contradicts ≡ false → v.medium_wrong ≡ false → v.reply_short ≡ false → eqb v.status.phase 0 ≡ false → v.entry.write ≡ false → Own v sendData (Send (move_of v.status v.entry 8192))
+  sent : v.contradicts ≡ false → v.medium_wrong ≡ false → v.reply_short ≡ false → is_none v.status.phase ≡ false → v.entry.write ≡ false → Own v sendData (Send (move_of v.status v.entry 8192))
   finished : (s : ℕ) → v.contradicts ≡ false → v.reply_short ≡ false → v.link_busy ≡ false → eqb s 0 ≡ false → v.unready ≡ false → Own v (finishTags s) (Finish s)
   failed : (t e s : ℕ) → v.contradicts ≡ false → v.reply_short ≡ false → bitIn 32 v.status.outstanding t ≡ true → eqb e 0 ≡ false → outside v.entry s ≡ false
       → Own v (mediaError t e s) (Media (record { nq = false; tag = t; error = e; echo = failing v.entry.echo s }))
   linked : (r : ℕ) → v.contradicts ≡ false → rowRefused v.settings.mask r ≡ false → Own v (linkEvent r) (Count r)
   renewed : v.contradicts ≡ false → v.reply_short ≡ false → Own v comReset Renew
 
--- a call with its act: refused, or taken; refusal 1 never holds of a taken one
-pub data Ruled (v : Facts) : Call → Act → Type 0 where
-  refused : (c : Call) (n : ℕ) → (n ≡ 0 → ⊥) → first_of (tests v c) ≡ n → Ruled v c (Refuse n)
-  host : (f : List ℕ) (a : Act) → v.contradicts ≡ false → v.medium_wrong ≡ false → v.reply_short ≡ false → Heard v (readFrame f) a → Ruled v (hostFrame f) a
-  own : {c : Call} {a : Act} → Own v c a → Ruled v c a
+-- a call with what it comes to: refused, or taken; refusal 1 never holds of a taken one
+pub data Ruled (v : Facts) : Call → Result Act Refusal → Type 0 where
+  refused : (c : Call) (r : Refusal) → first_of (tests v c) ≡ Some r → Ruled v c (Err r)
+  host : (f : List ℕ) (a : Act) → v.contradicts ≡ false → v.medium_wrong ≡ false → v.reply_short ≡ false → Heard v (readFrame f) a → Ruled v (hostFrame f) (Ok a)
+  own : {c : Call} {a : Act} → Own v c a → Ruled v c (Ok a)
 
--- what a host frame that is not turned down makes the device do is done, and sends nothing of the medium
-pub record HeardLaws (a : Act) : Type 0 where
-  pub done : number_of a ≡ 0
-  pub medium-unsent : span_of a ≡ nowhere
+-- what a host frame that is not turned down makes the device do sends nothing of the medium
+pub heard-unsent : (v : Facts) {f : Result Frame Refusal} {a : Act} → Heard v f a → span_of a ≡ nowhere
+unfolding touch_of
+heard-unsent v (srst h c s) = refl
+heard-unsent v (release h c s x) = refl
+heard-unsent v (nothing h c s x) = refl
+heard-unsent v (rule1 h c x) = refl
+heard-unsent v (rule2 h c x u) = refl
+heard-unsent v (rule3 h c x u y) = refl
+heard-unsent v (rule4 h c x u y) = refl
+heard-unsent v (other-halted h c x) = refl
+heard-unsent v (other-busy h c x) = refl
+heard-unsent v (page10 h c e p) = refl
+heard-unsent v (page11 h c x e p) = refl
+heard-unsent v (other-bad h c x e) = refl
+heard-unsent v (due n p w s) = refl
+heard-unsent v (bist b) = refl
 
-pub heard-laws : (v : Facts) {f : Frame} {a : Act} → Heard v f a → HeardLaws a
-unfolding number_of touch_of
-heard-laws v (srst h c s) = record { done = refl; medium-unsent = refl }
-heard-laws v (release h c s x) = record { done = refl; medium-unsent = refl }
-heard-laws v (nothing h c s x) = record { done = refl; medium-unsent = refl }
-heard-laws v (rule1 h c x) = record { done = refl; medium-unsent = refl }
-heard-laws v (rule2 h c x u) = record { done = refl; medium-unsent = refl }
-heard-laws v (rule3 h c x u y) = record { done = refl; medium-unsent = refl }
-heard-laws v (rule4 h c x u y) = record { done = refl; medium-unsent = refl }
-heard-laws v (other-halted h c x) = record { done = refl; medium-unsent = refl }
-heard-laws v (other-busy h c x) = record { done = refl; medium-unsent = refl }
-heard-laws v (page10 h c e p) = record { done = refl; medium-unsent = refl }
-heard-laws v (page11 h c x e p) = record { done = refl; medium-unsent = refl }
-heard-laws v (other-bad h c x e) = record { done = refl; medium-unsent = refl }
-heard-laws v (due n p w s) = record { done = refl; medium-unsent = refl }
-heard-laws v (bist b) = record { done = refl; medium-unsent = refl }
-
--- what all device events share: they are done; the state does not contradict itself; where a reply buffer is lent it is not short; and where no medium is lent the act leaves it
+-- what all device events share: the state does not contradict itself; where a reply buffer is lent it is not short; and where no medium is lent the act leaves it
 pub record OwnLaws (v : Facts) (c : Call) (a : Act) : Type 0 where
-  pub done : number_of a ≡ 0
   pub sound : v.contradicts ≡ false
   pub room : (handed c).buffer ≡ true → v.reply_short ≡ false
   pub leaving : (handed c).medium ≡ false → touch_of a ≡ leaves
 
 pub own-laws : (v : Facts) {c : Call} {a : Act} → Own v c a → OwnLaws v c a
-unfolding number_of touch_of
-own-laws v (opened t g s o q e) = record { done = refl; sound = g; room = λ _. s; leaving = λ _. refl }
-own-laws v (sent g w s p r) = record { done = refl; sound = g; room = λ _. s; leaving = λ h. absurd (true≢false h) }
-own-laws v (finished t g s q e r) = record { done = refl; sound = g; room = λ _. s; leaving = λ _. refl }
-own-laws v (failed t e x g s o y w) = record { done = refl; sound = g; room = λ _. s; leaving = λ _. refl }
-own-laws v (linked r g x) = record { done = refl; sound = g; room = λ h. absurd (false≢true h); leaving = λ _. refl }
-own-laws v (renewed g s) = record { done = refl; sound = g; room = λ _. s; leaving = λ _. refl }
+unfolding touch_of
+own-laws v (opened t g s o q e) = record { sound = g; room = λ _. s; leaving = λ _. refl }
+own-laws v (sent g w s p r) = record { sound = g; room = λ _. s; leaving = λ h. absurd (true≢false h) }
+own-laws v (finished t g s q e r) = record { sound = g; room = λ _. s; leaving = λ _. refl }
+own-laws v (failed t e x g s o y w) = record { sound = g; room = λ _. s; leaving = λ _. refl }
+own-laws v (linked r g x) = record { sound = g; room = λ h. absurd (false≢true h); leaving = λ _. refl }
+own-laws v (renewed g s) = record { sound = g; room = λ _. s; leaving = λ _. refl }
 
 -- a taken call is not refused for its reply buffer, where it is lent one
-pub ruled-room : (v : Facts) {c : Call} {a : Act} → (handed c).buffer ≡ true → Ruled v c a → number_of a ≡ 0 → v.reply_short ≡ false
-unfolding number_of
-ruled-room v p (refused c n h e) z = absurd (h z)
-ruled-room v p (host f a g w s h) z = s
-ruled-room v p (own o) z = (own-laws v o).room p
+pub ruled-room : (v : Facts) {c : Call} {a : Act} → (handed c).buffer ≡ true → Ruled v c (Ok a) → v.reply_short ≡ false
+ruled-room v p (host f a g w s h) = s
+ruled-room v p (own o) = (own-laws v o).room p
 
--- a call that is lent no medium leaves it
-pub ruled-leaves : (v : Facts) {c : Call} {a : Act} → (handed c).medium ≡ false → Ruled v c a → touch_of a ≡ leaves
-unfolding touch_of
-ruled-leaves v u (refused c n h e) = refl
+-- a taken call that is lent no medium leaves it
+pub ruled-leaves : (v : Facts) {c : Call} {a : Act} → (handed c).medium ≡ false → Ruled v c (Ok a) → touch_of a ≡ leaves
 ruled-leaves v u (host f a g w s h) = absurd (true≢false u)
 ruled-leaves v u (own o) = (own-laws v o).leaving u
 
@@ -140,36 +134,35 @@ and-other true false e f = e
 and-other false b e f = refl
 
 module _ (v : Facts) where
-  control-heard : (h : HostReg) → h.command_bit ≡ false → Heard v (Host h) (controlAct v h)
+  control-heard : (h : HostReg) → h.command_bit ≡ false → Heard v (Ok (Host h)) (controlAct v h)
   unfolding controlAct
   control-heard h c =
-      by-test (Heard v (Host h)) (srstOf h.control) Reset (pick v.status.held Release Nothing) (srst h c)
-      (λ s. by-test (Heard v (Host h)) v.status.held Release Nothing (release h c s) (nothing h c s))
+      by-test (Heard v (Ok (Host h))) (srstOf h.control) Reset (pick v.status.held Release Nothing) (srst h c)
+      (λ s. by-test (Heard v (Ok (Host h))) v.status.held Release Nothing (release h c s) (nothing h c s))
 
-  queued-heard : (h : HostReg) → TimelyCommand v h true → Heard v (Host h) (queuedAct v h)
+  queued-heard : (h : HostReg) → TimelyCommand v h true → Heard v (Ok (Host h)) (queuedAct v h)
   unfolding queuedAct
   queued-heard h c =
-      let R : QueuedRule → Type 0 = λ r. Heard v (Host h) (queuedDoes h r) in
+      let R : Result Unit verdict.Bad → Type 0 = λ r. Heard v (Ok (Host h)) (queuedDoes h r) in
       let far : Bool = tooFar v.settings.capacity h.task.lba (countAsked h) in
       let used : Bool = tagRefused v.settings.depth (tagAsked h) (bitIn 32 v.status.outstanding (tagAsked h)) in
       by-test R v.status.halted _ _ (rule1 h c) (λ x. by-test R used _ _ (rule2 h c x) (λ u. by-test R far _ _ (rule3 h c x u) (rule4 h c x u)))
 
-  other-heard : (h : HostReg) → TimelyCommand v h false → Heard v (Host h) (otherAct v h)
+  other-heard : (h : HostReg) → TimelyCommand v h false → Heard v (Ok (Host h)) (otherAct v h)
   unfolding otherAct
   other-heard h c =
-      let R : OtherRule → Type 0 = λ r. Heard v (Host h) (otherDoes h r) in
-      let asked : Bool = eqb (pageAsked h) 0x10 in
+      let R : Result LogPage verdict.Bad → Type 0 = λ r. Heard v (Ok (Host h)) (otherDoes h r) in
+      let asked : Bool = asksErrors (pageAsked h) in
       by-test R (v.status.halted && not asked) _ _ (λ x. other-halted h c (and_left v.status.halted (not asked) x))
       (λ x. by-test R (not (eqb v.status.outstanding 0)) _ _ (λ y. other-busy h c (not-true (eqb v.status.outstanding 0) y))
       (λ z. let e = not-false (eqb v.status.outstanding 0) z in
-      by-test R asked _ _ (page10 h c e)
-      (λ n. let q = and-other v.status.halted asked x n in
-      by-test R (eqb (pageAsked h) 0x11) _ _ (page11 h c q e) (λ _. other-bad h c q e))))
+      let awake : asked ≡ false → v.status.halted ≡ false = and-other v.status.halted asked x in
+      by-page R (pageAsked h) (page10 h c e) (λ n. page11 h c (awake n) e) (λ n. other-bad h c (awake n) e)))
 
-  register-heard : (h : HostReg) → h.command_bit && (v.status.held || v.link_busy) ≡ false → Heard v (Host h) (registerAct v h)
+  register-heard : (h : HostReg) → h.command_bit && (v.status.held || v.link_busy) ≡ false → Heard v (Ok (Host h)) (registerAct v h)
   unfolding registerAct
   register-heard h t =
-      let R : Act → Type 0 = Heard v (Host h) in
+      let R : Act → Type 0 = Heard v (Ok (Host h)) in
       by-test R (not h.command_bit) (controlAct v h) (pick (isQueued h) (queuedAct v h) (otherAct v h)) (λ c. control-heard h (not-true h.command_bit c))
       (λ n.
       let c = not-false h.command_bit n in
@@ -178,20 +171,15 @@ module _ (v : Facts) where
       by-test R (isQueued h) (queuedAct v h) (otherAct v h) (λ q. queued-heard h (made true q)) (λ q. other-heard h (made false q)))
 
   -- a host frame that no test of 4, 5 and 6 turns down
-  heard : (f : Frame) → wrongKind f ≡ false → wrongTime v f ≡ false → wrongSize v f ≡ false → Heard v f (frameAct v f)
+  heard : (f : Result Frame Refusal) → wrongKind f ≡ false → wrongTime v f ≡ false → wrongSize v f ≡ false → Heard v f (frameAct v f)
   unfolding frameAct wrongKind wrongTime wrongSize
-  heard (Host h) k t s = register-heard h t
-  heard (Device f) k t s = absurd (true≢false k)
-  heard (Bits f) k t s = absurd (true≢false k)
-  heard (Setup f) k t s = absurd (true≢false k)
-  heard Activate k t s = absurd (true≢false k)
-  heard (Data n) k t s = due n (or_left (eqb v.status.phase 0) (not v.entry.write) t) (not-false v.entry.write (or_right (eqb v.status.phase 0) (not v.entry.write) t)) s
-  heard Bist k t s = bist t
-  heard (Pio f) k t s = absurd (true≢false k)
-  heard Refused k t s = absurd (true≢false k)
+  heard (Ok (Host h)) k t s = register-heard h t
+  heard (Ok (Data n)) k t s = due n (or_left (is_none v.status.phase) (not v.entry.write) t) (not-false v.entry.write (or_right (is_none v.status.phase) (not v.entry.write) t)) s
+  heard (Ok Bist) k t s = bist t
+  heard _ k t s = absurd (true≢false k)
 
   -- a call that none of its tests turns down
-  taken : (c : Call) → first_of (tests v c) ≡ 0 → Ruled v c (does v c)
+  taken : (c : Call) → first_of (tests v c) ≡ None → Ruled v c (Ok (does v c))
   unfolding tests does
   taken (hostFrame f) z =
       let none = (firsts.first-exactly (tests v (hostFrame f)) tt).none.0 z in
@@ -202,7 +190,7 @@ module _ (v : Facts) where
   taken sendData z =
       let none = (firsts.first-exactly (tests v sendData) tt).none.0 z in
       let last = none 3 (lit< tt) in
-      own (sent (none 0 (lit< tt)) (none 1 (lit< tt)) (none 2 (lit< tt)) (or_left (eqb v.status.phase 0) v.entry.write last) (or_right (eqb v.status.phase 0) v.entry.write last))
+      own (sent (none 0 (lit< tt)) (none 1 (lit< tt)) (none 2 (lit< tt)) (or_left (is_none v.status.phase) v.entry.write last) (or_right (is_none v.status.phase) v.entry.write last))
   taken (finishTags s) z =
       let none = (firsts.first-exactly (tests v (finishTags s)) tt).none.0 z in
       let last = none 3 (lit< tt) in
@@ -220,17 +208,5 @@ module _ (v : Facts) where
 
   -- every call is decided by one of the rules
   pub ruled : (c : Call) → Ruled v c (act v c)
-  unfolding act decided
-  ruled c =
-      let n = first_of (tests v c) in
-      by-test (Ruled v c) (not (eqb n 0)) (Refuse n) (does v c) (λ t. refused c n (eqb-false n 0 (not-true (eqb n 0) t)) refl) (λ f. taken c (eqb-true n 0 (not-false (eqb n 0) f)))
-
-  -- a call that none of its tests turns down is done
-  ruled-done : {c : Call} {a : Act} → Ruled v c a → first_of (tests v c) ≡ 0 → number_of a ≡ 0
-  unfolding number_of
-  ruled-done (refused c n h e) z = sym e ∙ z
-  ruled-done (host f a g w s h) z = (heard-laws v h).done
-  ruled-done (own o) z = (own-laws v o).done
-
-  pub act-done : (c : Call) → first_of (tests v c) ≡ 0 → number_of (act v c) ≡ 0
-  act-done c = ruled-done (ruled c)
+  unfolding act
+  ruled c = firsts.by-unless (Ruled v c) (first_of (tests v c)) (does v c) (refused c) (taken c)

@@ -3,7 +3,6 @@ use Rattle.rules.specs.Call.{openPhase, sendData, finishTags, mediaError, linkEv
 use Rattle.rules.specs.Tests.{someUnready}
 use Rattle.rules.specs.Act.{act, heardAct}
 use Rattle.rules.specs.Positions.{left_of, move_of}
-use Rattle.rules.specs.Number.{number_of}
 use Rattle.rules.specs.Medium.{mediumAfter, span_of}
 use mathlib.Core.Path.{◌≡◌, refl}
 use Rattle.bits.specs.Contract.{Tied}
@@ -16,26 +15,28 @@ use Rattle.rules.proofs.facts
 use Rattle.rules.specs.contracts.facts as facts-said
 use Rattle.rules.proofs.medium
 use Rattle.rules.specs.contracts.medium as medium-said
+use Rattle.rules.proofs.phases
+use Rattle.rules.specs.contracts.phases as phases-said
 
-pub tied-frame-act : Tied decide-said.frame_act.ended decide.frame_act.Reads.Asked decide.frame_act.Reads.Post (λ κs a r ws. r ≡ heardAct a.0 a.1.0)
+pub tied-frame-act : Tied decide-said.frame_act.ended decide.frame_act.Reads.Asked decide.frame_act.Reads.Post (λ κs a r ws. r ≡ heardAct a.0.now a.1.0)
 tied-frame-act = named (say (λ κs a. tt) (λ κs a r ws p. p)) (λ κs a ws ws'. refl)
 
-pub tied-open-act : Tied device_events-said.open_act.ended device_events.open_act.Reads.Asked device_events.open_act.Reads.Post (λ κs a r ws. r ≡ act a.0 (openPhase a.1.0))
+pub tied-open-act : Tied phases-said.open_act.ended phases.open_act.Reads.Asked phases.open_act.Reads.Post (λ κs a r ws. r ≡ act a.0.now (openPhase a.1.0))
 tied-open-act = named (say (λ κs a. tt) (λ κs a r ws p. p)) (λ κs a ws ws'. refl)
 
-pub tied-send-act : Tied device_events-said.send_act.ended device_events.send_act.Reads.Asked device_events.send_act.Reads.Post (λ κs a r ws. r ≡ act a.0 sendData)
+pub tied-send-act : Tied phases-said.send_act.ended phases.send_act.Reads.Asked phases.send_act.Reads.Post (λ κs a r ws. r ≡ act a.0.now sendData)
 tied-send-act = named (say (λ κs a. tt) (λ κs a r ws p. p)) (λ κs a ws ws'. refl)
 
-pub tied-finish-act : Tied device_events-said.finish_act.ended device_events.finish_act.Reads.Asked device_events.finish_act.Reads.Post (λ κs a r ws. r ≡ act a.0 (finishTags a.1.0))
+pub tied-finish-act : Tied device_events-said.finish_act.ended device_events.finish_act.Reads.Asked device_events.finish_act.Reads.Post (λ κs a r ws. r ≡ act a.0.now (finishTags a.1.0))
 tied-finish-act = named (say (λ κs a. tt) (λ κs a r ws p. p)) (λ κs a ws ws'. refl)
 
-pub tied-media-act : Tied device_events-said.media_act.ended device_events.media_act.Reads.Asked device_events.media_act.Reads.Post (λ κs a r ws. r ≡ act a.0 (mediaError a.1.0 a.1.1.0 a.1.1.1.0))
+pub tied-media-act : Tied device_events-said.media_act.ended device_events.media_act.Reads.Asked device_events.media_act.Reads.Post (λ κs a r ws. r ≡ act a.0.now (mediaError a.1.0 a.1.1.0 a.1.1.1.0))
 tied-media-act = named (say (λ κs a. tt) (λ κs a r ws p. p)) (λ κs a ws ws'. refl)
 
-pub tied-link-act : Tied device_events-said.link_act.ended device_events.link_act.Reads.Asked device_events.link_act.Reads.Post (λ κs a r ws. r ≡ act a.0 (linkEvent a.1.0))
+pub tied-link-act : Tied device_events-said.link_act.ended device_events.link_act.Reads.Asked device_events.link_act.Reads.Post (λ κs a r ws. r ≡ act a.0.now (linkEvent a.1.0))
 tied-link-act = named (say (λ κs a. tt) (λ κs a r ws p. p)) (λ κs a ws ws'. refl)
 
-pub tied-comreset-act : Tied device_events-said.comreset_act.ended device_events.comreset_act.Reads.Asked device_events.comreset_act.Reads.Post (λ κs a r ws. r ≡ act a.0 comReset)
+pub tied-comreset-act : Tied device_events-said.comreset_act.ended device_events.comreset_act.Reads.Asked device_events.comreset_act.Reads.Post (λ κs a r ws. r ≡ act a.0.now comReset)
 tied-comreset-act = named (say (λ κs a. tt) (λ κs a r ws p. p)) (λ κs a ws ws'. refl)
 
 pub tied-some-unready : Tied device_events-said.some_unready.ended device_events.some_unready.Reads.Asked device_events.some_unready.Reads.Post (λ κs a r ws. r ≡ someUnready a.0.now a.1.0 a.1.1.0)
@@ -46,9 +47,6 @@ tied-left-of = named (say (λ κs a. tt) (λ κs a r ws p. p)) (λ κs a ws ws'.
 
 pub tied-next-move : Tied facts-said.next_move.ended facts.next_move.Reads.Asked facts.next_move.Reads.Post (λ κs a r ws. r ≡ move_of a.0 a.1.0 a.1.1.0)
 tied-next-move = named (say (λ κs a. tt) (λ κs a r ws p. p)) (λ κs a ws ws'. refl)
-
-pub tied-number-of : Tied medium-said.number_of.ended medium.number_of.Reads.Asked medium.number_of.Reads.Post (λ κs a r ws. r ≡ number_of a.0)
-tied-number-of = named (say (λ κs a. tt) (λ κs a r ws p. p)) (λ κs a ws ws'. refl)
 
 pub tied-span-of : Tied medium-said.span_of.ended medium.span_of.Reads.Asked medium.span_of.Reads.Post (λ κs a r ws. r ≡ span_of a.0)
 tied-span-of = named (say (λ κs a. tt) (λ κs a r ws p. p)) (λ κs a ws ws'. refl)

@@ -1,8 +1,8 @@
 -- What a call makes the device do: refused by the first of its tests that holds, and otherwise done. Assumes nothing.
-use Rattle.std.specs.Prelude.{false, not, ℕ, eqb}
-use Rattle.bits.specs.Pick.{pick}
-use Rattle.bits.specs.First.{first_of}
+use Rattle.std.specs.Prelude.{false, ℕ, Result}
 use Rattle.bits.specs.Little.{byte_of}
+use Rattle.refusals.specs.First.{first_of, unless}
+use Rattle.refusals.specs.declared.reasons.Refusal.{Refusal}
 use Rattle.frames.specs.Read.{readFrame}
 use Rattle.frames.specs.declared.shapes.Frame.{Frame}
 use Rattle.device_state.specs.declared.shapes.Echo.{Echo}
@@ -12,20 +12,17 @@ use Rattle.rules.specs.Tests.{kindTests, frameTests, tests}
 use Rattle.rules.specs.Decide.{frameAct}
 use Rattle.rules.specs.declared.facts.Facts.{Facts}
 use Rattle.rules.specs.declared.acts.Act.{Act}
-use Rattle.rules.specs.declared.acts.Act.TheVariants.{Refuse, Open, Send, Finish, Media, Count, Renew}
+use Rattle.rules.specs.declared.acts.Act.TheVariants.{Open, Send, Finish, Media, Count, Renew}
 
 -- after a media error 4-6 and 8-10 hold the failing sector
 unfoldable pub failing : Echo → ℕ → Echo
-failing e sector = record {
+failing e sector = record e {
   b4 = byte_of sector 0;
   b5 = byte_of sector 1;
   b6 = byte_of sector 2;
-  b7 = e.b7;
   b8 = byte_of sector 3;
   b9 = byte_of sector 4;
   b10 = byte_of sector 5;
-  b12 = e.b12;
-  b13 = e.b13;
 }
 
 -- a call that is not turned down: a host frame by its rules; open a phase for a tag; send min(8,192, what is left) bytes; finish a set; media error; link event; COMRESET
@@ -38,18 +35,14 @@ does v (mediaError t e s) = Media (record { nq = false; tag = t; error = e; echo
 does v (linkEvent r) = Count r
 does v comReset = Renew
 
--- the act, unless a number refuses it
-unfoldable pub decided : ℕ → Act → Act
-decided n act = pick (not (eqb n 0)) (Refuse n) act
-
--- a refusal returns its number, lowest number first; otherwise the call is done
-unfoldable pub act : Facts → Call → Act
-act v c = decided (first_of (tests v c)) (does v c)
+-- a refusal, lowest number first; otherwise the call is done
+unfoldable pub act : Facts → Call → Result Act Refusal
+act v c = unless (first_of (tests v c)) (does v c)
 
 -- of a host frame as it was read: what its code comes to
-abbrev pub heardAct : Facts → Frame → Act
-heardAct v f = decided (first_of (frameTests v f)) (frameAct v f)
+abbrev pub heardAct : Facts → Result Frame Refusal → Result Act Refusal
+heardAct v f = unless (first_of (frameTests v f)) (frameAct v f)
 
 -- the same by 4, 5 and 6 alone, where 1, 2 and 3 do not hold
-abbrev pub kindAct : Facts → Frame → Act
-kindAct v f = decided (first_of (kindTests v f)) (frameAct v f)
+abbrev pub kindAct : Facts → Result Frame Refusal → Result Act Refusal
+kindAct v f = unless (first_of (kindTests v f)) (frameAct v f)

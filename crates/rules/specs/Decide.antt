@@ -1,18 +1,19 @@
 -- What a host frame makes the device do where it is not turned down: the first rule that holds. Assumes nothing.
-use Rattle.std.specs.Prelude.{Bool, not, ◌&&◌, ◌||◌, ℕ, eqb}
+use Rattle.std.specs.Prelude.{Bool, true, false, not, ◌&&◌, ◌||◌, ℕ, eqb, Option, Some, None, Result, Ok, Err}
 use Rattle.bits.specs.Pick.{pick}
 use Rattle.bits.specs.Bit.{bitIn}
 use Rattle.frame_parts.specs.Shared.{tag_of, sectorsOf, srstOf}
 use Rattle.frames.specs.declared.shapes.HostReg.{HostReg}
 use Rattle.frames.specs.declared.shapes.Frame.{Frame}
-use Rattle.frames.specs.declared.shapes.Frame.TheVariants.{Host, Device, Bits, Setup, Activate, Data, Bist, Pio, Refused}
+use Rattle.frames.specs.declared.shapes.Frame.TheVariants.{Host, Data, Bist}
+use Rattle.refusals.specs.declared.reasons.Refusal.{Refusal}
 use Rattle.verdicts.specs.Range.{tooFar}
 use Rattle.verdicts.specs.Queued.{tagRefused, queuedRule}
 use Rattle.verdicts.specs.Other.{otherRule, logZeroes}
-use Rattle.verdicts.specs.declared.commands.QueuedRule.{QueuedRule}
-use Rattle.verdicts.specs.declared.commands.QueuedRule.TheVariants as queued
-use Rattle.verdicts.specs.declared.commands.OtherRule.{OtherRule}
-use Rattle.verdicts.specs.declared.commands.OtherRule.TheVariants as other
+use Rattle.verdicts.specs.declared.commands.LogPage.{LogPage}
+use Rattle.verdicts.specs.declared.commands.LogPage.TheVariants.{Errors, Counters}
+use Rattle.verdicts.specs.declared.commands.Bad as verdict
+use Rattle.verdicts.specs.declared.commands.Bad.TheVariants.{Only, Halts}
 use Rattle.device_state.specs.State.{echoOf}
 use Rattle.rules.specs.Positions.{move_of}
 use Rattle.device_state.specs.declared.shapes.Echo.{Echo}
@@ -28,6 +29,11 @@ bad h e = Bad (record { error = e; task = h.task })
 -- bad, and a halt whose record holds this command's bytes
 abbrev pub fault : HostReg → Bool → ℕ → ℕ → Act
 fault h nq t e = BadAndHalt (record { nq = nq; tag = t; error = e; echo = echoOf h.task })
+
+-- a bad command: bad alone, or with a halt for NQ and a tag
+abbrev pub badDoes : HostReg → Bool → ℕ → verdict.Bad → Act
+badDoes h nq t (Only e) = bad h e
+badDoes h nq t (Halts e) = fault h nq t e
 
 -- the tag that a queued command names
 abbrev pub tagAsked : HostReg → ℕ
@@ -49,11 +55,10 @@ entryFor h = record {
   echo = echoOf h.task;
 }
 
--- what a rule of a queued command makes the device do
-abbrev pub queuedDoes : HostReg → QueuedRule → Act
-queuedDoes h (queued.BadOnly e) = bad h e
-queuedDoes h (queued.Halts k) = fault h k.nq (tagAsked h) k.error
-queuedDoes h queued.Good = Accept (record { tag = tagAsked h; entry = entryFor h })
+-- what a rule of a queued command makes the device do; a halt is for its tag, with NQ 0
+abbrev pub queuedDoes : HostReg → Result Unit verdict.Bad → Act
+queuedDoes h (Ok _) = Accept (record { tag = tagAsked h; entry = entryFor h })
+queuedDoes h (Err b) = badDoes h false (tagAsked h) b
 
 -- queued command: what the first rule that holds says
 unfoldable pub queuedAct : Facts → HostReg → Act
@@ -62,21 +67,23 @@ queuedAct v h =
     (queuedRule v.status.halted (tagRefused v.settings.depth (tagAsked h) (bitIn 32 v.status.outstanding (tagAsked h)))
     (tooFar v.settings.capacity h.task.lba (countAsked h)))
 
--- READ LOG EXT (2Fh) is well-formed if byte 4 is 10h or 11h, bytes 5 and 9 are 0, byte 12 is 1 and 13 is 0; its page, else 0
-unfoldable pub logPage : ℕ → Echo → ℕ
-logPage command e =
-    pick (eqb command 0x2F && (eqb e.b4 0x10 || eqb e.b4 0x11) && (eqb e.b5 0 && eqb e.b9 0) && (eqb e.b12 1 && eqb e.b13 0)) e.b4 0
+-- the log page of a number: 10h and 11h alone
+abbrev pub pageNamed : ℕ → Option LogPage
+pageNamed n = pick (eqb n 0x10) (Some Errors) (pick (eqb n 0x11) (Some Counters) None)
 
--- the page that a command asks for, or 0
-abbrev pub pageAsked : HostReg → ℕ
+-- READ LOG EXT (2Fh) is well-formed if byte 4 is 10h or 11h, bytes 5 and 9 are 0, byte 12 is 1 and 13 is 0: the page that it asks for, if it does
+unfoldable pub logPage : ℕ → Echo → Option LogPage
+logPage command e = pick (eqb command 0x2F && (eqb e.b5 0 && eqb e.b9 0) && (eqb e.b12 1 && eqb e.b13 0)) (pageNamed e.b4) None
+
+-- the page that a command asks for, if it asks for one
+abbrev pub pageAsked : HostReg → Option LogPage
 pageAsked h = logPage h.command (echoOf h.task)
 
--- what a rule of any other command makes the device do; a halt is for no tag
-abbrev pub otherDoes : HostReg → OtherRule → Act
-otherDoes h (other.BadOnly e) = bad h e
-otherDoes h (other.Halts k) = fault h k.nq 0 k.error
-otherDoes h other.Page10 = Log10 h.task
-otherDoes h other.Page11 = Log11 (record { zero = logZeroes h.features; task = h.task })
+-- what a rule of any other command makes the device do; a halt is for no tag, with NQ 1
+abbrev pub otherDoes : HostReg → Result LogPage verdict.Bad → Act
+otherDoes h (Ok Errors) = Log10 h.task
+otherDoes h (Ok Counters) = Log11 (record { zero = logZeroes h.features; task = h.task })
+otherDoes h (Err b) = badDoes h true 0 b
 
 -- any other command: what the first rule that holds says
 unfoldable pub otherAct : Facts → HostReg → Act
@@ -95,13 +102,8 @@ unfoldable pub registerAct : Facts → HostReg → Act
 registerAct v h = pick (not h.command_bit) (controlAct v h) (pick (isQueued h) (queuedAct v h) (otherAct v h))
 
 -- by its kind: host data goes to the medium; BIST Activate zeroes the counters; a frame of any other kind is always turned down
-unfoldable pub frameAct : Facts → Frame → Act
-frameAct v (Host h) = registerAct v h
-frameAct v (Device f) = Nothing
-frameAct v (Bits f) = Nothing
-frameAct v (Setup f) = Nothing
-frameAct v Activate = Nothing
-frameAct v (Data n) = Store (move_of v.status v.entry n)
-frameAct v Bist = ZeroCounters
-frameAct v (Pio f) = Nothing
-frameAct v Refused = Nothing
+unfoldable pub frameAct : Facts → Result Frame Refusal → Act
+frameAct v (Ok (Host h)) = registerAct v h
+frameAct v (Ok (Data n)) = Store (move_of v.status v.entry n)
+frameAct v (Ok Bist) = ZeroCounters
+frameAct v _ = Nothing

@@ -4,5 +4,4 @@ pub mod Positions
 pub mod Tests
 pub mod Decide
 pub mod Act
-pub mod Number
 pub mod Medium

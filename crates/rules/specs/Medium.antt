@@ -3,7 +3,7 @@ use Rattle.std.specs.Prelude.{List, ℕ, take, drop}
 unfoldable pub use Rattle.moves.specs.Stored.{stored}
 use Rattle.rules.specs.declared.acts.Move.{Move}
 use Rattle.rules.specs.declared.acts.Act.{Act}
-use Rattle.rules.specs.declared.acts.Act.TheVariants.{Refuse, Nothing, Bad, BadAndHalt, Accept, Log10, Log11, Reset, Release, ZeroCounters, Store, Open, Send, Finish, Media, Count, Renew}
+use Rattle.rules.specs.declared.acts.Act.TheVariants.{Store, Send}
 use Rattle.rules.specs.declared.medium.Span.{Span}
 
 -- what an act has to do with the medium: nothing, a part of it is sent, or host data goes there

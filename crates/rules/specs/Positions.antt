@@ -1,11 +1,16 @@
 -- Positions of a command: what is left, and where. What has moved is kept in bytes. Assumes nothing.
-use Rattle.std.specs.Prelude.{ℕ, ◌-◌}
+use Rattle.std.specs.Prelude.{ℕ, unwrap_or}
 use Rattle.moves.specs.Amounts.{leftIn, partIn, lastIn, movedOn}
 use Rattle.moves.specs.Stored.{place_in}
+use Rattle.moves.specs.declared.amounts.Progress.{Progress}
 use Rattle.device_state.specs.State.{whole_of}
 use Rattle.device_state.specs.declared.shapes.Entry.{Entry}
 use Rattle.device_state.specs.declared.shapes.Status.{Status}
 use Rattle.rules.specs.declared.acts.Move.{Move}
+
+-- the whole of a command, and what has moved of it
+abbrev pub progress_of : Entry → Progress
+progress_of e = record { whole = whole_of e.count; moved = e.moved }
 
 -- what is left of a command, in bytes
 abbrev pub left_of : Entry → ℕ
@@ -21,20 +26,12 @@ place_of e = place_in e.first e.moved
 
 -- the entry once n bytes have moved
 unfoldable pub advancedBy : Entry → ℕ → Entry
-advancedBy e n = record {
-  write = e.write;
-  first = e.first;
-  count = e.count;
-  moved = movedOn e.moved n;
-  features = e.features;
-  features_high = e.features_high;
-  echo = e.echo;
-}
+advancedBy e n = record e { moved = movedOn e.moved n }
 
 -- n bytes that move in the open phase, or what is left if that is less; at nothing left it is the last
 unfoldable pub move_of : Status → Entry → ℕ → Move
 move_of f e n = record {
-  tag = f.phase - 1;
+  tag = unwrap_or f.phase 0;
   at = place_of e;
   size = size_of e n;
   entry = advancedBy e (size_of e n);

@@ -1,10 +1,12 @@
 -- What a call is turned down for: its row of the refusal table, in the order in which it is tried. Assumes nothing.
-use Rattle.std.specs.Prelude.{Bool, true, false, not, ◌&&◌, ◌||◌, List, [], ◌∷◌, ℕ, eqb}
-use Rattle.bits.specs.First.{Rung, rung}
+use Rattle.std.specs.Prelude.{Bool, true, false, not, ◌&&◌, ◌||◌, List, [], ◌∷◌, ℕ, eqb, is_none, Result, Ok}
+use Rattle.refusals.specs.First.{Rung, rung}
+use Rattle.refusals.specs.declared.reasons.Refusal.{Refusal}
+use Rattle.refusals.specs.declared.reasons.Refusal.TheVariants.{NoHostFrame, WrongTime, TooLong}
 use Rattle.bits.specs.Bit.{bitIn}
 use Rattle.frames.specs.Read.{readFrame}
 use Rattle.frames.specs.declared.shapes.Frame.{Frame}
-use Rattle.frames.specs.declared.shapes.Frame.TheVariants.{Host, Device, Bits, Setup, Activate, Data, Bist, Pio, Refused}
+use Rattle.frames.specs.declared.shapes.Frame.TheVariants.{Host, Data, Bist}
 use Rattle.refusals.specs.Ladders.{hostLadder, openLadder, sendLadder, finishLadder, mediaLadder, linkLadder, comresetLadder}
 use Rattle.verdicts.specs.Range.{outsideOf}
 use Rattle.verdicts.specs.Moved.{longer, wholly, notReady}
@@ -17,30 +19,30 @@ use Rattle.rules.specs.Positions.{left_of}
 use Rattle.rules.specs.declared.facts.Facts.{Facts}
 
 -- 4: frame type not 27h, 46h, 58h; wrong length, for which the reader refuses the frame
-unfoldable pub wrongKind : Frame → Bool
-wrongKind (Host h) = false
-wrongKind (Data n) = false
-wrongKind Bist = false
+unfoldable pub wrongKind : Result Frame Refusal → Bool
+wrongKind (Ok (Host h)) = false
+wrongKind (Ok (Data n)) = false
+wrongKind (Ok Bist) = false
 wrongKind _ = true
 
 -- 5: command while reset is held or a phase is open; data with no write phase; BIST while a phase is open
-unfoldable pub wrongTime : Facts → Frame → Bool
-wrongTime v (Host h) = h.command_bit && (v.status.held || v.link_busy)
-wrongTime v (Data n) = eqb v.status.phase 0 || not v.entry.write
-wrongTime v Bist = v.link_busy
+unfoldable pub wrongTime : Facts → Result Frame Refusal → Bool
+wrongTime v (Ok (Host h)) = h.command_bit && (v.status.held || v.link_busy)
+wrongTime v (Ok (Data n)) = is_none v.status.phase || not v.entry.write
+wrongTime v (Ok Bist) = v.link_busy
 wrongTime v _ = false
 
 -- 6: the payload is longer than what is left of the command
-unfoldable pub wrongSize : Facts → Frame → Bool
-wrongSize v (Data n) = longer (left_of v.entry) n
+unfoldable pub wrongSize : Facts → Result Frame Refusal → Bool
+wrongSize v (Ok (Data n)) = longer (left_of v.entry) n
 wrongSize v _ = false
 
 -- 4, 5 and 6: what of a host frame's row its kind decides
-abbrev pub kindTests : Facts → Frame → List Rung
-kindTests v f = rung 4 (wrongKind f) ∷ rung 5 (wrongTime v f) ∷ rung 6 (wrongSize v f) ∷ []
+abbrev pub kindTests : Facts → Result Frame Refusal → List Rung
+kindTests v f = rung NoHostFrame (wrongKind f) ∷ rung WrongTime (wrongTime v f) ∷ rung TooLong (wrongSize v f) ∷ []
 
 -- the whole row of a host frame, as it was read
-abbrev pub frameTests : Facts → Frame → List Rung
+abbrev pub frameTests : Facts → Result Frame Refusal → List Rung
 frameTests v f = hostLadder v.contradicts v.medium_wrong v.reply_short (wrongKind f) (wrongTime v f) (wrongSize v f)
 
 -- 7: a tag that is not outstanding; a tag of 32 or more never is
@@ -53,7 +55,7 @@ allMoved e = wholly e.moved (whole_of e.count)
 
 -- 10: no read phase
 abbrev pub noReadPhase : Facts → Bool
-noReadPhase v = eqb v.status.phase 0 || v.entry.write
+noReadPhase v = is_none v.status.phase || v.entry.write
 
 -- 11: a tag of the set that is not outstanding or not wholly moved
 abbrev pub unready : Entry → Bool → Bool → Bool

@@ -2,15 +2,15 @@
 use device_state::{Echo, Entry};
 use frame_parts::Task;
 
-// A device register reply with ERR.
-#[derive(Clone, Copy)]
+/// A device register reply with ERR.
+#[derive(Clone, Copy, Debug, PartialEq, Eq)]
 pub struct BadReply {
     pub error: u8,
     pub task: Task,
 }
 
-// An error that halts the device, and what its record will hold.
-#[derive(Clone, Copy)]
+/// An error that halts the device, and what its record will hold.
+#[derive(Clone, Copy, Debug, PartialEq, Eq)]
 pub struct Fault {
     pub nq: bool,
     pub tag: u8,
@@ -18,22 +18,22 @@ pub struct Fault {
     pub echo: Echo,
 }
 
-// A queued command: accepted, or its phase to be opened.
-#[derive(Clone, Copy)]
+/// A queued command: accepted, or its phase to be opened.
+#[derive(Clone, Copy, Debug, PartialEq, Eq)]
 pub struct Queued {
     pub tag: u8,
     pub entry: Entry,
 }
 
-// Page 11h to be sent; with `zero` the counters are zeroed after it is made.
-#[derive(Clone, Copy)]
+/// Page 11h to be sent; with `zero` the counters are zeroed after it is made.
+#[derive(Clone, Copy, Debug, PartialEq, Eq)]
 pub struct CountersRead {
     pub zero: bool,
     pub task: Task,
 }
 
-// Data that move: `size` bytes of the medium from `at` on, and the command's entry once they have moved. `last`: nothing is left then.
-#[derive(Clone, Copy)]
+/// Data that move: `size` bytes of the medium from `at` on, and the command's entry once they have moved. `last`: nothing is left then.
+#[derive(Clone, Copy, Debug, PartialEq, Eq)]
 pub struct Move {
     pub tag: u32,
     pub at: usize,
@@ -42,10 +42,9 @@ pub struct Move {
     pub last: bool,
 }
 
-// By the rule that holds.
-#[derive(Clone, Copy)]
+/// What is done, by the rule that holds: a call that is refused has no act.
+#[derive(Clone, Copy, Debug, PartialEq, Eq)]
 pub enum Act {
-    Refuse(u8),
     Nothing,
     Bad(BadReply),
     BadAndHalt(Fault),

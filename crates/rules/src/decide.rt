@@ -1,166 +1,192 @@
 // What a host frame makes the device do: the first rule that holds.
-ghost use Rattle.std.specs.Prelude.{◌≡◌};
+ghost use Rattle.std.specs.Prelude.{◌≡◌, Ok};
 ghost use Rattle.frames.specs.declared.shapes.Frame.TheVariants.{Host, Data, Bist};
-ghost use Rattle.rules.specs.Decide.{queuedAct, logPage, otherAct, controlAct};
+ghost use Rattle.rules.specs.Decide.{badDoes, queuedAct, pageNamed, logPage, otherAct, controlAct, registerAct};
 ghost use Rattle.rules.specs.Act.{kindAct, heardAct};
 
 use crate::acts::{Act, BadReply, CountersRead, Fault, Queued};
 use crate::facts::{Facts, left_of, next_move};
-use device_state::{Echo, Entry, echo_of};
+use device_state::{Echo, Entry};
 use frames::{Frame, HostReg};
-use verdicts::{OtherRule, QueuedRule};
+use refusals::{Refusal, check};
+use verdicts::{Bad, LogPage};
+
+// A bad command: answered, with a halt for NQ and a tag if it halts.
+fn bad_act(h: HostReg, nq: bool, tag: u8, bad: Bad) -> Act
+    ensures { result ≡ badDoes h nq tag bad }
+{
+    match bad {
+        Bad::Only(error) => Act::Bad(BadReply {
+            error,
+            task: h.task,
+        }),
+        Bad::Halts(error) => Act::BadAndHalt(Fault {
+            nq,
+            tag,
+            error,
+            echo: Echo::from(h.task),
+        }),
+    }
+}
 
 // Rules 1 to 4 of a queued command.
-fn queued_act(v: Facts, h: HostReg) -> Act
-    ensures { result ≡ queuedAct v h }
+#[tactic(auto, unfolding(crate::specs::Decide::queuedAct, bits::specs::Pick::pick))]
+fn queued_act(v: &Facts, h: HostReg) -> Act
+    ensures { result ≡ queuedAct v.now h }
 {
-    let task = h.task;
-    let status = v.status;
-    let settings = v.settings;
-    let echo = echo_of(task);
-    let tag = frame_parts::tag_of(task.count);
+    let tag = frame_parts::tag_of(h.task.count);
     let count = frame_parts::sectors_of(h.features, h.features_high);
-    let busy = bits::bit(status.outstanding, tag as u32);
-    let first = task.lba;
     let rule = verdicts::queued_rule(
-        status.halted,
-        settings.depth,
+        v.status.halted,
+        v.settings.depth,
         tag,
-        busy,
-        settings.capacity,
-        first,
+        bits::bit(v.status.outstanding, tag as u32),
+        v.settings.capacity,
+        h.task.lba,
         count,
     );
     match rule {
-        QueuedRule::BadOnly(error) => Act::Bad(BadReply { error, task }),
-        QueuedRule::Halts(k) => Act::BadAndHalt(Fault {
-            nq: k.nq,
-            tag,
-            error: k.error,
-            echo,
-        }),
-        QueuedRule::Good => {
+        Err(bad) => bad_act(h, false, tag, bad),
+        Ok(()) => {
             let entry = Entry {
                 write: h.command == 0x61,
-                first: first as u32,
+                first: h.task.lba as u32,
                 count,
                 moved: 0,
                 features: h.features,
                 features_high: h.features_high,
-                echo,
+                echo: Echo::from(h.task),
             };
             Act::Accept(Queued { tag, entry })
         }
     }
 }
 
-// 10h or 11h for a well-formed READ LOG EXT, otherwise 0.
-fn log_page(command: u8, e: Echo) -> u8
+// The log page of a number, if it is one of the two.
+#[tactic(auto, unfolding(bits::specs::Pick::pick))]
+fn page_named(number: u8) -> Option<LogPage>
+    ensures { result ≡ pageNamed number }
+{
+    match number {
+        0x10 => Some(LogPage::Errors),
+        0x11 => Some(LogPage::Counters),
+        _ => None,
+    }
+}
+
+// The page that a well-formed READ LOG EXT asks for; any other command asks for none.
+#[tactic(auto, unfolding(crate::specs::Decide::logPage, bits::specs::Pick::pick))]
+fn log_page(command: u8, e: Echo) -> Option<LogPage>
     ensures { result ≡ logPage command e }
 {
-    let page = (e.b4 == 0x10) | (e.b4 == 0x11);
-    if (command == 0x2F) & page & ((e.b5 == 0) & (e.b9 == 0)) & ((e.b12 == 1) & (e.b13 == 0)) {
-        return e.b4;
+    if command == 0x2F && (e.b5 == 0 && e.b9 == 0) && (e.b12 == 1 && e.b13 == 0) {
+        return page_named(e.b4);
     }
-    0
+    None
 }
 
 // Any other command.
-fn other_act(v: Facts, h: HostReg) -> Act
-    ensures { result ≡ otherAct v h }
+#[tactic(auto, unfolding(crate::specs::Decide::otherAct))]
+fn other_act(v: &Facts, h: HostReg) -> Act
+    ensures { result ≡ otherAct v.now h }
 {
-    let task = h.task;
-    let status = v.status;
-    let echo = echo_of(task);
-    let page = log_page(h.command, echo);
-    let zero = verdicts::log_zeroes(h.features);
-    let busy = !(status.outstanding == 0);
-    let rule = verdicts::other_rule(status.halted, page, busy);
-    match rule {
-        OtherRule::BadOnly(error) => Act::Bad(BadReply { error, task }),
-        OtherRule::Halts(k) => Act::BadAndHalt(Fault {
-            nq: k.nq,
-            tag: 0,
-            error: k.error,
-            echo,
+    let page = log_page(h.command, Echo::from(h.task));
+    match verdicts::other_rule(v.status.halted, page, v.status.outstanding != 0) {
+        Err(bad) => bad_act(h, true, 0, bad),
+        Ok(LogPage::Errors) => Act::Log10(h.task),
+        Ok(LogPage::Counters) => Act::Log11(CountersRead {
+            zero: verdicts::log_zeroes(h.features),
+            task: h.task,
         }),
-        OtherRule::Page10 => Act::Log10(task),
-        OtherRule::Page11 => Act::Log11(CountersRead { zero, task }),
     }
 }
 
 // A control frame.
-fn control_act(v: Facts, h: HostReg) -> Act
-    ensures { result ≡ controlAct v h }
+#[tactic(auto, unfolding(crate::specs::Decide::controlAct, bits::specs::Pick::pick))]
+fn control_act(v: &Facts, h: HostReg) -> Act
+    ensures { result ≡ controlAct v.now h }
 {
-    let status = v.status;
     if frame_parts::srst(h.control) {
         return Act::Reset;
     }
-    if status.held {
+    if v.status.held {
         return Act::Release;
     }
     Act::Nothing
 }
 
-// 27h.
-fn register_act(v: Facts, h: HostReg) -> Act
-    ensures { result ≡ kindAct v (Host h) }
+// A register frame at its time.
+#[tactic(auto, unfolding(crate::specs::Decide::registerAct, bits::specs::Pick::pick))]
+fn timely_act(v: &Facts, h: HostReg) -> Act
+    ensures { result ≡ registerAct v.now h }
 {
-    let status = v.status;
     if !h.command_bit {
         return control_act(v, h);
     }
-    if status.held | v.link_busy {
-        return Act::Refuse(5);
-    }
-    if (h.command == 0x60) | (h.command == 0x61) {
+    if h.command == 0x60 || h.command == 0x61 {
         return queued_act(v, h);
     }
     other_act(v, h)
 }
 
-// 46h: host data in a write phase.
-fn data_act(v: Facts, n: usize) -> Act
-    ensures { result ≡ kindAct v (Data n) }
+// 27h.
+#[tactic(auto, unfolding(crate::specs::Decide::frameAct, crate::specs::Tests::wrongKind, crate::specs::Tests::wrongTime, crate::specs::Tests::wrongSize, refusals::specs::First::first_of, bits::specs::Pick::pick))]
+fn register_act(v: &Facts, h: HostReg) -> Result<Act, Refusal>
+    ensures { result ≡ kindAct v.now (Ok (Host h)) }
 {
-    let status = v.status;
-    let e = v.entry;
-    if (status.phase == 0) | !e.write {
-        return Act::Refuse(5);
+    if h.command_bit && (v.status.held || v.link_busy) {
+        return Err(Refusal::WrongTime);
     }
-    if verdicts::longer(left_of(e), n) {
-        return Act::Refuse(6);
+    Ok(timely_act(v, h))
+}
+
+// 46h: host data in a write phase.
+#[tactic(auto, unfolding(crate::specs::Decide::frameAct, crate::specs::Tests::wrongKind, crate::specs::Tests::wrongTime, crate::specs::Tests::wrongSize, refusals::specs::First::first_of, bits::specs::Pick::pick))]
+fn data_act(v: &Facts, n: usize) -> Result<Act, Refusal>
+    ensures { result ≡ kindAct v.now (Ok (Data n)) }
+{
+    if v.status.phase.is_none() || !v.entry.write {
+        return Err(Refusal::WrongTime);
     }
-    Act::Store(next_move(status, e, n))
+    if verdicts::longer(left_of(v.entry), n) {
+        return Err(Refusal::TooLong);
+    }
+    Ok(Act::Store(next_move(v.status, v.entry, n)))
 }
 
 // 58h.
-fn bist_act(v: Facts) -> Act
-    ensures { result ≡ kindAct v Bist }
+#[tactic(auto, unfolding(crate::specs::Decide::frameAct, crate::specs::Tests::wrongKind, crate::specs::Tests::wrongTime, crate::specs::Tests::wrongSize, refusals::specs::First::first_of, bits::specs::Pick::pick))]
+fn bist_act(v: &Facts) -> Result<Act, Refusal>
+    ensures { result ≡ kindAct v.now (Ok Bist) }
 {
     if v.link_busy {
-        return Act::Refuse(5);
+        return Err(Refusal::WrongTime);
     }
-    Act::ZeroCounters
+    Ok(Act::ZeroCounters)
 }
 
-// A host frame, as it was read.
-pub fn frame_act(v: Facts, f: Frame) -> Act
-    ensures { result ≡ heardAct v f }
+// A host frame for which what is lent is right.
+#[tactic(auto, unfolding(crate::specs::Tests::wrongKind, refusals::specs::First::first_of, bits::specs::Pick::pick))]
+fn kind_act(v: &Facts, frame: Result<Frame, Refusal>) -> Result<Act, Refusal>
+    ensures { result ≡ kindAct v.now frame }
 {
-    let lent = refusals::lent_number(v.contradicts, v.medium_wrong, v.reply_short);
-    if !(lent == 0) {
-        return Act::Refuse(lent);
+    match frame {
+        Ok(Frame::Host(h)) => register_act(v, h),
+        Ok(Frame::Data(n)) => data_act(v, n),
+        Ok(Frame::Bist) => bist_act(v),
+        _ => Err(Refusal::NoHostFrame),
     }
-    let Frame::Host(h) = f else {
-        let Frame::Data(n) = f else {
-            let Frame::Bist = f else {
-                return Act::Refuse(4);
-            };
-            return bist_act(v);
-        };
-        return data_act(v, n);
-    };
-    register_act(v, h)
+}
+
+/// A host frame, as it was read. Refused with 1, 2, 3, 4 (the reader turned it down, or its kind is no host's), 5 or 6.
+#[tactic(auto, unfolding(refusals::specs::First::first_of, bits::specs::Pick::pick))]
+pub fn frame_act(v: &Facts, frame: Result<Frame, Refusal>) -> Result<Act, Refusal>
+    ensures { result ≡ heardAct v.now frame }
+{
+    check(&[
+        (v.contradicts, Refusal::Contradiction),
+        (v.medium_wrong, Refusal::MediumLength),
+        (v.reply_short, Refusal::ReplyShort),
+    ])?;
+    kind_act(v, frame)
 }

@@ -1,4 +1,4 @@
-// The rules of the device over plain values: what each call makes it do, or the number that it is refused with.
+// The rules of the device over plain values: what each call makes it do, or what it is refused with.
 #![tactic(auto)]
 
 mod acts;
@@ -6,11 +6,11 @@ mod decide;
 mod device_events;
 mod facts;
 mod medium;
+mod phases;
 
 pub use acts::{Act, BadReply, CountersRead, Fault, Move, Queued};
 pub use decide::frame_act;
-pub use device_events::{
-    comreset_act, finish_act, link_act, media_act, open_act, send_act, some_unready,
-};
+pub use device_events::{comreset_act, finish_act, link_act, media_act, some_unready};
 pub use facts::{Facts, left_of};
-pub use medium::{Span, number_of, span_of, store_data};
+pub use medium::{Span, span_of, store_data};
+pub use phases::{open_act, send_act};

@@ -2,5 +2,12 @@
 #![tactic(auto)]
 
 fn main(rt: HostRuntime) {
-    event_run::run(&mut rt.stdin(), &mut rt.stdout(), &mut rt.stderr(), false);
+    event_program::run_in_pieces(
+        rt.alloc(),
+        false,
+        event_program::PIECE,
+        rt.stdin(),
+        &mut rt.stdout(),
+        &mut rt.stderr(),
+    );
 }

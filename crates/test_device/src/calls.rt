@@ -1,88 +1,95 @@
 // The calls that are lent a reply buffer, and two of them the medium.
-ghost use Rattle.std.specs.Prelude.{◌≤◌};
-
 use crate::{fills, lines};
+use bits::{le16, le32};
 use device::{Device, Outcome};
-use frame_parts::byte_of;
 use std::io;
 use std::io::Write;
-use vector_io::{four, two};
 
-fn too_long<W: Write>(out: &mut W, state: Device) -> io::Result<Device> {
-    vector_io::word(out, b"too long")?;
-    vector_io::line(out)?;
-    Ok(state)
+#[derive(Clone, Copy)]
+pub enum Call {
+    HostFrame,
+    Open,
+    Send,
+    Finish,
+    MediaError,
+    Comreset,
+}
+
+// Room for the longest frame and for every reply.
+const ROOM: usize = 8300;
+
+impl Call {
+    // Whether it is lent the medium.
+    pub fn takes_medium(self) -> bool {
+        match self {
+            Call::HostFrame | Call::Send => true,
+            Call::Open | Call::Finish | Call::MediaError | Call::Comreset => false,
+        }
+    }
 }
 
 // How many bytes of the medium a call is lent, and how many its frame has.
-fn medium_size(op: u8, r: &[u8]) -> usize {
-    match op {
-        0x46 | 0x53 => four(r, 3) as usize,
-        _ => 0,
+fn medium_size(call: Call, r: &[u8; 32]) -> usize {
+    if call.takes_medium() {
+        le32(r, 3) as usize
+    } else {
+        0
     }
 }
 
-fn frame_size(op: u8, r: &[u8]) -> usize {
-    match op {
-        0x46 => two(r, 7) as usize,
-        _ => 0,
+fn frame_size(call: Call, r: &[u8; 32]) -> usize {
+    match call {
+        Call::HostFrame => le16(r, 7) as usize,
+        Call::Open | Call::Send | Call::Finish | Call::MediaError | Call::Comreset => 0,
     }
 }
 
-fn host_frame(state: Device, r: &[u8], n: usize, medium: &mut [u8], reply: &mut [u8]) -> Outcome
-    requires { n ≤ 8300 }
-{
-    let mut frame = [0u8; 8300];
-    fills::fill_frame(&mut frame, r);
-    state.host_frame(&frame[0..n], medium, reply)
-}
-
-fn called(op: u8, state: Device, r: &[u8], n: usize, medium: &mut [u8], reply: &mut [u8]) -> Outcome
-    requires { n ≤ 8300 }
-{
-    match op {
-        0x4F => state.open(byte_of(r, 3), reply),
-        0x53 => state.send(medium, reply),
-        0x49 => state.finish(four(r, 3), reply),
-        0x58 => state.media_error(byte_of(r, 3), byte_of(r, 4), four(r, 5), reply),
-        0x5A => state.comreset(reply),
-        _ => host_frame(state, r, n, medium, reply),
-    }
-}
-
-fn call_with<W: Write>(
-    out: &mut W,
-    op: u8,
-    state: Device,
-    r: &[u8],
+fn outcome(
+    call: Call,
+    state: &Device,
+    r: &[u8; 32],
+    frame: &[u8],
     medium: &mut [u8],
     reply: &mut [u8],
-) -> io::Result<Device> {
-    let room = two(r, 1) as usize;
-    let m = medium_size(op, r);
-    let n = frame_size(op, r);
-    if reply.len() < room {
-        return too_long(out, state);
+) -> Outcome {
+    match call {
+        Call::HostFrame => state.host_frame(frame, medium, reply),
+        Call::Open => state.open(r[3], reply),
+        Call::Send => state.send(medium, reply),
+        Call::Finish => state.finish(le32(r, 3), reply),
+        Call::MediaError => state.media_error(r[3], r[4], le32(r, 5), reply),
+        Call::Comreset => state.comreset(reply),
     }
-    if medium.len() < m {
-        return too_long(out, state);
-    }
-    if 8300 < n {
-        return too_long(out, state);
-    }
-    // parts that name their start: their lengths then need no proof
-    let answer = called(op, state, r, n, &mut medium[0..m], &mut reply[0..room]);
-    lines::say_long(out, op, answer, medium, reply)
 }
 
-pub fn call<W: Write>(
-    out: &mut W,
-    op: u8,
-    state: Device,
-    r: &[u8],
+// What a call answers in parts of so many bytes of frame, medium and reply buffer; none where one has not so many.
+fn outcome_with(
+    call: Call,
+    state: &Device,
+    r: &[u8; 32],
     medium: &mut [u8],
-) -> io::Result<Device> {
+    reply: &mut [u8],
+) -> Option<Outcome> {
+    let mut frame = [0u8; ROOM];
+    fills::fill_frame(&mut frame, r);
+    let reply = reply.get_mut(..le16(r, 1) as usize)?;
+    let medium = medium.get_mut(..medium_size(call, r))?;
+    let frame = frame.get(..frame_size(call, r))?;
+    Some(outcome(call, state, r, frame, medium, reply))
+}
+
+pub fn say_call<W: Write>(
+    out: &mut W,
+    call: Call,
+    state: &mut Device,
+    r: &[u8; 32],
+    medium: &mut [u8],
+) -> io::Result<()> {
     // every byte is EEh, so that a byte that a call changed shows
-    let mut reply = [0xEEu8; 8300];
-    call_with(out, op, state, r, medium, &mut reply)
+    let mut reply = [0xEEu8; ROOM];
+    let Some(outcome) = outcome_with(call, state, r, medium, &mut reply) else {
+        return writeln!(out, "too long");
+    };
+    *state = outcome.state;
+    lines::say_long(out, call, &outcome, medium, &reply)
 }

@@ -19,7 +19,7 @@ fn run<R: Read, W: Write>(input: &mut R, out: &mut W, medium: &mut [u8]) -> io::
         if !vector_io::read_case(input, out, &mut record)? {
             return Ok(());
         }
-        state = answers::answer(out, state, &record, medium)?;
+        answers::answer(out, &mut state, &record, medium)?;
     }
     Ok(())
 }

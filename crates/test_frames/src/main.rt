@@ -16,7 +16,7 @@ fn run_case<R: Read, W: Write>(input: &mut R, out: &mut W) -> io::Result<bool> {
         return Ok(false);
     }
     answers::answer(out, &case)?;
-    vector_io::line(out)?;
+    writeln!(out)?;
     Ok(true)
 }
 

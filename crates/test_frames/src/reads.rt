@@ -1,178 +1,164 @@
 // The reading ops: a frame, page 10h, page 11h, and the cut of several frames.
 use frames::{DevReg, DmaSetup, Frame, HostReg, PioSetup, SetBits};
-use page_10h::{ErrorLog, Page10};
+use page_10h::ErrorLog;
+use refusals::Refusal;
 use std::io;
 use std::io::Write;
-use vector_io::{next, number, word};
 
-// 0 for a taken reading, and the first n of its fields.
-fn fields<W: Write>(out: &mut W, n: usize, v: [u64; 12]) -> io::Result<()> {
-    number(out, 0)?;
-    let mut i: usize = 0;
-    while i < 12 && i < n {
-        next(out, v[i])?;
-        i += 1;
+// 0 for a taken reading, and its values.
+fn say_values<W: Write>(out: &mut W, values: &[u64]) -> io::Result<()> {
+    write!(out, "0")?;
+    for value in values {
+        write!(out, " {value}")?;
     }
     Ok(())
 }
 
+fn say_refusal<W: Write>(out: &mut W, refusal: Refusal) -> io::Result<()> {
+    write!(out, "{}", refusal.number())
+}
+
 // The kind and the fields of a frame, as numbers.
-fn host(f: HostReg) -> [u64; 12] {
-    let t = f.task;
-    [
-        39,
-        f.command_bit as u64,
-        f.command as u64,
-        f.features as u64,
-        t.lba,
-        t.device as u64,
-        f.features_high as u64,
-        t.count as u64,
-        f.control as u64,
-        0,
-        0,
-        0,
-    ]
+fn say_host<W: Write>(out: &mut W, f: HostReg) -> io::Result<()> {
+    say_values(
+        out,
+        &[
+            0x27,
+            f.command_bit as u64,
+            f.command as u64,
+            f.features as u64,
+            f.task.lba,
+            f.task.device as u64,
+            f.features_high as u64,
+            f.task.count as u64,
+            f.control as u64,
+        ],
+    )
 }
 
-fn device(f: DevReg) -> [u64; 12] {
-    let t = f.task;
-    [
-        52,
-        f.interrupt as u64,
-        f.status as u64,
-        f.error as u64,
-        t.lba,
-        t.device as u64,
-        t.count as u64,
-        0,
-        0,
-        0,
-        0,
-        0,
-    ]
+fn say_device<W: Write>(out: &mut W, f: DevReg) -> io::Result<()> {
+    say_values(
+        out,
+        &[
+            0x34,
+            f.interrupt as u64,
+            f.status as u64,
+            f.error as u64,
+            f.task.lba,
+            f.task.device as u64,
+            f.task.count as u64,
+        ],
+    )
 }
 
-fn set_bits(f: SetBits) -> [u64; 12] {
-    [
-        161,
-        f.interrupt as u64,
-        f.status as u64,
-        f.error as u64,
-        f.active as u64,
-        0,
-        0,
-        0,
-        0,
-        0,
-        0,
-        0,
-    ]
+fn say_bits<W: Write>(out: &mut W, f: SetBits) -> io::Result<()> {
+    say_values(
+        out,
+        &[
+            0xA1,
+            f.interrupt as u64,
+            f.status as u64,
+            f.error as u64,
+            f.active as u64,
+        ],
+    )
 }
 
-fn setup(f: DmaSetup) -> [u64; 12] {
-    [
-        65,
-        f.auto as u64,
-        f.interrupt as u64,
-        f.to_host as u64,
-        f.tag as u64,
-        f.offset as u64,
-        f.count as u64,
-        0,
-        0,
-        0,
-        0,
-        0,
-    ]
+fn say_setup<W: Write>(out: &mut W, f: DmaSetup) -> io::Result<()> {
+    say_values(
+        out,
+        &[
+            0x41,
+            f.auto as u64,
+            f.interrupt as u64,
+            f.to_host as u64,
+            f.tag as u64,
+            f.offset as u64,
+            f.count as u64,
+        ],
+    )
 }
 
-fn pio(f: PioSetup) -> [u64; 12] {
-    let t = f.task;
-    [
-        95,
-        f.interrupt as u64,
-        f.to_host as u64,
-        f.status as u64,
-        f.error as u64,
-        t.lba,
-        t.device as u64,
-        t.count as u64,
-        f.ending as u64,
-        f.bytes as u64,
-        0,
-        0,
-    ]
+fn say_pio<W: Write>(out: &mut W, f: PioSetup) -> io::Result<()> {
+    say_values(
+        out,
+        &[
+            0x5F,
+            f.interrupt as u64,
+            f.to_host as u64,
+            f.status as u64,
+            f.error as u64,
+            f.task.lba,
+            f.task.device as u64,
+            f.task.count as u64,
+            f.ending as u64,
+            f.bytes as u64,
+        ],
+    )
 }
 
 pub fn say_frame<W: Write>(out: &mut W, s: &[u8]) -> io::Result<()> {
-    match frames::read_frame(s) {
-        Frame::Host(f) => fields(out, 9, host(f)),
-        Frame::Device(f) => fields(out, 7, device(f)),
-        Frame::Bits(f) => fields(out, 5, set_bits(f)),
-        Frame::Setup(f) => fields(out, 7, setup(f)),
-        Frame::Activate => fields(out, 1, [57, 0, 0, 0, 0, 0, 0, 0, 0, 0, 0, 0]),
-        Frame::Data(n) => fields(out, 2, [70, n as u64, 0, 0, 0, 0, 0, 0, 0, 0, 0, 0]),
-        Frame::Bist => fields(out, 1, [88, 0, 0, 0, 0, 0, 0, 0, 0, 0, 0, 0]),
-        Frame::Pio(f) => fields(out, 10, pio(f)),
-        Frame::Refused => number(out, 24),
+    let frame = match frames::read_frame(s) {
+        Ok(frame) => frame,
+        Err(refusal) => return say_refusal(out, refusal),
+    };
+    match frame {
+        Frame::Host(f) => say_host(out, f),
+        Frame::Device(f) => say_device(out, f),
+        Frame::Bits(f) => say_bits(out, f),
+        Frame::Setup(f) => say_setup(out, f),
+        Frame::Activate => say_values(out, &[0x39]),
+        Frame::Data(n) => say_values(out, &[0x46, n as u64]),
+        Frame::Bist => say_values(out, &[0x58]),
+        Frame::Pio(f) => say_pio(out, f),
     }
 }
 
-fn log(f: ErrorLog) -> [u64; 12] {
-    let t = f.task;
-    [
-        f.nq as u64,
-        f.tag as u64,
-        f.status as u64,
-        f.error as u64,
-        t.lba,
-        t.device as u64,
-        t.count as u64,
-        0,
-        0,
-        0,
-        0,
-        0,
-    ]
+fn say_fields<W: Write>(out: &mut W, log: ErrorLog) -> io::Result<()> {
+    say_values(
+        out,
+        &[
+            log.nq as u64,
+            log.tag as u64,
+            log.status as u64,
+            log.error as u64,
+            log.task.lba,
+            log.task.device as u64,
+            log.task.count as u64,
+        ],
+    )
 }
 
 pub fn say_log<W: Write>(out: &mut W, s: &[u8]) -> io::Result<()> {
     match page_10h::read_log(s) {
-        Page10::Fields(f) => fields(out, 7, log(f)),
-        Page10::Refused(n) => number(out, n as u64),
+        Ok(log) => say_fields(out, log),
+        Err(refusal) => say_refusal(out, refusal),
     }
 }
 
-pub fn say_counter<W: Write>(out: &mut W, s: &[u8], asked: u16) -> io::Result<()> {
-    vector_io::counter(out, page_11h::read_counter(s, asked))
+// What page 11h says of a counter, without the width of its value.
+pub fn counter(s: &[u8], asked: u16) -> Result<Option<u64>, Refusal> {
+    let found = page_11h::read_counter(s, asked)?;
+    Ok(found.map(|entry| entry.value))
 }
 
-fn say_piece<W: Write>(out: &mut W, first: bool, kind: u8, n: usize) -> io::Result<()> {
-    if !first {
-        word(out, b" ")?;
-    }
-    number(out, kind as u64)?;
-    word(out, b":")?;
-    number(out, n as u64)
-}
-
-// The pieces of s, each as its kind and its length.
+// The pieces of s, each as its kind and its length, between blanks.
 pub fn say_cut<W: Write>(out: &mut W, s: &[u8]) -> io::Result<()> {
-    if s.len() == 0 {
-        return word(out, b"none");
+    if s.is_empty() {
+        return write!(out, "none");
     }
-    let mut at: usize = 0;
-    while at < s.len() {
-        let n = frame_parts::cut_first(&s[at..]);
-        if n == 0 {
+    let mut rest = s;
+    let mut blank = "";
+    for _ in 0..s.len() {
+        let Some(kind) = rest.first() else {
             return Ok(());
-        }
-        if n > s.len() - at {
+        };
+        let Some((piece, more)) = rest.split_at_checked(frame_parts::cut_first(rest)) else {
             return Ok(());
-        }
-        say_piece(out, at == 0, s[at], n)?;
-        at += n;
+        };
+        write!(out, "{blank}{kind}:{}", piece.len())?;
+        blank = " ";
+        rest = more;
     }
     Ok(())
 }

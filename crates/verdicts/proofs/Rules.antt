@@ -1,20 +1,27 @@
 -- What a verdict tells of its tests. Assumes nothing.
 use mathlib.Core.Path.{◌≡◌, refl, sym, ap, ◌∙◌}
 use mathlib.Core.Bool.{Bool, true, false, true≢false}
+use Rattle.std.proofs.Common.{Option, Some, None, Result, Ok, Err, is_ok}
+use Rattle.std.specs.Option.{ok_or}
 use Rattle.bits.specs.Pick.{pick}
 use Rattle.verdicts.specs.Queued.{queuedRule}
-use Rattle.verdicts.specs.declared.commands.QueuedRule.{QueuedRule}
-use Rattle.verdicts.specs.declared.commands.QueuedRule.TheVariants.{BadOnly, Halts, Good}
-
-abbrev isGood : QueuedRule → Bool
-isGood (BadOnly e) = false
-isGood (Halts k) = false
-isGood Good = true
+use Rattle.verdicts.specs.Other.{asksErrors, asksCounters}
+use Rattle.verdicts.specs.declared.commands.LogPage.{LogPage}
+use Rattle.verdicts.specs.declared.commands.LogPage.TheVariants.{Errors, Counters}
+use Rattle.verdicts.specs.declared.commands.Bad.{Bad}
+use Rattle.verdicts.specs.declared.commands.Bad.TheVariants.{Only}
 
 -- a good queued command ends at or below capacity
-pub good-near : (r : QueuedRule) (halted tag far : Bool) → r ≡ Good → r ≡ queuedRule halted tag far → far ≡ false
+pub good-near : (r : Result Unit Bad) (halted tag far : Bool) → r ≡ Ok tt → r ≡ queuedRule halted tag far → far ≡ false
 unfolding pick
-good-near r true tag far g e = absurd (true≢false (ap isGood (sym g ∙ e)))
-good-near r false true far g e = absurd (true≢false (ap isGood (sym g ∙ e)))
-good-near r false false true g e = absurd (true≢false (ap isGood (sym g ∙ e)))
+good-near r true tag far g e = absurd (true≢false (ap is_ok (sym g ∙ e)))
+good-near r false true far g e = absurd (true≢false (ap is_ok (sym g ∙ e)))
+good-near r false false true g e = absurd (true≢false (ap is_ok (sym g ∙ e)))
 good-near r false false false g e = refl
+
+-- what a command that asks for a page comes to, by the page
+pub by-page : (P : Result LogPage Bad → Type 0) (page : Option LogPage) → (asksErrors page ≡ true → P (Ok Errors))
+    → (asksErrors page ≡ false → asksCounters page ≡ true → P (Ok Counters)) → (asksErrors page ≡ false → P (Err (Only 0x04))) → P (ok_or page (Only 0x04))
+by-page P (Some Errors) e c b = e refl
+by-page P (Some Counters) e c b = c refl refl
+by-page P None e c b = b refl

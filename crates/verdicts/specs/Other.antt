@@ -1,15 +1,26 @@
 -- Which rule holds for a command that is not queued. Assumes nothing.
-use Rattle.std.specs.Prelude.{Bool, true, not, ◌&&◌, ℕ, eqb}
+use Rattle.std.specs.Prelude.{Bool, true, false, not, ◌&&◌, ℕ, Option, Some, Result, Err}
+use Rattle.std.specs.Option.{ok_or}
 use Rattle.bits.specs.Pick.{pick}
 use Rattle.bits.specs.Bit.{bitIn}
-use Rattle.verdicts.specs.declared.commands.OtherRule.{OtherRule}
-use Rattle.verdicts.specs.declared.commands.OtherRule.TheVariants.{BadOnly, Halts, Page10, Page11}
+use Rattle.verdicts.specs.declared.commands.LogPage.{LogPage}
+use Rattle.verdicts.specs.declared.commands.LogPage.TheVariants.{Errors, Counters}
+use Rattle.verdicts.specs.declared.commands.Bad.{Bad}
+use Rattle.verdicts.specs.declared.commands.Bad.TheVariants.{Only, Halts}
 
--- any other command: halted and not a well-formed READ LOG EXT of page 10h: bad; something outstanding: bad, halt with NQ; page 10h; page 11h; otherwise bad, no halt
-abbrev pub otherRule : Bool → ℕ → Bool → OtherRule
-otherRule halted page busy =
-    pick (halted && not (eqb page 0x10)) (BadOnly 0x04)
-    (pick busy (Halts (record { nq = true; error = 0x04 })) (pick (eqb page 0x10) Page10 (pick (eqb page 0x11) Page11 (BadOnly 0x04))))
+-- page 10h is asked for
+abbrev pub asksErrors : Option LogPage → Bool
+asksErrors (Some Errors) = true
+asksErrors _ = false
+
+-- page 11h is asked for
+abbrev pub asksCounters : Option LogPage → Bool
+asksCounters (Some Counters) = true
+asksCounters _ = false
+
+-- any other command: halted and not a well-formed READ LOG EXT of page 10h: bad; something outstanding: bad, halt; the page that it asks for, 10h or 11h; otherwise bad, no halt
+abbrev pub otherRule : Bool → Option LogPage → Bool → Result LogPage Bad
+otherRule halted page busy = pick (halted && not (asksErrors page)) (Err (Only 0x04)) (pick busy (Err (Halts 0x04)) (ok_or page (Only 0x04)))
 
 -- page 11h with features bit 0 zeroes the counters
 abbrev pub logZeroes : ℕ → Bool

@@ -1,13 +1,13 @@
 -- Which rule holds for a queued command. Assumes nothing.
-use Rattle.std.specs.Prelude.{Bool, false, ◌||◌, ℕ, leb}
+use Rattle.std.specs.Prelude.{Bool, ◌||◌, ℕ, leb, Result, Ok, Err}
 use Rattle.bits.specs.Pick.{pick}
-use Rattle.verdicts.specs.declared.commands.QueuedRule.{QueuedRule}
-use Rattle.verdicts.specs.declared.commands.QueuedRule.TheVariants.{BadOnly, Halts, Good}
+use Rattle.verdicts.specs.declared.commands.Bad.{Bad}
+use Rattle.verdicts.specs.declared.commands.Bad.TheVariants.{Only, Halts}
 
 -- queued command, 2: tag at or above the depth, or already outstanding
 abbrev pub tagRefused : ℕ → ℕ → Bool → Bool
 tagRefused depth tag busy = leb depth tag || busy
 
 -- queued command, first rule that holds: 1 halted: bad 04h; 2 tag: bad 04h, halt; 3 first sector + count above capacity: bad 10h, halt; 4 otherwise good
-abbrev pub queuedRule : Bool → Bool → Bool → QueuedRule
-queuedRule halted tag far = pick halted (BadOnly 0x04) (pick tag (Halts (record { nq = false; error = 0x04 })) (pick far (Halts (record { nq = false; error = 0x10 })) Good))
+abbrev pub queuedRule : Bool → Bool → Bool → Result Unit Bad
+queuedRule halted tag far = pick halted (Err (Only 0x04)) (pick tag (Err (Halts 0x04)) (pick far (Err (Halts 0x10)) (Ok tt)))

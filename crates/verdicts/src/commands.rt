@@ -4,28 +4,18 @@ ghost use Rattle.verdicts.specs.Range.{tooFar};
 ghost use Rattle.verdicts.specs.Queued.{tagRefused, queuedRule};
 ghost use Rattle.verdicts.specs.Other.{otherRule, logZeroes};
 
-// A halt: NQ, and the error that its record holds.
-#[derive(Clone, Copy)]
-pub struct Halting {
-    pub nq: bool,
-    pub error: u8,
+/// A bad command, with its error: answered with it, and no more; or with a halt whose record holds it.
+#[derive(Clone, Copy, Debug, PartialEq, Eq)]
+pub enum Bad {
+    Only(u8),
+    Halts(u8),
 }
 
-// A queued command: bad with an error; bad with a halt; good.
-#[derive(Clone, Copy)]
-pub enum QueuedRule {
-    BadOnly(u8),
-    Halts(Halting),
-    Good,
-}
-
-// Any other command: bad with an error; bad with a halt; page 10h; page 11h.
-#[derive(Clone, Copy)]
-pub enum OtherRule {
-    BadOnly(u8),
-    Halts(Halting),
-    Page10,
-    Page11,
+/// A log page that a well-formed READ LOG EXT asks for: 10h, of errors, or 11h, of counters.
+#[derive(Clone, Copy, Debug, PartialEq, Eq)]
+pub enum LogPage {
+    Errors,
+    Counters,
 }
 
 // First sector + count above capacity, compared without wrap.
@@ -39,7 +29,8 @@ fn too_far(capacity: u32, first: u64, count: u32) -> bool
     most - first < count as u64
 }
 
-// Rules 1 to 4 of a queued command. `busy`: its tag is outstanding.
+/// Rules 1 to 4 of a queued command: bad, or good. `busy`: its tag is outstanding.
+#[tactic(auto, unfolding(bits::specs::Pick::pick))]
 pub fn queued_rule(
     halted: bool,
     depth: u32,
@@ -48,50 +39,36 @@ pub fn queued_rule(
     capacity: u32,
     first: u64,
     count: u32,
-) -> QueuedRule
+) -> Result<(), Bad>
     ensures { result ≡ queuedRule halted (tagRefused depth tag busy) (tooFar capacity first count) }
 {
     if halted {
-        return QueuedRule::BadOnly(0x04);
+        return Err(Bad::Only(0x04));
     }
-    if (depth <= tag as u32) | busy {
-        return QueuedRule::Halts(Halting {
-            nq: false,
-            error: 0x04,
-        });
+    if depth <= tag as u32 || busy {
+        return Err(Bad::Halts(0x04));
     }
     if too_far(capacity, first, count) {
-        return QueuedRule::Halts(Halting {
-            nq: false,
-            error: 0x10,
-        });
+        return Err(Bad::Halts(0x10));
     }
-    QueuedRule::Good
+    Ok(())
 }
 
-// Any other command. `page`: the page that it asks for, or 0. `busy`: something is outstanding.
-pub fn other_rule(halted: bool, page: u8, busy: bool) -> OtherRule
+/// Any other command: bad, or the log page that is sent. `page`: the one that it asks for, if it asks for one. `busy`: something is outstanding.
+#[tactic(auto, unfolding(bits::specs::Pick::pick))]
+pub fn other_rule(halted: bool, page: Option<LogPage>, busy: bool) -> Result<LogPage, Bad>
     ensures { result ≡ otherRule halted page busy }
 {
-    if halted & !(page == 0x10) {
-        return OtherRule::BadOnly(0x04);
+    if halted && !matches!(page, Some(LogPage::Errors)) {
+        return Err(Bad::Only(0x04));
     }
     if busy {
-        return OtherRule::Halts(Halting {
-            nq: true,
-            error: 0x04,
-        });
+        return Err(Bad::Halts(0x04));
     }
-    if page == 0x10 {
-        return OtherRule::Page10;
-    }
-    if page == 0x11 {
-        return OtherRule::Page11;
-    }
-    OtherRule::BadOnly(0x04)
+    page.ok_or(Bad::Only(0x04))
 }
 
-// Page 11h, by the features of the command that asks for it.
+/// Page 11h, by the features of the command that asks for it.
 pub fn log_zeroes(features: u8) -> bool
     ensures { result ≡ logZeroes features }
 {

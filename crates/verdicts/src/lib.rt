@@ -4,5 +4,5 @@
 mod commands;
 mod moving;
 
-pub use commands::{Halting, OtherRule, QueuedRule, log_zeroes, other_rule, queued_rule};
+pub use commands::{Bad, LogPage, log_zeroes, other_rule, queued_rule};
 pub use moving::{longer, not_ready, outside_of, wholly};

@@ -1,20 +1,22 @@
 -- The examples hold: each side computes to the other. Assumes nothing.
-use mathlib.Core.Path.{◌≡◌, refl, sym, ap, ◌∙◌}
+use mathlib.Core.Path.{◌≡◌, refl, sym, ap, subst, ◌∙◌}
 use mathlib.Core.Bool.{Bool, false}
 use mathlib.Core.List.{List, []}
 use Prim.Native.Nat.{ℕ, ◌*◌}
 use lib.ListN.{length, length-replicate}
 use borrow.Author.Tests.{eq-eqb}
 use Rattle.bits.specs.Pick.{pick}
-use Rattle.bits.specs.First.{first_of}
+use Rattle.std.proofs.Common.{Result, Ok, Err}
+use Rattle.refusals.specs.First.{first_of}
+use Rattle.refusals.specs.declared.reasons.Refusal.{Refusal}
 use Rattle.frame_parts.specs.Cut.{joined}
 use Rattle.frame_parts.specs.Shared.{registerBytes}
 use Rattle.frame_parts.specs.Size.{fixedSize, readable}
 use Rattle.frames.specs.Read.{frameByKind, readFrame}
 use Rattle.frames.specs.Write.{bitsBytes, setupBytes, encode}
-use Rattle.page_sum.specs.Sum.{sum_to, sum256, sealed}
+use Rattle.page_sum.specs.Sum.{sum256, sealed}
 use Rattle.page_rows.specs.Rows.{ids}
-use Rattle.page_11h.specs.Entries.{id_at, entriesFrom, entries, someOf, countEntries}
+use Rattle.page_11h.specs.Entries.{id_at, entriesFrom, entries}
 use Rattle.page_10h.specs.Page10.{page10, fits10}
 use Rattle.page_11h.specs.Page11.{damaged, valueIn, readCounter, counterAnswer}
 use Rattle.page_rows.specs.Made11.{rowBytes, rows_to, openTo, page11}
@@ -24,9 +26,8 @@ use Rattle.contradictions.specs.Clauses.{movedBad, settingsOut, busyBad, idleBad
 use Rattle.rules.specs.Positions.{advancedBy, move_of}
 use Rattle.rules.specs.Tests.{wrongKind, wrongTime, wrongSize, someUnready, tests}
 use Rattle.rules.specs.Decide.{queuedAct, logPage, otherAct, controlAct, registerAct, frameAct}
-use Rattle.rules.specs.Act.{failing, does, decided, act}
+use Rattle.rules.specs.Act.{failing, does, act}
 use Rattle.rules.specs.Call.{hostFrame}
-use Rattle.rules.specs.Number.{number_of}
 use Rattle.rules.specs.Medium.{touch_of, span_of}
 use Rattle.rules.specs.declared.acts.Act.{Act}
 use Rattle.replies.specs.Replies.{repliesOf}
@@ -36,11 +37,11 @@ use Rattle.device.specs.Lent.{lent}
 use Rattle.device.specs.FactsOf.{openTag, mediumWrong, factsWith}
 use Rattle.device.specs.declared.state.Device.{Device}
 use Rattle.device.proofs.Doing.{part_none, host-unsent, none-unready}
-use Rattle.device.specs.Step.{shown, actOf, step}
+use Rattle.device.specs.Step.{Step, shown, stepBy, actOf, step}
 use Rattle.worked_examples.specs.Points.{Hold, examples as all, room, replyTo}
 
 pub examples : Hold all
-unfolding Hold all pick first_of joined registerBytes fixedSize readable frameByKind readFrame bitsBytes setupBytes encode sum_to sum256 sealed ids id_at entriesFrom entries someOf countEntries page10 fits10 damaged valueIn readCounter counterAnswer rowBytes rows_to openTo page11 taskIn echoOf someBelow tab placed cleared settingsOut busyBad idleBad entryBad tableBad statusBad recordBad rowsBad contradictory advancedBy move_of queuedAct logPage otherAct controlAct registerAct frameAct wrongKind wrongTime wrongSize tests does decided act someUnready failing number_of touch_of actOf repliesOf contradictoryDevice freshDevice withValue haltWith acceptedBy unhalted movedBy openedFor finishedBy failedBy after_of openTag movedBad
+unfolding Hold all pick first_of joined registerBytes fixedSize readable frameByKind readFrame bitsBytes setupBytes encode sum256 sealed ids id_at entriesFrom entries page10 fits10 damaged valueIn readCounter counterAnswer rowBytes rows_to openTo page11 taskIn echoOf someBelow tab placed cleared settingsOut busyBad idleBad entryBad tableBad statusBad recordBad rowsBad contradictory advancedBy move_of queuedAct logPage otherAct controlAct registerAct frameAct wrongKind wrongTime wrongSize tests does act someUnready failing touch_of actOf repliesOf contradictoryDevice freshDevice withValue haltWith acceptedBy unhalted movedBy openedFor finishedBy failedBy after_of openTag movedBad
 examples = (refl, (refl, (refl, (refl, (refl, (refl, (refl, (refl, (refl, (refl, (refl, (refl, (refl, (refl, (refl, tt)))))))))))))))
 
 -- what decides it there is what decides it with such a medium
@@ -53,15 +54,18 @@ same-act d f m h =
     ∙ ap (λ (w : Bool). act (factsWith d t w false (length room)) (hostFrame f)) (sym right)
     ∙ ap (λ (s : Bool). act (factsWith d t (mediumWrong d.settings.capacity (length m)) s (length room)) (hostFrame f)) (sym (none-unready d))
 
+-- state, refusal and frames
+abbrev pub Same : Step → Step → Type 0
+Same s s' = (s.state ≡ s'.state) × ((s.refusal ≡ s'.refusal) × (s.frames ≡ s'.frames))
+
+-- what a host frame comes to leaves the same behind with no medium at all
+same-step : (d : Device) (f m : List ℕ) (x : Result Act Refusal) → x ≡ actOf d (lent (hostFrame f) m room) → Same (stepBy d (lent (hostFrame f) [] room) x) (stepBy d (lent (hostFrame f) m room) x)
+same-step d f m (Err r) e = (refl, (refl, refl))
+same-step d f m (Ok a) e = (refl, (refl, ap (λ (q : List ℕ). repliesOf (shown d) q a) (sym (part_none (span_of a)) ∙ host-unsent d f m room a e)))
+
 -- a host frame of the examples is the machine's own step, whatever the medium of the right length holds
-pub reply-to-is : (d : Device) (f m : List ℕ) → length m ≡ 512 * d.settings.capacity
-    → ((replyTo d f).state ≡ (step d (lent (hostFrame f) m room)).state) × (((replyTo d f).refusal ≡ (step d (lent (hostFrame f) m room)).refusal) × ((replyTo d f).frames ≡ (step d (lent (hostFrame f) m room)).frames))
+pub reply-to-is : (d : Device) (f m : List ℕ) → length m ≡ 512 * d.settings.capacity → Same (replyTo d f) (step d (lent (hostFrame f) m room))
 reply-to-is d f m h =
-    let a : Act = act (factsWith d (openTag d.status.phase) false false 8196) (hostFrame f) in
-    let e : a ≡ actOf d (lent (hostFrame f) m room) = same-act d f m h in (
-      ap (after_of d) e,
-      (
-        ap number_of e,
-        ap (λ (q : List ℕ). repliesOf (shown d) q a) (sym (part_none (span_of a))) ∙ ap (repliesOf (shown d) []) e ∙ ap (λ (q : List ℕ). repliesOf (shown d) q (actOf d (lent (hostFrame f) m room))) (host-unsent d f m room),
-      ),
-    )
+    let e = same-act d f m h in
+    let x : Result Act Refusal = act (factsWith d (openTag d.status.phase) false false 8196) (hostFrame f) in
+    subst (λ (y : Result Act Refusal). Same (stepBy d (lent (hostFrame f) [] room) x) (stepBy d (lent (hostFrame f) m room) y)) e (same-step d f m x e)

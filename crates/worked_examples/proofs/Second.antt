@@ -1,6 +1,6 @@
 -- More of what the theorems over every run speak of comes up in two further runs, computed by the definitions. Assumes nothing.
 use mathlib.Core.Path.{refl}
-use Rattle.bits.specs.First.{first_of}
+use Rattle.refusals.specs.First.{first_of}
 use Rattle.bits.specs.Laid.{over}
 use Rattle.bits.specs.Pick.{pick}
 use Rattle.frame_parts.specs.Cut.{joined, cut, cut_to, firstLength}
@@ -9,15 +9,14 @@ use Rattle.frame_parts.specs.Size.{readable, fixedSize}
 use Rattle.frames.specs.Read.{readFrame, frameByKind}
 use Rattle.frames.specs.Write.{fits, encode, setupBytes, bitsBytes}
 use Rattle.page_10h.specs.Page10.{fits10, page10}
-use Rattle.page_sum.specs.Sum.{sealed, sum256, sum_to}
+use Rattle.page_sum.specs.Sum.{sealed, sum256}
 use Rattle.contradictions.specs.Clauses.{movedBad, contradictory, statusBad, settingsOut, recordBad, rowsBad, tableBad, entryBad, busyBad, idleBad}
 use Rattle.device_state.specs.State.{echoOf, taskIn}
 use Rattle.device_state.specs.Table.{someBelow, placed, tab, cleared}
 use Rattle.rules.specs.Tests.{wrongKind, wrongTime, wrongSize, someUnready, tests}
 use Rattle.rules.specs.Decide.{frameAct, controlAct, registerAct, queuedAct, otherAct, logPage}
-use Rattle.rules.specs.Act.{does, decided, act}
+use Rattle.rules.specs.Act.{does, act}
 use Rattle.rules.specs.Positions.{move_of, advancedBy}
-use Rattle.rules.specs.Number.{number_of}
 use Rattle.rules.specs.Medium.{touch_of, stored}
 use Rattle.replies.specs.Replies.{sentAll, sentBytes, repliesOf}
 use Rattle.device.specs.After.{after_of, resetHeld, movedBy, unhalted, finishedBy, haltWith, released, openedFor, acceptedBy}
@@ -47,7 +46,7 @@ typed_long = all_typed longCalls refl
 
 -- the run of resets and errors
 pub second-not-empty : SecondShows
-unfolding first_of over pick joined cut cut_to firstLength registerBytes readable fixedSize readFrame frameByKind fits encode bitsBytes fits10 page10 sealed sum256 sum_to contradictory statusBad settingsOut recordBad rowsBad tableBad entryBad busyBad idleBad echoOf taskIn someBelow placed tab cleared registerAct queuedAct otherAct logPage decided number_of sentAll sentBytes repliesOf after_of resetHeld unhalted haltWith released acceptedBy contradictoryDevice powerOn freshDevice second tagsFrom lines_of commands outstandingAt finishedAt givenUpAt droppedAt total totalWith howMany collect some payloads run seen waits sactive before since movedBad wrongKind wrongTime wrongSize tests frameAct does act touch_of actOf read_log holding controlAct
+unfolding first_of over pick joined cut cut_to firstLength registerBytes readable fixedSize readFrame frameByKind fits encode bitsBytes fits10 page10 sealed sum256 contradictory statusBad settingsOut recordBad rowsBad tableBad entryBad busyBad idleBad echoOf taskIn someBelow placed tab cleared registerAct queuedAct otherAct logPage sentAll sentBytes repliesOf after_of resetHeld unhalted haltWith released acceptedBy contradictoryDevice powerOn freshDevice second tagsFrom lines_of commands outstandingAt finishedAt givenUpAt droppedAt total totalWith howMany collect some payloads run seen waits sactive before since movedBad wrongKind wrongTime wrongSize tests frameAct does act touch_of actOf read_log holding controlAct
 second-not-empty = record {
   typed = typed;
   lines = refl;
@@ -67,7 +66,7 @@ second-not-empty = record {
 
 -- the run of long commands
 pub long-not-empty : LongShows
-unfolding first_of over pick joined cut cut_to firstLength registerBytes readable fixedSize readFrame frameByKind fits encode setupBytes bitsBytes contradictory statusBad settingsOut recordBad rowsBad tableBad entryBad busyBad idleBad echoOf taskIn someBelow placed tab registerAct queuedAct decided someUnready move_of advancedBy number_of stored sentAll sentBytes repliesOf after_of movedBy finishedBy openedFor acceptedBy openTag contradictoryDevice powerOn freshDevice carriedAt span transfer long tagsFrom lines_of commands outstandingAt finishedAt givenUpAt droppedAt total collect some payloads run seen begun waits sactive movedBad wrongKind wrongTime wrongSize tests frameAct does act touch_of actOf
+unfolding first_of over pick joined cut cut_to firstLength registerBytes readable fixedSize readFrame frameByKind fits encode setupBytes bitsBytes contradictory statusBad settingsOut recordBad rowsBad tableBad entryBad busyBad idleBad echoOf taskIn someBelow placed tab registerAct queuedAct someUnready move_of advancedBy stored sentAll sentBytes repliesOf after_of movedBy finishedBy openedFor acceptedBy openTag contradictoryDevice powerOn freshDevice carriedAt span transfer long tagsFrom lines_of commands outstandingAt finishedAt givenUpAt droppedAt total collect some payloads run seen begun waits sactive movedBad wrongKind wrongTime wrongSize tests frameAct does act touch_of actOf
 long-not-empty = record {
   powered = refl;
   typed = typed_long;

@@ -10,7 +10,7 @@ use Rattle.bits.specs.Little.{Bytes}
 use Rattle.bits.proofs.Picks.{and_left, and_right}
 use Rattle.rules.specs.Call.{Call}
 use Rattle.rules.specs.Handed.{Handed, handed}
-use Rattle.bits.specs.First.{first_of}
+use Rattle.refusals.specs.First.{first_of}
 use Rattle.bits.specs.Laid.{over}
 use Rattle.bits.specs.Pick.{pick}
 use Rattle.frame_parts.specs.Cut.{joined, cut, cut_to, firstLength}
@@ -18,20 +18,19 @@ use Rattle.frame_parts.specs.Shared.{registerBytes}
 use Rattle.frame_parts.specs.Size.{readable, fixedSize}
 use Rattle.frames.specs.Read.{readFrame, frameByKind}
 use Rattle.frames.specs.Write.{fits, encode, setupBytes, bitsBytes}
-use Rattle.page_11h.specs.Entries.{entries, entriesFrom, id_at, countEntries as entriesSo, someOf}
+use Rattle.page_11h.specs.Entries.{entries, entriesFrom, id_at}
 use Rattle.page_rows.specs.Made11.{page11, openTo, rows_to, rowBytes}
 use Rattle.page_10h.specs.Page10.{fits10, page10}
 use Rattle.page_11h.specs.Page11.{readCounter, damaged, valueIn}
-use Rattle.page_rows.specs.Rows.{ids, row_of, rowFrom}
-use Rattle.page_sum.specs.Sum.{sealed, sum256, sum_to}
+use Rattle.page_rows.specs.Rows.{ids, row_of}
+use Rattle.page_sum.specs.Sum.{sealed, sum256}
 use Rattle.contradictions.specs.Clauses.{movedBad, contradictory, statusBad, settingsOut, recordBad, rowsBad, tableBad, entryBad, busyBad, idleBad}
 use Rattle.device_state.specs.State.{echoOf, taskIn}
 use Rattle.device_state.specs.Table.{someBelow, placed, tab, cleared}
 use Rattle.rules.specs.Tests.{wrongKind, wrongTime, wrongSize, someUnready, tests}
 use Rattle.rules.specs.Decide.{frameAct, registerAct, queuedAct, otherAct, logPage}
-use Rattle.rules.specs.Act.{failing, does, decided, act}
+use Rattle.rules.specs.Act.{failing, does, act}
 use Rattle.rules.specs.Positions.{move_of, advancedBy}
-use Rattle.rules.specs.Number.{number_of}
 use Rattle.rules.specs.Medium.{touch_of, stored}
 use Rattle.replies.specs.Replies.{sentAll, sentBytes, repliesOf}
 use Rattle.device.specs.After.{withValue, renewed, after_of, zeroedIf, resetHeld, movedBy, unhalted, finishedBy, failedBy, haltWith, released, openedFor, acceptedBy}
@@ -93,7 +92,7 @@ typed = all_typed calls refl
 
 -- the run: all four fates, an error that waits and is read, a tag used three times, a page that shows counters
 pub not-empty : ExampleShows
-unfolding first_of over pick joined cut cut_to firstLength registerBytes readable fixedSize readFrame frameByKind fits encode setupBytes bitsBytes entries entriesFrom id_at entriesSo someOf page11 openTo rows_to rowBytes fits10 page10 readCounter damaged valueIn ids row_of rowFrom sealed sum256 sum_to contradictory statusBad settingsOut recordBad rowsBad tableBad entryBad busyBad idleBad echoOf taskIn someBelow placed tab cleared registerAct queuedAct otherAct logPage decided failing someUnready move_of advancedBy number_of stored sentAll sentBytes repliesOf after_of zeroedIf resetHeld movedBy unhalted finishedBy failedBy haltWith released openedFor acceptedBy openTag contradictoryDevice powerOn freshDevice withValue renewed carriedAt span transfer countedIn story tagsFrom lines_of commands outstandingAt finishedAt givenUpAt droppedAt total totalWith howMany collect some payloads run seen begun waits sactive before since movedBad wrongKind wrongTime wrongSize tests frameAct does act touch_of actOf
+unfolding first_of over pick joined cut cut_to firstLength registerBytes readable fixedSize readFrame frameByKind fits encode setupBytes bitsBytes entries entriesFrom id_at page11 openTo rows_to rowBytes fits10 page10 readCounter damaged valueIn ids row_of sealed sum256 contradictory statusBad settingsOut recordBad rowsBad tableBad entryBad busyBad idleBad echoOf taskIn someBelow placed tab cleared registerAct queuedAct otherAct logPage failing someUnready move_of advancedBy stored sentAll sentBytes repliesOf after_of zeroedIf resetHeld movedBy unhalted finishedBy failedBy haltWith released openedFor acceptedBy openTag contradictoryDevice powerOn freshDevice withValue renewed carriedAt span transfer countedIn story tagsFrom lines_of commands outstandingAt finishedAt givenUpAt droppedAt total totalWith howMany collect some payloads run seen begun waits sactive before since movedBad wrongKind wrongTime wrongSize tests frameAct does act touch_of actOf
 not-empty = record {
   powered = refl;
   typed = typed;

@@ -1,10 +1,11 @@
 -- The proved examples P1 to P11: pages and replies of the machine's own calls. Assumes nothing.
-use Rattle.std.specs.Prelude.{◌≡◌, false, List, [], ◌∷◌, map, ℕ, ◌*◌, get_or, take, drop, replicate}
+use Rattle.std.specs.Prelude.{◌≡◌, false, List, [], ◌∷◌, map, ℕ, ◌*◌, get_or, take, drop, replicate, Option, Result}
 use Rattle.bits.specs.Little.{le_bytes}
+use Rattle.refusals.specs.declared.reasons.Refusal.{Refusal}
 use Rattle.frame_parts.specs.Cut.{joined}
 use Rattle.frames.specs.Write.{encode}
 use Rattle.page_11h.specs.Page11.{readCounter, counterAnswer}
-use Rattle.page_rows.specs.declared.shown.Counter.{Counter}
+use Rattle.page_11h.specs.declared.value.CounterValue.{CounterValue}
 use Rattle.device_state.specs.State.{blankRecord}
 use Rattle.replies.specs.Replies.{page10Of, page11Of}
 use Rattle.device.specs.Device.{freshDevice}
@@ -35,7 +36,7 @@ abbrev pub lastByte : List ℕ → List ℕ
 lastByte page = drop 511 page
 
 -- an answer as its number and its values: absent has none
-abbrev pub said : Counter → List ℕ
+abbrev pub said : Result (Option CounterValue) Refusal → List ℕ
 said r = (counterAnswer r).number ∷ (counterAnswer r).values
 
 -- a fresh device of depth 32, rows 0 and 9 kept

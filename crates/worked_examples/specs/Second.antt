@@ -1,11 +1,12 @@
 -- Two more runs of the device from power-on. One, of twelve calls, has a held reset and its release, and three errors that each wait and are read:
 -- at a command that is not queued, at a queued one past the capacity, and at one of a tag in use. The other, of nine, moves a read and a write of 17 sectors, each in two data frames. Assumes nothing.
-use Rattle.std.specs.Prelude.{◌≡◌, Bool, true, false, List, [], ◌∷◌, ◌++◌, map, reverse, ℕ, ◌-◌, ◌*◌, length, get_or, drop, replicate}
+use Rattle.std.specs.Prelude.{◌≡◌, Bool, true, false, List, [], ◌∷◌, ◌++◌, map, reverse, ℕ, ◌-◌, ◌*◌, length, get_or, drop, replicate, Some, None, Result, Ok}
 use Rattle.frame_parts.specs.declared.shared.Task.{Task}
 use Rattle.device_state.specs.declared.shapes.Settings.{Settings}
 use Rattle.page_10h.specs.Page10.{read_log}
-use Rattle.page_10h.specs.declared.page10.Page10.{Page10}
-use Rattle.page_10h.specs.declared.page10.Page10.TheVariants.{Fields}
+use Rattle.page_10h.specs.declared.page10.ErrorLog.{ErrorLog}
+use Rattle.refusals.specs.declared.reasons.Refusal.{Refusal}
+use Rattle.refusals.specs.declared.reasons.Refusal.TheVariants.{Contradiction}
 use Rattle.device.specs.Device.{powerOn}
 use Rattle.rules.specs.Call.{Call, hostFrame, openPhase, sendData, finishTags, comReset}
 use Rattle.history.specs.Event.{Event}
@@ -46,7 +47,7 @@ seenTo n h = map seen (upTo n h)
 
 -- its n-th call, from 1 on; of any other number one that nothing was seen of
 abbrev pub call_of : ℕ → List Event → Event
-call_of n h = get_or (upTo n h) 0 (record { call = comReset; medium = []; room = 0; refusal = 1; reply = []; left = [] })
+call_of n h = get_or (upTo n h) 0 (record { call = comReset; medium = []; room = 0; refusal = Some Contradiction; reply = []; left = [] })
 
 -- its commands, the oldest first
 abbrev pub commandsOf : List Event → List Command
@@ -97,8 +98,8 @@ abbrev pub queuedAsked : ℕ → Task
 queuedAsked t = asked 0 0x40 (8 * t)
 
 -- page 10h of an error: NQ, the tag, the error byte, and the bytes of the command that was answered with it
-abbrev pub pageOf : Bool → ℕ → ℕ → Task → Page10
-pageOf n t e k = Fields (record { nq = n; tag = t; status = 0x41; error = e; task = k })
+abbrev pub pageOf : Bool → ℕ → ℕ → Task → Result ErrorLog Refusal
+pageOf n t e k = Ok (record { nq = n; tag = t; status = 0x41; error = e; task = k })
 
 -- of an error that waits after the first n calls: the tags given up at it
 abbrev pub givenUpAfter : ℕ → List ℕ
@@ -117,16 +118,16 @@ pub record SecondShows : Type 0 where
   pub tags : map ownTag (commandsOf second) ≡ 0 ∷ 1 ∷ 2 ∷ 4 ∷ []
   -- reset is held from SRST on, which is not answered, until its release, which is answered with the signature
   pub held : map (λ n. holding (upTo n second)) (1 ∷ 2 ∷ 3 ∷ []) ≡ false ∷ true ∷ false ∷ []
-  pub released : frames (call_of 3 second) ≡ signatureReply ∷ []
+  pub released : frames (call_of 3 second) ≡ Ok signatureReply ∷ []
   -- READ LOG EXT of page 10h while a write is outstanding: answered with ERR and 04h; once more: the sweep and the page, which has NQ
-  pub logBad : frames (call_of 5 second) ≡ answeredBad 0x04 logAsked ∷ []
-  pub logGood : frames (call_of 6 second) ≡ sweepReply ∷ pageReplies logAsked
+  pub logBad : frames (call_of 5 second) ≡ Ok (answeredBad 0x04 logAsked) ∷ []
+  pub logGood : frames (call_of 6 second) ≡ map Ok (sweepReply ∷ pageReplies logAsked)
   pub logPage : read_log (page (call_of 6 second)) ≡ pageOf true 0 0x04 logAsked
   -- two sectors of one, tag 3, while tag 2 is outstanding: ERR and 10h, and so says the page
-  pub farBad : frames (call_of 8 second) ≡ answeredBad 0x10 (queuedAsked 3) ∷ []
+  pub farBad : frames (call_of 8 second) ≡ Ok (answeredBad 0x10 (queuedAsked 3)) ∷ []
   pub farPage : read_log (page (call_of 9 second)) ≡ pageOf false 3 0x10 (queuedAsked 3)
   -- a write of tag 4 while a read of tag 4 is outstanding: ERR and 04h, and so says the page
-  pub sameBad : frames (call_of 11 second) ≡ answeredBad 0x04 (queuedAsked 4) ∷ []
+  pub sameBad : frames (call_of 11 second) ≡ Ok (answeredBad 0x04 (queuedAsked 4)) ∷ []
   pub samePage : read_log (page (call_of 12 second)) ≡ pageOf false 4 0x04 (queuedAsked 4)
   -- while each of the three waits: the tags given up at it, and those of queued commands answered with an error, the raiser's own
   pub blamed : map givenUpAfter (5 ∷ 8 ∷ 11 ∷ []) ≡ (1 ∷ []) ∷ (2 ∷ []) ∷ (4 ∷ []) ∷ []
@@ -172,7 +173,7 @@ dueAfter n = transfer (seenTo n long)
 -- what the run of long commands shows
 pub record LongShows : Type 0 where
   -- power-on is taken, and the theorems' premise holds
-  pub powered : (powerOn longSettings).refusal ≡ 0
+  pub powered : (powerOn longSettings).refusal ≡ None
   pub typed : AllTyped longCalls
   -- every call: refusal, replies, SActive, whether an error waits, fates; an Activate behind the Setup of the write and behind its first data frame, none behind its last
   pub lines : lines_of long ≡ longTable

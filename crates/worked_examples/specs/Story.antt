@@ -1,10 +1,10 @@
 -- One run of the device from power-on, of seventeen calls, in which each fate comes up, an error waits and is read, a tag is reused and a page shows counters. Assumes nothing.
-use Rattle.std.specs.Prelude.{◌≡◌, Bool, true, false, List, [], ◌∷◌, ◌++◌, map, reverse, ℕ, zero, suc, ◌-◌, ◌*◌, length, get_or, drop, replicate}
+use Rattle.std.specs.Prelude.{◌≡◌, Bool, true, false, List, [], ◌∷◌, ◌++◌, map, reverse, ℕ, zero, suc, ◌-◌, ◌*◌, length, get_or, drop, replicate, Some, None, Ok}
 use Rattle.bits.specs.Pick.{pick}
 use Rattle.device_state.specs.declared.shapes.Settings.{Settings}
-use Rattle.page_11h.specs.Page11.{readCounter}
-use Rattle.page_rows.specs.declared.shown.Counter.{Counter}
-use Rattle.page_rows.specs.declared.shown.Counter.TheVariants.{Value, Absent}
+use Rattle.page_11h.specs.Page11.{readCounter, rowValue}
+use Rattle.refusals.specs.Number.{number_told}
+use Rattle.refusals.specs.declared.reasons.Refusal.TheVariants.{Contradiction}
 use Rattle.device.specs.Device.{powerOn}
 use Rattle.rules.specs.Call.{Call, hostFrame, openPhase, sendData, finishTags, mediaError, comReset}
 use Rattle.history.specs.Event.{Event}
@@ -75,7 +75,7 @@ seenAfter n = map seen (after n)
 
 -- the n-th call, from 1 on; of any other number one that nothing was seen of
 abbrev pub nth : ℕ → Event
-nth n = get_or (after n) 0 (record { call = comReset; medium = []; room = 0; refusal = 1; reply = []; left = [] })
+nth n = get_or (after n) 0 (record { call = comReset; medium = []; room = 0; refusal = Some Contradiction; reply = []; left = [] })
 
 -- every command of the run, the oldest first
 abbrev pub accepted : List Command
@@ -102,7 +102,7 @@ pub record Four : Type 0 where
   pub isGivenUp : Bool
   pub isDropped : Bool
 
--- what stands after a call: its refusal and its replies, the tags that SActive names, whether an error waits, and the fates of all commands so far, the oldest first
+-- what stands after a call: its refusal's number (0 = taken) and its replies, the tags that SActive names, whether an error waits, and the fates of all commands so far, the oldest first
 pub record Line : Type 0 where
   pub refusal : ℕ
   pub replies : List Reply
@@ -125,7 +125,7 @@ four c = record { isOutstanding = outstanding c; isFinished = finished c; isGive
 -- the line of an event, with the history that it ends
 abbrev pub lineAfter : Event → List Seen → Line
 lineAfter e h = record {
-  refusal = e.refusal;
+  refusal = number_told e.refusal;
   replies = map replyOf (repliesIn e);
   active = tagsSo (λ t. sactive t h);
   waiting = waits h;
@@ -178,14 +178,14 @@ table =
     ∷ line 0 (reply 0x5F 20 ∷ reply 0x46 516 ∷ []) [] false (ended ∷ lost ∷ lost ∷ fell ∷ [])
     ∷ line 0 (reply 0x34 20 ∷ []) (5 ∷ []) false (ended ∷ lost ∷ lost ∷ fell ∷ stays ∷ []) ∷ []
 
--- counters 001h, 00Ah and 002h, as a reader answers for each
-abbrev pub threeOf : (ℕ → Counter) → List Counter
+-- counters 001h, 00Ah and 002h, as each is answered
+abbrev pub threeOf : {A : Type 0} → (ℕ → A) → List A
 threeOf f = f 0x001 ∷ f 0x00A ∷ f 0x002 ∷ []
 
 -- what the run shows: the theorems over every run say something of this one
 pub record ExampleShows : Type 0 where
   -- power-on is taken, and the arguments of every call are of their types: the theorems' premise holds
-  pub powered : (powerOn settings).refusal ≡ 0
+  pub powered : (powerOn settings).refusal ≡ None
   pub typed : AllTyped calls
   -- every call: refusal, replies, SActive, whether an error waits, fates
   pub lines : lines_of story ≡ table
@@ -210,5 +210,5 @@ pub record ExampleShows : Type 0 where
   pub bad : tagsSo (λ t. badSince t (seenAfter 12)) ≡ 4 ∷ []
   -- page 11h was sent; it shows one event of 001h and of 00Ah, and 002h is absent; so says the history before it
   pub paged : sends11 (nth 16) ≡ true
-  pub shows : threeOf (readCounter (page (nth 16))) ≡ Value 1 ∷ Value 1 ∷ Absent ∷ []
-  pub tells : threeOf (toldFor settings.mask (after 15)) ≡ Value 1 ∷ Value 1 ∷ Absent ∷ []
+  pub shows : threeOf (readCounter (page (nth 16))) ≡ Ok (Some (rowValue 1)) ∷ Ok (Some (rowValue 1)) ∷ Ok None ∷ []
+  pub tells : threeOf (toldFor settings.mask (after 15)) ≡ Some 1 ∷ Some 1 ∷ None ∷ []

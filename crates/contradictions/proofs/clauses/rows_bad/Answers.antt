@@ -1,21 +1,18 @@
-use native.Mathlib.Omega.{arith}
-use Rattle.contradictions.specs.Clauses.{rowBadAt, rowsBad}
-use Rattle.device_state.proofs.TableLaws.{some-none, some_turn, some_end}
-use borrow.Author.Rules.{rules}
+use Rattle.std.proofs.Common.{rules, arith, ◌∙◌, ap, refl, ℕ, get_or}
+use Rattle.std.proofs.lemmas.Iterator.{YieldsList-from_slice}
+use Rattle.std.proofs.lemmas.Iterator.Consumers.{YieldsList-from_enumerate}
+use Rattle.std.proofs.lemmas.Iterator.Search.{any_from_yields_List}
+use borrow.Author.Tests.{tests}
+use Rattle.device_state.proofs.Walk.{some-walked}
+use Rattle.contradictions.specs.Clauses.{rowBad, rowBadAt, rowsBad}
 use Rattle.contradictions.proofs.clauses.rows_bad.Goals as goal
-
-pub loop-i-init : goal.loop-i-init
-loop-i-init c = (search rules, some-none _)
-
-pub loop-i-preserved : goal.loop-i-preserved
-loop-i-preserved c =
-    let l = c.loop-i in
-    let a = c.args in
-    (omega arith, some_turn (rowBadAt a.mask a.values.now) l.i l.bad c.row_bad-one.result l.invariant.1 c.row_bad-one.ensures)
 
 pub returns : goal.returns
 unfolding rowsBad
 returns c =
-    let l = c.loop-i in
     let a = c.args in
-    some_end (rowBadAt a.mask a.values.now) 16 l.i l.bad l.invariant.0 c.loop-i-test.false l.invariant.1
+    let vs = a.values.now in
+    let test = λ (x : ℕ × ℕ). rowBad a.mask x.0 x.1 in
+    any_from_yields_List test _ _ _ c.any.ensures.ran (YieldsList-from_enumerate (YieldsList-from_slice vs cc) cc) (λ x b q k. search (rules, tests))
+    ∙ some-walked test (rowBadAt a.mask vs) 0 vs 0 (λ i l. ap (λ (j : ℕ). test (j, get_or vs i 0)) (omega arith))
+    ∙ rw (c.told-values) refl

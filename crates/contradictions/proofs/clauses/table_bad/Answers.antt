@@ -1,21 +1,23 @@
-use native.Mathlib.Omega.{arith}
-use Rattle.contradictions.specs.Clauses.{tagBad, tableBad}
-use Rattle.device_state.proofs.TableLaws.{some-none, some_turn, some_end}
-use borrow.Author.Rules.{rules}
+use Rattle.std.proofs.Common.{rules, arith, ◌∙◌, ap, refl, ℕ}
+use Rattle.std.proofs.lemmas.Iterator.{YieldsList-from_slice}
+use Rattle.std.proofs.lemmas.Iterator.Consumers.{YieldsList-from_enumerate}
+use Rattle.std.proofs.lemmas.Iterator.Search.{any_from_yields_List}
+use borrow.Author.Tests.{tests}
+use Rattle.bits.specs.Bit.{bitIn}
+use Rattle.device_state.specs.declared.shapes.Entry.{Entry}
+use Rattle.device_state.specs.State.{zeroEntry}
+use Rattle.device_state.specs.Table.{entry_of}
+use Rattle.device_state.specs.UnderWay.{openFor}
+use Rattle.device_state.proofs.Walk.{some-walked}
+use Rattle.contradictions.specs.Clauses.{entryBad, tagBad, tableBad}
 use Rattle.contradictions.proofs.clauses.table_bad.Goals as goal
-
-pub loop-i-init : goal.loop-i-init
-loop-i-init c = (search rules, some-none _)
-
-pub loop-i-preserved : goal.loop-i-preserved
-loop-i-preserved c =
-    let l = c.loop-i in
-    let a = c.args in
-    (omega arith, some_turn (tagBad a.s a.entries.now a.outstanding a.phase) l.i l.bad c.entry_bad-one.result l.invariant.1 (rw c.bit-busy.ensures at c.entry_bad-one.ensures))
 
 pub returns : goal.returns
 unfolding tableBad
 returns c =
-    let l = c.loop-i in
     let a = c.args in
-    some_end (tagBad a.s a.entries.now a.outstanding a.phase) 32 l.i l.bad l.invariant.0 c.loop-i-test.false l.invariant.1
+    let es = a.entries.now in
+    let test = λ (x : ℕ × Entry). entryBad a.s x.1 x.0 (bitIn 32 a.outstanding x.0) (openFor a.phase x.0) in
+    any_from_yields_List test _ _ _ c.any.ensures.ran (YieldsList-from_enumerate (YieldsList-from_slice es cc) cc) (λ x b q k. search (rules, tests))
+    ∙ some-walked test (tagBad a.s es a.outstanding a.phase) zeroEntry es 0 (λ i l. ap (λ (j : ℕ). test (j, entry_of es i)) (omega arith))
+    ∙ rw (c.told-entries) refl

@@ -1,44 +1,38 @@
 use mathlib.Core.Path.{refl}
-use Rattle.frame_parts.specs.Cut.{joined}
 use Rattle.rules.specs.Call.{openPhase, finishTags, mediaError, comReset, linkEvent}
-use Rattle.replies.specs.Replies.{sentAll}
 use Rattle.device.proofs.Lending.{unlent, unlent-both}
-use Rattle.events.specs.Calls.{calls_of}
+use Rattle.events.specs.Calls.{call_of}
 use Rattle.events.specs.Played.{stepFor}
 use Rattle.events.proofs.plays.make_call.Goals as goal
 
 pub returns-in-OpenPhase : goal.returns-in-OpenPhase
-unfolding calls_of stepFor
+unfolding call_of stepFor
 returns-in-OpenPhase c = rw c.in-OpenPhase.is (unlent _ (openPhase _) _ _ _ _ refl c.open.ensures)
 
 pub returns-in-SendData : goal.returns-in-SendData
-unfolding calls_of stepFor
+unfolding call_of stepFor
 returns-in-SendData c = rw c.in-SendData.is c.send.ensures
 
 pub returns-in-FinishTags : goal.returns-in-FinishTags
-unfolding calls_of stepFor
+unfolding call_of stepFor
 returns-in-FinishTags c = rw c.in-FinishTags.is (unlent _ (finishTags _) _ _ _ _ refl c.finish.ensures)
 
 pub returns-in-MediaError : goal.returns-in-MediaError
-unfolding calls_of stepFor
+unfolding call_of stepFor
 returns-in-MediaError c = rw c.in-MediaError.is (unlent _ (mediaError _ _ _) _ _ _ _ refl c.media_error.ensures)
 
 pub returns-in-LinkEvent : goal.returns-in-LinkEvent
-unfolding calls_of stepFor
+unfolding call_of stepFor
 returns-in-LinkEvent c = rw c.in-LinkEvent.is (unlent-both _ (linkEvent _) _ _ _ refl refl c.link_event.ensures)
 
 pub returns-in-ComReset : goal.returns-in-ComReset
-unfolding calls_of stepFor
+unfolding call_of stepFor
 returns-in-ComReset c = rw c.in-ComReset.is (unlent _ comReset _ _ _ _ refl c.comreset.ensures)
 
 pub returns-in-HostData : goal.returns-in-HostData
-unfolding calls_of stepFor
+unfolding call_of stepFor
 returns-in-HostData c = rw c.in-HostData.is c.host_data.ensures
 
 pub returns-in-HostFrame : goal.returns-in-HostFrame
-unfolding calls_of stepFor
+unfolding call_of stepFor
 returns-in-HostFrame c = rw c.in-HostFrame.is c.host_frame.ensures
-
-pub returns-in-Nothing : goal.returns-in-Nothing
-unfolding calls_of stepFor sentAll joined
-returns-in-Nothing c = rw c.in-Nothing.is (record { state = refl; refusal = refl; len = refl; reply = refl; medium = refl })

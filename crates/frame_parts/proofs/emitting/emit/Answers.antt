@@ -1,24 +1,29 @@
+use Prim.Native.Nat.{◌-◌}
+use borrow.Rule.Slice.PartMut.{mid_of}
 use mathlib.Core.Path.{refl, sym, ◌∙◌}
-use borrow.Author.Tests.{not-true, not-false, leb-true, leb-false}
-use Rattle.bits.proofs.Fronts.{over_no, over_yes}
-use Rattle.frame_parts.proofs.EmitLaws.{emitted-large, emitted-short, emitted-done}
+use mathlib.Core.List.{◌++◌}
+use native.Mathlib.Omega.{arith}
+use borrow.Author.Tests.{not-true, not-false}
+use lib.ListN.{length, length-append}
+use Rattle.bits.proofs.Fronts.{over_yes, laid_next}
+use Rattle.frame_parts.proofs.EmitLaws.{emitted-unfit, emitted-short, emitted-done}
 use Rattle.frame_parts.proofs.emitting.emit.Goals as goal
 
 pub returns-then-not-fit : goal.returns-then-not-fit
 returns-then-not-fit c =
     let a = c.args in
-    emitted-large a.fit a.s.now a.buf.now (not-true a.fit c.if-not-fit.true-raw)
+    emitted-unfit a.fit (a.head.now ++ a.rest.now) a.buf.now (not-true a.fit c.if-not-fit.true-raw)
 
-pub returns-then-lay : goal.returns-then-lay
-returns-then-lay c =
+pub returns-then-buf-n : goal.returns-then-buf-n
+returns-then-buf-n c =
     let a = c.args in
-    let l = c.lay.ensures in
-    let h = leb-true _ _ (sym l.0 ∙ c.if-lay.true) in
-    emitted-done a.fit a.s.now a.buf.now _ _ (not-false a.fit c.if-not-fit.false-raw) h refl (l.1 ∙ over_yes a.s.now a.buf.now h)
+    emitted-short a.fit (a.head.now ++ a.rest.now) a.buf.now (not-false a.fit c.if-not-fit.false-raw) (omega (arith, length-append a.head.now a.rest.now))
 
-pub returns-else-lay : goal.returns-else-lay
-returns-else-lay c =
+pub returns : goal.returns
+returns c =
     let a = c.args in
-    let l = c.lay.ensures in
-    let h = leb-false _ _ (sym l.0 ∙ c.if-lay.false) in
-    rw (l.1 ∙ over_no a.s.now a.buf.now h) (emitted-short a.fit a.s.now a.buf.now (not-false a.fit c.if-not-fit.false-raw) h)
+    let h = length-append a.head.now a.rest.now in
+    let first = c.lay.ensures.1 ∙ over_yes a.head.now a.buf.now (omega arith) in
+    let second = c.lay-2.ensures.1 ∙ over_yes a.rest.now (mid_of (length a.head.now) (length c.lay.new.d - length a.head.now) c.lay.new.d) (omega arith) in
+    emitted-done a.fit (a.head.now ++ a.rest.now) a.buf.now _ _ (not-false a.fit c.if-not-fit.false-raw) (omega (arith, h)) (sym h)
+    (laid_next (length a.head.now) a.head.now a.rest.now a.buf.now c.lay.new.d c.lay-2.new.d refl first second)

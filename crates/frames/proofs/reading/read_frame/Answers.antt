@@ -1,4 +1,4 @@
-use mathlib.Core.Path.{sym, ap, ◌∙◌}
+use Rattle.std.proofs.Common.{sym, ap, ◌∙◌, Ok}
 use native.Mathlib.Omega.{arith}
 use borrow.Author.Tests.{not-true, not-false, ne_eqb}
 use Rattle.bits.specs.Pick.{pick}
@@ -19,19 +19,19 @@ overflow_sub-result c =
 
 pub returns-in-39 : goal.returns-in-39
 unfolding frameByKind pick
-returns-in-39 c = read_told _ _ (rw (read_by c.args.s.now c.byte_of-kind.result c.byte_of-kind.ensures (sym c.is_readable.ensures ∙ not-false _ c.if-not-is_readable.false-raw), c.in-39.is) (ap Host c.read_host.ensures))
+returns-in-39 c = read_told _ _ (rw (read_by c.args.s.now c.byte_of-kind.result c.byte_of-kind.ensures (sym c.is_readable.ensures ∙ not-false _ c.if-not-is_readable.false-raw), c.in-39.is) (ap (λ f. Ok (Host f)) c.read_host.ensures))
 
 pub returns-in-52 : goal.returns-in-52
 unfolding frameByKind pick
-returns-in-52 c = read_told _ _ (rw (read_by c.args.s.now c.byte_of-kind.result c.byte_of-kind.ensures (sym c.is_readable.ensures ∙ not-false _ c.if-not-is_readable.false-raw), c.in-52.is) (ap Device c.read_device.ensures))
+returns-in-52 c = read_told _ _ (rw (read_by c.args.s.now c.byte_of-kind.result c.byte_of-kind.ensures (sym c.is_readable.ensures ∙ not-false _ c.if-not-is_readable.false-raw), c.in-52.is) (ap (λ f. Ok (Device f)) c.read_device.ensures))
 
 pub returns-in-161 : goal.returns-in-161
 unfolding frameByKind pick
-returns-in-161 c = read_told _ _ (rw (read_by c.args.s.now c.byte_of-kind.result c.byte_of-kind.ensures (sym c.is_readable.ensures ∙ not-false _ c.if-not-is_readable.false-raw), c.in-161.is) (ap Bits c.read_bits.ensures))
+returns-in-161 c = read_told _ _ (rw (read_by c.args.s.now c.byte_of-kind.result c.byte_of-kind.ensures (sym c.is_readable.ensures ∙ not-false _ c.if-not-is_readable.false-raw), c.in-161.is) (ap (λ f. Ok (Bits f)) c.read_bits.ensures))
 
 pub returns-in-65 : goal.returns-in-65
 unfolding frameByKind pick
-returns-in-65 c = read_told _ _ (rw (read_by c.args.s.now c.byte_of-kind.result c.byte_of-kind.ensures (sym c.is_readable.ensures ∙ not-false _ c.if-not-is_readable.false-raw), c.in-65.is) (ap Setup c.read_setup.ensures))
+returns-in-65 c = read_told _ _ (rw (read_by c.args.s.now c.byte_of-kind.result c.byte_of-kind.ensures (sym c.is_readable.ensures ∙ not-false _ c.if-not-is_readable.false-raw), c.in-65.is) (ap (λ f. Ok (Setup f)) c.read_setup.ensures))
 
 pub returns-in-57 : goal.returns-in-57
 unfolding frameByKind pick
@@ -43,7 +43,7 @@ returns-in-88 c = read_told _ _ (rw (read_by c.args.s.now c.byte_of-kind.result 
 
 pub returns-in-95 : goal.returns-in-95
 unfolding frameByKind pick
-returns-in-95 c = read_told _ _ (rw (read_by c.args.s.now c.byte_of-kind.result c.byte_of-kind.ensures (sym c.is_readable.ensures ∙ not-false _ c.if-not-is_readable.false-raw), c.in-95.is) (ap Pio c.read_pio.ensures))
+returns-in-95 c = read_told _ _ (rw (read_by c.args.s.now c.byte_of-kind.result c.byte_of-kind.ensures (sym c.is_readable.ensures ∙ not-false _ c.if-not-is_readable.false-raw), c.in-95.is) (ap (λ f. Ok (Pio f)) c.read_pio.ensures))
 
 pub returns-in-70 : goal.returns-in-70
 unfolding frameByKind pick

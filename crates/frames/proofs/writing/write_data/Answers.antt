@@ -3,4 +3,4 @@ use Rattle.frames.proofs.writing.write_data.Goals as goal
 
 pub returns : goal.returns
 unfolding fits encode
-returns c = rw c.payload_size.ensures at c.lay_frame.ensures
+returns c = rw c.payload_size.ensures at c.emit.ensures

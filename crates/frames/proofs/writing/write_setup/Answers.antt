@@ -1,7 +1,11 @@
 use mathlib.Core.List.{append-nil}
+use borrow.Author.Rules.{rules}
 use Rattle.frames.specs.Write.{encode}
+use Rattle.frames.proofs.WriteLaws.{fits-setup}
 use Rattle.frames.proofs.writing.write_setup.Goals as goal
 
 pub returns : goal.returns
 unfolding encode
-returns c = rw (append-nil, c.setup_bytes-b.ensures, c.setup_fits.ensures) at c.lay_frame.ensures
+returns c =
+    let fit = fits-setup c.args.f (search rules) (search rules) (search rules) in
+    rw (append-nil, c.setup_bytes.ensures, ← fit) at c.emit.ensures

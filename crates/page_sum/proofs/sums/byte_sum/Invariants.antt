@@ -1,7 +1,6 @@
-use mathlib.Core.Path.{◌≡◌}
-use Prim.Native.Nat.{◌%◌}
-use Rattle.page_sum.specs.Sum.{sum_to}
+use Rattle.std.proofs.Common.{◌≡◌, ◌%◌, take}
+use Rattle.std.specs.List.{sum}
 use Rattle.page_sum.proofs.sums.byte_sum.Given as goal
 
-abbrev pub invariant-loop-b : goal.invariant-loop-b
-invariant-loop-b l = l.sum ≡ sum_to l.s l.b-index % 256
+abbrev pub invariant-loop-byte : goal.invariant-loop-byte
+invariant-loop-byte l = l.sum ≡ sum (take l.byte-index l.bytes) % 256

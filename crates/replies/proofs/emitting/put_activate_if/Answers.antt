@@ -1,5 +1,6 @@
 use native.Mathlib.Omega.{arith}
-use borrow.Author.Tests.{not-true, not-false}
+use mathlib.Core.Path.{◌≡◌}
+use mathlib.Core.Bool.{true, false}
 use Rattle.bits.specs.Pick.{pick}
 use Rattle.frames.specs.Write.{activate}
 use Rattle.replies.proofs.Sending.{sends_none, sends-one, one-most, length-activate}
@@ -8,14 +9,17 @@ use Rattle.replies.proofs.emitting.put_activate_if.Goals as goal
 
 pub returns-then-not-on : goal.returns-then-not-on
 unfolding pick
-returns-then-not-on c = record { bytes = rw (not-true c.args.on c.if-not-on.true-raw) (sends_none c.args.reply.now); most = search rules }
+returns-then-not-on c =
+    let off : c.args.on ≡ false = search rules in
+    record { bytes = rw off (sends_none c.args.reply.now); most = search rules }
 
 pub returns : goal.returns
 unfolding pick
 returns c =
+    let on : c.args.on ≡ true = search rules in
     let a = c.args in
-    let w = c.write_activate-w in
+    let w = c.write_activate in
     record {
-      bytes = rw (not-false a.on c.if-not-on.false-raw) (sends-one activate a.reply.now w.result w.new.buf w.ensures (omega (arith, length-activate)));
-      most = omega (arith, length-activate, one-most activate a.reply.now w.result w.new.buf w.ensures (omega (arith, length-activate)));
+      bytes = rw on (sends-one activate a.reply.now w.result c.unwrap_or.result w.new.buf w.ensures c.unwrap_or.ensures (omega (arith, length-activate)));
+      most = omega (arith, length-activate, one-most activate a.reply.now w.result c.unwrap_or.result w.new.buf w.ensures c.unwrap_or.ensures (omega (arith, length-activate)));
     }

@@ -7,8 +7,8 @@ use Rattle.replies.proofs.emitting.put_bits.Goals as goal
 
 pub returns : goal.returns
 returns c =
-    let w = c.write_bits-w in
+    let w = c.write_bits in
     let a = c.args in
     let f : SetBits = record { interrupt = true; status = a.status; error = a.error; active = a.active } in
     let l = length-bits f in
-    sends-one (setBits f) a.reply.now w.result w.new.buf w.ensures (omega arith)
+    sends-one (setBits f) a.reply.now w.result c.unwrap_or.result w.new.buf w.ensures c.unwrap_or.ensures (omega arith)

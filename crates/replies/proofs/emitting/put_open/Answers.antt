@@ -8,4 +8,4 @@ returns c =
     let s = c.args in
     let a = c.put_setup-first in
     let b = c.put_activate_if-second in
-    sends-next (setupReply s.q ∷ []) (activateIf s.q.entry.write) s.reply.now a.new.reply b.new.reply a.result b.result a.ensures.bytes b.ensures.bytes
+    sends-next (setupReply s.q.now ∷ []) (activateIf s.q.now.entry.write) s.reply.now a.new.reply b.new.reply a.result b.result a.ensures.bytes b.ensures.bytes

@@ -7,4 +7,4 @@ pub returns : goal.returns
 returns c =
     let a = c.args in
     let l = length-register a.interrupt a.status a.error a.task in
-    sends-one (register a.interrupt a.status a.error a.task) a.reply.now c.write_device-w.result c.write_device-w.new.buf c.write_device-w.ensures (omega arith)
+    sends-one (register a.interrupt a.status a.error a.task) a.reply.now c.write_device.result c.unwrap_or.result c.write_device.new.buf c.write_device.ensures c.unwrap_or.ensures (omega arith)

@@ -8,11 +8,11 @@ use Rattle.replies.proofs.emitting.put_setup.Goals as goal
 
 pub returns : goal.returns
 returns c =
-    let w = c.write_setup-w in
+    let w = c.write_setup in
     let a = c.args in
-    let l : length (encode (setupReply a.q)) ≡ 28 = length-setup _ in
-    let e = rw c.whole_of.ensures at w.ensures in
+    let l : length (encode (setupReply a.q.now)) ≡ 28 = length-setup _ in
+    let e = rw c.whole.ensures at w.ensures in
     record {
-      bytes = sends-one (setupReply a.q) a.reply.now w.result w.new.buf e (omega arith);
-      most = omega (arith, one-most (setupReply a.q) a.reply.now w.result w.new.buf e (omega arith));
+      bytes = sends-one (setupReply a.q.now) a.reply.now w.result c.unwrap_or.result w.new.buf e c.unwrap_or.ensures (omega arith);
+      most = omega (arith, one-most (setupReply a.q.now) a.reply.now w.result c.unwrap_or.result w.new.buf e c.unwrap_or.ensures (omega arith));
     }

@@ -1,21 +1,22 @@
-use native.Mathlib.Omega.{arith}
-use Rattle.rules.specs.Tests.{unreadyAt, someUnready}
-use Rattle.device_state.proofs.TableLaws.{some-none, some_turn, some_end}
-use borrow.Author.Rules.{rules}
+use Rattle.std.proofs.Common.{rules, arith, ◌∙◌, ap, refl, ℕ}
+use Rattle.std.proofs.lemmas.Iterator.{YieldsList-from_slice}
+use Rattle.std.proofs.lemmas.Iterator.Consumers.{YieldsList-from_enumerate}
+use Rattle.std.proofs.lemmas.Iterator.Search.{any_from_yields_List}
+use borrow.Author.Tests.{tests}
+use Rattle.device_state.specs.declared.shapes.Entry.{Entry}
+use Rattle.bits.specs.Bit.{bitIn}
+use Rattle.device_state.specs.State.{zeroEntry}
+use Rattle.device_state.specs.Table.{entry_of}
+use Rattle.rules.specs.Tests.{unready, unreadyAt, someUnready}
+use Rattle.device_state.proofs.Walk.{some-walked}
 use Rattle.rules.proofs.device_events.some_unready.Goals as goal
-
-pub loop-i-init : goal.loop-i-init
-loop-i-init c = (search rules, some-none _)
-
-pub loop-i-preserved : goal.loop-i-preserved
-loop-i-preserved c =
-    let l = c.loop-i in
-    let a = c.args in
-    (omega arith, some_turn (unreadyAt a.entries.now a.outstanding a.set) l.i l.bad c.unready-one.result l.invariant.1 (rw (c.bit-asked.ensures, c.bit-busy.ensures) at c.unready-one.ensures))
 
 pub returns : goal.returns
 unfolding someUnready
 returns c =
-    let l = c.loop-i in
     let a = c.args in
-    some_end (unreadyAt a.entries.now a.outstanding a.set) 32 l.i l.bad l.invariant.0 c.loop-i-test.false l.invariant.1
+    let es = a.entries.now in
+    let test = λ (x : ℕ × Entry). unready x.1 (bitIn 32 a.set x.0) (bitIn 32 a.outstanding x.0) in
+    any_from_yields_List test _ _ _ c.any.ensures.ran (YieldsList-from_enumerate (YieldsList-from_slice es cc) cc) (λ x b q k. search (rules, tests))
+    ∙ some-walked test (unreadyAt es a.outstanding a.set) zeroEntry es 0 (λ i l. ap (λ (j : ℕ). test (j, entry_of es i)) (omega arith))
+    ∙ rw (c.told-entries) refl

@@ -1,0 +1,20 @@
+// The event program's run, from its contract alone: what it wrote is the lines of a history.
+ghost use Rattle.std.specs.Prelude.{IfSome};
+ghost use Rattle.bits.specs.Little.{Bytes};
+ghost use Rattle.caller.specs.Program.{RunHistory};
+
+use event_program::RunError;
+use std::alloc::Global;
+use std::io::{Read, Write};
+
+/// The run of an event file. An input is of bytes, as what stands in a slice of them always is.
+pub fn run<R: Read, W: Write>(
+    alloc: Global,
+    traced: bool,
+    reader: &mut R,
+    out: &mut W,
+) -> Result<(), RunError>
+    ensures { IfSome (R.remaining reader.old) (λ input. Bytes input → RunHistory traced input (W.contents out.old) (W.contents out.new)) }
+{
+    event_program::run(alloc, traced, reader, out)
+}

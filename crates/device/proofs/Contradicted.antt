@@ -1,0 +1,30 @@
+-- Every call on a state that contradicts itself is refused with 1, and leaves all as it was. Assumes nothing.
+use mathlib.Core.Path.{◌≡◌, sym, ap, subst⁻¹, ◌∙◌}
+use mathlib.Core.Bool.{true}
+use Rattle.std.proofs.Common.{Option, Some, Err}
+use Rattle.refusals.specs.First.{unless}
+use Rattle.refusals.specs.declared.reasons.Refusal.{Refusal}
+use Rattle.refusals.specs.declared.reasons.Refusal.TheVariants.{Contradiction}
+use Rattle.rules.specs.Act.{does, act}
+use Rattle.rules.proofs.TestLaws.{test-laws}
+use Rattle.device.specs.Device.{contradictoryDevice}
+use Rattle.device.specs.Lent.{Lent, gave, answered}
+use Rattle.device.specs.FactsOf.{facts_of}
+use Rattle.device.specs.Step.{actOf, step, Given}
+use Rattle.device.specs.declared.state.Device.{Device}
+use Rattle.device.specs.declared.state.Outcome.{Outcome}
+use Rattle.device.proofs.Turns.{step-refusal}
+use Rattle.device.proofs.Doing.{refused-given}
+
+module _ (d : Device) (l : Lent) (h : contradictoryDevice d ≡ true) where
+  -- the row of each call begins with 1
+  pub contradicted : (step d l).refusal ≡ Some Contradiction
+  contradicted = step-refusal d l ∙ (test-laws (facts_of d l) l.call).one h
+
+  act-contradicted : actOf d l ≡ Err Contradiction
+  unfolding actOf act
+  act-contradicted = ap (λ (o : Option Refusal). unless o (does (facts_of d l) l.call)) ((test-laws (facts_of d l) l.call).one h)
+
+  -- so a call that asks nothing more, and answers that, has kept its contract
+  pub given_contradicted : (o : Outcome) → o ≡ answered d (Err Contradiction) → Given d l (gave o l.medium l.buffer)
+  given_contradicted o e = subst⁻¹ (λ (x : Outcome). Given d l (gave x l.medium l.buffer)) e (refused-given d l Contradiction (sym act-contradicted))

@@ -1,0 +1,48 @@
+-- The open phase: what tests of it tell. Assumes nothing.
+use mathlib.Core.Path.{◌≡◌, refl, sym}
+use mathlib.Core.Bool.{Bool, true, false, not, true≢false}
+use Rattle.std.proofs.Common.{Option, Some, None, is_some, is_none, unwrap_or}
+use Prim.Native.Nat.{ℕ}
+use lib.Dec.{eqb}
+use borrow.Author.Tests.{eq-eqb, ne_eqb, eqb-false}
+use Rattle.bits.specs.Pick.{pick}
+use Rattle.device_state.specs.UnderWay.{openFor}
+use Rattle.device.specs.FactsOf.{openTag}
+
+-- none is open
+pub none-open : (phase : Option ℕ) → is_some phase ≡ false → phase ≡ None
+none-open None e = refl
+none-open (Some t) e = absurd (true≢false e)
+
+-- one is open, that of its tag
+pub some-open : (phase : Option ℕ) → is_none phase ≡ false → phase ≡ Some (unwrap_or phase 0)
+some-open None e = absurd (true≢false e)
+some-open (Some t) e = refl
+
+-- whose entry a call is about
+pub open-tag : (phase : Option ℕ) → is_none phase ≡ false → openTag phase ≡ unwrap_or phase 0
+unfolding openTag
+open-tag None e = absurd (true≢false e)
+open-tag (Some t) e = refl
+
+-- that of a tag
+pub own-open : (phase : Option ℕ) (t : ℕ) → phase ≡ Some t → openFor phase t ≡ true
+own-open phase t e = rw e (eq-eqb t t refl)
+
+-- none is open, so not that of a tag
+pub no-phase : (phase : Option ℕ) (t : ℕ) → phase ≡ None → openFor phase t ≡ false
+no-phase phase t e = rw e
+
+-- a phase that closes at the last move: its own tag
+pub phase-same : (last : Bool) (phase : Option ℕ) → is_none phase ≡ false → openFor (pick last None phase) (unwrap_or phase 0) ≡ not last
+unfolding pick
+phase-same last None n = absurd (true≢false n)
+phase-same true (Some u) n = refl
+phase-same false (Some u) n = eq-eqb u u refl
+
+-- and any other tag
+pub phase-other : (last : Bool) (phase : Option ℕ) (t : ℕ) → is_none phase ≡ false → eqb t (unwrap_or phase 0) ≡ false → openFor (pick last None phase) t ≡ false
+unfolding pick
+phase-other last None t n x = absurd (true≢false n)
+phase-other true (Some u) t n x = refl
+phase-other false (Some u) t n x = ne_eqb u t (λ e. eqb-false t u x (sym e))

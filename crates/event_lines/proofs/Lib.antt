@@ -1,2 +1,0 @@
-pub mod Fields
-pub mod Tied

@@ -1,0 +1,9 @@
+pub mod Cuts
+pub mod Fields
+pub mod Fronts
+pub mod Nexts
+pub mod Parts
+pub mod Runs
+pub mod Starts
+pub mod Steps
+pub mod Tied

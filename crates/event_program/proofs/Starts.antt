@@ -1,0 +1,215 @@
+-- The whole run, from the run behind the settings. Assumes nothing.
+use Rattle.std.proofs.Common.{◌≡◌, ℕ, suc, ◌*◌, Bool, true, false, List, [], ◌∷◌, ◌++◌, Option, Some, None, IfSome, Result, Ok, Err, subst, sym, refl, ap, ◌∙◌, append-nil, append_assoc, true≢false}
+use Rattle.std.specs.Io.KnownBytes.{Appends, Consumes}
+use Rattle.std.proofs.KnownBytes.{Consumes-trans, Consumes-nil, Appends-nil}
+use Rattle.event_kinds.specs.declared.kinds.Next.{Next}
+use Rattle.event_kinds.specs.declared.kinds.Next.TheVariants.{Stop, End}
+use Rattle.event_kinds.specs.Kinds.{next_of}
+use lib.Dec.{eqb}
+use Rattle.events.specs.Start.{start_of}
+use Rattle.device.specs.declared.state.Outcome.{Outcome}
+use Rattle.device.specs.declared.state.Device.{Device}
+use Rattle.event_program.specs.Lines.{line_of}
+use Rattle.event_program.specs.Running.{kept}
+use Rattle.std.specs.Prelude.{replicate, ◌&&◌, leb, is_some, option_copied}
+use Rattle.std.proofs.Common.{length, take, length-take-le, ap₂, ◌≤◌, get_or, arith}
+use borrow.Author.Tests.{leb-true}
+use Rattle.bits.proofs.Picks.{by-test, and_right}
+use denote.Ref.{Bor}
+use Rattle.std.specs.Result.{result_err, result_copied}
+use Rattle.refusals.specs.declared.reasons.Refusal.{Refusal}
+use Rattle.std.proofs.lemmas.List.{length-replicate}
+use Rattle.device_state.specs.declared.shapes.Settings.{Settings}
+use Rattle.device.specs.Device.{freshDevice, powered, powerRefusal, powerOn}
+use Rattle.device.specs.Sealing.{poweredOf}
+use Rattle.device.specs.declared.sealed.Sealed.{Sealed}
+use Rattle.event_kinds.specs.Kinds.{isEvent}
+use Rattle.event_kinds.specs.Settings.{asked_of, settingsOf, noSettings, inLimit}
+use Rattle.bits.specs.Pick.{pick}
+use Rattle.event_program.specs.declared.errors.RunError.{RunError}
+use Rattle.event_program.specs.declared.errors.RunError.TheVariants.{Input, Output, Memory, TooMany}
+use Rattle.event_program.specs.Reading.{Ends, IsEvent}
+use Rattle.streams.specs.Fronts.{AppendsFront}
+use Rattle.event_program.specs.Running.{Kept, AllEvents, lines_from, ending, refused, started, start_line, run_lines, Plays, ReadsOn, next_behind}
+use Rattle.event_program.specs.Runs.{joined, Ran, PlayedOn, RunsOut, lines_on, Loses}
+use Rattle.event_program.proofs.Fronts.{front-of, front-first}
+use Rattle.event_program.proofs.Runs.{begins, over}
+
+joined-first : (s : List ℕ) (es : List (List ℕ)) → joined (s ∷ es) ≡ s ++ joined es
+joined-first s es = refl
+
+-- nothing is known to be written yet, and no event is known to be read
+pub loses-all : (traced : Bool) (known w : Option (List ℕ)) → Loses Plays (run_lines traced) known w w
+unfolding Plays
+loses-all traced known w = record { es = []; begins = begins known known [] (Consumes-nil known); events = tt; written = front-of w w [] _ _ refl (Appends-nil w) }
+
+lines-same : (traced : Bool) (s lines : List ℕ) (k : Kept) (es : List (List ℕ)) → lines ≡ start_line traced s → k ≡ started s → lines_on traced k lines es ≡ run_lines traced (s ∷ es)
+unfolding run_lines
+lines-same traced s lines k es p q = ap (λ (l : List ℕ). l ++ lines_from traced 1 k es) p ∙ ap (λ (x : Kept). start_line traced s ++ lines_from traced 1 x es) q
+
+next-same : (s : List ℕ) (es : List (List ℕ)) (rest : List ℕ) → refused s ≡ false → next_of false rest ≡ next_behind (s ∷ es) rest
+unfolding next_behind pick
+next-same s es rest h = rw h refl
+
+plays-more : (s : List ℕ) (es : List (List ℕ)) → refused s ≡ false → IsEvent true s → AllEvents es → Plays (s ∷ es)
+unfolding Plays
+plays-more s es h i a = (i, a, λ t. absurd (true≢false (sym t ∙ h)))
+
+begins-more : (before known : Option (List ℕ)) (s front : List ℕ) → Consumes before known s → IfSome known (λ input. (rest : List ℕ) × (input ≡ front ++ rest)) → IfSome before (λ input. (rest : List ℕ) × (input ≡ (s ++ front) ++ rest))
+begins-more None known s front c b = tt
+begins-more (Some xs) None s front c b = absurd c
+begins-more (Some xs) (Some ys) s front c b = (b.0, c ∙ ap (λ (l : List ℕ). s ++ l) b.1 ∙ sym (append_assoc s front b.0))
+
+lost-from : (traced : Bool) (s lines : List ℕ) (k : Kept) (before known w w' : Option (List ℕ))
+    → refused s ≡ false → IsEvent true s → Consumes before known s → lines ≡ start_line traced s → k ≡ started s → Loses AllEvents (lines_on traced k lines) known w w' → Loses Plays (run_lines traced) before w w'
+lost-from traced s lines k before known w w' h i c p q t = record {
+  es = s ∷ t.es;
+  begins = begins-more before known s (joined t.es) c t.begins;
+  events = plays-more s t.es h i t.events;
+  written = subst (AppendsFront w w') (ap (λ (l : List ℕ). l ++ ending Stop) (lines-same traced s lines k t.es p q)) t.written;
+}
+
+reads-on : (s : List ℕ) (es : List (List ℕ)) → refused s ≡ false → ReadsOn (s ∷ es)
+unfolding ReadsOn
+reads-on s es h = h
+
+-- the events behind the settings are those of the whole run
+pub from-start : (traced : Bool) (s lines : List ℕ) (k : Kept) (before known known' w w' : Option (List ℕ)) (r : Result Unit RunError)
+    → refused s ≡ false → IsEvent true s → Consumes before known s → lines ≡ start_line traced s → k ≡ started s → PlayedOn traced k lines known known' w w' r → Ran traced before known' w w' r
+from-start traced s lines k None known known' w w' (Ok u) h i c p q t = tt
+from-start traced s lines k (Some xs) None known' w w' (Ok u) h i c p q t = absurd c
+from-start traced s lines k (Some xs) (Some ys) known' w w' (Ok u) h i c p q t = record {
+  es = s ∷ t.es;
+  rest = t.rest;
+  cut = record {
+    whole = c ∙ ap (λ (l : List ℕ). s ++ l) t.cut.whole ∙ sym (append_assoc s (joined t.es) t.rest);
+    events = plays-more s t.es h i t.cut.events;
+    ends = subst Ends (next-same s t.es t.rest h) t.cut.ends;
+  };
+  written = subst (Appends w w') (ap (λ (l : List ℕ). l ++ ending (next_of false t.rest)) (lines-same traced s lines k t.es p q) ∙ ap (λ (n : Next). run_lines traced (s ∷ t.es) ++ ending n) (next-same s t.es t.rest h)) t.written;
+}
+from-start traced s lines k before known known' w w' (Err (Input e)) h i c p q t = record {
+  es = s ∷ t.es;
+  looked = reads-on s t.es h;
+  part = t.part;
+  read = subst (Consumes before known') (sym (append_assoc s (joined t.es) t.part)) (Consumes-trans before known known' s _ c t.read);
+  cut = record { whole = refl; events = plays-more s t.es h i t.cut.events; ends = subst Ends (next-same s t.es t.part h) t.cut.ends };
+  written = subst (Appends w w') (ap (λ (l : List ℕ). l ++ ending Stop) (lines-same traced s lines k t.es p q)) t.written;
+}
+from-start traced s lines k before known known' w w' (Err (Output e)) h i c p q t = lost-from traced s lines k before known w w' h i c p q t
+from-start traced s lines k before known known' w w' (Err Memory) h i c p q t = lost-from traced s lines k before known w w' h i c p q t
+from-start traced s lines k before known known' w w' (Err TooMany) h i c p q t = record {
+  es = s ∷ t.es;
+  last = ap suc t.last;
+  read = Consumes-trans before known known' s (joined t.es) c t.read;
+  events = plays-more s t.es h i t.events;
+  written = subst (Appends w w') (ap (λ (l : List ℕ). l ++ ending Stop) (lines-same traced s lines k t.es p q)) t.written;
+}
+
+-- refused settings end a run
+next-refused : (s : List ℕ) (rest : List ℕ) → refused s ≡ true → next_behind (s ∷ []) rest ≡ End
+unfolding next_behind pick
+next-refused s rest h = rw h refl
+
+plays-refused : (s : List ℕ) → IsEvent true s → Plays (s ∷ [])
+unfolding Plays AllEvents
+plays-refused s i = (i, tt, λ t. refl)
+
+line-refused : (traced : Bool) (s : List ℕ) → run_lines traced (s ∷ []) ≡ start_line traced s
+unfolding run_lines lines_from
+line-refused traced s = append-nil (start_line traced s)
+
+pub stays-refused : (traced : Bool) (s lines : List ℕ) (before known w w' : Option (List ℕ)) → refused s ≡ true → IsEvent true s → Consumes before known s → lines ≡ start_line traced s
+    → Appends w w' (lines ++ []) → IfSome before (RunsOut Plays next_behind (run_lines traced) w w')
+unfolding ending
+stays-refused traced s lines before known w w' h i c p a =
+    over Plays next_behind (run_lines traced) before known w w' (s ∷ []) End (plays-refused s i)
+    (subst (Consumes before known) (sym (append-nil s)) c)
+    (all-known known (λ rest. next-refused s rest h))
+    tt
+    (subst (Appends w w') (ap (λ (l : List ℕ). l ++ []) (p ∙ sym (line-refused traced s))) a)
+  where
+    all-known : {Q : List ℕ → Type 0} (u : Option (List ℕ)) → ((l : List ℕ) → Q l) → IfSome u Q
+    all-known None f = tt
+    all-known (Some l) f = f l
+
+pub lost-refused : (traced : Bool) (s lines : List ℕ) (before known w w' : Option (List ℕ)) → IsEvent true s → Consumes before known s → lines ≡ start_line traced s
+    → AppendsFront w w' (lines ++ []) → Loses Plays (run_lines traced) before w w'
+lost-refused traced s lines before known w w' i c p a = record {
+  es = s ∷ [];
+  begins = begins before known (joined (s ∷ [])) (subst (Consumes before known) (sym (append-nil s)) c);
+  events = plays-refused s i;
+  written = front-first w w' _ _ (subst (AppendsFront w w') (append-nil lines ∙ p ∙ sym (line-refused traced s)) a);
+}
+
+-- a start leaves nothing outstanding
+none-out : (o : Option Refusal) (s : Settings) → (powered o s).status.outstanding ≡ 0
+unfolding freshDevice
+none-out None s = refl
+none-out (Some r) s = refl
+
+none-outstanding : (e : List ℕ) → (start_of e).state.status.outstanding ≡ 0
+unfolding start_of powerOn
+none-outstanding e = none-out (powerRefusal (asked_of e)) (asked_of e)
+
+-- what power-on gave
+same-kept : {d d' : Device} {m m' b b' : List ℕ} → d ≡ d' → m ≡ m' → b ≡ b' → kept d m b ≡ kept d' m' b'
+same-kept p q r = cc
+
+pub refused-yes : (s : List ℕ) (r : Refusal) → poweredOf (Err r) ≡ start_of s → refused s ≡ true
+unfolding poweredOf
+refused-yes s r e = sym (ap (λ (x : Outcome). is_some x.refusal) e)
+
+pub refused-no : (s : List ℕ) (d : Sealed) → poweredOf (Ok d) ≡ start_of s → refused s ≡ false
+unfolding poweredOf
+refused-no s d e = sym (ap (λ (x : Outcome). is_some x.refusal) e)
+
+-- a refusal that is handed on is that of the outcome
+refusal-is : (r : Result Sealed Refusal) → result_err r ≡ (poweredOf r).refusal
+unfolding poweredOf
+refusal-is (Ok d) = refl
+refusal-is (Err r) = refl
+
+handed-err : (r : Result (Bor Sealed) (Bor Refusal)) → option_copied (result_err r) ≡ result_err (result_copied r)
+handed-err (Ok d) = refl
+handed-err (Err r) = refl
+
+pub refusal-copied : (begun : Result Sealed Refusal) (r : Result (Bor Sealed) (Bor Refusal)) (o : Option (Bor Refusal)) (given : Option Refusal)
+    → result_copied r ≡ begun → o ≡ result_err r → given ≡ option_copied o → given ≡ (poweredOf begun).refusal
+refusal-copied begun r o given p q t = t ∙ ap option_copied q ∙ handed-err r ∙ ap result_err p ∙ refusal-is begun
+
+pub line-is : (traced : Bool) (s : List ℕ) (begun : Result Sealed Refusal) (given : Option Refusal) (none lines : List ℕ) → poweredOf begun ≡ start_of s → given ≡ (poweredOf begun).refusal → none ≡ [] → lines ≡ none ++ line_of traced 0 given 0 []
+    → lines ≡ start_line traced s
+line-is traced s begun given none lines e n k q =
+    q ∙ ap (λ (l : List ℕ). l ++ line_of traced 0 given 0 []) k ∙ ap₂ (λ (r : Option Refusal) (t : ℕ). line_of traced 0 r t []) (n ∙ ap (λ (x : Outcome). x.refusal) e) (sym (none-outstanding s))
+
+-- the medium of a run has room in the program's array
+and_assoc : (a b c : Bool) → (a && b && c) ≡ ((a && b) && c)
+and_assoc true b c = refl
+and_assoc false b c = refl
+
+in-limit : (e : List ℕ) → (asked_of e).capacity ≤ 64
+in-limit e =
+    by-test (λ (s : Settings). s.capacity ≤ 64) (inLimit e) (settingsOf e) noSettings
+    (λ h. leb-true (settingsOf e).capacity 64 (and_right (isEvent e && eqb (get_or e 0 0) 0x00) (leb (settingsOf e).capacity 64) (sym (and_assoc (isEvent e) (eqb (get_or e 0 0) 0x00) (leb (settingsOf e).capacity 64)) ∙ h)))
+    (λ h. omega arith)
+
+powered-in-limit : (o : Option Refusal) (s : Settings) → s.capacity ≤ 64 → (powered o s).settings.capacity ≤ 64
+unfolding freshDevice
+powered-in-limit None s h = h
+powered-in-limit (Some r) s h = omega arith
+
+started-in-limit : (e : List ℕ) → (start_of e).state.settings.capacity ≤ 64
+unfolding start_of powerOn
+started-in-limit e = powered-in-limit (powerRefusal (asked_of e)) (asked_of e) (in-limit e)
+
+pub medium-fits : (s : List ℕ) (r : Result Sealed Refusal) (d : Sealed) → poweredOf r ≡ start_of s → r ≡ Ok d → d.device.settings.capacity ≤ 64
+unfolding poweredOf
+medium-fits s r d e o = subst (λ (n : ℕ). n ≤ 64) (sym (ap (λ (x : Outcome). x.state.settings.capacity) (sym (ap poweredOf o) ∙ e))) (started-in-limit s)
+
+pub room-is : (s : List ℕ) (r : Result Sealed Refusal) (d : Sealed) → poweredOf r ≡ start_of s → r ≡ Ok d → (room : List ℕ) → room ≡ replicate 32768 0 → 512 * d.device.settings.capacity ≡ length (take (512 * d.device.settings.capacity) room)
+room-is s r d e o room q = let f = medium-fits s r d e o in sym (length-take-le (512 * d.device.settings.capacity) room (rw q (omega (arith, f, length-replicate {A = ℕ} 32768 0))))
+
+pub started-is : (s : List ℕ) (d : Sealed) (m b : List ℕ) → poweredOf (Ok d) ≡ start_of s → m ≡ replicate (512 * d.device.settings.capacity) 0 → b ≡ replicate 8196 0 → kept d.device m b ≡ started s
+unfolding started poweredOf
+started-is s d m b e p q = same-kept (ap (λ (x : Outcome). x.state) e) (p ∙ ap (λ (x : Outcome). replicate (512 * x.state.settings.capacity) 0) e) q

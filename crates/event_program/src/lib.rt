@@ -1,0 +1,13 @@
+// The run of an event file, from any reader to any writer. What it writes is stated for each way in which it may end.
+#![tactic(auto)]
+
+mod errors;
+mod lines;
+mod output;
+mod pieces;
+mod reading;
+mod running;
+
+pub use errors::RunError;
+pub use pieces::{PIECE, run_in_pieces};
+pub use running::{a_run_has_one_text, run};

@@ -1,7 +1,0 @@
-use mathlib.Core.Path.{refl}
-use Rattle.events.specs.HostData.{dataFrame}
-use Rattle.events.proofs.host_data.longest.Goals as goal
-
-pub returns : goal.returns
-unfolding dataFrame
-returns c = refl

@@ -1,4 +1,0 @@
-pub mod Asked
-pub mod Telling
-pub mod Answered
-pub mod Tied

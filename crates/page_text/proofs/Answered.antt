@@ -1,0 +1,44 @@
+-- Where the sixteen lines of page 11h are told, each is the page's own answer for its number, and none is a refusal. Assumes nothing.
+use Rattle.std.proofs.Common.{◌≡◌, ℕ, zero, suc, ◌<◌, List, [], ◌∷◌, length, get_or, refl, Option, None, Result, Ok, Err, arith}
+use Rattle.refusals.specs.declared.reasons.Refusal.{Refusal}
+use Rattle.page_rows.specs.Rows.{ids, id_of}
+use Rattle.page_11h.specs.Page11.{readCounter}
+use Rattle.page_11h.specs.declared.value.CounterValue.{CounterValue}
+use Rattle.page_text.specs.Counters.{Counter, in_front, counters_in}
+use Rattle.page_text.proofs.Reading.{length_ids}
+
+-- a counter that is told is the number asked, and what the page says of it
+pub record IsAnswered (page : List ℕ) (number : ℕ) (counter : Counter) : Type 0 where
+  pub asked : counter.0 ≡ number
+  pub answer : readCounter page number ≡ Ok counter.1
+
+-- where a list is told, its first is answered, and so are those behind it
+pub record Front (number : ℕ) (answer : Result (Option CounterValue) Refusal) (rest : Result (List Counter) Refusal) (counters : List Counter) : Type 0 where
+  pub first : Option CounterValue
+  pub more : List Counter
+  pub answered : answer ≡ Ok first
+  pub told : rest ≡ Ok more
+  pub whole : counters ≡ (number, first) ∷ more
+
+pub front : (number : ℕ) (answer : Result (Option CounterValue) Refusal) (rest : Result (List Counter) Refusal) (counters : List Counter) → in_front number answer rest ≡ Ok counters → Front number answer rest counters
+front number (Ok first) (Ok more) counters e = record { first = first; more = more; answered = refl; told = refl; whole = cc }
+front number (Ok first) (Err refusal) counters e = absurd (cc)
+front number (Err refusal) rest counters e = absurd (cc)
+
+each : (page numbers : List ℕ) (counters : List Counter) → counters_in page numbers ≡ Ok counters → (i : ℕ) → i < length numbers → IsAnswered page (get_or numbers i 0) (get_or counters i (0, None))
+unfolding counters_in
+each page [] counters e i h = absurd (omega arith)
+each page (number ∷ numbers) counters e zero h =
+    let f = front number (readCounter page number) (counters_in page numbers) counters e in
+    rw f.whole (record { asked = refl; answer = f.answered })
+each page (number ∷ numbers) counters e (suc i) h =
+    let f = front number (readCounter page number) (counters_in page numbers) counters e in
+    rw f.whole (each page numbers f.more f.told i (omega arith))
+
+-- each row is told
+pub answered : (page : List ℕ) (counters : List Counter) → counters_in page ids ≡ Ok counters → (row : ℕ) → row < 16 → IsAnswered page (id_of row) (get_or counters row (0, None))
+answered page counters e row h = each page ids counters e row (omega (arith, length_ids))
+
+-- no row is refused
+pub never-refused : (page : List ℕ) (counters : List Counter) → counters_in page ids ≡ Ok counters → (row : ℕ) (refusal : Refusal) → row < 16 → readCounter page (id_of row) ≡ Err refusal → ⊥
+never-refused page counters e row refusal h r = let a = answered page counters e row h in cc (a.answer)

@@ -1,0 +1,120 @@
+-- How long a page's text is at most. Assumes nothing.
+use Rattle.std.proofs.Common.{◌≡◌, ℕ, ◌+◌, ◌*◌, ◌^◌, ◌<◌, ◌≤◌, Bool, true, false, List, [], ◌∷◌, length, get_or, refl, ap, Option, Some, None, Result, Ok, Err, arith, length-append, decimal, codes}
+use mathlib.Core.Logic.{⊎_elim}
+use native.Mathlib.Nat.{lt_of_lt_of_le}
+use lib.Dec.{ltb}
+use lib.Pow.{pow_mono}
+use borrow.Author.Tests.{ltb-true}
+use Rattle.std.proofs.lemmas.Fmt.{length-decimal-le}
+use Rattle.std.specs.List.{list_all}
+use Rattle.bits.specs.Little.{leAt, Bytes}
+use Rattle.bits.specs.Answer.{bitNumber}
+use Rattle.bits.specs.Bit.{bitIn}
+use Rattle.bits.proofs.Littles.{le-lt}
+use Rattle.bits.proofs.Picks.{tested, and_left, and_right, by-test}
+use Rattle.refusals.specs.First.{first_of}
+use Rattle.refusals.specs.declared.reasons.Refusal.{Refusal}
+use Rattle.refusals.proofs.FirstLaws.{by-unless}
+use Rattle.page_rows.specs.Rows.{ids}
+use Rattle.page_10h.specs.Page10.{fields10, ladder10, read_log}
+use Rattle.page_10h.specs.declared.page10.ErrorLog.{ErrorLog}
+use Rattle.page_11h.specs.Entries.{bytesIn, entries}
+use Rattle.page_11h.specs.Page11.{readCounter}
+use Rattle.page_11h.specs.Top.{atTop}
+use Rattle.page_11h.specs.declared.value.CounterValue.{CounterValue}
+use Rattle.page_11h.proofs.Largest.{top-exactly}
+use Rattle.page_11h.proofs.Values.{noEntry}
+use Rattle.page_text.specs.Counters.{Counter, counters_in, shown_text, line_text, lines_text, told_text, counters_text}
+use Rattle.page_text.specs.Fields.{tag_text, status_text, task_text, log_text, read_text, fields_text}
+use Rattle.page_text.proofs.Pieces.{length-upper, refusal-most}
+use Rattle.page_text.proofs.Answered.{front}
+
+-- a log whose values fit their bits
+record Fits (log : ErrorLog) : Type 0 where
+  tag : log.tag < 32
+  status : log.status < 256
+  error : log.error < 256
+  lba : log.task.lba < 2 ^ 48
+  device : log.task.device < 256
+  count : log.task.count < 2 ^ 16
+
+bit-most : (flag : Bool) → length (decimal (bitNumber flag)) ≤ 1
+bit-most flag = length-decimal-le 1 (bitNumber flag) (omega arith) (grind arith) (grind arith)
+
+log-most : (log : ErrorLog) → Fits log → length (log_text log) ≤ 74
+unfolding log_text tag_text status_text task_text
+log-most log f =
+    let q = bit-most log.nq in
+    let t = length-decimal-le 2 log.tag (omega arith) (omega (arith, f.tag)) (omega (arith, f.tag)) in
+    let s = length-upper 2 log.status (omega arith) f.status in
+    let e = length-upper 2 log.error (omega arith) f.error in
+    let l = length-upper 12 log.task.lba (omega arith) (omega (arith, f.lba)) in
+    let d = length-upper 2 log.task.device (omega arith) f.device in
+    let n = length-upper 4 log.task.count (omega arith) (omega (arith, f.count)) in
+    simp length-append (omega arith)
+
+-- the numbers have three hex digits
+abbrev ThreeDigits : List ℕ → Type 0
+ThreeDigits numbers = list_all (λ n. ltb n 4096) numbers ≡ true
+
+module _ (page : List ℕ) (bytes : Bytes page) where
+  -- what is read of page 10h fits
+  read-fits : Fits (fields10 page)
+  read-fits = record {
+    tag = by-test (λ tag. tag < 32) (bitIn 8 (get_or page 0 0) 7) 0 _ (λ _. omega arith) (λ _. omega arith);
+    status = bytes 2;
+    error = bytes 3;
+    lba = omega (arith, le-lt page bytes 8 3, le-lt page bytes 4 3);
+    device = bytes 7;
+    count = omega (arith, le-lt page bytes 12 2);
+  }
+
+  -- page 10h: eleven bytes of a refusal, or 74 of the fields
+  pub fields-most : length (fields_text page) ≤ 74
+  unfolding read_log
+  fields-most = by-unless (λ r. length (read_text r) ≤ 74) (first_of (ladder10 page)) (fields10 page) (λ refusal _. omega (arith, refusal-most refusal)) (λ _. log-most (fields10 page) read-fits)
+
+  module _ (number : ℕ) where
+    -- a value of page 11h has 8 bytes at most
+    pub value-lt : (v : CounterValue) → readCounter page number ≡ Ok (Some v) → v.value < 2 ^ 64
+    value-lt v e =
+        let f = (top-exactly page number v e).from in
+        let entry = get_or (entries page) f.entry noEntry in
+        let n = bytesIn entry.id in
+        let k : v.value ≡ leAt page (entry.place + 2) n = ap (λ (x : CounterValue). x.value) f.value in
+        rw k (lt_of_lt_of_le (le-lt page bytes (entry.place + 2) n) (pow_mono {i = 8 * n} {j = 64} (omega (arith, f.most))))
+
+    -- `absent`, or twenty decimal digits and ` top`
+    shown-most : (shown : Option CounterValue) → readCounter page number ≡ Ok shown → length (shown_text shown) ≤ 24
+    shown-most None e = omega arith
+    shown-most (Some v) e =
+        let h = value-lt v e in
+        let d = length-decimal-le 20 v.value (omega arith) (omega (arith, h)) h in
+        ⊎_elim
+        (λ (top : atTop v ≡ true). rw top (omega (arith, length-append (decimal v.value) (codes " top"))))
+        (λ (below : atTop v ≡ false). rw below (omega (arith, length-append (decimal v.value) [])))
+        (tested (atTop v))
+
+    line-most : (shown : Option CounterValue) → number < 4096 → readCounter page number ≡ Ok shown → length (line_text (number, shown)) ≤ 30
+    line-most shown h e =
+        let u = length-upper 3 number (omega arith) h in
+        let s = shown-most shown e in
+        simp length-append (omega arith)
+
+  lines-most : (numbers : List ℕ) (counters : List Counter) → ThreeDigits numbers → counters_in page numbers ≡ Ok counters → length (lines_text counters) ≤ 30 * length numbers
+  unfolding counters_in
+  lines-most [] counters h e = let z : counters ≡ [] = cc in rw z (omega arith)
+  lines-most (number ∷ numbers) counters h e =
+      let f = front number (readCounter page number) (counters_in page numbers) counters e in
+      let l = line-most number f.first (ltb-true number 4096 (and_left _ _ h)) f.answered in
+      let m : length (lines_text f.more) ≤ 30 * length numbers = lines-most numbers f.more (and_right (ltb number 4096) _ h) f.told in
+      rw f.whole (omega (arith, length-append (line_text (number, f.first)) (lines_text f.more)))
+
+  told-most : (told : Result (List Counter) Refusal) → counters_in page ids ≡ told → length (told_text told) ≤ 480
+  unfolding ids
+  told-most (Ok counters) e = lines-most ids counters refl e
+  told-most (Err refusal) e = omega (arith, refusal-most refusal)
+
+  -- page 11h: sixteen lines of 30 bytes
+  pub counters-most : length (counters_text page) ≤ 480
+  counters-most = told-most (counters_in page ids) refl

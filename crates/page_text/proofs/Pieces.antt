@@ -1,0 +1,41 @@
+-- How long the pieces of a page's text are. Assumes nothing.
+use Rattle.std.proofs.Common.{◌≡◌, ℕ, zero, suc, ◌+◌, ◌/◌, ◌%◌, ◌^◌, ◌<◌, ◌≤◌, true, false, List, [], ◌∷◌, length, arith, length-append}
+use mathlib.Core.Logic.{⊎_elim}
+use native.Mathlib.Nat.{pow-suc}
+use lib.Dec.{eqb}
+use lib.ListN.{length-replicate}
+use borrow.Author.Tests.{eq-eqb}
+use Rattle.std.proofs.lemmas.Fmt.{length-decimal-le}
+use Rattle.std.specs.Fmt.{digit_glyph, digits_onto, digits, padded_integral, char_count}
+use Rattle.bits.proofs.Picks.{tested}
+use Rattle.refusals.specs.Number.{number}
+use Rattle.refusals.specs.declared.reasons.Refusal.{Refusal}
+use Rattle.page_text.specs.Words.{upper, refusal_text}
+
+-- a number below 16 ^ (j + 1) has j + 1 hex digits at most
+hex-most : (k j n : ℕ) (acc : List ℕ) → n < 16 ^ suc j → length (digits_onto k 16 true n acc) ≤ suc j + length acc
+hex-most zero j n acc h = omega arith
+hex-most (suc k) zero n acc h = rw (eq-eqb (n / 16) 0 (omega arith)) (omega arith)
+hex-most (suc k) (suc j) n acc h =
+    ⊎_elim
+    (λ (y : eqb (n / 16) 0 ≡ true). rw y (omega arith))
+    (λ (y : eqb (n / 16) 0 ≡ false). rw y (omega (arith, hex-most k j (n / 16) (digit_glyph true (n % 16) ∷ acc) (omega (arith, pow-suc 16 (suc j))))))
+    (tested (eqb (n / 16) 0))
+
+-- a number that fits its width is as long as that
+pub length-upper : (width n : ℕ) → 0 < width → n < 16 ^ width → length (upper width n) ≡ width
+unfolding padded_integral char_count digits
+length-upper zero n p h = absurd (omega arith)
+length-upper (suc j) n p h =
+    let m = hex-most 64 j n [] h in
+    simp (length-append, length-replicate) (omega arith)
+
+-- the line of a refusal, whose number has two digits at most
+number-lt : (refusal : Refusal) → number refusal < 100
+number-lt refusal = grind arith
+
+pub refusal-most : (refusal : Refusal) → length (refusal_text refusal) ≤ 11
+refusal-most refusal =
+    let n = number refusal in
+    let d = length-decimal-le 2 n (omega arith) (number-lt refusal) (omega (arith, number-lt refusal)) in
+    simp length-append (omega arith)

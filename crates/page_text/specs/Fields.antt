@@ -1,0 +1,39 @@
+-- What is printed of page 10h. Assumes nothing.
+use Rattle.std.specs.Prelude.{List, ℕ, ◌++◌, decimal, codes, Result, Ok, Err}
+use Rattle.bits.specs.Answer.{bitNumber}
+use Rattle.refusals.specs.declared.reasons.Refusal.{Refusal}
+use Rattle.frame_parts.specs.declared.shared.Task.{Task}
+use Rattle.page_10h.specs.Page10.{read_log}
+use Rattle.page_10h.specs.declared.page10.ErrorLog.{ErrorLog}
+use Rattle.page_text.specs.Words.{upper, refusal_text}
+
+-- NQ and tag in decimal
+unfoldable pub tag_text : ErrorLog → List ℕ
+tag_text log =
+    codes "NQ " ++ decimal (bitNumber log.nq) ++ codes "\n"
+    ++ codes "tag " ++ decimal log.tag ++ codes "\n"
+
+-- status and error in two hex digits
+unfoldable pub status_text : ErrorLog → List ℕ
+status_text log =
+    codes "status " ++ upper 2 log.status ++ codes "h\n"
+    ++ codes "error " ++ upper 2 log.error ++ codes "h\n"
+
+-- LBA in twelve hex digits, device in two, count in four
+unfoldable pub task_text : Task → List ℕ
+task_text task =
+    codes "LBA " ++ upper 12 task.lba ++ codes "h\n"
+    ++ codes "device " ++ upper 2 task.device ++ codes "h\n"
+    ++ codes "count " ++ upper 4 task.count ++ codes "h\n"
+
+unfoldable pub log_text : ErrorLog → List ℕ
+log_text log = tag_text log ++ status_text log ++ task_text log.task
+
+-- the fields, or the refusal alone
+abbrev pub read_text : Result ErrorLog Refusal → List ℕ
+read_text (Ok log) = log_text log
+read_text (Err refusal) = refusal_text refusal
+
+-- page 10h
+abbrev pub fields_text : List ℕ → List ℕ
+fields_text page = read_text (read_log page)

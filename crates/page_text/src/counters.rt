@@ -1,0 +1,63 @@
+// The counters of page 11h, in the order of figure 24.
+ghost use Rattle.std.specs.Prelude.{◌≡◌, OnOk, Some};
+ghost use Rattle.std.specs.Io.KnownBytes.{Appends};
+ghost use Rattle.page_rows.specs.Rows.{ids};
+ghost use Rattle.page_text.specs.Counters.{counters_in, shown_text, lines_text, counters_text};
+
+use crate::words::write_refusal;
+use page_11h::CounterValue;
+use refusals::Refusal;
+use std::io::Write;
+use std::{fmt, io};
+
+// What a page says of a counter that it was asked for.
+#[derive(Clone, Copy)]
+struct Shown(Option<CounterValue>);
+
+impl fmt::Display for Shown {
+    ghost output = { λ s. Some (shown_text s.0) };
+
+    // A value that stands at the top of its width may have had more events.
+    fn fmt<W: fmt::Write>(&self, f: &mut fmt::Formatter<W>) -> fmt::Result {
+        match self.0 {
+            None => write!(f, "absent"),
+            Some(counter) if counter.is_top() => write!(f, "{} top", counter.value),
+            Some(counter) => write!(f, "{}", counter.value),
+        }
+    }
+}
+
+// What the page says of each of the sixteen numbers, unless it refuses one: such a page is an unread page.
+fn read_counters(page: &[u8]) -> Result<[(u16, Option<CounterValue>); 16], Refusal>
+    ensures { result ≡ counters_in page.now ids }
+{
+    let mut counters = [(0, None); 16];
+    for row in 0..16 {
+        let number = page_rows::id_of(row);
+        counters[row] = (number, page_11h::read_counter(page, number)?);
+    }
+    Ok(counters)
+}
+
+fn write_lines<W: Write>(out: &mut W, counters: &[(u16, Option<CounterValue>)]) -> io::Result<()>
+    ensures { OnOk result (Appends (W.contents out.old) (W.contents out.new) (lines_text counters.now)) }
+{
+    for (number, counter) in counters {
+        writeln!(out, "{number:03X}h {}", Shown(*counter))?;
+    }
+    Ok(())
+}
+
+/// Writes the sixteen counters of page 11h, a line each; of a page that is refused the refusal alone.
+///
+/// # Errors
+///
+/// The writer's.
+pub fn write_counters<W: Write>(out: &mut W, page: &[u8]) -> io::Result<()>
+    ensures { OnOk result (Appends (W.contents out.old) (W.contents out.new) (counters_text page.now)) }
+{
+    match read_counters(page) {
+        Ok(counters) => write_lines(out, &counters),
+        Err(refusal) => write_refusal(out, refusal),
+    }
+}

@@ -1,2 +1,0 @@
-pub mod LastDigits
-pub mod Tied

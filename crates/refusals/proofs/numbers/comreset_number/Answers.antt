@@ -1,6 +1,0 @@
-use Rattle.bits.specs.First.{first_of}
-use Rattle.refusals.proofs.numbers.comreset_number.Goals as goal
-
-pub returns : goal.returns
-unfolding first_of
-returns c = rw (c.or_else-2.ensures, c.or_else.ensures)

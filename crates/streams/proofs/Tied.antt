@@ -1,0 +1,26 @@
+-- The contracts over any writer and any reader: what they say. A write or a read may go more than one way. Assumes nothing.
+use mathlib.Core.List.{Mem}
+use Prim.Native.Nat.{ℕ}
+use denote.Param.Laws.{Laws}
+use denote.RattleType.{RattleType}
+use mir.Syntax.{Dict}
+use Rattle.bits.specs.Contract.{SaysOver}
+use Rattle.std.specs.Prelude.{◌≡◌, length, OnOk, OnErr, IfOk}
+use Rattle.std.specs.Io.KnownBytes.{Appends}
+use Rattle.std.specs.declared.io.traits.Read as Reader
+use Rattle.std.specs.declared.io.traits.Write as Writer
+use Rattle.streams.specs.Fronts.{AppendsFront, Filled, StuckBefore}
+use Rattle.streams.proofs.writing
+use Rattle.streams.proofs.reading
+use Rattle.streams.specs.contracts.writing as writing-said
+use Rattle.streams.specs.contracts.reading as reading-said
+
+pub tied-put : (W : RattleType) (l : Laws W) (g : Writer.Ghosts W.Denot) (d : Dict)
+    → SaysOver (writing-said.put.ended W g d) (λ κs a. (x : ℕ) → Mem x W.lives → Mem x κs.1.1.0) (writing.put.Reads.Asked W l g d) (writing.put.Reads.Post W l g d)
+    (λ κs a r ws. OnOk r (Appends (g.contents a.0.now) (g.contents ws.0) a.1.0.now) × OnErr r (AppendsFront (g.contents a.0.now) (g.contents ws.0) a.1.0.now))
+tied-put W l g d = record { free = λ κs a h. h; says = λ κs a r ws p. (p.0, p.1) }
+
+pub tied-fill : (R : RattleType) (l : Laws R) (g : Reader.Ghosts R.Denot) (d : Dict)
+    → SaysOver (reading-said.fill.ended R g d) (λ κs a. (x : ℕ) → Mem x R.lives → Mem x κs.1.1.0) (reading.fill.Reads.Asked R l g d) (reading.fill.Reads.Post R l g d)
+    (λ κs a r ws. (length ws.1.0 ≡ length a.1.0.now) × IfOk r (λ n. Filled (g.remaining a.0.now) (g.remaining ws.0) n ws.1.0) × OnErr r (StuckBefore (g.remaining a.0.now) (g.remaining ws.0) ws.1.0))
+tied-fill R l g d = record { free = λ κs a h. h; says = λ κs a r ws p. (p.0, p.1.0, p.1.1) }

@@ -1,0 +1,24 @@
+// Input in one piece.
+ghost use Rattle.std.specs.Prelude.{◌≡◌, length, IfOk, OnErr};
+ghost use Rattle.streams.specs.Fronts.{Filled, StuckBefore};
+
+use std::io;
+use std::io::Read;
+
+/// Reads until the buffer is full or the input ends: how many bytes the buffer holds then.
+/// The library's `read_exact` tells neither how many it read nor an input that ends within the buffer from one that ends before it.
+pub fn fill<R: Read>(reader: &mut R, buffer: &mut [u8]) -> io::Result<usize>
+    ensures same { length buffer.new ≡ length buffer.old }
+    ensures ok { IfOk result (λ n. Filled (R.remaining reader.old) (R.remaining reader.new) n buffer.new) }
+    ensures err { OnErr result (StuckBefore (R.remaining reader.old) (R.remaining reader.new) buffer.new) }
+{
+    let mut filled: usize = 0;
+    while filled < buffer.len() {
+        let n = reader.read(&mut buffer[filled..])?;
+        if n == 0 {
+            return Ok(filled);
+        }
+        filled += n;
+    }
+    Ok(filled)
+}

@@ -1,0 +1,28 @@
+// Output in one piece.
+ghost use Rattle.std.specs.Prelude.{OnOk, OnErr};
+ghost use Rattle.std.specs.Io.KnownBytes.{Appends};
+ghost use Rattle.streams.specs.Fronts.{AppendsFront};
+
+use std::io;
+use std::io::{Error, ErrorKind, Write};
+
+/// All of a text, or a front of it. A write that a signal broke off is tried again.
+/// The library's `write_all` does the same, and says nothing of what was written where it fails.
+pub fn put<W: Write>(out: &mut W, text: &[u8]) -> io::Result<()>
+    ensures ok { OnOk result (Appends (W.contents out.old) (W.contents out.new) text.now) }
+    ensures err { OnErr result (AppendsFront (W.contents out.old) (W.contents out.new) text.now) }
+{
+    let mut at: usize = 0;
+    for _ in 0..u64::MAX {
+        if at >= text.len() {
+            return Ok(());
+        }
+        match out.write(&text[at..]) {
+            Ok(0) => return Err(Error::from(ErrorKind::WriteZero)),
+            Ok(n) => at += n,
+            Err(e) if e.kind() == ErrorKind::Interrupted => {}
+            Err(e) => return Err(e),
+        }
+    }
+    Err(Error::from(ErrorKind::TimedOut))
+}

@@ -1,3 +1,0 @@
-pub mod Writing
-pub mod Turns
-pub mod Tied

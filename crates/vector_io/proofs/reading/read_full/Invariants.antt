@@ -1,8 +1,0 @@
-use Rattle.std.proofs.Common.{◌≡◌, ◌-◌, ◌≤◌, length}
-use Rattle.vector_io.proofs.reading.read_full.Given as goal
-
-abbrev pub invariant-loop-len : goal.invariant-loop-len
-invariant-loop-len g l = (length l.initial.buffer ≡ length l.buffer) × (l.len ≤ length l.buffer)
-
-abbrev pub decreases-loop-len : goal.decreases-loop-len
-decreases-loop-len g l = length l.buffer - l.len
