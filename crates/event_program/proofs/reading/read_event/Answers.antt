@@ -3,7 +3,7 @@ use Rattle.event_kinds.specs.declared.kinds.Next.TheVariants.{Stop, End}
 use Rattle.event_kinds.specs.Kinds.{next_of}
 use Rattle.event_program.proofs.Fronts.{on_err}
 use Rattle.event_program.proofs.Nexts.{begun, ended, stop-misplaced, stop-unknown, empty-first, empty-later, ends-empty, short-body}
-use Rattle.event_program.proofs.Parts.{none-stuck, none-read, kind-read, whole-fits, body-stuck, body-short, body-whole}
+use Rattle.event_program.proofs.Parts.{none-stuck, none-read, kind-read, body-stuck, body-short, body-whole}
 use Rattle.event_program.proofs.reading.read_event.Goals as goal
 
 pub returns-in_err-fill-clause-err : goal.returns-in_err-fill-clause-err
