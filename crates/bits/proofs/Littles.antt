@@ -1,40 +1,62 @@
 -- Laws of little-endian numbers, over the width. Assumes nothing.
 use mathlib.Core.Path.{◌≡◌, refl, sym, ap, ◌∙◌}
-use mathlib.Core.List.{List, ◌∷◌}
-use Prim.Native.Nat.{ℕ, zero, suc, ◌+◌, ◌-◌, ◌*◌, ◌/◌, ◌%◌, ◌^◌, ◌≤◌, ◌<◌}
-use native.Mathlib.Nat.{lt_of_lt_of_le, mod-one, div-one, div-eq_of_lt, mod-eq_of_lt, not-suc-le-zero, le_of_suc-le-suc}
+use mathlib.Core.List.{List, [], ◌∷◌, reverse}
+use Prim.Native.Nat.{ℕ, zero, suc, ◌+◌, ◌*◌, ◌/◌, ◌%◌, ◌^◌, ◌≤◌, ◌<◌}
+use native.Mathlib.Nat.{lt_of_lt_of_le, mod-one, div-one, mod-eq_of_lt, not-suc-le-zero, le_of_suc-le-suc}
 use native.Mathlib.Omega.{arith}
 use lib.Arith.{digits_lt}
 use lib.Bits.{bit_or}
 use lib.Dec.{lit≤, lit<}
 use lib.Pow.{pow-add, pow_mono, shr-shr, mod-pow-add}
-use lib.ListN.{get_or}
+use lib.ListN.{get_or, length, take, drop}
+use Rattle.std.specs.List.{fold}
+use Rattle.std.proofs.lemmas.List.{reverse-append}
+use Rattle.std.proofs.lemmas.List.Sums.{fold_push}
 use Rattle.bits.proofs.Masks.{shl-or}
 use Rattle.bits.specs.Little.{leAt, byte_of, bytesFrom, le_bytes, Bytes}
 
 -- one byte more, below: `(x << 8) | b`
-module _ (l : List ℕ) where
-  more : (a k x : ℕ) → get_or l a 0 < 256 → k < 8 → x ≡ leAt l (suc a) k → x < 2 ^ (8 * k)
-      → (bit_or ((x * 2 ^ 8) % 2 ^ 64) (get_or l a 0) ≡ leAt l a (suc k)) × (bit_or ((x * 2 ^ 8) % 2 ^ 64) (get_or l a 0) < 2 ^ (8 * suc k))
-  more a k x hb hk ex hx =
-      let e : bit_or ((x * 2 ^ 8) % 2 ^ 64) (get_or l a 0) ≡ x * 256 + get_or l a 0 =
-      shl-or 56 8 64 (lit≤ tt) (lt_of_lt_of_le hx (pow_mono {i = 8 * k} {j = 56} (omega arith))) hb in
-      let p : 2 ^ (8 * suc k) ≡ 2 ^ (8 * k) * 256 = ap (λ (n : ℕ). 2 ^ n) (omega arith) ∙ pow-add 2 (8 * k) 8 in
-      (e ∙ ap (λ (n : ℕ). n * 256 + get_or l a 0) ex, rw (e, p) (digits_lt hx hb))
-
-  pub le-more : (at n i x : ℕ) → 0 < i → i ≤ n → n ≤ 8 → get_or l (at + (i - 1)) 0 < 256 → x ≡ leAt l (at + i) (n - i) → x < 2 ^ (8 * (n - i))
-      → (bit_or ((x * 2 ^ 8) % 2 ^ 64) (get_or l (at + (i - 1)) 0) ≡ leAt l (at + (i - 1)) (n - (i - 1)))
-      × (bit_or ((x * 2 ^ 8) % 2 ^ 64) (get_or l (at + (i - 1)) 0) < 2 ^ (8 * (n - (i - 1))))
-  le-more at n i x hi hn h8 hb ex hx =
-      let a : at + i ≡ suc (at + (i - 1)) = omega arith in
-      let k : n - (i - 1) ≡ suc (n - i) = omega arith in
-      rw k (more (at + (i - 1)) (n - i) x hb (omega arith) (rw a at ex) hx)
-
--- ---- what is written is read again, over the width
+abbrev pub joined : ℕ → ℕ → ℕ
+joined x b = bit_or ((x * 2 ^ 8) % 2 ^ 64) b
 
 leAt-tail : (b : ℕ) (l : List ℕ) (at n : ℕ) → leAt (b ∷ l) (suc at) n ≡ leAt l at n
 leAt-tail b l at zero = refl
 leAt-tail b l at (suc n) = ap (λ (x : ℕ). x * 256 + get_or l at 0) (leAt-tail b l (suc at) n)
+
+-- at most eight bytes, the last first
+pub le-joined : (bs : List ℕ) → Bytes bs → length bs ≤ 8 → (fold joined 0 (reverse bs) ≡ leAt bs 0 (length bs)) × (fold joined 0 (reverse bs) < 2 ^ (8 * length bs))
+le-joined [] bytes h = (refl, lit< tt)
+le-joined (b ∷ bs) bytes h =
+    let k = length bs in
+    let x = fold joined 0 (reverse bs) in
+    let above = le-joined bs (λ i. bytes (suc i)) (omega arith) in
+    let e : joined x b ≡ x * 256 + b =
+    shl-or 56 8 64 (lit≤ tt) (lt_of_lt_of_le above.1 (pow_mono {i = 8 * k} {j = 56} (omega arith))) (bytes 0) in
+    let p : 2 ^ (8 * suc k) ≡ 2 ^ (8 * k) * 256 = ap (λ (n : ℕ). 2 ^ n) (omega arith) ∙ pow-add 2 (8 * k) 8 in
+    rw (reverse-append (b ∷ []) bs, fold_push joined 0 (reverse bs) b)
+    (e ∙ ap (λ (n : ℕ). n * 256 + b) (above.0 ∙ sym (leAt-tail b bs 0 k)), rw (e, p) (digits_lt above.1 (bytes 0)))
+
+-- what stands behind the end counts nothing
+leAt-none : (at n : ℕ) → leAt [] at n ≡ 0
+leAt-none at zero = refl
+leAt-none at (suc n) = let e = leAt-none (suc at) n in omega arith
+
+leAt-drop : (l : List ℕ) (at n : ℕ) → leAt l at n ≡ leAt (drop at l) 0 n
+leAt-drop l zero n = refl
+leAt-drop [] (suc at) n = leAt-none (suc at) n ∙ sym (leAt-none 0 n)
+leAt-drop (b ∷ l) (suc at) n = leAt-tail b l at n ∙ leAt-drop l at n
+
+leAt-take : (l : List ℕ) (n : ℕ) → leAt l 0 n ≡ leAt (take n l) 0 (length (take n l))
+leAt-take l zero = refl
+leAt-take [] (suc n) = leAt-none 0 (suc n)
+leAt-take (b ∷ l) (suc n) =
+    ap (λ (x : ℕ). x * 256 + b) (leAt-tail b l 0 n ∙ leAt-take l n ∙ sym (leAt-tail b (take n l) 0 (length (take n l))))
+
+-- so that a number is that of the bytes that there are
+pub leAt-there : (l : List ℕ) (at n : ℕ) → leAt l at n ≡ leAt (take n (drop at l)) 0 (length (take n (drop at l)))
+leAt-there l at n = leAt-drop l at n ∙ leAt-take (drop at l) n
+
+-- ---- what is written is read again, over the width
 
 pub le-bytesFrom : (k n x : ℕ) → leAt (bytesFrom k n x) 0 n ≡ x / 2 ^ (8 * k) % 2 ^ (8 * n)
 le-bytesFrom k zero x = sym (mod-one (x / 2 ^ (8 * k)))
@@ -50,10 +72,6 @@ le-bytesFrom k (suc n) x =
 -- a number that fits n bytes, from its n bytes
 pub le-leBytes : (n : ℕ) {x : ℕ} → x < 2 ^ (8 * n) → leAt (le_bytes n x) 0 n ≡ x
 le-leBytes n {x} h = le-bytesFrom 0 n x ∙ rw div-one (mod-eq_of_lt h)
-
--- a number of 64 digits has no byte from 8 on
-pub byte_past : (x k : ℕ) → x < 2 ^ 64 → 8 ≤ k → byte_of x k ≡ 0
-byte_past x k h l = ap (λ (y : ℕ). y % 256) (div-eq_of_lt (lt_of_lt_of_le h (pow_mono {i = 64} {j = 8 * k} (omega arith))))
 
 -- ---- what is read is written again, over the width and the index
 

@@ -1,11 +1,11 @@
 -- Each public function's own contract: what it says, and that two answers which it allows are equal. Assumes nothing.
-use Prim.Native.Nat.{◌+◌, min}
+use Prim.Native.Nat.{min}
 use Rattle.bits.specs.Bit.{bitIn, clearIn, withBitIn}
 use Rattle.bits.specs.Laid.{over}
-use Rattle.bits.specs.Little.{NumberGiven, byte_of, leAt}
+use Rattle.bits.specs.Little.{NumberGiven, leAt}
 use lib.Count.{ones}
 use lib.Dec.{leb}
-use lib.ListN.{get_or, length}
+use lib.ListN.{length}
 use mathlib.Core.Path.{◌≡◌, refl}
 use Rattle.bits.specs.Contract.{Tied}
 use Rattle.bits.proofs.Tying.{same, say, by, named}
@@ -19,9 +19,6 @@ use Rattle.bits.specs.contracts.mask as mask-said
 pub tied-lay : Tied copying-said.lay.ended copying.lay.Reads.Asked copying.lay.Reads.Post (λ κs a r ws. (r ≡ leb (length a.1.0.now) (length a.0.now)) × (ws.0 ≡ over a.1.0.now a.0.now))
 tied-lay = by (say (λ κs a. tt) (λ κs a r ws p. p)) (λ κs a r r' ws ws' p q. (same p.0 q.0, λ i. (same p.1 q.1 i, (tt, tt))))
 
-pub tied-byte-at : Tied little-said.byte_at.ended little.byte_at.Reads.Asked little.byte_at.Reads.Post (λ κs a r ws. r ≡ get_or a.0.now (a.1.0 + a.1.1.0) 0)
-tied-byte-at = named (say (λ κs a. tt) (λ κs a r ws p. p)) (λ κs a ws ws'. refl)
-
 pub tied-le : Tied little-said.le.ended little.le.Reads.Asked little.le.Reads.Post (λ κs a r ws. NumberGiven a.0.now a.1.0 (min a.1.1.0 8) r)
 tied-le = by (say (λ κs a. tt) (λ κs a r ws p. p)) (λ κs a r r' ws ws' p q. (same p.value q.value, refl))
 
@@ -30,9 +27,6 @@ tied-le16 = named (say (λ κs a. tt) (λ κs a r ws p. p)) (λ κs a ws ws'. re
 
 pub tied-le32 : Tied little-said.le32.ended little.le32.Reads.Asked little.le32.Reads.Post (λ κs a r ws. r ≡ leAt a.0.now a.1.0 4)
 tied-le32 = named (say (λ κs a. tt) (λ κs a r ws p. p)) (λ κs a ws ws'. refl)
-
-pub tied-byte : Tied little-said.byte.ended little.byte.Reads.Asked little.byte.Reads.Post (λ κs a r ws. r ≡ byte_of a.0 a.1.0)
-tied-byte = named (say (λ κs a. tt) (λ κs a r ws p. p)) (λ κs a ws ws'. refl)
 
 pub tied-bit : Tied mask-said.bit.ended mask.bit.Reads.Asked mask.bit.Reads.Post (λ κs a r ws. r ≡ bitIn 32 a.0 a.1.0)
 tied-bit = named (say (λ κs a. tt) (λ κs a r ws p. p)) (λ κs a ws ws'. refl)

@@ -7,10 +7,11 @@ ghost use Rattle.bits.specs.Laid.{over};
 pub fn lay(d: &mut [u8], s: &[u8]) -> bool
     ensures { (result ≡ leb (length s.now) (length d.old)) × (d.new ≡ over s.now d.old) }
 {
-    let n = s.len();
-    if d.len() < n {
-        return false;
+    match d.split_at_mut_checked(s.len()) {
+        Some((front, _rest)) => {
+            front.copy_from_slice(s);
+            true
+        }
+        None => false,
     }
-    d[..n].copy_from_slice(s);
-    true
 }

@@ -6,5 +6,5 @@ mod little;
 mod mask;
 
 pub use copying::lay;
-pub use little::{byte, byte_at, le, le16, le32};
+pub use little::{le, le16, le32};
 pub use mask::{bit, ones, with_bit, without};

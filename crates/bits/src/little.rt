@@ -1,26 +1,17 @@
 // Numbers in bytes, the lowest byte first.
-ghost use Rattle.std.specs.Prelude.{◌≡◌, ◌+◌, min, get_or};
-ghost use Rattle.bits.specs.Little.{leAt, byte_of, NumberGiven};
+ghost use Rattle.std.specs.Prelude.{◌≡◌, min};
+ghost use Rattle.bits.specs.Little.{leAt, NumberGiven};
 
-/// The byte i places behind `at`; past the end, 0.
-pub fn byte_at(s: &[u8], at: usize, i: usize) -> u8
-    ensures { result ≡ get_or s.now (at + i) 0 }
-{
-    s.get(at..)
-        .and_then(|rest| rest.get(i))
-        .copied()
-        .unwrap_or(0)
-}
-
-/// The number of the n bytes (at most 8) from `at` on.
+/// The number of the n bytes (at most 8) from `at` on; past the end stand zeros.
 pub fn le(s: &[u8], at: usize, n: usize) -> u64
     ensures { NumberGiven s.now at (min n 8) result }
 {
-    let mut x: u64 = 0;
-    for i in (0..n.min(8)).rev() {
-        x = (x << 8) | byte_at(s, at, i) as u64;
-    }
-    x
+    let rest = s.get(at..).unwrap_or_default();
+    let bytes = rest.get(..n.min(8)).unwrap_or(rest);
+    bytes
+        .iter()
+        .rev()
+        .fold(0, |number, &byte| (number << 8) | u64::from(byte))
 }
 
 /// The 16-bit number at a place.
@@ -35,14 +26,4 @@ pub fn le32(s: &[u8], at: usize) -> u32
     ensures { result ≡ leAt s.now at 4 }
 {
     le(s, at, 4) as u32
-}
-
-/// Byte k of x; from 8 on there is none, and it is 0.
-pub fn byte(x: u64, k: u32) -> u8
-    ensures { result ≡ byte_of x k }
-{
-    if 8 <= k {
-        return 0;
-    }
-    ((x >> (8 * k)) & 0xff) as u8
 }

@@ -1,17 +1,23 @@
 -- One call more: what its contract allows continues every history that led to its state. Assumes nothing.
 use mathlib.Core.Path.{◌≡◌, refl, sym, subst}
+use mathlib.Core.Bool.{false}
 use mathlib.Core.List.{List, [], ◌∷◌, ◌++◌}
+use Prim.Native.Nat.{ℕ}
+use Rattle.rules.specs.Call.{Call}
+use Rattle.rules.specs.Handed.{handed}
 use Rattle.device_state.specs.declared.shapes.Settings.{Settings}
+use Rattle.device.specs.Device.{powerOn}
 use Rattle.device.specs.declared.state.Device.{Device}
 use Rattle.device.specs.declared.state.Outcome.{Outcome}
-use Rattle.device.specs.Lent.{Lent, Gave, Typed}
+use Rattle.device.specs.Lent.{Lent, lent, Gave, gave, Typed}
+use Rattle.device.proofs.Lending.{unlent, unlent-both}
 use Rattle.history.specs.Run.{Done, done, AllTyped}
 use Rattle.device.specs.Step.{Given}
 use Rattle.history.specs.Follows.{FollowsBy, final, lents, historyOf}
 use Rattle.history.proofs.Allowed.{Allowed}
 use Rattle.history.proofs.Contracts.{allowed-given}
 use Rattle.history.proofs.Demand3.{demand3-given, told-given}
-use Rattle.caller.specs.Continued.{Reached, Holds, Continues}
+use Rattle.caller.specs.Continued.{Reached, Holds, Continues, ContinuesReplying, ContinuesAlone, Begins}
 use Rattle.history.specs.StateAgrees.{StateAgrees}
 
 -- of what is reached, all holds
@@ -21,6 +27,11 @@ holds s r xs d h = record {
   demand3 = demand3-given s r xs h.began h.typed;
   told = subst (λ (e : Device). StateAgrees s e (historyOf xs)) h.last (told-given s r xs h.began h.typed);
 }
+
+-- power-on, and no call yet
+pub begins : (s : Settings) (r : Outcome) → r ≡ powerOn s → Begins s r
+unfolding AllTyped FollowsBy final
+begins s r e = holds s r [] r.state (record { began = record { power = e; follows = tt }; typed = tt; last = refl })
 
 -- one more at the end
 follows-more : (xs : List Done) (d : Device) (x : Done) → FollowsBy Given d xs → Given (final d xs) x.lent x.gave → FollowsBy Given d (xs ++ x ∷ [])
@@ -50,3 +61,11 @@ continues-given d a g t p s r xs h =
 -- so a call that a contract allows
 pub continues : (d : Device) (a : Lent) (g : Gave) → Typed a.call → Allowed d a g → Continues d a g
 continues d a g t p = continues-given d a g t (allowed-given p)
+
+-- one that is lent a reply buffer alone, by what it gives without a medium
+pub continues-replying : (d : Device) (c : Call) (b b' : List ℕ) (r : Outcome) → (handed c).medium ≡ false → Typed c → Given d (lent c [] b) (gave r [] b') → ContinuesReplying d c b r b'
+continues-replying d c b b' r u t p = λ m. continues-given d (lent c m b) (gave r m b') t (unlent d c m b b' r u p)
+
+-- and one that is lent nothing, by what it gives without both
+pub continues-alone : (d : Device) (c : Call) (r : Outcome) → (handed c).medium ≡ false → (handed c).buffer ≡ false → Typed c → Given d (lent c [] []) (gave r [] []) → ContinuesAlone d c r
+continues-alone d c r u k t p = λ m b. continues-given d (lent c m b) (gave r m b) t (unlent-both d c m b r u k p)

@@ -1,4 +1,6 @@
 pub mod Continuing
+pub mod Plays
+pub mod PlaysCode
 pub mod Programs
 pub mod ProgramCode
 pub mod Tied

@@ -1,8 +1,8 @@
 -- What the contract of the run allows is a history, however the run ended. Assumes nothing.
-use Rattle.std.proofs.Common.{◌≡◌, ℕ, zero, suc, ◌+◌, ◌<◌, ◌≤◌, Bool, Option, Some, None, IfSome, Result, Ok, Err, List, [], ◌∷◌, ◌++◌, length, get_or, refl, sym, ap, ◌∙◌, subst, append-nil, append_assoc, arith, ⊎_elim}
+use Rattle.std.proofs.Common.{◌≡◌, ℕ, ◌+◌, ◌<◌, ◌≤◌, Bool, Option, Some, None, IfSome, Result, Ok, Err, List, [], ◌∷◌, ◌++◌, length, sym, ap, ◌∙◌, subst, append-nil, append_assoc, arith, ⊎_elim}
 use Rattle.bits.proofs.Masks.{lt-or-le}
 use lib.ListN.{get_or-append}
-use Rattle.std.proofs.lemmas.List.{get_or-append-add}
+use Rattle.std.proofs.lemmas.List.{get_or-append-add, get_or_past}
 use Rattle.std.specs.Io.KnownBytes.{Appends, Consumes}
 use Rattle.bits.specs.Little.{Bytes}
 use Rattle.event_kinds.specs.declared.kinds.Next.{Next}
@@ -19,13 +19,8 @@ use Rattle.caller.specs.Program.{RunHistory}
 use Rattle.caller.proofs.Programs.{AllBytes, program-history}
 
 -- what begins or ends a text of bytes is of bytes
-past-end : (l : List ℕ) (i : ℕ) → length l ≤ i → get_or l i 0 ≡ 0
-past-end [] i h = refl
-past-end (x ∷ l) zero h = absurd (omega arith)
-past-end (x ∷ l) (suc i) h = past-end l i (omega arith)
-
 first-bytes : (a b : List ℕ) → Bytes (a ++ b) → Bytes a
-first-bytes a b w i = ⊎_elim (λ (h : i < length a). subst (λ (x : ℕ). x < 256) (get_or-append a b 0 i h) (w i)) (λ (h : length a ≤ i). rw (past-end a i h) (omega arith)) (lt-or-le i (length a))
+first-bytes a b w i = ⊎_elim (λ (h : i < length a). subst (λ (x : ℕ). x < 256) (get_or-append a b 0 i h) (w i)) (λ (h : length a ≤ i). rw (get_or_past a i 0 h) (omega arith)) (lt-or-le i (length a))
 
 rest-bytes : (a b : List ℕ) → Bytes (a ++ b) → Bytes b
 rest-bytes a b w i = subst (λ (x : ℕ). x < 256) (get_or-append-add a b i 0) (w (length a + i))

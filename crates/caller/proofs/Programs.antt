@@ -1,206 +1,115 @@
 -- What the event program plays is a history in the sense of demand 3. Assumes nothing.
 use mathlib.Core.Path.{◌≡◌, refl, sym, ap, subst, ◌∙◌}
-use mathlib.Core.Bool.{Bool, false, true≢false}
-use mathlib.Core.List.{List, [], ◌∷◌, ◌++◌, map}
-use Prim.Native.Nat.{ℕ, zero, suc, ◌+◌, ◌<◌}
-use native.Mathlib.Omega.{arith}
-use lib.ListN.{length, take, drop, get_or, replicate}
-use lib.Seq.{take-append_seam}
-use lib.Dec.{eqb}
-use Rattle.std.specs.Prelude.{Option, Some, None, is_none, option_map, option_to_list}
+use mathlib.Core.Bool.{Bool, true, false, true≢false}
+use mathlib.Core.List.{List, [], ◌∷◌}
+use Prim.Native.Nat.{ℕ, ◌+◌}
+use lib.ListN.{length, take, drop}
+use lib.Seq.{take-append_seam, take-length}
+use Rattle.std.specs.Prelude.{Option, Some, None, is_none, option_map}
 use Rattle.bits.specs.Laid.{laid}
 use Rattle.bits.specs.Little.{Bytes}
-use Rattle.bits.proofs.Littles.{le-lt}
-use Rattle.bits.proofs.Picks.{by-test}
+use Rattle.rules.specs.Call.{Call}
 use Rattle.device_state.specs.declared.shapes.Settings.{Settings}
-use Rattle.device.specs.DataDue.{dataDue}
-use Rattle.device.specs.Step.{Step, step, bytes_of}
+use Rattle.device.specs.Device.{freshDevice, powerOn}
+use Rattle.device.specs.Lent.{lent}
+use Rattle.device.specs.Sealing.{poweredOf}
+use Rattle.device.specs.Step.{bytes_of}
 use Rattle.device.specs.declared.state.Device.{Device}
-use Rattle.event_kinds.specs.Kinds.{isEvent}
+use Rattle.device.specs.declared.state.Outcome.{Outcome}
 use Rattle.event_kinds.specs.Settings.{asked_of}
-use Rattle.event_kinds.specs.Requests.{callByKind, requestOf}
-use Rattle.event_kinds.specs.declared.asked.Request.{Request}
-use Rattle.events.specs.HostData.{dataFrame}
-use Rattle.events.specs.Start.{start_of}
-use Rattle.events.specs.Calls.{call_of, callFor}
-use Rattle.events.specs.Played.{stepFor}
+use Rattle.events.specs.Start.{start_by, start_of}
+use Rattle.events.specs.Calls.{callFor}
 use Rattle.events.proofs.Playable.{run-plays}
 use Rattle.event_program.specs.Lines.{line_of}
 use Rattle.event_program.specs.Reading.{IsEvent}
-use Rattle.event_program.specs.Running.{Kept, kept, after, told, started, kept_after, AllEvents, Plays}
-use Rattle.rules.specs.Call.{Call}
-use Rattle.device.specs.Lent.{lent, Typed}
-use Rattle.device.proofs.Typing.{none-typed, frame-typed, set_typed, error-typed}
-use Rattle.history.specs.Run.{AllTyped, result, Done, done, event, Run, run, run_from}
+use Rattle.event_program.specs.Running.{Kept, stepIn, after, told, started, refused, kept_after, AllEvents, Plays}
+use Rattle.history.specs.Run.{done, run_from}
 use Rattle.history.specs.Follows.{newestFirst, lents}
-use Rattle.history.specs.Demand3.{Demand3}
-use Rattle.history.specs.StateAgrees.{StateAgrees}
-use Rattle.history.proofs.Demand3.{demand3, told as state-told}
-use Rattle.caller.specs.Program.{donesAll, ShowsCall, EachShown, StartShown, IsHistory, OfHistory}
+use Rattle.history.proofs.Contracts.{began-run}
+use Rattle.caller.specs.Continued.{Holds}
+use Rattle.caller.specs.Playing.{donesAll, endState, PlayGiven, EachPlay}
+use Rattle.caller.specs.Program.{playIn, playsIn, ShowsCall, EachShown, StartShown, IsHistory, NoneStarts, ByAsked, OfHistory}
+use Rattle.caller.proofs.Plays.{held-by}
 
 -- the outside sees just the replies
 front : (f b : List ℕ) → take (length f) (laid f b) ≡ f
 front f b = take-append_seam f (drop (length f) b)
 
--- where a run stands
-abbrev ran : Device → List Done → Run
-ran d h = record { state = d; calls = h }
-
--- a call as it went
-abbrev went : Kept → Call → Done
-went k c = done (lent c k.medium k.reply) (result k.device (lent c k.medium k.reply))
-
--- the call that was made, if one was
-abbrev made : Kept → Option Call → List Done
-made k c = option_to_list (option_map (went k) c)
-
--- what an event leaves and tells, by its call
-abbrev after-by : Kept → Step → Kept
-after-by k s = kept s.state s.medium (laid (bytes_of s) k.reply)
-
-abbrev told-by : Bool → ℕ → Step → List ℕ
-told-by traced number s = line_of traced number s.refusal s.state.status.outstanding (bytes_of s)
-
-module _ (traced : Bool) (number : ℕ) (k : Kept) (e : List ℕ) where
-  -- what it leaves and tells is that of its call
-  record By (c : Option Call) : Type 0 where
-    pub kept : after k e ≡ after-by k (stepFor k.device k.medium k.reply c)
-    pub line : told traced number k e ≡ told-by traced number (stepFor k.device k.medium k.reply c)
-
-  by-call : By (callFor k.device e)
-  unfolding after told
-  by-call = record { kept = refl; line = refl }
-
-  -- a call is shown as it is told
-  shows-call : (c : Option Call) → is_none c ≡ false → By c → ShowsCall traced number k e (option_map (went k) c)
-  unfolding stepFor ShowsCall
-  shows-call None n t = absurd (true≢false n)
-  shows-call (Some c) n t =
-      let s = step k.device (lent c k.medium k.reply) in
-      record {
-        kept = t.kept;
-        line = t.line ∙ ap (line_of traced number s.refusal s.state.status.outstanding) (sym (front (bytes_of s) k.reply));
-      }
-
-  -- the run of its call: the state that it leaves, and the call itself
-  call-run : (c : Option Call) → is_none c ≡ false → By c → (h : List Done) → run k.device h (lents (made k c)) ≡ ran (after k e).device (newestFirst h (made k c))
-  unfolding stepFor run newestFirst
-  call-run None n t h = absurd (true≢false n)
-  call-run (Some c) n t h = ap (λ (x : Kept). ran x.device (went k c ∷ h)) (sym t.kept)
-
 -- an event that a run plays makes a call
-take-all : (l : List ℕ) → take (length l) l ≡ l
-take-all [] = refl
-take-all (x ∷ l) = ap (λ (t : List ℕ). x ∷ t) (take-all l)
-
 some-call : (d : Device) (e : List ℕ) → IsEvent false e → is_none (callFor d e) ≡ false
-some-call d e i = ap (λ (l : List ℕ). is_none (callFor d l)) (sym (take-all e)) ∙ run-plays d e (length e) i
+some-call d e i = ap (λ (l : List ℕ). is_none (callFor d l)) (sym (take-length e)) ∙ run-plays d e (length e) i
 
--- runs go on where they stand
-run_more : (xs ys : List Done) (d : Device) (h : List Done) → run d h (lents (xs ++ ys)) ≡ run (run d h (lents xs)).state (run d h (lents xs)).calls (lents ys)
-unfolding run
-run_more [] ys d h = refl
-run_more (x ∷ xs) ys d h = run_more xs ys (result d x.lent).outcome.state (done x.lent (result d x.lent) ∷ h)
-
-newest-more : (xs ys h : List Done) → newestFirst h (xs ++ ys) ≡ newestFirst (newestFirst h xs) ys
-unfolding newestFirst
-newest-more [] ys h = refl
-newest-more (x ∷ xs) ys h = newest-more xs ys (x ∷ h)
-
--- the run of all calls
-plays-run : (traced : Bool) (n : ℕ) (k : Kept) (es : List (List ℕ)) (h : List Done) → AllEvents es → run k.device h (lents (donesAll k es)) ≡ ran (kept_after k es).device (newestFirst h (donesAll k es))
-unfolding AllEvents donesAll kept_after run newestFirst
-plays-run traced n k [] h q = refl
-plays-run traced n k (e ∷ es) h q =
-    let rest = donesAll (after k e) es in
-    run_more (made k (callFor k.device e)) rest k.device h
-    ∙ ap (λ (r : Run). run r.state r.calls (lents rest)) (call-run traced n k e (callFor k.device e) (some-call k.device e q.0) (by-call traced n k e) h)
-    ∙ plays-run traced (n + 1) (after k e) es (newestFirst h (made k (callFor k.device e))) q.1
-    ∙ ap (ran (kept_after (after k e) es).device) (sym (newest-more (made k (callFor k.device e)) rest h))
+-- and shows it
+shows-call : (traced : Bool) (n : ℕ) (k : Kept) (e : List ℕ) (c : Option Call) → is_none c ≡ false → ShowsCall traced n k e (option_map (λ x. done (lent x k.medium k.reply) (playIn k e).gave) c)
+unfolding after told ShowsCall
+shows-call traced n k e None i = absurd (true≢false i)
+shows-call traced n k e (Some c) i = let s = stepIn k e in record { kept = refl; line = ap (line_of traced n s.refusal s.state.status.outstanding) (sym (front (bytes_of s) k.reply)) }
 
 shown-run : (traced : Bool) (n : ℕ) (k : Kept) (es : List (List ℕ)) → AllEvents es → EachShown traced n k es
 unfolding AllEvents EachShown
 shown-run traced n k [] q = tt
-shown-run traced n k (e ∷ es) q = (shows-call traced n k e (callFor k.device e) (some-call k.device e q.0) (by-call traced n k e), shown-run traced (n + 1) (after k e) es q.1)
-
--- ---- the arguments are of their types
-abbrev TypedCall : Option Call → Type 0
-TypedCall None = Unit
-TypedCall (Some c) = Typed c
-
-abbrev TypedFor : Device → List ℕ → Option Request → Type 0
-TypedFor d e o = TypedCall (option_map (call_of d e) o)
-
-same_bytes : (n b i : ℕ) → b < 256 → get_or (replicate n b) i 0 < 256
-same_bytes zero b i h = omega arith
-same_bytes (suc n) b zero h = h
-same_bytes (suc n) b (suc i) h = same_bytes n b i h
-
-data-bytes : (n b : ℕ) → b < 256 → Bytes (dataFrame n b)
-unfolding dataFrame
-data-bytes n b h zero = omega arith
-data-bytes n b h (suc zero) = omega arith
-data-bytes n b h (suc (suc zero)) = omega arith
-data-bytes n b h (suc (suc (suc zero))) = omega arith
-data-bytes n b h (suc (suc (suc (suc i)))) = same_bytes n b i h
-
-typed-kind : (d : Device) (k : ℕ) (e : List ℕ) → Bytes e → TypedFor d e (callByKind k e)
-unfolding callByKind call_of
-typed-kind d k e w =
-    by-test (TypedFor d e) (eqb k 0x01) _ _ (λ h. none-typed)
-    (λ h. by-test (TypedFor d e) (eqb k 0x02) _ _ (λ h. none-typed)
-    (λ h. by-test (TypedFor d e) (eqb k 0x03) _ _ (λ h. set_typed _ (le-lt e w 1 4))
-    (λ h. by-test (TypedFor d e) (eqb k 0x04) _ _ (λ h. error-typed _ (w 2))
-    (λ h. by-test (TypedFor d e) (eqb k 0x05) _ _ (λ h. none-typed)
-    (λ h. by-test (TypedFor d e) (eqb k 0x06) _ _ (λ h. none-typed)
-    (λ h. by-test (TypedFor d e) (eqb k 0x07) _ _ (λ h. frame-typed (dataFrame (dataDue d) (get_or e 1 0)) (data-bytes (dataDue d) (get_or e 1 0) (w 1)))
-    (λ h. by-test (TypedFor d e) (eqb k 0x27) _ _ (λ h. frame-typed e w)
-    (λ h. by-test (TypedFor d e) (eqb k 0x58) _ _ (λ h. frame-typed e w) (λ h. tt)))))))))
-
-typed-event : (d : Device) (e : List ℕ) → Bytes e → TypedCall (callFor d e)
-unfolding requestOf
-typed-event d e w = by-test (TypedFor d e) (isEvent e) _ _ (λ h. typed-kind d (get_or e 0 0) e w) (λ h. tt)
-
--- whatever is lent, and with what follows
-typed-more : (k : Kept) (c : Option Call) (ys : List Done) → TypedCall c → AllTyped (lents ys) → AllTyped (lents (made k c ++ ys))
-unfolding AllTyped
-typed-more k None ys t u = u
-typed-more k (Some c) ys t u = (t, u)
+shown-run traced n k (e ∷ es) q = (shows-call traced n k e (callFor k.device e) (some-call k.device e q.0), shown-run traced (n + 1) (after k e) es q.1)
 
 -- each event is of bytes
 unfoldable pub AllBytes : List (List ℕ) → Type 0
 AllBytes [] = Unit
 AllBytes (e ∷ es) = Bytes e × AllBytes es
 
-typed-run : (k : Kept) (es : List (List ℕ)) → AllBytes es → AllTyped (lents (donesAll k es))
-unfolding donesAll AllTyped AllBytes
-typed-run k [] w = tt
-typed-run k (e ∷ es) w = typed-more k (callFor k.device e) (donesAll (after k e) es) (typed-event k.device e w.0) (typed-run (after k e) es w.1)
+-- each is played as the contract promises
+played-in : (k : Kept) (e : List ℕ) → Bytes e → PlayGiven k.device (playIn k e)
+unfolding after
+played-in k e w = (w, record { state = refl; refusal = refl; len = refl; reply = refl; medium = refl })
+
+each-played : (k : Kept) (es : List (List ℕ)) → AllBytes es → EachPlay PlayGiven k.device (playsIn k es)
+unfolding AllBytes EachPlay playsIn
+each-played k [] w = tt
+each-played k (e ∷ es) w = (played-in k e w.0, each-played (after k e) es w.1)
+
+-- and the run keeps the state that they end with
+end-kept : (k : Kept) (es : List (List ℕ)) → endState k.device (playsIn k es) ≡ (kept_after k es).device
+unfolding endState playsIn kept_after
+end-kept k [] = refl
+end-kept k (e ∷ es) = end-kept (after k e) es
 
 -- ---- from power-on
-powered : (traced : Bool) (s : List ℕ) → StartShown traced s
-unfolding start_of started
-powered traced s = record { state = refl; line = refl }
+begun : (s : List ℕ) (asked : Settings) → asked_of s ≡ Some asked → start_of s ≡ powerOn asked
+unfolding start_of start_by
+begun s asked a = ap start_by a
+
+powered : (traced : Bool) (s : List ℕ) (asked : Settings) → start_of s ≡ powerOn asked → StartShown traced s asked
+unfolding started
+powered traced s asked b = record { state = ap (λ (o : Outcome). o.state) b; line = ap (λ (o : Outcome). line_of traced 0 o.refusal o.state.status.outstanding []) b }
+
+held : (s : List ℕ) (asked : Settings) (es : List (List ℕ)) → start_of s ≡ powerOn asked → AllBytes es → Holds asked (powerOn asked) (donesAll (started s).device (playsIn (started s) es)) (kept_after (started s) es).device
+unfolding started start_by
+held s asked es b w =
+    let ps = playsIn (started s) es in
+    let xs = donesAll (started s).device ps in
+    subst (λ (d : Device). Holds asked (powerOn asked) xs d) (end-kept (started s) es)
+    (subst (λ (r : Outcome). Holds asked r xs (endState (started s).device ps)) b (held-by (Some asked) (start_of s) ps b (each-played (started s) es w)))
 
 -- the events behind a settings record
-behind-settings : (traced : Bool) (s : List ℕ) (es : List (List ℕ)) → AllBytes es → AllEvents es → IsHistory traced s es
-behind-settings traced s es w q =
-    let asked : Settings = asked_of s in
-    let k : Kept = started s in
-    let xs : List Done = donesAll k es in
-    let typed = typed-run k es w in
-    let begun = powered traced s in
-    let ended : run_from asked (lents xs) ≡ ran (kept_after k es).device (newestFirst [] xs) = ap (λ (x : Device). run x [] (lents xs)) (sym begun.state) ∙ plays-run traced 1 k es [] q in
-    record {
-      begins = begun;
-      calls = ended;
-      shown = shown-run traced 1 k es q;
-      demand3 = subst (λ (r : Run). Demand3 asked.depth asked.mask (map event r.calls)) ended (demand3 asked (lents xs) typed);
-      told = subst (λ (r : Run). StateAgrees asked r.state (map event r.calls)) ended (state-told asked (lents xs) typed);
-    }
+behind-settings : (traced : Bool) (s : List ℕ) (asked : Settings) (es : List (List ℕ)) → asked_of s ≡ Some asked → AllBytes es → AllEvents es → IsHistory traced s asked es
+behind-settings traced s asked es a w q = let b = begun s asked a in record { begins = powered traced s asked b; shown = shown-run traced 1 (started s) es q; holds = held s asked es b w }
+
+-- where it asks for none, there are no events
+none-starts : (traced : Bool) (s : List ℕ) (es : List (List ℕ)) → asked_of s ≡ None → (refused s ≡ true → es ≡ []) → NoneStarts traced s es
+unfolding start_of start_by started poweredOf freshDevice
+none-starts traced s es a f = record { state = rw a refl; line = rw a refl; none = f (rw a refl) }
+
+by-asked : (traced : Bool) (s : List ℕ) (es : List (List ℕ)) (asked : Option Settings) → asked_of s ≡ asked → AllBytes es → AllEvents es → (refused s ≡ true → es ≡ []) → ByAsked traced s es asked
+by-asked traced s es (Some asked) a w q f = behind-settings traced s asked es a w q
+by-asked traced s es None a w q f = none-starts traced s es a f
 
 -- all events that a run plays, whatever they are
 pub program-history : (traced : Bool) (es : List (List ℕ)) → AllBytes es → Plays es → OfHistory traced es
 unfolding Plays OfHistory AllBytes
 program-history traced [] w q = tt
-program-history traced (s ∷ es) w q = behind-settings traced s es w.1 q.1
+program-history traced (s ∷ es) w q = by-asked traced s es (asked_of s) refl w.1 q.1 q.2
+
+-- and the calls of a history are a run of the definitions
+pub program-run : (traced : Bool) (s : List ℕ) (asked : Settings) (es : List (List ℕ)) → IsHistory traced s asked es
+    → run_from asked (lents (donesAll (started s).device (playsIn (started s) es))) ≡ record { state = (kept_after (started s) es).device; calls = newestFirst [] (donesAll (started s).device (playsIn (started s) es)) }
+program-run traced s asked es h =
+    let xs = donesAll (started s).device (playsIn (started s) es) in
+    began-run asked (powerOn asked) xs h.holds.reached.began ∙ ap (λ (d : Device). record { state = d; calls = newestFirst [] xs }) h.holds.reached.last

@@ -6,6 +6,7 @@ use Rattle.bits.proofs.Tying.{say}
 use Rattle.rules.specs.Call.{hostFrame, openPhase, sendData, finishTags, mediaError, linkEvent, comReset}
 use Rattle.device.specs.Lent.{lent, gave, answered}
 use Rattle.device.specs.Sealing.{poweredOf}
+use Rattle.event_kinds.specs.Settings.{asked_of}
 use Rattle.std.specs.Prelude.{IfSome}
 use Rattle.bits.specs.Little.{Bytes}
 use denote.RattleType.{RattleType}
@@ -14,11 +15,14 @@ use mir.Syntax.{Dict}
 use Rattle.std.specs.declared.io.traits.Read as Reader
 use Rattle.std.specs.declared.io.traits.Write as Writer
 use Rattle.caller.specs.Continued.{Begins, Continues, ContinuesReplying, ContinuesAlone, FirstCall}
+use Rattle.caller.specs.Playing.{play as played, BeginsBy, PlayContinues, PlaysContinue, GivenPlaysHold}
 use Rattle.caller.specs.Program.{RunHistory}
 use Rattle.caller.proofs.calling
 use Rattle.caller.specs.contracts.calling as calling-said
 use Rattle.caller.proofs.keeping
 use Rattle.caller.specs.contracts.keeping as keeping-said
+use Rattle.caller.proofs.playing
+use Rattle.caller.specs.contracts.playing as playing-said
 use Rattle.caller.proofs.running
 use Rattle.caller.specs.contracts.running as running-said
 
@@ -82,3 +86,14 @@ tied-kept-link-event = say (λ κs a. tt) (λ κs a r ws p. p)
 
 pub tied-kept-comreset : Says keeping-said.kept_comreset.ended keeping.kept_comreset.Reads.Asked keeping.kept_comreset.Reads.Post (λ κs a r ws. ContinuesReplying a.0.now.device comReset a.1.0.now (answered ws.0.device r) ws.1.0)
 tied-kept-comreset = say (λ κs a. tt) (λ κs a r ws p. p)
+
+-- ---- of events
+
+pub tied-start : Says playing-said.start.ended playing.start.Reads.Asked playing.start.Reads.Post (λ κs a r ws. BeginsBy (asked_of a.0.now) r)
+tied-start = say (λ κs a. tt) (λ κs a r ws p. p)
+
+pub tied-play : Says playing-said.play.ended playing.play.Reads.Asked playing.play.Reads.Post (λ κs a r ws. PlayContinues a.0.now.device (played a.1.0.now a.1.1.0.now a.1.1.1.0.now (gave (answered ws.0.device r) ws.1.1.0 ws.1.1.1.0)))
+tied-play = say (λ κs a. tt) (λ κs a r ws p. p)
+
+pub tied-events-are-a-history : Says playing-said.events_are_a_history.ended playing.events_are_a_history.Reads.Asked playing.events_are_a_history.Reads.Post (λ κs a r ws. PlaysContinue × GivenPlaysHold)
+tied-events-are-a-history = say (λ κs a. tt) (λ κs a r ws p. (p.0, p.1))

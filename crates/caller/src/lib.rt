@@ -1,8 +1,9 @@
-// Callers of the device: a function for each call, whose contract is demand 3 of every history that the call continues; and the event program's run, whose contract is that what it wrote is the lines of such a history.
+// Callers of the device: a function for each call, whose contract is demand 3 of every history that the call continues; the same for an event, with the law over all that are played; and the event program's run, whose contract is that what it wrote is the lines of such a history.
 #![tactic(auto)]
 
 mod calling;
 mod keeping;
+mod playing;
 mod running;
 
 pub use calling::{
@@ -12,4 +13,5 @@ pub use keeping::{
     keep, kept_comreset, kept_finish, kept_host_frame, kept_link_event, kept_media_error,
     kept_open, kept_send,
 };
+pub use playing::{events_are_a_history, play, start};
 pub use running::run;

@@ -4,94 +4,97 @@ ghost use Rattle.contradictions.specs.Clauses.{settingsOut, movedBad, busyBad, i
 
 use device_state::{Entry, ErrorRecord, Settings, Status};
 use frame_parts::Task;
+use page_rows::Counters;
 
 /// Depth 1 to 32, capacity 1 to 65,536, rows 0 and 9 kept, or the settings are out of bounds.
 #[tactic(auto, unfolding(crate::specs::Clauses::settingsOut))]
-pub fn settings_out(s: Settings) -> bool
-    ensures { result ≡ settingsOut s }
+pub fn settings_out(settings: Settings) -> bool
+    ensures { result ≡ settingsOut settings }
 {
-    s.depth < 1
-        || Settings::DEPTH_LIMIT < s.depth
-        || s.capacity < 1
-        || Settings::CAPACITY_LIMIT < s.capacity
-        || !page_rows::is_kept(s.mask, 0)
-        || !page_rows::is_kept(s.mask, 9)
+    !(1..=Settings::DEPTH_LIMIT).contains(&settings.depth)
+        || !(1..=Settings::CAPACITY_LIMIT).contains(&settings.capacity)
+        || !page_rows::keeps_both(settings.mask)
 }
 
 // In bytes, and in whole Dwords.
 #[tactic(auto, unfolding(crate::specs::Clauses::movedBad))]
-fn moved_bad(e: &Entry, phase: bool) -> bool
-    ensures { result ≡ movedBad e.now phase }
+fn moved_bad(entry: &Entry, phase: bool) -> bool
+    ensures { result ≡ movedBad entry.now phase }
 {
-    let whole = e.whole();
-    whole < e.moved
-        || e.moved % 4 != 0
-        || !phase && e.moved != 0 && e.moved != whole
-        || phase && e.moved == whole
+    let whole = entry.whole();
+    whole < entry.moved
+        || entry.moved % 4 != 0
+        || !phase && entry.moved != 0 && entry.moved != whole
+        || phase && entry.moved == whole
 }
 
 #[tactic(auto, unfolding(crate::specs::Clauses::busyBad))]
-fn busy_bad(s: Settings, e: &Entry, t: u32, phase: bool) -> bool
-    ensures { result ≡ busyBad s e.now t phase }
+fn busy_bad(settings: Settings, entry: &Entry, tag: u32, phase: bool) -> bool
+    ensures { result ≡ busyBad settings entry.now tag phase }
 {
-    let task = Task::from(e.echo);
-    s.depth <= t
-        || (s.capacity as u64) < e.first as u64 + e.count as u64
-        || e.count == 0
-        || frame_parts::tag_of(task.count) as u32 != t
-        || task.lba != e.first as u64
-        || frame_parts::sectors_of(e.features, e.features_high) != e.count
-        || moved_bad(e, phase)
+    let task = Task::from(entry.echo);
+    settings.depth <= tag
+        || u64::from(settings.capacity) < u64::from(entry.first) + u64::from(entry.count)
+        || entry.count == 0
+        || u32::from(frame_parts::tag_of(task.count)) != tag
+        || task.lba != u64::from(entry.first)
+        || frame_parts::sectors_of(entry.features, entry.features_high) != entry.count
+        || moved_bad(entry, phase)
 }
 
 #[tactic(auto, unfolding(crate::specs::Clauses::idleBad))]
-fn idle_bad(e: &Entry) -> bool
-    ensures { result ≡ idleBad e.now }
+fn idle_bad(entry: &Entry) -> bool
+    ensures { result ≡ idleBad entry.now }
 {
-    *e != Entry::default()
+    *entry != Entry::default()
 }
 
 #[tactic(auto, unfolding(crate::specs::Clauses::entryBad, bits::specs::Pick::pick))]
-fn entry_bad(s: Settings, e: &Entry, t: u32, busy: bool, phase: bool) -> bool
-    ensures { result ≡ entryBad s e.now t busy phase }
+fn entry_bad(settings: Settings, entry: &Entry, tag: u32, busy: bool, phase: bool) -> bool
+    ensures { result ≡ entryBad settings entry.now tag busy phase }
 {
     if busy {
-        busy_bad(s, e, t, phase)
+        busy_bad(settings, entry, tag, phase)
     } else {
-        idle_bad(e)
+        idle_bad(entry)
     }
 }
 
 // One walk over the thirty-two entries; the number of an entry is its tag.
 fn table_bad(
-    s: Settings,
+    settings: Settings,
     entries: &[Entry; Settings::ENTRIES],
     outstanding: u32,
     phase: Option<u32>,
 ) -> bool
-    ensures { result ≡ tableBad s entries.now outstanding phase }
+    ensures { result ≡ tableBad settings entries.now outstanding phase }
 {
-    entries.iter().enumerate().any(|(tag, e)| {
+    entries.iter().enumerate().any(|(tag, entry)| {
         let tag = tag as u32;
-        entry_bad(s, e, tag, bits::bit(outstanding, tag), phase == Some(tag))
+        let busy = bits::bit(outstanding, tag);
+        entry_bad(settings, entry, tag, busy, phase == Some(tag))
     })
 }
 
 #[tactic(auto, unfolding(crate::specs::Clauses::statusBad))]
-fn status_bad(f: Status, set: bool) -> bool
-    ensures { result ≡ statusBad f set }
+fn status_bad(status: Status, set: bool) -> bool
+    ensures { result ≡ statusBad status set }
 {
-    (f.halted || f.held) && f.outstanding != 0
-        || f.halted && f.held
-        || f.held && set
-        || f.phase.is_some_and(|tag| !bits::bit(f.outstanding, tag))
+    (status.halted || status.held) && status.outstanding != 0
+        || status.halted && status.held
+        || status.held && set
+        || status
+            .phase
+            .is_some_and(|tag| !bits::bit(status.outstanding, tag))
 }
 
 #[tactic(auto, unfolding(crate::specs::Clauses::recordBad))]
-fn record_bad(r: &ErrorRecord) -> bool
-    ensures { result ≡ recordBad r.now }
+fn record_bad(errors: &ErrorRecord) -> bool
+    ensures { result ≡ recordBad errors.now }
 {
-    31 < r.tag || r.nq && r.tag != 0 || !r.set && *r != ErrorRecord::default()
+    31 < errors.tag
+        || errors.nq && errors.tag != 0
+        || !errors.set && *errors != ErrorRecord::default()
 }
 
 fn row_bad(mask: u16, row: usize, value: u32) -> bool
@@ -100,7 +103,7 @@ fn row_bad(mask: u16, row: usize, value: u32) -> bool
     !page_rows::is_kept(mask, row) && value != 0
 }
 
-fn rows_bad(mask: u16, values: &[u32; 16]) -> bool
+fn rows_bad(mask: u16, values: &Counters) -> bool
     ensures { result ≡ rowsBad mask values.now }
 {
     values
@@ -112,19 +115,19 @@ fn rows_bad(mask: u16, values: &[u32; 16]) -> bool
 /// Whether a state contradicts itself, its settings among it.
 #[tactic(auto, unfolding(crate::specs::Clauses::contradictory))]
 pub fn contradicts(
-    s: Settings,
-    f: Status,
+    settings: Settings,
+    status: Status,
     entries: &[Entry; Settings::ENTRIES],
-    r: ErrorRecord,
-    values: &[u32; 16],
+    errors: ErrorRecord,
+    values: &Counters,
 ) -> bool
-    ensures { result ≡ contradictory s f entries.now r values.now }
+    ensures { result ≡ contradictory settings status entries.now errors values.now }
 {
-    settings_out(s)
-        || table_bad(s, entries, f.outstanding, f.phase)
-        || status_bad(f, r.set)
-        || record_bad(&r)
-        || rows_bad(s.mask, values)
+    settings_out(settings)
+        || table_bad(settings, entries, status.outstanding, status.phase)
+        || status_bad(status, errors.set)
+        || record_bad(&errors)
+        || rows_bad(settings.mask, values)
 }
 
 /// Row 0, row 9, above 15, or not kept.

@@ -2,12 +2,14 @@
 ghost use Rattle.std.specs.Prelude.{◌≡◌};
 ghost use Rattle.counter_values.specs.Counts.{countedAt};
 
+use page_rows::Counters;
+
 /// One event more at a row; there are rows 0 to 15 alone.
 #[tactic(auto, unfolding(bits::specs::Pick::pick))]
-pub fn count(values: &mut [u32; 16], row: u8)
+pub fn count(values: &mut Counters, row: u8)
     ensures { values.new ≡ countedAt values.old row }
 {
-    let row = row as usize;
+    let row = usize::from(row);
     if row < values.len() {
         values[row] = values[row].saturating_add(1);
     }

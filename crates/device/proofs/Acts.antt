@@ -1,6 +1,8 @@
 -- SRST, release, a halt and its end, a media error and zeroed counters leave a state that does not contradict itself. Assumes nothing.
-use mathlib.Core.Path.{◌≡◌}
+use mathlib.Core.Path.{◌≡◌, refl}
 use mathlib.Core.Bool.{Bool, true, false, not, ◌&&◌, ◌||◌}
+use Prim.Native.Nat.{ℕ}
+use Rattle.std.proofs.Common.{Option, Some, None, is_none, unwrap_or}
 use lib.Dec.{eqb, ltb}
 use Rattle.bits.specs.Pick.{pick}
 use Rattle.bits.specs.Bit.{bitIn}
@@ -63,20 +65,23 @@ released-good d h =
     status-again-good d d.status.halted false h
     (not-held d.status.halted d.status.held (not (eqb d.status.outstanding 0)) d.errors.set (phaseIdle d.status) (status-good d h))
 
--- a halt: with a tag that a queued command can have, and that is 0 under NQ
-pub halt-good : (d : Device) (f : Fault) → contradictoryDevice d ≡ false → ltb 31 f.tag ≡ false → f.nq && not (eqb f.tag 0) ≡ false
-    → contradictoryDevice (haltWith d f) ≡ false
+-- the record of a fault has no tag under NQ
+untagged : (tag : Option ℕ) → is_none tag && not (eqb (unwrap_or tag 0) 0) ≡ false
+untagged None = refl
+untagged (Some t) = refl
+
+-- a halt: with no tag, or one that a queued command can have
+pub halt-good : (d : Device) (f : Fault) → contradictoryDevice d ≡ false → ltb 31 (unwrap_or f.tag 0) ≡ false → contradictoryDevice (haltWith d f) ≡ false
 unfolding contradictoryDevice contradictory haltWith statusBad recordBad
-halt-good d f h tag nq = rw (settings-good d h, fresh-table d.settings, tag, nq) (rows-good d h)
+halt-good d f h tag = rw (settings-good d h, fresh-table d.settings, tag, untagged f.tag) (rows-good d h)
 
 -- a media error: besides, counter 001h may go up by one, and row 0 is kept
-pub failed-good : (d : Device) (f : Fault) → contradictoryDevice d ≡ false → ltb 31 f.tag ≡ false → f.nq && not (eqb f.tag 0) ≡ false
-    → contradictoryDevice (failedBy d f) ≡ false
+pub failed-good : (d : Device) (f : Fault) → contradictoryDevice d ≡ false → ltb 31 (unwrap_or f.tag 0) ≡ false → contradictoryDevice (failedBy d f) ≡ false
 unfolding failedBy
-failed-good d f h tag nq =
+failed-good d f h tag =
     by-test (λ (e : Device). contradictoryDevice (haltWith e f) ≡ false) (bitIn 8 f.error 7) (withValue d 0) d
-    (λ _. halt-good (withValue d 0) f (counted-good d 0 h (first-kept d h)) tag nq)
-    (λ _. halt-good d f h tag nq)
+    (λ _. halt-good (withValue d 0) f (counted-good d 0 h (first-kept d h)) tag)
+    (λ _. halt-good d f h tag)
 
 -- SRST and release together, and one link reset more
 pub renewed-good : (d : Device) → contradictoryDevice d ≡ false → contradictoryDevice (renewed d) ≡ false

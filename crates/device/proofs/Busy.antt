@@ -13,14 +13,14 @@ use Rattle.contradictions.specs.Clauses.{aboveDepth, pastCapacity, countZero, ot
 use Rattle.device_state.specs.declared.shapes.Entry.{Entry}
 use Rattle.rules.specs.Positions.{left_of}
 use Rattle.device.specs.Device.{contradictoryDevice}
-use Rattle.device.specs.FactsOf.{openTag}
+use Rattle.device.specs.DataDue.{phaseEntry}
 use Rattle.device.specs.declared.state.Device.{Device}
 use Rattle.device.proofs.Parts.{tag-good, status-good}
 use Rattle.device.proofs.StatusLaws.{phase-busy}
 use Rattle.device.proofs.Entering.{capacity-most}
 use Rattle.device.proofs.Keeping.{settings-good}
 use Rattle.device.proofs.Tags.{busy-below}
-use Rattle.device.proofs.Phases.{some-open, open-tag, own-open}
+use Rattle.device.proofs.Phases.{some-open, open-entry, own-open}
 use Rattle.device_state.specs.UnderWay.{openFor}
 use Rattle.std.proofs.Common.{is_none, unwrap_or}
 
@@ -89,13 +89,11 @@ module _ (d : Device) (t : ℕ) (h : contradictoryDevice d ≡ false) (b : bitIn
       omega (arith, apart)
 
 -- of the open phase
-pub moves-on : (d : Device) → contradictoryDevice d ≡ false → is_none d.status.phase ≡ false
-    → (entry_of d.entries (openTag d.status.phase)).moved < whole_of (entry_of d.entries (openTag d.status.phase)).count
-unfolding openTag
+pub moves-on : (d : Device) → contradictoryDevice d ≡ false → is_none d.status.phase ≡ false → (phaseEntry d).moved < whole_of (phaseEntry d).count
 moves-on d h p =
     let t = unwrap_or d.status.phase 0 in
     let own : phaseOf d t ≡ true = own-open d.status.phase t (some-open d.status.phase p) in
-    rw (open-tag d.status.phase p) (phase-more d t h (phase-busy d.status d.errors.set (status-good d h) p) own)
+    rw (open-entry d.entries d.status.phase p) (phase-more d t h (phase-busy d.status d.errors.set (status-good d h) p) own)
 
 -- of whole Dwords, and of what is left of the open phase's command, the less is whole Dwords too
 pub part-fours : (d : Device) (k : ℕ) → contradictoryDevice d ≡ false → is_none d.status.phase ≡ false → k % 4 ≡ 0

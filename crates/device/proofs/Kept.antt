@@ -46,7 +46,7 @@ same-state d d' r r' e = sym (answered-state d r) ∙ ap (λ (o : Outcome). o.st
 -- ---- power-on
 
 -- all zeros are no kept device
-never-zeros : (k : Sealed) → k.device ≡ zeroDevice → ⊥
+pub never-zeros : (k : Sealed) → k.device ≡ zeroDevice → ⊥
 never-zeros k e = true≢false (sym zeros-contradict ∙ ap contradictoryDevice (sym e) ∙ k.sound)
 
 same-refusal : (r r' : Refusal) → Some r ≡ Some r' → r ≡ r'

@@ -15,8 +15,7 @@ use Rattle.rules.specs.Medium.{Touch, leaves, touch_of, spanIn, span_of, part_of
 use Rattle.rules.specs.declared.acts.Act.{Act}
 use Rattle.rules.proofs.TestLaws.{test-laws}
 use Rattle.rules.proofs.Ruled as by
-use Rattle.replies.specs.Replies.{repliesOf, sentAll, RepliesGiven}
-use Rattle.replies.proofs.Sending.{sends_none}
+use Rattle.replies.specs.Replies.{repliesOf, sentAll}
 use Rattle.device.specs.Lent.{lent, gave, frameIn}
 use Rattle.device.specs.FactsOf.{mediumWrong, facts_of}
 use Rattle.device.specs.Step.{Step, shown, stepBy, Gives, actOf, step, Given}
@@ -40,7 +39,7 @@ module _ (d : Device) (c : Call) (m b : List ℕ) where
   act-unlent u = (test-laws (facts_of d (lent c m b)) c).unlent u (mediumWrong d.settings.capacity 0)
 
   -- and leaves it
-  act-leaves : (a : Act) → Unlent c → Ok a ≡ actOf d (lent c m b) → touch_of a ≡ leaves
+  pub act-leaves : (a : Act) → Unlent c → Ok a ≡ actOf d (lent c m b) → touch_of a ≡ leaves
   act-leaves a u q = by.ruled-leaves (facts_of d (lent c m b)) u (act-ruled d (lent c m b) a q)
 
   -- what it gives without a medium it gives with any, and gives that back as it was
@@ -64,7 +63,7 @@ unlent d c m b b' r u h =
 -- ---- a call that is lent neither medium nor reply buffer
 
 -- replies nothing
-ruled-silent : (d : Device) (m b part : List ℕ) {c : Call} {a : Act} → (handed c).buffer ≡ false → by.Ruled (facts_of d (lent c m b)) c (Ok a) → repliesOf (shown d) part a ≡ []
+pub ruled-silent : (d : Device) (m b part : List ℕ) {c : Call} {a : Act} → (handed c).buffer ≡ false → by.Ruled (facts_of d (lent c m b)) c (Ok a) → repliesOf (shown d) part a ≡ []
 ruled-silent d m b part u (by.host f a g w s h) = absurd (true≢false u)
 ruled-silent d m b part u (by.own o) = (own-keeps d m b o).silent u part
 
@@ -96,6 +95,8 @@ pub unlent-both : (d : Device) (c : Call) (m b : List ℕ) (r : Outcome) → Unl
 unlent-both d c m b r u k h =
     alone-by d c m b r (actOf d (lent c m b)) u k refl (subst (λ (x : Result Act Refusal). Gives (stepBy d (lent c [] []) x) [] (gave r [] [])) (act-alone d c m b u k) h)
 
--- so its method gives an empty reply
-pub silent-given : (d : Device) (c : Call) (a : Act) → (handed c).buffer ≡ false → Ok a ≡ actOf d (lent c [] []) → RepliesGiven (repliesOf (shown d) [] a) [] 0 []
-silent-given d c a u e = subst (λ (x : List FrameValue). RepliesGiven x [] 0 []) (sym (ruled-silent d [] [] [] u (act-ruled d (lent c [] []) a e))) (sends_none [])
+-- so an empty buffer stays as it is
+pub given-silent : (d : Device) (c : Call) (b' : List ℕ) (r : Outcome) → (handed c).buffer ≡ false → Given d (lent c [] []) (gave r [] b') → Given d (lent c [] []) (gave r [] [])
+unfolding sentAll joined
+given-silent d c b' r k h =
+    record { state = h.state; refusal = h.refusal; len = h.len; reply = sym (ap (λ (x : List FrameValue). laid (sentAll x) []) (silent-frames d c [] [] k)); medium = h.medium }

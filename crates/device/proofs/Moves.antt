@@ -3,20 +3,18 @@ use mathlib.Core.Path.{◌≡◌, refl, sym, ap, ◌∙◌}
 use mathlib.Core.Bool.{Bool, true, false, not}
 use mathlib.Core.List.{List, [], ◌∷◌, ◌++◌}
 use mathlib.Core.Logic.{⊎_elim}
-use Rattle.std.proofs.Common.{Option, Some, None, Result, Ok, is_none}
+use Rattle.std.proofs.Common.{Option, Some, None, Result, Ok, is_none, unwrap_or}
 use Prim.Native.Nat.{ℕ, ◌+◌, ◌-◌, ◌*◌, ◌%◌, ◌≤◌, min}
 use native.Mathlib.Omega.{arith}
 use lib.Dec.{ltb, leb}
 use lib.ListN.{length, get_or, take, drop, length-drop}
 use borrow.Author.Tests.{le-leb, lt-ltb, le-ltb, leb-true, leb-false, eq-eqb}
 use Rattle.bits.specs.Pick.{pick}
-use Rattle.bits.specs.Bit.{bitIn}
 use Rattle.bits.proofs.Picks.{tested}
 use Rattle.frame_parts.specs.Size.{payloadSize}
 use Rattle.frames.specs.Write.{activate, payload}
 use Rattle.refusals.specs.declared.reasons.Refusal.{Refusal}
 use Rattle.refusals.specs.declared.reasons.Refusal.TheVariants.{TooLong}
-use Rattle.device_state.specs.Table.{entry_of}
 use Rattle.device_state.specs.declared.shapes.Entry.{Entry}
 use Rattle.rules.specs.Positions.{left_of, move_of}
 use Rattle.rules.specs.Call.{hostFrame, sendData}
@@ -26,7 +24,8 @@ use Rattle.rules.proofs.Ruled as by
 use Rattle.replies.specs.Replies.{repliesOf}
 use Rattle.device.specs.Device.{contradictoryDevice}
 use Rattle.device.specs.Lent.{lent}
-use Rattle.device.specs.FactsOf.{openTag, facts_of}
+use Rattle.device.specs.FactsOf.{facts_of}
+use Rattle.device.specs.DataDue.{phaseEntry}
 use Rattle.device.specs.Step.{shown, stepBy, step}
 use Rattle.device.specs.declared.state.Device.{Device}
 use Rattle.device.proofs.Parts.{status-good}
@@ -34,11 +33,11 @@ use Rattle.device.proofs.StatusLaws.{phase-busy}
 use Rattle.device.proofs.Busy.{whole_is}
 use Rattle.device.proofs.Turns.{by-turn, none-some, act-ruled}
 use Rattle.device.proofs.Storing.{taken-46, data-kept-whole, six-by-left}
-use Rattle.device.proofs.Phases.{open-tag}
+use Rattle.device.proofs.Phases.{open-entry}
 
 -- the entry of the open phase
 abbrev pub opened : Device → Entry
-opened d = entry_of d.entries (openTag d.status.phase)
+opened d = phaseEntry d
 
 -- what is left of its command, in bytes
 abbrev pub left : Device → ℕ
@@ -51,10 +50,8 @@ place d = 512 * (opened d).first + (opened d).moved
 -- in a state that does not contradict itself that is what the rules go by
 pub left_is : (d : Device) → contradictoryDevice d ≡ false → is_none d.status.phase ≡ false → left_of (opened d) ≡ left d
 left_is d h p =
-    let t = openTag d.status.phase in
-    let busy : bitIn 32 d.status.outstanding t ≡ true = rw (open-tag d.status.phase p) (phase-busy d.status d.errors.set (status-good d h) p) in
-    let whole = whole_is d t h busy in
-    omega arith
+    let whole = whole_is d (unwrap_or d.status.phase 0) h (phase-busy d.status d.errors.set (status-good d h) p) in
+    rw (open-entry d.entries d.status.phase p) (omega arith)
 
 not-leb : (a b : ℕ) → not (leb a b) ≡ ltb b a
 not-leb a b = ⊎_elim (λ (t : leb a b ≡ true). rw t (sym (le-ltb b a (leb-true a b t)))) (λ (t : leb a b ≡ false). rw t (sym (lt-ltb b a (leb-false a b t)))) (tested (leb a b))

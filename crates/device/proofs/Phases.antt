@@ -2,12 +2,15 @@
 use mathlib.Core.Path.{◌≡◌, refl, sym}
 use mathlib.Core.Bool.{Bool, true, false, not, true≢false}
 use Rattle.std.proofs.Common.{Option, Some, None, is_some, is_none, unwrap_or}
+use mathlib.Core.List.{List}
 use Prim.Native.Nat.{ℕ}
 use lib.Dec.{eqb}
 use borrow.Author.Tests.{eq-eqb, ne_eqb, eqb-false}
 use Rattle.bits.specs.Pick.{pick}
+use Rattle.device_state.specs.Table.{entry_of}
 use Rattle.device_state.specs.UnderWay.{openFor}
-use Rattle.device.specs.FactsOf.{openTag}
+use Rattle.device_state.specs.declared.shapes.Entry.{Entry}
+use Rattle.device.specs.FactsOf.{entryMeant}
 
 -- none is open
 pub none-open : (phase : Option ℕ) → is_some phase ≡ false → phase ≡ None
@@ -20,10 +23,9 @@ some-open None e = absurd (true≢false e)
 some-open (Some t) e = refl
 
 -- whose entry a call is about
-pub open-tag : (phase : Option ℕ) → is_none phase ≡ false → openTag phase ≡ unwrap_or phase 0
-unfolding openTag
-open-tag None e = absurd (true≢false e)
-open-tag (Some t) e = refl
+pub open-entry : (es : List Entry) (phase : Option ℕ) → is_none phase ≡ false → entryMeant es phase ≡ entry_of es (unwrap_or phase 0)
+open-entry es None e = absurd (true≢false e)
+open-entry es (Some t) e = refl
 
 -- that of a tag
 pub own-open : (phase : Option ℕ) (t : ℕ) → phase ≡ Some t → openFor phase t ≡ true

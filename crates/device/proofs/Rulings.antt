@@ -2,7 +2,7 @@
 use mathlib.Core.Path.{◌≡◌, refl, subst, sym}
 use mathlib.Core.Bool.{true≢false, Bool, ◌&&◌, ◌||◌, false, not, true}
 use mathlib.Core.List.{List, []}
-use Rattle.std.proofs.Common.{Result, is_none}
+use Rattle.std.proofs.Common.{Option, Some, None, Result, is_none, unwrap_or}
 use Prim.Native.Nat.{◌%◌, ◌*◌, ◌+◌, ◌<◌, ◌^◌, ◌≤◌, min, ℕ}
 use native.Mathlib.Omega.{arith}
 use lib.Dec.{eqb, leb, ltb, lit<}
@@ -17,6 +17,7 @@ use Rattle.frames.proofs.ReadLaws.{DataRead}
 use Rattle.refusals.specs.declared.reasons.Refusal.{Refusal}
 use Rattle.page_rows.specs.Rows.{kept}
 use Rattle.device_state.specs.State.{echoOf, zeroEcho}
+use Rattle.device_state.specs.declared.shapes.Entry.{Entry}
 use Rattle.device_state.specs.Table.{entry_of}
 use Rattle.rules.specs.Call.{Call}
 use Rattle.rules.specs.Handed.{handed}
@@ -29,7 +30,8 @@ use Rattle.replies.specs.Replies.{repliesOf}
 use Rattle.replies.proofs.Fit.{Fit}
 use Rattle.device.specs.Device.{contradictoryDevice}
 use Rattle.device.specs.Lent.{Typed, lent}
-use Rattle.device.specs.FactsOf.{facts_of, factsWith, mediumWrong, openTag}
+use Rattle.device.specs.DataDue.{phaseEntry}
+use Rattle.device.specs.FactsOf.{facts_of, factsWith, mediumWrong}
 use Rattle.device.specs.After.{after_of, movedBy}
 use Rattle.device.specs.Step.{shown}
 use Rattle.device.specs.declared.state.Device.{Device}
@@ -44,7 +46,7 @@ use Rattle.device.proofs.Fitting.{ReadFits, echo-bytes, record-fits}
 use Rattle.device.proofs.Widths.{Small, SmallAll, failing-small, zero-small}
 use Rattle.device.proofs.Sized.{SizedRecord}
 use Rattle.device.proofs.Rooms.{move-within}
-use Rattle.device.proofs.Phases.{open-tag}
+use Rattle.device.proofs.Phases.{open-entry}
 
 -- ---- what must be kept
 
@@ -56,10 +58,10 @@ none-puts = (lit< tt, zero-small)
 abbrev pub Good : Device → Act → Type 0
 Good d act = contradictoryDevice (after_of d act) ≡ false
 
--- a fault with a tag that a queued command can have, and that is 0 under NQ
-fault-good : (d : Device) (r : HostReg) (nq : Bool) (tag e : ℕ) → contradictoryDevice d ≡ false → ltb 31 tag ≡ false → nq && not (eqb tag 0) ≡ false → Good d (fault r nq tag e)
+-- a fault with no tag, or one that a queued command can have
+fault-good : (d : Device) (r : HostReg) (tag : Option ℕ) (e : ℕ) → contradictoryDevice d ≡ false → ltb 31 (unwrap_or tag 0) ≡ false → Good d (fault r tag e)
 unfolding after_of
-fault-good d r nq tag e h t q = halt-good d (record { nq = nq; tag = tag; error = e; echo = echoOf r.task }) h t q
+fault-good d r tag e h t = halt-good d (record { tag = tag; error = e; echo = echoOf r.task }) h t
 
 -- the tag asked for is one that a record can hold
 asked-small : (r : HostReg) → ltb 31 (tagAsked r) ≡ false
@@ -67,11 +69,10 @@ asked-small r = let l = tag_small r.task.count in le-ltb 31 (tagAsked r) (omega 
 
 -- bytes of the open phase move, whole Dwords
 moving-good : (d : Device) (k : ℕ) → contradictoryDevice d ≡ false → is_none d.status.phase ≡ false → k % 4 ≡ 0
-    → contradictoryDevice (movedBy d (move_of d.status (entry_of d.entries (openTag d.status.phase)) k)) ≡ false
-unfolding openTag
+    → contradictoryDevice (movedBy d (move_of d.status (phaseEntry d) k)) ≡ false
 moving-good d k h n four =
-    subst (λ (t : ℕ). contradictoryDevice (movedBy d (move_of d.status (entry_of d.entries t) k)) ≡ false)
-    (sym (open-tag d.status.phase n)) (moved-good d k h n (part-fours d k h n four))
+    subst (λ (e : Entry). contradictoryDevice (movedBy d (move_of d.status e k)) ≡ false)
+    (sym (open-entry d.entries d.status.phase n)) (moved-good d k h n (part-fours d k h n four))
 
 -- where arguments and record are of their types, the replies of an act can be written and what it puts is of bytes; and the state after it does not contradict itself
 pub record RuleKeeps (d : Device) (part : List ℕ) (typed narrow : Type 0) (a : Act) : Type 0 where
@@ -80,32 +81,32 @@ pub record RuleKeeps (d : Device) (part : List ℕ) (typed narrow : Type 0) (a :
   pub good : narrow → Good d a
 
 -- what moves next keeps its command's bytes
-move-small : (d : Device) (t n : ℕ) → SmallAll d.entries → Small (move_of d.status (entry_of d.entries t) n).entry.echo
+move-small : (d : Device) (n : ℕ) → is_none d.status.phase ≡ false → SmallAll d.entries → Small (move_of d.status (phaseEntry d) n).entry.echo
 unfolding move_of advancedBy
-move-small d t n h = h t
+move-small d n p h = subst (λ (e : Entry). Small (move_of d.status e n).entry.echo) (sym (open-entry d.entries d.status.phase p)) (h (unwrap_or d.status.phase 0))
 
 -- ---- a host frame that is not turned down
 
 module _ (d : Device) (wrong some : Bool) (room : ℕ) (g : contradictoryDevice d ≡ false) where
-  pub heard-keeps : {f : Result Frame Refusal} {a : Act} → (k : ℕ) (l : List ℕ) → DataRead k l f → by.Heard (factsWith d (openTag d.status.phase) wrong some room) f a → RuleKeeps d [] (ReadFits f) Unit a
+  pub heard-keeps : {f : Result Frame Refusal} {a : Act} → (k : ℕ) (l : List ℕ) → DataRead k l f → by.Heard (factsWith d d.status.phase wrong some room) f a → RuleKeeps d [] (ReadFits f) Unit a
   unfolding after_of Fit traits ReadFits
   heard-keeps k l r (by.srst h c s) = record { fits = λ _ _. tt; puts = λ _ _. none-puts; good = λ _. reset-held-good d g }
   heard-keeps k l r (by.release h c s x) = record { fits = λ _ _. tt; puts = λ _ _. none-puts; good = λ _. released-good d g }
   heard-keeps k l r (by.nothing h c s x) = record { fits = λ _ _. tt; puts = λ _ _. none-puts; good = λ _. g }
   heard-keeps k l r (by.rule1 h c x) = record { fits = λ t _. (omega arith, t); puts = λ _ _. none-puts; good = λ _. g }
-  heard-keeps k l r (by.rule2 h c x u) = record { fits = λ t _. (omega arith, echo-bytes h.task t); puts = λ t _. (omega arith, echo-bytes h.task t); good = λ _. fault-good d h false (tagAsked h) 0x04 g (asked-small h) refl }
-  heard-keeps k l r (by.rule3 h c x u y) = record { fits = λ t _. (omega arith, echo-bytes h.task t); puts = λ t _. (omega arith, echo-bytes h.task t); good = λ _. fault-good d h false (tagAsked h) 0x10 g (asked-small h) refl }
+  heard-keeps k l r (by.rule2 h c x u) = record { fits = λ t _. (omega arith, echo-bytes h.task t); puts = λ t _. (omega arith, echo-bytes h.task t); good = λ _. fault-good d h (Some (tagAsked h)) 0x04 g (asked-small h) }
+  heard-keeps k l r (by.rule3 h c x u y) = record { fits = λ t _. (omega arith, echo-bytes h.task t); puts = λ t _. (omega arith, echo-bytes h.task t); good = λ _. fault-good d h (Some (tagAsked h)) 0x10 g (asked-small h) }
   heard-keeps k l r (by.rule4 h c x u y) = record {
     fits = λ t _. echo-bytes h.task t;
     puts = λ t _. (lit< tt, echo-bytes h.task t);
     good = λ _. accepted-good d (record { tag = tagAsked h; entry = entryFor h }) g x c.free c.calm (tag_small h.task.count) (entry-good d.settings h (settings-good d g) (or_left (leb d.settings.depth (tagAsked h)) (bitIn 32 d.status.outstanding (tagAsked h)) u) y);
   }
   heard-keeps k l r (by.other-halted h c x) = record { fits = λ t _. (omega arith, t); puts = λ _ _. none-puts; good = λ _. g }
-  heard-keeps k l r (by.other-busy h c x) = record { fits = λ t _. (omega arith, echo-bytes h.task t); puts = λ t _. (omega arith, echo-bytes h.task t); good = λ _. fault-good d h true 0 0x04 g refl refl }
+  heard-keeps k l r (by.other-busy h c x) = record { fits = λ t _. (omega arith, echo-bytes h.task t); puts = λ t _. (omega arith, echo-bytes h.task t); good = λ _. fault-good d h None 0x04 g refl }
   heard-keeps k l r (by.page10 h c e p) = record { fits = λ t z. (t, record-fits d z g); puts = λ _ _. none-puts; good = λ _. unhalted-good d g }
   heard-keeps k l r (by.page11 h c x e p) = record { fits = λ t _. (t, both-kept d g); puts = λ _ _. none-puts; good = λ _. zeroed-good d (bitIn 8 h.features 0) g }
   heard-keeps k l r (by.other-bad h c x e) = record { fits = λ t _. (omega arith, t); puts = λ _ _. none-puts; good = λ _. g }
-  heard-keeps k l r (by.due n p w s) = record { fits = λ _ _. tt; puts = λ _ es. (lit< tt, move-small d (openTag d.status.phase) n es); good = λ _. moving-good d n g p (eqb-true (n % 4) 0 (and_right (leb 4 n && leb n 8192) (eqb (n % 4) 0) r.1.1)) }
+  heard-keeps k l r (by.due n p w s) = record { fits = λ _ _. tt; puts = λ _ es. (lit< tt, move-small d n p es); good = λ _. moving-good d n g p (eqb-true (n % 4) 0 (and_right (leb 4 n && leb n 8192) (eqb (n % 4) 0) r.1.1)) }
   heard-keeps k l r (by.bist b) = record { fits = λ _ _. tt; puts = λ _ _. none-puts; good = λ _. zeroed-good d true g }
 
 -- ---- a device event that is taken
@@ -116,15 +117,15 @@ sized k a b z = rw (le-leb 4 k (omega arith), le-leb k 8192 b, eq-eqb (k % 4) 0 
 
 -- what is sent of the medium is a data frame's payload
 part-sized : (d : Device) (m : List ℕ) → contradictoryDevice d ≡ false → mediumWrong d.settings.capacity (length m) ≡ false → is_none d.status.phase ≡ false
-    → let k = move_of d.status (entry_of d.entries (openTag d.status.phase)) 8192 in payloadSize (length (part_of (record { at = k.at; size = k.size }) m)) ≡ true
+    → let k = move_of d.status (phaseEntry d) 8192 in payloadSize (length (part_of (Some (record { at = k.at; size = k.size })) m)) ≡ true
 unfolding move_of
 part-sized d m good w phase =
-    let e = entry_of d.entries (openTag d.status.phase) in
+    let e = phaseEntry d in
     let within = move-within d good phase 8192 (length m) w in
     let more = moves-on d good phase in
     let due = min 8192 (left_of e) in
-    let four : due % 4 ≡ 0 = subst (λ (u : ℕ). min 8192 (left_of (entry_of d.entries u)) % 4 ≡ 0) (sym (open-tag d.status.phase phase)) (part-fours d 8192 good phase refl) in
-    let long : length (part_of (record { at = 512 * e.first + e.moved; size = due }) m) ≡ due = simp (length-take, length-drop) (omega arith) in
+    let four : due % 4 ≡ 0 = subst (λ (x : Entry). min 8192 (left_of x) % 4 ≡ 0) (sym (open-entry d.entries d.status.phase phase)) (part-fours d 8192 good phase refl) in
+    let long : length (part_of (Some (record { at = 512 * e.first + e.moved; size = due })) m) ≡ due = simp (length-take, length-drop) (omega arith) in
     rw long (sized due (omega arith) (omega arith) four)
 
 -- and a call that is lent no reply buffer replies nothing
@@ -143,7 +144,7 @@ own-keeps d m b (by.opened u g s o p e) = record {
   silent = λ h. absurd (true≢false h);
 }
 own-keeps d m b (by.sent g w s p r) = record {
-  keeps = record { fits = λ _ _. part-sized d m g w p; puts = λ _ es. (lit< tt, move-small d (openTag d.status.phase) 8192 es); good = λ _. moving-good d 8192 g p refl };
+  keeps = record { fits = λ _ _. part-sized d m g w p; puts = λ _ es. (lit< tt, move-small d 8192 p es); good = λ _. moving-good d 8192 g p refl };
   silent = λ h. absurd (true≢false h);
 }
 own-keeps d m b (by.finished u g s p e r) = record {
@@ -154,7 +155,7 @@ own-keeps d m b (by.failed u e x g s o y w) = record {
   keeps = record {
     fits = λ t _. t.2;
     puts = λ t es. (t.2, failing-small (entry_of d.entries u).echo x (es u));
-    good = λ _. let small : u < 32 = busy-below d.status.outstanding u o in failed-good d _ g (le-ltb 31 u (omega arith)) refl;
+    good = λ _. let small : u < 32 = busy-below d.status.outstanding u o in failed-good d _ g (le-ltb 31 u (omega arith));
   };
   silent = λ h. absurd (true≢false h);
 }

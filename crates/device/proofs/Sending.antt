@@ -1,7 +1,7 @@
 -- What a call replies stands in the buffer whole, frame by frame. Assumes nothing.
 use mathlib.Core.Path.{◌≡◌, sym, subst}
 use mathlib.Core.List.{List, map}
-use Rattle.std.proofs.Common.{Ok, Err}
+use Rattle.std.proofs.Common.{Option, Ok, Err}
 use Prim.Native.Nat.{ℕ}
 use lib.ListN.{length, take}
 use Rattle.frame_parts.specs.Cut.{cut, joined}
@@ -39,7 +39,7 @@ frames-whole s f k = record { fitting = f; all = all-sent s.frames f; cut-replie
 ruled-fits : (d : Device) (m b : List ℕ) {c : Call} {a : Act} → Typed c → SizedRecord d → by.Ruled (facts_of d (lent c m b)) c (Ok a) → Fit (shown d) (part_of (span_of a) m) a
 ruled-fits d m b t z (by.host f a g w r h) =
     let keeps = heard-keeps d (mediumWrong d.settings.capacity (length m)) (unreadyIn d (hostFrame f)) (length b) g _ f (read-data f) h in
-    subst (λ (s : Span). Fit (shown d) (part_of s m) a) (sym (by.heard-unsent (facts_of d (lent (hostFrame f) m b)) h)) (keeps.fits (read_fits f t.0) z)
+    subst (λ (s : Option Span). Fit (shown d) (part_of s m) a) (sym (by.heard-unsent (facts_of d (lent (hostFrame f) m b)) h)) (keeps.fits (read_fits f t.0) z)
 ruled-fits d m b t z (by.own o) = (own-keeps d m b o).keeps.fits t z
 
 -- every call whose arguments are of their types, of a device whose record is

@@ -1,11 +1,13 @@
 -- No call makes a device contradict itself that did not. Assumes nothing.
 use mathlib.Core.Path.{◌≡◌, refl, sym, ap, ◌∙◌}
 use mathlib.Core.Bool.{false}
-use Rattle.std.proofs.Common.{Option, Some, None, Ok, Err}
+use mathlib.Core.List.{List}
+use Prim.Native.Nat.{ℕ}
+use Rattle.std.proofs.Common.{Option, Some, None, Result, Ok, Err}
 use Rattle.refusals.specs.declared.reasons.Refusal.{Refusal}
 use Rattle.device_state.specs.declared.shapes.Settings.{Settings}
 use Rattle.device.specs.Device.{contradictoryDevice, powerRefusal, powered, powerOn}
-use Rattle.device.specs.Lent.{Lent, Gave}
+use Rattle.device.specs.Lent.{Lent, Gave, gave, answered}
 use Rattle.device.specs.Step.{step, Given}
 use Rattle.device.specs.Sealing.{poweredOf}
 use Rattle.device.specs.declared.state.Device.{Device}
@@ -23,6 +25,11 @@ by-refusal d l (Some r) e t s = ap contradictoryDevice (refused-keeps d l (λ z.
 
 pub sound-given : (d : Device) (l : Lent) (g : Gave) → SetOf32 l.call → contradictoryDevice d ≡ false → Given d l g → contradictoryDevice g.outcome.state ≡ false
 sound-given d l g t s w = ap contradictoryDevice w.state ∙ by-refusal d l (step d l).refusal refl t s
+
+-- as a call on a lent device answers it
+pub sound-answered : (d : Device) (l : Lent) (d' : Device) (r : Result ℕ Refusal) (m b : List ℕ) → Given d l (gave (answered d' r) m b) → SetOf32 l.call → contradictoryDevice d ≡ false → contradictoryDevice d' ≡ false
+sound-answered d l d' (Ok n) m b w t s = sound-given d l _ t s w
+sound-answered d l d' (Err r) m b w t s = sound-given d l _ t s w
 
 -- ---- power-on of a device that is kept
 

@@ -20,7 +20,6 @@ use Rattle.frame_parts.specs.Size.{readable, payloadSize}
 use Rattle.frames.specs.Read.{frameByKind, readFrame}
 use Rattle.frames.specs.declared.shapes.Frame.{Frame}
 use Rattle.frames.specs.declared.shapes.Frame.TheVariants.{Data}
-use Rattle.device_state.specs.Table.{entry_of}
 use Rattle.device_state.specs.declared.shapes.Entry.{Entry}
 use Rattle.rules.specs.Positions.{left_of, place_of, move_of}
 use Rattle.rules.specs.Call.{hostFrame}
@@ -33,7 +32,8 @@ use Rattle.rules.specs.declared.acts.Act.{Act}
 use Rattle.rules.specs.declared.acts.Act.TheVariants.{Store}
 use Rattle.device.specs.Device.{contradictoryDevice}
 use Rattle.device.specs.Lent.{Lent, lent}
-use Rattle.device.specs.FactsOf.{openTag, mediumWrong, facts_of}
+use Rattle.device.specs.FactsOf.{mediumWrong, facts_of}
+use Rattle.device.specs.DataDue.{phaseEntry}
 use Rattle.device.specs.Step.{stepBy, actOf, step}
 use Rattle.device.specs.declared.state.Device.{Device}
 use Rattle.device.proofs.Rooms.{move-within}
@@ -66,7 +66,7 @@ module _ (d : Device) (f m b : List ℕ) where
 
   -- the entry of the open phase
   abbrev e : Entry
-  e = entry_of d.entries (openTag d.status.phase)
+  e = phaseEntry d
 
   -- what is known of a host data frame that was taken
   pub record Taken46 : Type 0 where

@@ -1,5 +1,5 @@
 -- The state after an act. Assumes nothing.
-use Rattle.std.specs.Prelude.{Bool, true, false, List, ℕ, replicate, Some, None}
+use Rattle.std.specs.Prelude.{Bool, true, false, List, ℕ, replicate, Some, None, is_none, unwrap_or}
 use Rattle.bits.specs.Pick.{pick}
 use Rattle.bits.specs.Bit.{bitIn}
 use Rattle.device_state.specs.State.{zeroEntry, blankRecord}
@@ -28,9 +28,9 @@ withValue d row = withValues d (countedAt d.values row)
 abbrev pub emptied : Device → Status → ErrorRecord → Device
 emptied d status record' = record d { status = status; entries = replicate 32 zeroEntry; errors = record' }
 
--- halt: every outstanding command is given up, an open phase closes, the error record is set
+-- halt: every outstanding command is given up, an open phase closes, the error record is set: with the tag, or NQ and tag 0
 unfoldable pub haltWith : Device → Fault → Device
-haltWith d f = emptied d (noneUnderWay true false) (record { set = true; nq = f.nq; tag = f.tag; error = f.error; echo = f.echo })
+haltWith d f = emptied d (noneUnderWay true false) (record { set = true; nq = is_none f.tag; tag = unwrap_or f.tag 0; error = f.error; echo = f.echo })
 
 -- another status and table
 abbrev pub withStatus : Device → Status → List Entry → Device

@@ -1,15 +1,14 @@
 -- The host data that is due. Assumes nothing.
 use Rattle.std.specs.Prelude.{Bool, ◌&&◌, ℕ, is_some}
 use Rattle.moves.specs.Amounts.{dueIn}
-use Rattle.device_state.specs.Table.{entry_of}
 use Rattle.device_state.specs.declared.shapes.Entry.{Entry}
 use Rattle.rules.specs.Positions.{left_of}
-use Rattle.device.specs.FactsOf.{openTag}
+use Rattle.device.specs.FactsOf.{entryMeant}
 use Rattle.device.specs.declared.state.Device.{Device}
 
--- the entry of the open phase
+-- the entry of the open phase; while none is open, an idle one
 abbrev pub phaseEntry : Device → Entry
-phaseEntry d = entry_of d.entries (openTag d.status.phase)
+phaseEntry d = entryMeant d.entries d.status.phase
 
 -- a write phase is open
 abbrev pub writing : Device → Bool

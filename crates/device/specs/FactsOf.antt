@@ -1,6 +1,8 @@
 -- What a decision looks at, of a device and of what is lent to a call. Assumes nothing.
-use Rattle.std.specs.Prelude.{Bool, not, ℕ, ◌*◌, eqb, ltb, length, Option, is_some, unwrap_or}
+use Rattle.std.specs.Prelude.{Bool, not, List, ℕ, ◌*◌, eqb, ltb, length, Option, Some, None, is_some}
+use Rattle.device_state.specs.State.{zeroEntry}
 use Rattle.device_state.specs.Table.{entry_of}
+use Rattle.device_state.specs.declared.shapes.Entry.{Entry}
 use Rattle.rules.specs.Call.{Call}
 use Rattle.rules.specs.Handed.{handed}
 use Rattle.rules.specs.Tests.{someUnready}
@@ -9,9 +11,10 @@ use Rattle.device.specs.Device.{contradictoryDevice}
 use Rattle.device.specs.Lent.{Lent}
 use Rattle.device.specs.declared.state.Device.{Device}
 
--- the tag of the open phase; while none is open 32, which has no entry
-unfoldable pub openTag : Option ℕ → ℕ
-openTag phase = unwrap_or phase 32
+-- the entry of the tag that is meant; where none is, an idle one
+abbrev pub entryMeant : List Entry → Option ℕ → Entry
+entryMeant es None = zeroEntry
+entryMeant es (Some t) = entry_of es t
 
 -- 2: medium length wrong; it is 512 × capacity. Read of a host frame and of a send alone: of a call that is lent no medium it says nothing
 abbrev pub mediumWrong : ℕ → ℕ → Bool
@@ -21,8 +24,8 @@ mediumWrong capacity n = not (eqb n (512 * capacity))
 abbrev pub linkBusy : Device → Bool
 linkBusy d = is_some d.status.phase
 
--- the tests of 1, 2 (the call says) and 3 (reply buffer under 8,196), the entry of a tag, and whether a set has an unready tag
-abbrev pub factsWith : Device → ℕ → Bool → Bool → ℕ → Facts
+-- the tests of 1, 2 (the call says) and 3 (reply buffer under 8,196), the entry of a tag if one is meant, and whether a set has an unready tag
+abbrev pub factsWith : Device → Option ℕ → Bool → Bool → ℕ → Facts
 factsWith d tag wrong some room = record {
   contradicts = contradictoryDevice d;
   medium_wrong = wrong;
@@ -30,13 +33,13 @@ factsWith d tag wrong some room = record {
   link_busy = linkBusy d;
   settings = d.settings;
   status = d.status;
-  entry = entry_of d.entries tag;
+  entry = entryMeant d.entries tag;
   unready = some;
 }
 
--- the tag whose entry a call is about: its own, or that of the open phase; 32 for none
-abbrev pub tagMeant : Option ℕ → Call → ℕ
-tagMeant phase c = (handed c).tag (openTag phase)
+-- the tag whose entry a call is about, if it is about one: its own, or that of the open phase
+abbrev pub tagMeant : Option ℕ → Call → Option ℕ
+tagMeant phase c = (handed c).tag phase
 
 -- a call names a set with an unready tag
 abbrev pub unreadyIn : Device → Call → Bool

@@ -6,6 +6,7 @@ ghost use Rattle.device.specs.After.{withValue, emptied, haltWith, acceptedBy, u
 
 use crate::state::Device;
 use device_state::{Entry, ErrorRecord, Settings, Status};
+use page_rows::ROWS;
 use rules::{Act, Fault, Move, Queued};
 
 impl Device {
@@ -32,8 +33,8 @@ impl Device {
             Status::halted(),
             ErrorRecord {
                 set: true,
-                nq: f.nq,
-                tag: f.tag,
+                nq: f.tag.is_none(),
+                tag: f.tag.unwrap_or(0),
                 error: f.error,
                 echo: f.echo,
             },
@@ -58,7 +59,7 @@ impl Device {
         ensures { self.new ≡ zeroedIf self.old on }
     {
         if on {
-            self.values = [0; 16];
+            self.values = [0; ROWS];
         }
     }
 

@@ -8,9 +8,21 @@ ghost use Rattle.device.specs.DataDue.{dataDue};
 ghost use Rattle.device.specs.Step.{Given};
 
 use crate::sealed::Sealed;
-use crate::sealed_calls::open_tag;
 use crate::state::{Device, Outcome};
 use refusals::Refusal;
+
+// The call of a device that is kept; a state that contradicts itself is refused with 1.
+macro_rules! kept {
+    ($device:ident.$call:ident($($argument:expr),*)) => {
+        if $device.contradicts() {
+            $device.with(Err(Refusal::Contradiction))
+        } else {
+            let mut sealed = Sealed { device: $device };
+            let answer = sealed.$call($($argument),*);
+            sealed.device.with(answer)
+        }
+    };
+}
 
 impl Device {
     // What a call on the lent state answered, with the state that it left.
@@ -35,93 +47,58 @@ impl Device {
     pub fn host_frame(self, frame: &[u8], medium: &mut [u8], reply: &mut [u8]) -> Outcome
         ensures { Given self (lent (hostFrame frame.now) medium.old reply.old) (gave result medium.new reply.new) }
     {
-        if self.contradicts() {
-            return self.with(Err(Refusal::Contradiction));
-        }
-        let mut sealed = Sealed { device: self };
-        let answer = sealed.host_frame(frame, medium, reply);
-        sealed.device.with(answer)
+        kept!(self.host_frame(frame, medium, reply))
     }
 
     /// Open a phase for a tag.
     pub fn open(self, tag: u8, reply: &mut [u8]) -> Outcome
         ensures { Given self (lent (openPhase tag) [] reply.old) (gave result [] reply.new) }
     {
-        if self.contradicts() {
-            return self.with(Err(Refusal::Contradiction));
-        }
-        let mut sealed = Sealed { device: self };
-        let answer = sealed.open(tag, reply);
-        sealed.device.with(answer)
+        kept!(self.open(tag, reply))
     }
 
     /// Send, in a read phase: one data frame.
     pub fn send(self, medium: &[u8], reply: &mut [u8]) -> Outcome
         ensures { Given self (lent sendData medium.now reply.old) (gave result medium.now reply.new) }
     {
-        if self.contradicts() {
-            return self.with(Err(Refusal::Contradiction));
-        }
-        let mut sealed = Sealed { device: self };
-        let answer = sealed.send(medium, reply);
-        sealed.device.with(answer)
+        kept!(self.send(medium, reply))
     }
 
     /// Finish a set of tags.
     pub fn finish(self, set: u32, reply: &mut [u8]) -> Outcome
         ensures { Given self (lent (finishTags set) [] reply.old) (gave result [] reply.new) }
     {
-        if self.contradicts() {
-            return self.with(Err(Refusal::Contradiction));
-        }
-        let mut sealed = Sealed { device: self };
-        let answer = sealed.finish(set, reply);
-        sealed.device.with(answer)
+        kept!(self.finish(set, reply))
     }
 
     /// Media error at a sector of a tag's command.
     pub fn media_error(self, tag: u8, error: u8, sector: u32, reply: &mut [u8]) -> Outcome
         ensures { Given self (lent (mediaError tag error sector) [] reply.old) (gave result [] reply.new) }
     {
-        if self.contradicts() {
-            return self.with(Err(Refusal::Contradiction));
-        }
-        let mut sealed = Sealed { device: self };
-        let answer = sealed.media_error(tag, error, sector, reply);
-        sealed.device.with(answer)
+        kept!(self.media_error(tag, error, sector, reply))
     }
 
     /// Link event: adds one to that counter.
     pub fn link_event(self, row: u8) -> Outcome
         ensures { Given self (lent (linkEvent row) [] []) (gave result [] []) }
     {
-        if self.contradicts() {
-            return self.with(Err(Refusal::Contradiction));
-        }
-        let mut sealed = Sealed { device: self };
-        let answer = sealed.link_event(row);
-        sealed.device.with(answer)
+        kept!(self.link_event(row))
     }
 
     /// COMRESET: as SRST and release together, and one link reset more.
     pub fn comreset(self, reply: &mut [u8]) -> Outcome
         ensures { Given self (lent comReset [] reply.old) (gave result [] reply.new) }
     {
-        if self.contradicts() {
-            return self.with(Err(Refusal::Contradiction));
-        }
-        let mut sealed = Sealed { device: self };
-        let answer = sealed.comreset(reply);
-        sealed.device.with(answer)
+        kept!(self.comreset(reply))
     }
 
     /// The length of the host data that is due, or 4 if no write phase is open.
-    #[tactic(auto, unfolding(crate::specs::DataDue::dataDue, crate::specs::FactsOf::openTag))]
+    #[tactic(auto, unfolding(crate::specs::DataDue::dataDue))]
     pub fn data_due(&self) -> usize
         ensures { result ≡ dataDue self.now }
     {
         let phase = self.status.phase;
-        let entry = device_state::entry_of(&self.entries, open_tag(phase));
+        let entry = self.entry_meant(phase);
         moves::due(phase.is_some() && entry.write, rules::left_of(entry))
     }
 }

@@ -2,6 +2,7 @@
 ghost use Rattle.device.specs.Counter.{CounterGiven, CountGiven};
 
 use crate::state::Device;
+use page_11h::is_counter_number;
 use refusals::{Refusal, check};
 
 impl Device {
@@ -12,10 +13,10 @@ impl Device {
     {
         check(&[
             (self.contradicts(), Refusal::Contradiction),
-            (!(1..=0xfff).contains(&number), Refusal::NoCounter),
+            (!is_counter_number(number), Refusal::NoCounter),
         ])?;
         let row = page_rows::row_of(number);
-        Ok(page_rows::shown_at(self.settings.mask, self.values, row))
+        Ok(page_rows::shown_at(self.settings.mask, &self.values, row))
     }
 
     /// How many commands are outstanding. Refused with 1: a state that contradicts itself is not read as idle.

@@ -1,37 +1,54 @@
 // The calls of a device that is kept: each comes to an act, and the act says the rest. It answers the length of its replies, or the refusal, and leaves the new state in place.
-ghost use Rattle.std.specs.Prelude.{◌≡◌, true, [], leb, length};
-ghost use Rattle.rules.specs.Call.{hostFrame, openPhase, sendData, finishTags, mediaError, linkEvent, comReset};
+#![tactic(auto, using(crate::proofs::Doing::plain_act, crate::proofs::Doing::unlent_act))]
+
+ghost use Rattle.std.specs.Prelude.{◌≡◌, false, [], leb, length};
+ghost use Rattle.bits.specs.Pick.{pick};
+ghost use Rattle.rules.specs.Handed.{handed};
+ghost use Rattle.rules.specs.Call.{Call, hostFrame, openPhase, sendData, finishTags, mediaError, linkEvent, comReset};
+ghost use Rattle.rules.specs.Medium.{span_of, part_of};
 ghost use Rattle.replies.specs.Replies.{repliesOf, RepliesGiven};
 ghost use Rattle.device.specs.Device.{powerOn};
 ghost use Rattle.device.specs.Lent.{lent, gave, answered};
-ghost use Rattle.device.specs.FactsOf.{openTag, mediumWrong, factsWith};
+ghost use Rattle.device.specs.FactsOf.{entryMeant, mediumWrong, factsWith};
 ghost use Rattle.device.specs.After.{after_of};
-ghost use Rattle.device.specs.Step.{shown, Given};
+ghost use Rattle.device.specs.Step.{shown, actOf, Given};
 ghost use Rattle.device.specs.Sealing.{poweredOf};
 
 use crate::sealed::Sealed;
 use crate::state::Device;
-use device_state::Settings;
+use device_state::{Entry, Settings};
 use refusals::Refusal;
 use replies::Shown;
 use rules::{Act, Facts};
 
-// The tag of the open phase, or one that has no entry.
-#[tactic(auto, unfolding(crate::specs::FactsOf::openTag))]
-pub(crate) fn open_tag(phase: Option<u32>) -> u32
-    ensures { result ≡ openTag phase }
+// What an act sends of the medium, as far as the medium has it.
+fn part_sent(act: Act, medium: &[u8]) -> &[u8]
+    ensures { result.now ≡ part_of (span_of act) medium.now }
 {
-    phase.unwrap_or(Device::DEPTH_LIMIT)
-}
-
-// 512 × capacity bytes are due. The product of a 32-bit capacity cannot wrap, so it may stand before the test of 1.
-fn medium_wrong(capacity: u32, n: usize) -> bool
-    ensures { result ≡ mediumWrong capacity n }
-{
-    n != Device::SECTOR_SIZE * (capacity as usize)
+    let Some(span) = act.span() else {
+        return b"";
+    };
+    let rest = medium.get(span.at..).unwrap_or_default();
+    rest.get(..span.size).unwrap_or(rest)
 }
 
 impl Device {
+    // The entry of the tag that is meant; where none is, an idle one.
+    pub(crate) fn entry_meant(&self, tag: Option<u32>) -> Entry
+        ensures { result ≡ entryMeant self.now.entries tag }
+    {
+        tag.map_or(Entry::default(), |tag| {
+            device_state::entry_of(&self.entries, tag)
+        })
+    }
+
+    // 512 × capacity bytes are due. The product of a 32-bit capacity cannot wrap, so it may stand before the test of 1.
+    fn medium_wrong(&self, medium: &[u8]) -> bool
+        ensures { result ≡ mediumWrong self.now.settings.capacity (length medium.now) }
+    {
+        medium.len() != Device::SECTOR_SIZE * (self.settings.capacity as usize)
+    }
+
     // What replies show.
     fn shown(&self) -> Shown
         ensures { result ≡ shown self.now }
@@ -45,33 +62,49 @@ impl Device {
     }
 
     // The act is done: replies, whose length is answered, then the state.
-    #[tactic(auto, unfolding(bits::specs::Pick::pick))]
-    fn done(&mut self, reply: &mut [u8], act: Act, part: &[u8]) -> usize
-        requires { leb 8196 (length reply.old) ≡ true }
+    fn done(&mut self, act: Act, part: &[u8], reply: &mut [u8]) -> usize
         ensures state { self.new ≡ after_of self.old act }
-        ensures reply { RepliesGiven (repliesOf (shown self.old) part.now act) reply.old result reply.new }
+        ensures reply { RepliesGiven (pick (leb 8196 (length reply.old)) (repliesOf (shown self.old) part.now act) []) reply.old result reply.new }
     {
-        let len = replies::emit(reply, act, self.shown(), part);
+        let len = replies::emit(reply, &act, &self.shown(), part);
         self.after(act);
         len
+    }
+
+    // A call that is lent no medium, as it was decided: the refusal, or its act done.
+    fn answer(&mut self, decided: Result<Act, Refusal>, reply: &mut [u8]) -> Result<usize, Refusal>
+        ensures { (c : Call) → (handed c).medium ≡ false → decided ≡ actOf self.old (lent c [] reply.old) → Given self.old (lent c [] reply.old) (gave (answered self.new result) [] reply.new) }
+    {
+        let act = decided?;
+        Ok(self.done(act, b"", reply))
     }
 }
 
 impl Sealed {
-    // What a decision looks at: that the device does not contradict itself is known by its field.
-    fn facts(&self, tag: u32, wrong: bool, some: bool, room: usize) -> Facts
-        ensures { result ≡ factsWith self.now.device tag wrong some room }
+    // What a decision looks at, of a call that names no set and is lent no medium: that the device does not contradict itself is known by its field.
+    fn facts(&self, tag: Option<u32>, reply: &[u8]) -> Facts
+        ensures { result ≡ factsWith self.now.device tag false false (length reply.now) }
     {
         let device = &self.device;
         Facts {
             contradicts: false,
-            medium_wrong: wrong,
-            reply_short: room < Device::REPLY_SIZE,
+            medium_wrong: false,
+            reply_short: reply.len() < Device::REPLY_SIZE,
             link_busy: device.status.phase.is_some(),
             settings: device.settings,
             status: device.status,
-            entry: device_state::entry_of(&device.entries, tag),
-            unready: some,
+            entry: device.entry_meant(tag),
+            unready: false,
+        }
+    }
+
+    // The same of a call that is lent the medium, which is about the open phase.
+    fn facts_lent(&self, medium: &[u8], reply: &[u8]) -> Facts
+        ensures { let device = self.now.device in result ≡ factsWith device device.status.phase (mediumWrong device.settings.capacity (length medium.now)) false (length reply.now) }
+    {
+        Facts {
+            medium_wrong: self.device.medium_wrong(medium),
+            ..self.facts(self.device.status.phase, reply)
         }
     }
 
@@ -95,34 +128,27 @@ impl Sealed {
     ) -> Result<usize, Refusal>
         ensures { Given self.old.device (lent (hostFrame frame.now) medium.old reply.old) (gave (answered self.new.device result) medium.new reply.new) }
     {
-        let tag = open_tag(self.device.status.phase);
-        let wrong = medium_wrong(self.device.settings.capacity, medium.len());
-        let facts = self.facts(tag, wrong, false, reply.len());
+        let facts = self.facts_lent(medium, reply);
         let act = rules::frame_act(&facts, frames::read_frame(frame))?;
         rules::store_data(medium, act, frame);
-        Ok(self.device.done(reply, act, b""))
+        Ok(self.device.done(act, b"", reply))
     }
 
     /// Open a phase for a tag.
     pub fn open(&mut self, tag: u8, reply: &mut [u8]) -> Result<usize, Refusal>
         ensures { Given self.old.device (lent (openPhase tag) [] reply.old) (gave (answered self.new.device result) [] reply.new) }
     {
-        let facts = self.facts(tag as u32, false, false, reply.len());
-        let act = rules::open_act(&facts, tag)?;
-        Ok(self.device.done(reply, act, b""))
+        let facts = self.facts(Some(tag as u32), reply);
+        self.device.answer(rules::open_act(&facts, tag), reply)
     }
 
     /// Send, in a read phase: one data frame.
     pub fn send(&mut self, medium: &[u8], reply: &mut [u8]) -> Result<usize, Refusal>
         ensures { Given self.old.device (lent sendData medium.now reply.old) (gave (answered self.new.device result) medium.now reply.new) }
     {
-        let tag = open_tag(self.device.status.phase);
-        let wrong = medium_wrong(self.device.settings.capacity, medium.len());
-        let facts = self.facts(tag, wrong, false, reply.len());
+        let facts = self.facts_lent(medium, reply);
         let act = rules::send_act(&facts)?;
-        let span = rules::span_of(act);
-        let part = &medium[span.at..span.at + span.size];
-        Ok(self.device.done(reply, act, part))
+        Ok(self.device.done(act, part_sent(act, medium), reply))
     }
 
     /// Finish a set of tags.
@@ -130,10 +156,11 @@ impl Sealed {
         ensures { Given self.old.device (lent (finishTags set) [] reply.old) (gave (answered self.new.device result) [] reply.new) }
     {
         let device = &self.device;
-        let some = rules::some_unready(&device.entries, device.status.outstanding, set);
-        let facts = self.facts(Device::DEPTH_LIMIT, false, some, reply.len());
-        let act = rules::finish_act(&facts, set)?;
-        Ok(self.device.done(reply, act, b""))
+        let facts = Facts {
+            unready: rules::some_unready(&device.entries, device.status.outstanding, set),
+            ..self.facts(None, reply)
+        };
+        self.device.answer(rules::finish_act(&facts, set), reply)
     }
 
     /// Media error at a sector of a tag's command.
@@ -146,27 +173,24 @@ impl Sealed {
     ) -> Result<usize, Refusal>
         ensures { Given self.old.device (lent (mediaError tag error sector) [] reply.old) (gave (answered self.new.device result) [] reply.new) }
     {
-        let facts = self.facts(tag as u32, false, false, reply.len());
-        let act = rules::media_act(&facts, tag, error, sector)?;
-        Ok(self.device.done(reply, act, b""))
+        let facts = self.facts(Some(tag as u32), reply);
+        self.device
+            .answer(rules::media_act(&facts, tag, error, sector), reply)
     }
 
     /// Link event: adds one to that counter.
     pub fn link_event(&mut self, row: u8) -> Result<usize, Refusal>
         ensures { Given self.old.device (lent (linkEvent row) [] []) (gave (answered self.new.device result) [] []) }
     {
-        let facts = self.facts(Device::DEPTH_LIMIT, false, false, 0);
-        let act = rules::link_act(&facts, row)?;
-        self.device.after(act);
-        Ok(0)
+        let facts = self.facts(None, &[]);
+        self.device.answer(rules::link_act(&facts, row), &mut [])
     }
 
     /// COMRESET: as SRST and release together, and one link reset more.
     pub fn comreset(&mut self, reply: &mut [u8]) -> Result<usize, Refusal>
         ensures { Given self.old.device (lent comReset [] reply.old) (gave (answered self.new.device result) [] reply.new) }
     {
-        let facts = self.facts(Device::DEPTH_LIMIT, false, false, reply.len());
-        let act = rules::comreset_act(&facts)?;
-        Ok(self.device.done(reply, act, b""))
+        let facts = self.facts(None, reply);
+        self.device.answer(rules::comreset_act(&facts), reply)
     }
 }

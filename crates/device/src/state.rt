@@ -3,23 +3,32 @@ ghost use Rattle.std.specs.Prelude.{◌≡◌};
 ghost use Rattle.device.specs.Device.{contradictoryDevice, zeroDevice, freshDevice, powerOn};
 
 use device_state::{Entry, ErrorRecord, Settings, Status};
+use page_rows::{Counters, ROWS};
 use refusals::Refusal;
 
 /// Settings, what is under way, the entry of each tag, the error record, and the counters by row: a row that is not kept holds 0 here, and is absent to `counter` and on page 11h.
 #[derive(Clone, Copy, Debug, PartialEq, Eq)]
 pub struct Device {
+    /// fixed at power-on
     pub settings: Settings,
+    /// the tags outstanding, the open phase, halted, held
     pub status: Status,
+    /// entry t is that of tag t
     pub entries: [Entry; Settings::ENTRIES],
+    /// what page 10h shows
     pub errors: ErrorRecord,
-    pub values: [u32; 16],
+    /// events, by row of page 11h
+    pub values: Counters,
 }
 
-/// What every call by value answers: the state to be handed in next, the refusal or `None`, and the length of the replies in bytes.
+/// What every call by value answers.
 #[derive(Clone, Copy, Debug, PartialEq, Eq)]
 pub struct Outcome {
+    /// the state to be handed in next
     pub state: Device,
+    /// why the call was turned down, if it was
     pub refusal: Option<Refusal>,
+    /// bytes of the replies
     pub len: usize,
 }
 
@@ -33,7 +42,7 @@ fn fresh(settings: Settings) -> Device
         status: Status::idle(),
         entries: [Entry::default(); Settings::ENTRIES],
         errors: ErrorRecord::default(),
-        values: [0; 16],
+        values: [0; ROWS],
     }
 }
 

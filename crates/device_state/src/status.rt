@@ -5,37 +5,31 @@ ghost use Rattle.device_state.specs.UnderWay.{noneUnderWay, with_tag, withoutTag
 use crate::shapes::Status;
 
 impl Status {
-    // Nothing outstanding, no phase open.
-    fn none_under_way(halted: bool, held: bool) -> Status
-        ensures { result ≡ noneUnderWay halted held }
-    {
-        Status {
-            outstanding: 0,
-            phase: None,
-            halted,
-            held,
-        }
-    }
-
     /// After power-on and COMRESET.
     pub fn idle() -> Status
         ensures { result ≡ noneUnderWay false false }
     {
-        Status::none_under_way(false, false)
+        Status::default()
     }
 
     /// After an error.
     pub fn halted() -> Status
         ensures { result ≡ noneUnderWay true false }
     {
-        Status::none_under_way(true, false)
+        Status {
+            halted: true,
+            ..Status::default()
+        }
     }
 
     /// After SRST, until the release.
     pub fn held() -> Status
         ensures { result ≡ noneUnderWay false true }
     {
-        Status::none_under_way(false, true)
+        Status {
+            held: true,
+            ..Status::default()
+        }
     }
 
     /// A command of a tag is accepted; of a tag of 32 or more, none.

@@ -2,7 +2,7 @@
 use mathlib.Core.Path.{◌≡◌, refl, sym, ap, ◌∙◌}
 use mathlib.Core.Bool.{Bool, true, false, false≢true}
 use mathlib.Core.List.{List, [], ◌∷◌}
-use Prim.Native.Nat.{ℕ, zero, suc, ◌+◌, ◌-◌, ◌≤◌}
+use Prim.Native.Nat.{ℕ, zero, suc, ◌+◌, ◌≤◌}
 use native.Mathlib.Omega.{arith}
 use mathlib.Core.Logic.{⊎_elim}
 use lib.Dec.{eqb, leb}
@@ -41,7 +41,7 @@ kind false x y u v n q f = q f
 
 -- a kind other than 00h whose body has its length asks for something
 has-call : (k : ℕ) (e : List ℕ) (n : ℕ) → eqb k 0x00 ≡ false → fitsLength (bodyLength k) n ≡ true → is_none (callByKind k e) ≡ false
-unfolding bodyLength callByKind fitsLength
+unfolding bodyLength callByKind fitsLength fixedSize pick
 has-call k e n z f =
     kind (eqb k 0x01) _ _ (Some 1) _ n
     (kind (eqb k 0x02) _ _ (Some 0) _ n
@@ -50,8 +50,8 @@ has-call k e n z f =
     (kind (eqb k 0x05) _ _ (Some 1) _ n
     (kind (eqb k 0x06) _ _ (Some 0) _ n
     (kind (eqb k 0x07) _ _ (Some 1) _ n
-    (kind (eqb k 0x27) _ _ (Some (fixedSize 0x27 - 1)) _ n
-    (kind (eqb k 0x58) _ _ (Some (fixedSize 0x58 - 1)) None n
+    (kind (eqb k 0x27) _ _ (Some 19) _ n
+    (kind (eqb k 0x58) _ _ (Some 11) None n
     (λ h. absurd (false≢true h))))))))))
     (sym (ap (λ (x : Option ℕ). fitsLength x n) (pick_no (eqb k 0x00) (Some 7) _ z)) ∙ f)
 

@@ -1,8 +1,7 @@
 -- What the rest of the input begins with. Assumes nothing.
-use Rattle.std.specs.Prelude.{Bool, false, not, List, ℕ, ◌+◌, ◌-◌, eqb, leb, length, get_or}
+use Rattle.std.specs.Prelude.{Bool, false, not, List, ℕ, ◌+◌, ◌-◌, eqb, leb, length, get_or, Option, Some, None, option_map}
 use Rattle.bits.specs.Pick.{pick}
 use Rattle.frame_parts.specs.Size.{fixedSize}
-use Rattle.std.specs.Prelude.{Option, Some, None}
 use Rattle.event_kinds.specs.declared.kinds.Next.{Next}
 use Rattle.event_kinds.specs.declared.kinds.Next.TheVariants.{Whole, Stop, End}
 
@@ -17,8 +16,8 @@ bodyLength k =
     (pick (eqb k 0x05) (Some 1)
     (pick (eqb k 0x06) (Some 0)
     (pick (eqb k 0x07) (Some 1)
-    (pick (eqb k 0x27) (Some (fixedSize 0x27 - 1))
-    (pick (eqb k 0x58) (Some (fixedSize 0x58 - 1)) None)))))))))
+    (pick (eqb k 0x27) (option_map (λ n. n - 1) (fixedSize 0x27))
+    (pick (eqb k 0x58) (option_map (λ n. n - 1) (fixedSize 0x58)) None)))))))))
 
 -- 00h first, once
 unfoldable pub misplaced : Bool → ℕ → Bool

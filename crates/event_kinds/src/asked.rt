@@ -52,8 +52,8 @@ fn by_kind(kind: u8, bytes: &[u8]) -> Option<Request>
 pub fn request_of(bytes: &[u8]) -> Option<Request>
     ensures { result ≡ requestOf bytes.now }
 {
-    if is_event(bytes) {
-        return by_kind(byte_of(bytes, 0), bytes);
+    if !is_event(bytes) {
+        return None;
     }
-    None
+    by_kind(byte_of(bytes, 0), bytes)
 }

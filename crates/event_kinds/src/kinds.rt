@@ -2,6 +2,11 @@
 ghost use Rattle.std.specs.Prelude.{◌≡◌};
 ghost use Rattle.event_kinds.specs.Kinds.{bodyLength, misplaced, isEvent};
 
+use frame_parts::fixed_size;
+
+/// The most bytes of an event, its kind among them.
+pub const EVENT_LIMIT: usize = 20;
+
 /// What the rest of the input begins with.
 #[derive(Clone, Copy, Debug, PartialEq, Eq)]
 pub enum Next {
@@ -20,15 +25,11 @@ pub fn body_length(kind: u8) -> Option<usize>
 {
     match kind {
         0x00 => Some(7),
-        0x01 => Some(1),
-        0x02 => Some(0),
+        0x01 | 0x05 | 0x07 => Some(1),
+        0x02 | 0x06 => Some(0),
         0x03 => Some(4),
         0x04 => Some(6),
-        0x05 => Some(1),
-        0x06 => Some(0),
-        0x07 => Some(1),
-        0x27 => Some(19),
-        0x58 => Some(11),
+        0x27 | 0x58 => fixed_size(kind).map(|size| size - 1),
         _ => None,
     }
 }
@@ -46,8 +47,8 @@ pub fn is_misplaced(first: bool, kind: u8) -> bool
 pub fn is_event(event: &[u8]) -> bool
     ensures { result ≡ isEvent event.now }
 {
-    let Some(n) = body_length(frame_parts::byte_of(event, 0)) else {
+    let Some((kind, body)) = event.split_first() else {
         return false;
     };
-    n < event.len() && event.len() == n + 1
+    body_length(*kind) == Some(body.len())
 }

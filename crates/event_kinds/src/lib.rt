@@ -6,5 +6,5 @@ mod kinds;
 mod settings;
 
 pub use asked::{Request, request_of};
-pub use kinds::{Next, body_length, is_misplaced};
-pub use settings::settings_asked;
+pub use kinds::{EVENT_LIMIT, Next, body_length, is_misplaced};
+pub use settings::{CAPACITY_LIMIT, settings_asked};

@@ -1,6 +1,6 @@
 // The settings record.
 ghost use Rattle.std.specs.Prelude.{◌≡◌};
-ghost use Rattle.event_kinds.specs.Settings.{settingsOf, inLimit, asked_of};
+ghost use Rattle.event_kinds.specs.Settings.{settingsOf, asked_of};
 
 use crate::kinds::is_event;
 use device_state::Settings;
@@ -16,25 +16,17 @@ fn settings_of(event: &[u8]) -> Settings
     }
 }
 
-// The most sectors that a run may have: its medium is an array of the program's.
-const CAPACITY_LIMIT: u32 = 64;
+/// The most sectors that a run may have: its medium is an array of the program's.
+pub const CAPACITY_LIMIT: u32 = 64;
 
-fn in_limit(event: &[u8]) -> bool
-    ensures { result ≡ inLimit event.now }
-{
-    is_event(event)
-        && frame_parts::byte_of(event, 0) == 0x00
-        && settings_of(event).capacity <= CAPACITY_LIMIT
-}
-
-/// What power-on is asked for: the record's settings, or nothing at all.
+/// The settings that the record asks for; `None` for what is no settings record, and for more sectors than a run may have.
 #[tactic(auto, unfolding(bits::specs::Pick::pick))]
-pub fn settings_asked(event: &[u8]) -> Settings
+pub fn settings_asked(event: &[u8]) -> Option<Settings>
     ensures { result ≡ asked_of event.now }
 {
-    if in_limit(event) {
-        settings_of(event)
-    } else {
-        Settings::default()
-    }
+    let settings = settings_of(event);
+    let is_in_limit = is_event(event)
+        && frame_parts::byte_of(event, 0) == 0x00
+        && settings.capacity <= CAPACITY_LIMIT;
+    is_in_limit.then_some(settings)
 }

@@ -3,6 +3,7 @@ pub mod Fields
 pub mod Fronts
 pub mod Nexts
 pub mod Parts
+pub mod Played
 pub mod Runs
 pub mod Starts
 pub mod Steps

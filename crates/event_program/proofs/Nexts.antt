@@ -1,5 +1,5 @@
 -- What the known bytes begin with, by what was read of them. Assumes nothing.
-use Rattle.std.proofs.Common.{◌≡◌, ℕ, ◌+◌, ◌<◌, Bool, true, false, List, [], ◌∷◌, ◌++◌, length, Option, Some, None, IfSome, refl, ap, ◌∙◌, append-nil, arith, ◌≤◌}
+use Rattle.std.proofs.Common.{◌≡◌, subst, get_or, ℕ, ◌+◌, ◌<◌, Bool, true, false, List, [], ◌∷◌, ◌++◌, length, Option, Some, None, IfSome, refl, ap, ◌∙◌, append-nil, arith, ◌≤◌}
 use Rattle.std.specs.Io.KnownBytes.{Consumes, IsAtEnd}
 use Rattle.std.specs.Prelude.{Option, Some, None}
 use Rattle.event_kinds.specs.declared.kinds.Next.{Next}
@@ -7,10 +7,11 @@ use Rattle.event_kinds.specs.declared.kinds.Next.TheVariants.{Whole, Stop, End}
 use Rattle.event_kinds.specs.Kinds.{bodyLength, misplaced, nextWhole, next_of}
 use borrow.Author.Tests.{lt-leb, le-leb, ne_eqb}
 use lib.Dec.{eqb}
+use Rattle.std.specs.Prelude.{leb}
 use Rattle.bits.specs.Pick.{pick}
 use Rattle.bits.proofs.Picks.{by-test}
 use Rattle.frame_parts.specs.Size.{fixedSize}
-use Rattle.event_program.specs.Reading.{Ends}
+use Rattle.event_program.specs.Reading.{Ends, ReadEvent}
 
 -- what holds of all bytes that begin so holds of the known ones
 pub begun : (P : List ℕ → Type 0) (u v : Option (List ℕ)) (a : List ℕ) → Consumes u v a → ((more : List ℕ) → P (a ++ more)) → IfSome u P
@@ -59,6 +60,29 @@ ends-empty false = tt
 
 pub ends-stop : {n : Next} → n ≡ Stop → Ends n
 ends-stop e = rw e tt
+
+-- no input ends cleanly where it begins
+IsNoEnd : Next → Type 0
+IsNoEnd End = ⊥
+IsNoEnd Stop = Unit
+IsNoEnd (Whole n) = Unit
+
+no-end-whole : (n : Option ℕ) (have : ℕ) → IsNoEnd (nextWhole n have)
+unfolding nextWhole pick IsNoEnd
+no-end-whole None have = tt
+no-end-whole (Some n) have = by-test IsNoEnd (leb (n + 1) have) (Whole (n + 1)) Stop (λ t. tt) (λ f. tt)
+
+no-end : (first : Bool) (l : List ℕ) → first ≡ true → IsNoEnd (next_of first l)
+unfolding next_of pick nextWhole IsNoEnd
+no-end first l h = rw h (by-test IsNoEnd (eqb (length l) 0) Stop _ (λ t. tt) (λ f. by-test IsNoEnd (misplaced true (get_or l 0 0)) Stop _ (λ t. tt) (λ g. no-end-whole (bodyLength (get_or l 0 0)) (length l))))
+
+-- where it holds no event, it stops
+pub stops-first : (old : Option (List ℕ)) (next : Next) (event : List ℕ) (new : Option (List ℕ)) → Ends next → ReadEvent true old next event new → IfSome old (λ input. next_of true input ≡ Stop)
+unfolding IsNoEnd
+stops-first old (Whole n) event new e r = absurd e
+stops-first old Stop event new e r = r
+stops-first None End event new e r = tt
+stops-first (Some xs) End event new e r = absurd (subst IsNoEnd r (no-end true xs refl))
 
 -- no body is longer than a frame of 27h behind its type
 AtMost19 : Option ℕ → Type 0

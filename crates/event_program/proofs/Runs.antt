@@ -7,10 +7,17 @@ use Rattle.event_kinds.specs.declared.kinds.Next.{Next}
 use Rattle.event_program.specs.Reading.{Ends}
 use Rattle.event_program.specs.Running.{ending}
 use mathlib.Core.Bool.{false≢true}
-use Rattle.std.proofs.Common.{Result, Ok, Err, IsErr, IsErrAnd, OnOk, IfErr, subst}
+use Rattle.std.proofs.Common.{is_ok, Result, Ok, Err, IsErr, IsErrAnd, OnOk, IfErr, subst}
 use Rattle.event_program.specs.declared.errors.RunError.{RunError}
 use Rattle.event_program.specs.declared.errors.RunError.TheVariants.{Input, Output, Memory, TooMany}
+use Rattle.event_program.specs.declared.errors.RunEnd.{RunEnd}
+use Rattle.event_program.specs.declared.errors.RunEnd.TheVariants.{Clean, NoEvent, Broken, LastNumber}
+use Rattle.event_kinds.specs.declared.kinds.Next.TheVariants.{Stop, End}
+use Rattle.std.proofs.KnownBytes.{Consumes-trans}
+use Rattle.streams.specs.Fronts.{AppendsFront}
+use Rattle.event_program.specs.Ends.{last_text, Finished}
 use Rattle.event_program.specs.Output.{IsOutput}
+use Rattle.event_program.proofs.Fronts.{front-first, front-last, all-last}
 use Rattle.event_program.specs.Runs.{joined, lines_on, RunsOut, Loses, Told}
 
 pub joined-more : (es : List (List ℕ)) (e : List ℕ) → joined (es ++ e ∷ []) ≡ joined es ++ e
@@ -63,22 +70,95 @@ over P N T (Some xs) (Some ys) w w' es end p c n e a = record {
   written = rw n a;
 }
 
--- lines are lost where a write failed
+-- lines are lost where a write failed, and where there is no memory for one
+abbrev pub IsLost : RunError → Type 0
+IsLost (Input e) = ⊥
+IsLost (Output e) = Unit
+IsLost Memory = Unit
+IsLost TooMany = ⊥
+
+pub output-lost : (e : RunError) → IsOutput e → IsLost e
+output-lost (Input x) o = o
+output-lost (Output x) o = tt
+output-lost Memory o = absurd o
+output-lost TooMany o = o
+
 lost-by : (P Q : List (List ℕ) → Type 0) (N : List (List ℕ) → List ℕ → Next) (T : List (List ℕ) → List ℕ) (n : ℕ) (known known' w w' : Option (List ℕ)) (e : RunError)
-    → IsOutput e → Loses P T known w w' → Told P Q N T n known known' w w' (Err e)
+    → IsLost e → Loses P T known w w' → Told P Q N T n known known' w w' (Err e)
 lost-by P Q N T n known known' w w' (Input x) o l = absurd o
 lost-by P Q N T n known known' w w' (Output x) o l = l
-lost-by P Q N T n known known' w w' Memory o l = absurd o
+lost-by P Q N T n known known' w w' Memory o l = l
 lost-by P Q N T n known known' w w' TooMany o l = absurd o
 
 -- and that is handed on
 pub told-lost : (P Q : List (List ℕ) → Type 0) (N : List (List ℕ) → List ℕ → Next) (T : List (List ℕ) → List ℕ) (n : ℕ) (known known' w w' : Option (List ℕ)) (r : Result Unit RunError) (e : RunError)
-    → IsErr r → IsErrAnd r (λ x. x ≡ e) → IsOutput e → Loses P T known w w' → Told P Q N T n known known' w w' r
+    → IsErr r → IsErrAnd r (λ x. x ≡ e) → IsLost e → Loses P T known w w' → Told P Q N T n known known' w w' r
 told-lost P Q N T n known known' w w' (Ok u) e i h o l = absurd (false≢true i)
-told-lost P Q N T n known known' w w' (Err x) e i h o l = subst (λ (y : RunError). Told P Q N T n known known' w w' (Err y)) (sym h) (lost-by P Q N T n known known' w w' e o l)
+told-lost P Q N T n known known' w w' (Err x) e i h o l = lost-by P Q N T n known known' w w' x (subst IsLost (sym h) o) l
 
--- a run that ends with its last lines ends as these could be written
-pub told-end : (P Q : List (List ℕ) → Type 0) (N : List (List ℕ) → List ℕ → Next) (T : List (List ℕ) → List ℕ) (n : ℕ) (known known' w w' : Option (List ℕ)) (A F : Type 0) (r : Result Unit RunError)
-    → OnOk r A → IfErr r (λ e. IsOutput e × F) → (A → IfSome known (RunsOut P N T w w')) → (F → Loses P T known w w') → Told P Q N T n known known' w w' r
-told-end P Q N T n known known' w w' A F (Ok u) a f g h = g a
-told-end P Q N T n known known' w w' A F (Err x) a f g h = lost-by P Q N T n known known' w w' x f.0 (h f.1)
+-- a result whose error was told anew holds a value where it held one
+pub on-ok : {A D E : Type 0} (r : Result A E) (q : Result A D) (x : A) (P : Type 0) → is_ok q ≡ is_ok r → q ≡ Ok x → OnOk r P → P
+on-ok (Ok y) q x P v e p = p
+on-ok (Err f) q x P v e p = absurd (false≢true (sym v ∙ ap is_ok e))
+
+pub ok-so : {A D E : Type 0} (r : Result A E) (q : Result A D) (P : Type 0) → is_ok q ≡ is_ok r → OnOk r P → OnOk q P
+ok-so (Ok y) (Ok x) P v p = p
+ok-so (Ok y) (Err f) P v p = tt
+ok-so (Err e) (Ok x) P v p = absurd (false≢true (sym v))
+ok-so (Err e) (Err f) P v p = tt
+
+-- what a run came to behind the events es: the end of the input, a read that failed behind a part that is no event, or the last number
+abbrev pub CameTo : (Q : List (List ℕ) → Type 0) (N : List (List ℕ) → List ℕ → Next) (n : ℕ) (now known' : Option (List ℕ)) (es : List (List ℕ)) → RunEnd → Type 0
+CameTo Q N n now known' es Clean = IfSome now (λ rest. N es rest ≡ End)
+CameTo Q N n now known' es NoEvent = IfSome now (λ rest. N es rest ≡ Stop)
+CameTo Q N n now known' es (Broken e) = Q es × ((part : List ℕ) × Consumes now known' part × Ends (N es part))
+CameTo Q N n now known' es LastNumber = (length es ≡ n) × (now ≡ known')
+
+-- a front of the lines and of the last text is one of the lines and of `stop`
+front-stop : (w w' : Option (List ℕ)) (end : RunEnd) (text : List ℕ) → AppendsFront w w' (text ++ last_text end) → AppendsFront w w' (text ++ ending Stop)
+unfolding ending
+front-stop w w' Clean text f = front-first w w' text (ending Stop) (rw (append-nil text) at f)
+front-stop w w' NoEvent text f = f
+front-stop w w' (Broken e) text f = f
+front-stop w w' LastNumber text f = f
+
+-- so it ends, where its lines and the last text could be written, and where they could not
+pub finished : (P Q : List (List ℕ) → Type 0) (N : List (List ℕ) → List ℕ → Next) (T : List (List ℕ) → List ℕ) (n : ℕ) (known now known' w w' : Option (List ℕ)) (es : List (List ℕ)) (end : RunEnd) (r : Result Unit RunError)
+    → P es → Consumes known now (joined es) → CameTo Q N n now known' es end → Finished end w w' (T es) r → Told P Q N T n known known' w w' r
+finished P Q N T n known now known' w w' es Clean (Ok u) p c m f = over P N T known now w w' es End p c m tt f.1
+finished P Q N T n known now known' w w' es NoEvent (Ok u) p c m f = over P N T known now w w' es Stop p c m tt f.1
+finished P Q N T n known now known' w w' es (Broken e) (Ok u) p c m f = absurd (cc (f.0))
+finished P Q N T n known now known' w w' es LastNumber (Ok u) p c m f = absurd (cc (f.0))
+finished P Q N T n known now known' w w' es Clean (Err (Input x)) p c m f = absurd (cc (f.0))
+finished P Q N T n known now known' w w' es NoEvent (Err (Input x)) p c m f = absurd (cc (f.0))
+finished P Q N T n known now known' w w' es (Broken e) (Err (Input x)) p c m f = record {
+  es = es;
+  looked = m.0;
+  part = m.1.0;
+  read = Consumes-trans known now known' (joined es) m.1.0 c m.1.1;
+  cut = record { whole = refl; events = p; ends = m.1.2 };
+  written = f.1;
+}
+finished P Q N T n known now known' w w' es LastNumber (Err (Input x)) p c m f = absurd (cc (f.0))
+finished P Q N T n known now known' w w' es end (Err (Output x)) p c m f = record { es = es; begins = begins known now (joined es) c; events = p; written = front-stop w w' end (T es) f }
+finished P Q N T n known now known' w w' es end (Err Memory) p c m f = absurd f
+finished P Q N T n known now known' w w' es Clean (Err TooMany) p c m f = absurd (cc (f.0))
+finished P Q N T n known now known' w w' es NoEvent (Err TooMany) p c m f = absurd (cc (f.0))
+finished P Q N T n known now known' w w' es (Broken e) (Err TooMany) p c m f = absurd (cc (f.0))
+finished P Q N T n known now known' w w' es LastNumber (Err TooMany) p c m f = record { es = es; last = m.0; read = subst (λ (k : Option (List ℕ)). Consumes known k (joined es)) m.1 c; events = p; written = f.1 }
+
+-- a write failed
+pub unfinished : (end : RunEnd) (w w' : Option (List ℕ)) (lines : List ℕ) (F : Type 0) (r : Result Unit RunError) → IsErr r → IfErr r (λ e. IsOutput e × F) → (F → AppendsFront w w' (lines ++ last_text end)) → Finished end w w' lines r
+unfinished end w w' lines F (Ok u) i f h = absurd (false≢true i)
+unfinished end w w' lines F (Err (Input x)) i f h = absurd f.0
+unfinished end w w' lines F (Err (Output x)) i f h = h f.1
+unfinished end w w' lines F (Err Memory) i f h = absurd f.0
+unfinished end w w' lines F (Err TooMany) i f h = absurd f.0
+
+-- of the lines some were written before
+pub finished-behind : (a w w' : Option (List ℕ)) (done lines text : List ℕ) (end : RunEnd) (r : Result Unit RunError) → text ≡ done ++ lines → Appends a w done → Finished end w w' lines r → Finished end a w' text r
+finished-behind a w w' done lines text end (Ok u) e p f = (f.0, all-last a w w' done lines text (last_text end) e p f.1)
+finished-behind a w w' done lines text end (Err (Input x)) e p f = (f.0, all-last a w w' done lines text (last_text end) e p f.1)
+finished-behind a w w' done lines text end (Err (Output x)) e p f = front-last a w w' done lines text (last_text end) e p f
+finished-behind a w w' done lines text end (Err Memory) e p f = f
+finished-behind a w w' done lines text end (Err TooMany) e p f = (f.0, all-last a w w' done lines text (last_text end) e p f.1)

@@ -6,7 +6,7 @@ use Rattle.event_kinds.specs.declared.kinds.Next.{Next}
 use Rattle.event_kinds.specs.declared.kinds.Next.TheVariants.{Stop, End}
 use Rattle.event_kinds.specs.Kinds.{next_of}
 use lib.Dec.{eqb}
-use Rattle.events.specs.Start.{start_of}
+use Rattle.events.specs.Start.{start_by, start_of}
 use Rattle.device.specs.declared.state.Outcome.{Outcome}
 use Rattle.device.specs.declared.state.Device.{Device}
 use Rattle.event_program.specs.Lines.{line_of}
@@ -24,16 +24,18 @@ use Rattle.device.specs.Device.{freshDevice, powered, powerRefusal, powerOn}
 use Rattle.device.specs.Sealing.{poweredOf}
 use Rattle.device.specs.declared.sealed.Sealed.{Sealed}
 use Rattle.event_kinds.specs.Kinds.{isEvent}
-use Rattle.event_kinds.specs.Settings.{asked_of, settingsOf, noSettings, inLimit}
+use Rattle.event_kinds.specs.Settings.{asked_of, settingsOf, inLimit}
 use Rattle.bits.specs.Pick.{pick}
 use Rattle.event_program.specs.declared.errors.RunError.{RunError}
 use Rattle.event_program.specs.declared.errors.RunError.TheVariants.{Input, Output, Memory, TooMany}
 use Rattle.event_program.specs.Reading.{Ends, IsEvent}
 use Rattle.streams.specs.Fronts.{AppendsFront}
 use Rattle.event_program.specs.Running.{Kept, AllEvents, lines_from, ending, refused, started, start_line, run_lines, Plays, ReadsOn, next_behind}
-use Rattle.event_program.specs.Runs.{joined, Ran, PlayedOn, RunsOut, lines_on, Loses}
-use Rattle.event_program.proofs.Fronts.{front-of, front-first}
-use Rattle.event_program.proofs.Runs.{begins, over}
+use Rattle.event_program.specs.Runs.{joined, Ran, PlayedOn, lines_on, Loses}
+use Rattle.event_program.specs.declared.errors.RunEnd.TheVariants.{Clean}
+use Rattle.event_program.specs.Ends.{Finished}
+use Rattle.event_program.proofs.Fronts.{front-of}
+use Rattle.event_program.proofs.Runs.{begins, finished}
 
 joined-first : (s : List ℕ) (es : List (List ℕ)) → joined (s ∷ es) ≡ s ++ joined es
 joined-first s es = refl
@@ -119,28 +121,17 @@ line-refused : (traced : Bool) (s : List ℕ) → run_lines traced (s ∷ []) �
 unfolding run_lines lines_from
 line-refused traced s = append-nil (start_line traced s)
 
-pub stays-refused : (traced : Bool) (s lines : List ℕ) (before known w w' : Option (List ℕ)) → refused s ≡ true → IsEvent true s → Consumes before known s → lines ≡ start_line traced s
-    → Appends w w' (lines ++ []) → IfSome before (RunsOut Plays next_behind (run_lines traced) w w')
-unfolding ending
-stays-refused traced s lines before known w w' h i c p a =
-    over Plays next_behind (run_lines traced) before known w w' (s ∷ []) End (plays-refused s i)
+all-known : {Q : List ℕ → Type 0} (u : Option (List ℕ)) → ((l : List ℕ) → Q l) → IfSome u Q
+all-known None f = tt
+all-known (Some l) f = f l
+
+pub stays-refused : (traced : Bool) (s lines : List ℕ) (before known known' w w' : Option (List ℕ)) (r : Result Unit RunError) → refused s ≡ true → IsEvent true s → Consumes before known s → lines ≡ start_line traced s
+    → Finished Clean w w' lines r → Ran traced before known' w w' r
+stays-refused traced s lines before known known' w w' r h i c p f =
+    finished Plays ReadsOn next_behind (run_lines traced) _ before known known' w w' (s ∷ []) Clean r (plays-refused s i)
     (subst (Consumes before known) (sym (append-nil s)) c)
     (all-known known (λ rest. next-refused s rest h))
-    tt
-    (subst (Appends w w') (ap (λ (l : List ℕ). l ++ []) (p ∙ sym (line-refused traced s))) a)
-  where
-    all-known : {Q : List ℕ → Type 0} (u : Option (List ℕ)) → ((l : List ℕ) → Q l) → IfSome u Q
-    all-known None f = tt
-    all-known (Some l) f = f l
-
-pub lost-refused : (traced : Bool) (s lines : List ℕ) (before known w w' : Option (List ℕ)) → IsEvent true s → Consumes before known s → lines ≡ start_line traced s
-    → AppendsFront w w' (lines ++ []) → Loses Plays (run_lines traced) before w w'
-lost-refused traced s lines before known w w' i c p a = record {
-  es = s ∷ [];
-  begins = begins before known (joined (s ∷ [])) (subst (Consumes before known) (sym (append-nil s)) c);
-  events = plays-refused s i;
-  written = front-first w w' _ _ (subst (AppendsFront w w') (append-nil lines ∙ p ∙ sym (line-refused traced s)) a);
-}
+    (subst (λ (l : List ℕ). Finished Clean w w' l r) (p ∙ sym (line-refused traced s)) f)
 
 -- a start leaves nothing outstanding
 none-out : (o : Option Refusal) (s : Settings) → (powered o s).status.outstanding ≡ 0
@@ -148,9 +139,14 @@ unfolding freshDevice
 none-out None s = refl
 none-out (Some r) s = refl
 
+by-none-outstanding : (o : Option Settings) → (start_by o).state.status.outstanding ≡ 0
+unfolding start_by powerOn poweredOf freshDevice
+by-none-outstanding None = refl
+by-none-outstanding (Some s) = none-out (powerRefusal s) s
+
 none-outstanding : (e : List ℕ) → (start_of e).state.status.outstanding ≡ 0
-unfolding start_of powerOn
-none-outstanding e = none-out (powerRefusal (asked_of e)) (asked_of e)
+unfolding start_of
+none-outstanding e = by-none-outstanding (asked_of e)
 
 -- what power-on gave
 same-kept : {d d' : Device} {m m' b b' : List ℕ} → d ≡ d' → m ≡ m' → b ≡ b' → kept d m b ≡ kept d' m' b'
@@ -174,34 +170,48 @@ handed-err : (r : Result (Bor Sealed) (Bor Refusal)) → option_copied (result_e
 handed-err (Ok d) = refl
 handed-err (Err r) = refl
 
-pub refusal-copied : (begun : Result Sealed Refusal) (r : Result (Bor Sealed) (Bor Refusal)) (o : Option (Bor Refusal)) (given : Option Refusal)
+refusal-copied : (begun : Result Sealed Refusal) (r : Result (Bor Sealed) (Bor Refusal)) (o : Option (Bor Refusal)) (given : Option Refusal)
     → result_copied r ≡ begun → o ≡ result_err r → given ≡ option_copied o → given ≡ (poweredOf begun).refusal
 refusal-copied begun r o given p q t = t ∙ ap option_copied q ∙ handed-err r ∙ ap result_err p ∙ refusal-is begun
 
-pub line-is : (traced : Bool) (s : List ℕ) (begun : Result Sealed Refusal) (given : Option Refusal) (none lines : List ℕ) → poweredOf begun ≡ start_of s → given ≡ (poweredOf begun).refusal → none ≡ [] → lines ≡ none ++ line_of traced 0 given 0 []
+line-is : (traced : Bool) (s : List ℕ) (begun : Result Sealed Refusal) (given : Option Refusal) (none lines : List ℕ) → poweredOf begun ≡ start_of s → given ≡ (poweredOf begun).refusal → none ≡ [] → lines ≡ none ++ line_of traced 0 given 0 []
     → lines ≡ start_line traced s
 line-is traced s begun given none lines e n k q =
     q ∙ ap (λ (l : List ℕ). l ++ line_of traced 0 given 0 []) k ∙ ap₂ (λ (r : Option Refusal) (t : ℕ). line_of traced 0 r t []) (n ∙ ap (λ (x : Outcome). x.refusal) e) (sym (none-outstanding s))
+
+pub first-line : (traced : Bool) (s : List ℕ) (begun : Result Sealed Refusal) (r : Result (Bor Sealed) (Bor Refusal)) (o : Option (Bor Refusal)) (given : Option Refusal) (none lines : List ℕ)
+    → poweredOf begun ≡ start_of s → result_copied r ≡ begun → o ≡ result_err r → given ≡ option_copied o → none ≡ [] → lines ≡ none ++ line_of traced 0 given 0 [] → lines ≡ start_line traced s
+first-line traced s begun r o given none lines e p q t k l = line-is traced s begun given none lines e (refusal-copied begun r o given p q t) k l
 
 -- the medium of a run has room in the program's array
 and_assoc : (a b c : Bool) → (a && b && c) ≡ ((a && b) && c)
 and_assoc true b c = refl
 and_assoc false b c = refl
 
-in-limit : (e : List ℕ) → (asked_of e).capacity ≤ 64
+IsInLimit : Option Settings → Type 0
+IsInLimit (Some s) = s.capacity ≤ 64
+IsInLimit None = Unit
+
+in-limit : (e : List ℕ) → IsInLimit (asked_of e)
+unfolding IsInLimit
 in-limit e =
-    by-test (λ (s : Settings). s.capacity ≤ 64) (inLimit e) (settingsOf e) noSettings
+    by-test IsInLimit (inLimit e) (Some (settingsOf e)) None
     (λ h. leb-true (settingsOf e).capacity 64 (and_right (isEvent e && eqb (get_or e 0 0) 0x00) (leb (settingsOf e).capacity 64) (sym (and_assoc (isEvent e) (eqb (get_or e 0 0) 0x00) (leb (settingsOf e).capacity 64)) ∙ h)))
-    (λ h. omega arith)
+    (λ h. tt)
 
 powered-in-limit : (o : Option Refusal) (s : Settings) → s.capacity ≤ 64 → (powered o s).settings.capacity ≤ 64
 unfolding freshDevice
 powered-in-limit None s h = h
 powered-in-limit (Some r) s h = omega arith
 
+by-in-limit : (o : Option Settings) → IsInLimit o → (start_by o).state.settings.capacity ≤ 64
+unfolding start_by powerOn poweredOf freshDevice IsInLimit
+by-in-limit None h = omega arith
+by-in-limit (Some s) h = powered-in-limit (powerRefusal s) s h
+
 started-in-limit : (e : List ℕ) → (start_of e).state.settings.capacity ≤ 64
-unfolding start_of powerOn
-started-in-limit e = powered-in-limit (powerRefusal (asked_of e)) (asked_of e) (in-limit e)
+unfolding start_of
+started-in-limit e = by-in-limit (asked_of e) (in-limit e)
 
 pub medium-fits : (s : List ℕ) (r : Result Sealed Refusal) (d : Sealed) → poweredOf r ≡ start_of s → r ≡ Ok d → d.device.settings.capacity ≤ 64
 unfolding poweredOf

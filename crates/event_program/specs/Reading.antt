@@ -1,9 +1,14 @@
 -- What is told of the next event. Assumes nothing.
-use Rattle.std.specs.Prelude.{◌≡◌, Bool, List, ℕ, ◌≤◌, length, take, IfSome, Option}
-use Rattle.std.specs.Io.KnownBytes.{Consumes}
+use Rattle.std.specs.Prelude.{◌≡◌, Bool, List, [], ◌∷◌, ℕ, ◌≤◌, length, take, IfSome, Option, Some, None}
+use Rattle.std.specs.Io.KnownBytes.{Consumes, IsAtEnd}
 use Rattle.event_kinds.specs.declared.kinds.Next.{Next}
 use Rattle.event_kinds.specs.declared.kinds.Next.TheVariants.{Whole, Stop, End}
 use Rattle.event_kinds.specs.Kinds.{next_of}
+
+-- one byte was read, or the input is at its end
+abbrev pub ReadKind : Option (List ℕ) → Option ℕ → Option (List ℕ) → Type 0
+ReadKind old (Some kind) new = Consumes old new (kind ∷ [])
+ReadKind old None new = Consumes old new [] × IsAtEnd new
 
 -- bytes that are one event, and no more
 abbrev pub IsEvent : Bool → List ℕ → Type 0

@@ -1,6 +1,7 @@
 // The run of an event file, from any reader to any writer. What it writes is stated for each way in which it may end.
 #![tactic(auto)]
 
+mod bench;
 mod errors;
 mod lines;
 mod output;

@@ -12,7 +12,7 @@ use std::io::Write;
 
 const UPPER: [u8; 16] = *b"0123456789ABCDEF";
 
-// A byte in two upper-case hex digits. The library writes these to memory of its own alone, which each line would ask for.
+// A byte in two upper-case hex digits. Not by `write!`: with it for a line's digits, a run took half as many instructions again.
 #[tactic(auto, unfolding(hex::specs::Hex::encode_with))]
 fn upper(byte: u8) -> [u8; 2]
     ensures { result ≡ encode_upper (byte ∷ []) }
@@ -24,27 +24,10 @@ fn upper(byte: u8) -> [u8; 2]
 fn write_upper8<W: Write>(out: &mut W, n: u32) -> io::Result<()>
     ensures { OnOk result (Appends (W.contents out.old) (W.contents out.new) (upper8 n)) }
 {
-    let n = n as u64;
-    out.write_all(&upper(bits::byte(n, 3)))?;
-    out.write_all(&upper(bits::byte(n, 2)))?;
-    out.write_all(&upper(bits::byte(n, 1)))?;
-    out.write_all(&upper(bits::byte(n, 0)))
-}
-
-fn write_head<W: Write>(
-    out: &mut W,
-    number: u64,
-    refusal: Option<Refusal>,
-    outstanding: u32,
-) -> io::Result<()>
-    ensures { OnOk result (Appends (W.contents out.old) (W.contents out.new) (head_of number refusal outstanding)) }
-{
-    let mut digits = itoa::Buffer::new();
-    out.write_all(digits.format(number).as_bytes())?;
-    out.write_all(b" ")?;
-    out.write_all(digits.format(Refusal::number_told(refusal)).as_bytes())?;
-    out.write_all(b" ")?;
-    write_upper8(out, outstanding)
+    for byte in n.to_be_bytes() {
+        out.write_all(&upper(byte))?;
+    }
+    Ok(())
 }
 
 fn write_trace<W: Write>(alloc: Global, out: &mut W, reply: &[u8]) -> io::Result<()>
@@ -67,7 +50,6 @@ fn write_field<W: Write>(alloc: Global, out: &mut W, traced: bool, reply: &[u8])
     Ok(())
 }
 
-// Each reply, cut off the front of what is left.
 fn write_fields<W: Write>(
     alloc: Global,
     out: &mut W,
@@ -76,28 +58,40 @@ fn write_fields<W: Write>(
 ) -> io::Result<()>
     ensures { OnOk result (Appends (W.contents out.old) (W.contents out.new) (fields_of traced (cut replies.now))) }
 {
-    let mut rest = replies;
-    while !rest.is_empty() {
-        let (reply, more) = rest.split_at(frame_parts::cut_first(rest));
+    for reply in frame_parts::frames_of(replies) {
         write_field(alloc, out, traced, reply)?;
-        rest = more;
     }
     Ok(())
 }
 
-/// The line of an event.
-pub(crate) fn write_line<W: Write>(
-    alloc: Global,
-    out: &mut W,
-    traced: bool,
-    number: u64,
-    refusal: Option<Refusal>,
-    outstanding: u32,
-    replies: &[u8],
-) -> io::Result<()>
-    ensures { OnOk result (Appends (W.contents out.old) (W.contents out.new) (line_of traced number refusal outstanding replies.now)) }
-{
-    write_head(out, number, refusal, outstanding)?;
-    write_fields(alloc, out, traced, replies)?;
-    out.write_all(b"\n")
+/// What the line of an event tells.
+#[derive(Drop)]
+pub(crate) struct Line<'a> {
+    pub(crate) number: u64,
+    pub(crate) refusal: Option<Refusal>,
+    pub(crate) outstanding: u32,
+    pub(crate) replies: &'a [u8],
+}
+
+impl<'a> Line<'a> {
+    fn write_head<W: Write>(&self, out: &mut W) -> io::Result<()>
+        ensures { OnOk result (Appends (W.contents out.old) (W.contents out.new) (head_of self.now.number self.now.refusal self.now.outstanding)) }
+    {
+        let mut digits = itoa::Buffer::new();
+        out.write_all(digits.format(self.number).as_bytes())?;
+        out.write_all(b" ")?;
+        out.write_all(digits.format(Refusal::number_told(self.refusal)).as_bytes())?;
+        out.write_all(b" ")?;
+        write_upper8(out, self.outstanding)
+    }
+
+    /// The line, with the bytes of each reply where it is traced.
+    pub(crate) fn write<W: Write>(&self, alloc: Global, out: &mut W, traced: bool) -> io::Result<()>
+        ensures { OnOk result (Appends (W.contents out.old) (W.contents out.new) (line_of traced self.now.number self.now.refusal self.now.outstanding self.now.replies.now)) }
+    {
+        let replies = self.replies;
+        self.write_head(out)?;
+        write_fields(alloc, out, traced, replies)?;
+        out.write_all(b"\n")
+    }
 }

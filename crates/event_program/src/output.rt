@@ -1,10 +1,10 @@
 // Output in large pieces: lines are gathered, and what is written of them is always a front.
-ghost use Rattle.std.specs.Prelude.{◌++◌, OnOk, IfErr};
-ghost use Rattle.std.specs.Io.KnownBytes.{Appends};
+ghost use Rattle.std.specs.Prelude.{OnOk, IfErr};
 ghost use Rattle.streams.specs.Fronts.{AppendsFront};
+ghost use Rattle.event_program.specs.Ends.{Finished};
 ghost use Rattle.event_program.specs.Output.{IsOutput, PassedOn};
 
-use crate::errors::RunError;
+use crate::errors::{RunEnd, RunError};
 use std::io::Write;
 use streams::put;
 
@@ -24,11 +24,11 @@ pub(crate) fn pass_on<W: Write>(out: &mut W, lines: &mut Vec<u8>) -> Result<(), 
     Ok(())
 }
 
-/// The lines that are left, and a last text.
-pub(crate) fn finish<W: Write>(out: &mut W, left: &[u8], last: &[u8]) -> Result<(), RunError>
-    ensures ok { OnOk result (Appends (W.contents out.old) (W.contents out.new) (left.now ++ last.now)) }
-    ensures err { IfErr result (λ e. IsOutput e × AppendsFront (W.contents out.old) (W.contents out.new) (left.now ++ last.now)) }
+/// The lines that are left, and the last text; and then the run has the result of its end.
+pub(crate) fn finish<W: Write>(out: &mut W, left: &[u8], end: RunEnd) -> Result<(), RunError>
+    ensures { Finished end (W.contents out.old) (W.contents out.new) left.now result }
 {
     put(out, left).map_err(RunError::Output)?;
-    put(out, last).map_err(RunError::Output)
+    put(out, end.last_text()).map_err(RunError::Output)?;
+    end.into_result()
 }

@@ -6,20 +6,10 @@ use crate::errors::RunError;
 use crate::running::run;
 use std::alloc::Global;
 use std::io::{BufReader, Read, Write};
+use streams::complain;
 
 /// So many bytes the programs read at once.
 pub const PIECE: usize = 65536;
-
-// Lines that are missing are no good news: a run whose output fails says so where it still can.
-fn complain<E: Write>(errors: &mut E, error: RunError) {
-    match error {
-        RunError::Input(_) => {}
-        RunError::TooMany => {}
-        lost => {
-            let _ = writeln!(errors, "{lost}");
-        }
-    }
-}
 
 /// Runs an event file that is read in pieces of so many bytes, and says on `errors` where lines are missing.
 pub fn run_in_pieces<R: Read + Drop, W: Write, E: Write>(
@@ -33,10 +23,10 @@ pub fn run_in_pieces<R: Read + Drop, W: Write, E: Write>(
     ensures { 0 < piece → HasRun traced (R.remaining reader) (W.contents out.old) (W.contents out.new) }
 {
     let Ok(mut pieces) = BufReader::with_capacity(alloc, piece, reader) else {
-        complain(errors, RunError::Memory);
+        let _ = complain(errors);
         return;
     };
-    if let Err(error) = run(alloc, traced, &mut pieces, out) {
-        complain(errors, error);
+    if let Err(RunError::Output(_) | RunError::Memory) = run(alloc, traced, &mut pieces, out) {
+        let _ = complain(errors);
     }
 }

@@ -1,25 +1,27 @@
 -- A settings record is refused exactly when the rules say. Assumes nothing.
-use mathlib.Core.Path.{◌≡◌, refl, subst}
 use mathlib.Core.Bool.{Bool, true, false, not, ◌||◌}
 use mathlib.Core.List.{List}
 use Prim.Native.Nat.{ℕ}
 use Rattle.bits.specs.Pick.{pick}
-use Rattle.refusals.specs.First.{FirstExactly}
+use Rattle.std.specs.Prelude.{Some, None}
+use Rattle.refusals.specs.First.{FirstExactly, first_of}
 use Rattle.refusals.specs.Ladders.{powerLadder}
+use Rattle.refusals.proofs.FirstLaws.{first-exactly}
 use Rattle.contradictions.specs.Clauses.{settingsOut}
 use Rattle.device_state.specs.declared.shapes.Settings.{Settings}
+use Rattle.device.specs.Sealing.{poweredOf}
 use Rattle.device.proofs.Exactly.{first-exactly-power}
-use Rattle.event_kinds.specs.Settings.{settingsOf, noSettings, inLimit}
+use Rattle.event_kinds.specs.Settings.{settingsOf, inLimit}
 use Rattle.event_kinds.specs.Stops.{startOut}
-use Rattle.events.specs.Start.{start_of}
+use Rattle.events.specs.Start.{start_by, start_of}
 
-out-limit : (b : Bool) (s : Settings) → settingsOut (pick b s noSettings) ≡ not b || settingsOut s
-unfolding pick settingsOut
-out-limit true s = refl
-out-limit false s = refl
+-- out of the limit it is 1, and in it what power-on gives
+by-limit : (b : Bool) (s : Settings) → FirstExactly (powerLadder (not b || settingsOut s)) (start_by (pick b (Some s) None)).refusal
+unfolding pick start_by poweredOf first_of
+by-limit true s = first-exactly-power s
+by-limit false s = first-exactly (powerLadder true) tt
 
 -- settings: 1
 pub first-exactly-start : (e : List ℕ) → FirstExactly (powerLadder (startOut e)) (start_of e).refusal
 unfolding start_of
-first-exactly-start e =
-    subst (λ (b : Bool). FirstExactly (powerLadder b) (start_of e).refusal) (out-limit (inLimit e) (settingsOf e)) (first-exactly-power (pick (inLimit e) (settingsOf e) noSettings))
+first-exactly-start e = by-limit (inLimit e) (settingsOf e)

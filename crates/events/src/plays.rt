@@ -42,8 +42,6 @@ pub fn play(
 ) -> Result<usize, Refusal>
     ensures { Gives (eventStep d.old.device event.now medium.old reply.old) reply.old (gave (answered d.new.device result) medium.new reply.new) }
 {
-    let Some(request) = request_of(event) else {
-        return Err(Refusal::NoFrame);
-    };
+    let request = request_of(event).ok_or(Refusal::NoFrame)?;
     make_call(d, request, event, medium, reply)
 }

@@ -6,10 +6,11 @@ ghost use Rattle.events.specs.Start.{start_of};
 use device::Sealed;
 use refusals::Refusal;
 
-/// Power-on by the settings record: a device, or the refusal.
-#[tactic(auto, unfolding(crate::specs::Start::start_of))]
+/// Power-on by the settings record: a device, or the refusal, which is 1 where the event is no settings record or asks for more sectors than a run may have.
+#[tactic(auto, unfolding(crate::specs::Start::start_of, crate::specs::Start::start_by))]
 pub fn start(event: &[u8]) -> Result<Sealed, Refusal>
     ensures { poweredOf result ≡ start_of event.now }
 {
-    Sealed::power_on(event_kinds::settings_asked(event))
+    let settings = event_kinds::settings_asked(event).ok_or(Refusal::Contradiction)?;
+    Sealed::power_on(settings)
 }

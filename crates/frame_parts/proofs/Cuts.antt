@@ -1,28 +1,37 @@
 -- The cut of several frames: nothing is lost, and every piece has a byte. Assumes nothing.
 use mathlib.Core.Path.{◌≡◌, refl, sym, ap, ◌∙◌}
-use mathlib.Core.Bool.{true, false, ◌&&◌}
+use mathlib.Core.Bool.{true, false}
 use mathlib.Core.List.{List, [], ◌∷◌, ◌++◌}
 use mathlib.Core.Logic.{⊎_elim}
 use Prim.Native.Nat.{ℕ, zero, suc, ◌-◌, ◌≤◌, ◌<◌}
 use native.Mathlib.Omega.{arith}
-use lib.Dec.{eqb, leb}
+use lib.Dec.{eqb}
 use lib.ListN.{length, get_or, take, drop, length-drop, take-append-drop}
-use borrow.Author.Tests.{le-leb, leb-true, eqb-true, eqb-false, ne_eqb, eq-eqb}
-use Rattle.bits.specs.Pick.{pick}
-use Rattle.bits.proofs.Picks.{by-test, pick_yes, pick_no, tested, and_left, and_right}
+use borrow.Author.Tests.{eqb-true, eqb-false, ne_eqb, eq-eqb}
+use Rattle.bits.proofs.Picks.{by-test, pick_yes, pick_no, tested}
+use Rattle.std.specs.Prelude.{Option, Some, None, unwrap_or}
 use Rattle.frame_parts.specs.Size.{fixedSize}
 use Rattle.frame_parts.specs.Cut.{firstLength, cut_to, cut, joined}
+
+-- no kind fixes a length of nothing
+some-length : (k d : ℕ) → 0 < d → 0 < unwrap_or (fixedSize k) d
+unfolding fixedSize
+some-length k d h =
+    by-test Some-length (eqb k 0x27) _ _ (λ _. omega arith) (λ _.
+    by-test Some-length (eqb k 0x34) _ _ (λ _. omega arith) (λ _.
+    by-test Some-length (eqb k 0x5F) _ _ (λ _. omega arith) (λ _.
+    by-test Some-length (eqb k 0xA1) _ _ (λ _. omega arith) (λ _.
+    by-test Some-length (eqb k 0x41) _ _ (λ _. omega arith) (λ _.
+    by-test Some-length (eqb k 0x39) _ _ (λ _. omega arith) (λ _.
+    by-test Some-length (eqb k 0x58) _ _ (λ _. omega arith) (λ _. h)))))))
+  where
+    Some-length : Option ℕ → Type 0
+    Some-length o = 0 < unwrap_or o d
 
 -- a piece of what is not empty has a byte, and is not longer than what is there
 pub first-length-some : (l : List ℕ) → 0 < length l → (0 < firstLength l) × (firstLength l ≤ length l)
 unfolding firstLength
-first-length-some l h =
-    by-test (λ (n : ℕ). (0 < n) × (n ≤ length l)) (leb 1 (fixedSize (get_or l 0 0)) && leb (fixedSize (get_or l 0 0)) (length l)) (fixedSize (get_or l 0 0)) (length l)
-    (λ t. (
-      leb-true 1 (fixedSize (get_or l 0 0)) (and_left (leb 1 (fixedSize (get_or l 0 0))) (leb (fixedSize (get_or l 0 0)) (length l)) t),
-      leb-true (fixedSize (get_or l 0 0)) (length l) (and_right (leb 1 (fixedSize (get_or l 0 0))) (leb (fixedSize (get_or l 0 0)) (length l)) t),
-    ))
-    (λ _. (h, omega arith))
+first-length-some l h = let s = some-length (get_or l 0 0) (length l) h in (omega arith, omega arith)
 
 empty : (l : List ℕ) → length l ≡ 0 → l ≡ []
 empty [] e = refl
@@ -54,22 +63,13 @@ unfolding cut
 cut_all l = all-to (length l) l (omega arith)
 
 -- a piece whose kind fixes its length, and one whose kind does not
-pub fixed : (k n : ℕ) (l : List ℕ) → get_or l 0 0 ≡ k → fixedSize k ≡ n → 1 ≤ n → n ≤ length l → firstLength l ≡ n
-unfolding firstLength pick
-fixed k n l e f a b = rw (e, f, le-leb 1 n a, le-leb n (length l) b)
-
-pub unfixed : (k : ℕ) (l : List ℕ) → get_or l 0 0 ≡ k → fixedSize k ≡ 0 → firstLength l ≡ length l
-unfolding firstLength pick
-unfixed k l e f = rw (e, f)
-
--- what the code finds
-pub first-length-taken : (l : List ℕ) (n : ℕ) → n ≡ fixedSize (get_or l 0 0) → leb 1 n && leb n (length l) ≡ true → n ≡ firstLength l
+pub fixed : (k n : ℕ) (l : List ℕ) → get_or l 0 0 ≡ k → fixedSize k ≡ Some n → n ≤ length l → firstLength l ≡ n
 unfolding firstLength
-first-length-taken l n e t = e ∙ sym (pick_yes (leb 1 (fixedSize (get_or l 0 0)) && leb (fixedSize (get_or l 0 0)) (length l)) (fixedSize (get_or l 0 0)) (length l) (rw (← e) t))
+fixed k n l e f h = rw (e, f) (omega arith)
 
-pub first-length-left : (l : List ℕ) (n : ℕ) → n ≡ fixedSize (get_or l 0 0) → leb 1 n && leb n (length l) ≡ false → length l ≡ firstLength l
+pub unfixed : (k : ℕ) (l : List ℕ) → get_or l 0 0 ≡ k → fixedSize k ≡ None → firstLength l ≡ length l
 unfolding firstLength
-first-length-left l n e t = sym (pick_no (leb 1 (fixedSize (get_or l 0 0)) && leb (fixedSize (get_or l 0 0)) (length l)) (fixedSize (get_or l 0 0)) (length l) (rw (← e) t))
+unfixed k l e f = rw (e, f) (omega arith)
 
 -- any two numbers of turns that are enough give the same pieces
 cut-enough : (m n : ℕ) (l : List ℕ) → length l ≤ m → length l ≤ n → cut_to m l ≡ cut_to n l
@@ -87,6 +87,11 @@ cut-enough (suc m) (suc n) l h k =
     let d = length-drop (firstLength l) l in
     cut-one m l e ∙ ap (λ (x : List (List ℕ)). take (firstLength l) l ∷ x) (cut-enough m n (drop (firstLength l) l) (omega arith) (omega arith)) ∙ sym (cut-one n l e))
     (tested (eqb (length l) 0))
+
+-- of nothing there is no piece
+pub cut-empty : (l : List ℕ) → length l ≡ 0 → cut l ≡ []
+unfolding cut
+cut-empty l e = cut-none (length l) l e
 
 -- the first piece, and the pieces of what is behind it
 pub cut-next : (l : List ℕ) → (length l ≡ 0 → ⊥) → cut l ≡ take (firstLength l) l ∷ cut (drop (firstLength l) l)

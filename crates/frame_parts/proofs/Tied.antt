@@ -1,7 +1,8 @@
 -- Each public function's own contract: what it says, and that two answers which it allows are equal. Assumes nothing.
 use Rattle.bits.specs.Bit.{bitIn}
-use Rattle.frame_parts.specs.Cut.{firstLength}
+use Rattle.frame_parts.specs.Cut.{cut}
 use Rattle.frame_parts.specs.Emit.{WriteGiven}
+use Rattle.frame_parts.specs.Pages.{pageNamed}
 use Rattle.frame_parts.specs.Shared.{flags_of, halvesOf, registerBytes, sectorsOf, srstOf, tag_of, taskFits, task_of}
 use Rattle.frame_parts.specs.Size.{fixedSize, payloadSize, readable}
 use lib.ListN.{get_or}
@@ -14,16 +15,21 @@ use Rattle.frame_parts.proofs.cutting
 use Rattle.frame_parts.specs.contracts.cutting as cutting-said
 use Rattle.frame_parts.proofs.emitting
 use Rattle.frame_parts.specs.contracts.emitting as emitting-said
+use Rattle.frame_parts.proofs.log_pages
+use Rattle.frame_parts.specs.contracts.log_pages as log_pages-said
 use Rattle.frame_parts.proofs.shared
 use Rattle.frame_parts.specs.contracts.shared as shared-said
 use Rattle.frame_parts.proofs.sizes
 use Rattle.frame_parts.specs.contracts.sizes as sizes-said
 
-pub tied-cut-first : Tied cutting-said.cut_first.ended cutting.cut_first.Reads.Asked cutting.cut_first.Reads.Post (λ κs a r ws. r ≡ firstLength a.0.now)
-tied-cut-first = named (say (λ κs a. tt) (λ κs a r ws p. p)) (λ κs a ws ws'. refl)
+pub tied-frames-of : Tied cutting-said.frames_of.ended cutting.frames_of.Reads.Asked cutting.frames_of.Reads.Post (λ κs a r ws. r ≡ cut a.0.now)
+tied-frames-of = named (say (λ κs a. tt) (λ κs a r ws p. p)) (λ κs a ws ws'. refl)
 
 pub tied-emit : Tied emitting-said.emit.ended emitting.emit.Reads.Asked emitting.emit.Reads.Post (λ κs a r ws. WriteGiven a.1.0 (a.1.1.0.now ++ a.1.1.1.0.now) a.0.now r ws.0)
 tied-emit = by (say (λ κs a. tt) (λ κs a r ws p. p)) (λ κs a r r' ws ws' p q. let e = emitted-once _ _ _ r r' ws.0 ws'.0 p q in (e.0, λ i. (e.1 i, (tt, (tt, (tt, tt))))))
+
+pub tied-from-number : Tied log_pages-said.LogPage.from_number.ended log_pages.LogPage.from_number.Reads.Asked log_pages.LogPage.from_number.Reads.Post (λ κs a r ws. r ≡ pageNamed a.0)
+tied-from-number = named (say (λ κs a. tt) (λ κs a r ws p. p)) (λ κs a ws ws'. refl)
 
 pub tied-byte-of : Tied shared-said.byte_of.ended shared.byte_of.Reads.Asked shared.byte_of.Reads.Post (λ κs a r ws. r ≡ get_or a.0.now a.1.0 0)
 tied-byte-of = named (say (λ κs a. tt) (λ κs a r ws p. p)) (λ κs a ws ws'. refl)
@@ -49,7 +55,7 @@ tied-tag-of = named (say (λ κs a. tt) (λ κs a r ws p. p)) (λ κs a ws ws'. 
 pub tied-sectors-of : Tied shared-said.sectors_of.ended shared.sectors_of.Reads.Asked shared.sectors_of.Reads.Post (λ κs a r ws. r ≡ sectorsOf a.0 a.1.0)
 tied-sectors-of = named (say (λ κs a. tt) (λ κs a r ws p. p)) (λ κs a ws ws'. refl)
 
-pub tied-register-bytes : Tied shared-said.register_bytes.ended shared.register_bytes.Reads.Asked shared.register_bytes.Reads.Post (λ κs a r ws. r ≡ registerBytes a.0 a.1.0 a.1.1.0 a.1.1.1.0 a.1.1.1.1.0 a.1.1.1.1.1.0 a.1.1.1.1.1.1.0 a.1.1.1.1.1.1.1.0)
+pub tied-register-bytes : Tied shared-said.register_bytes.ended shared.register_bytes.Reads.Asked shared.register_bytes.Reads.Post (λ κs a r ws. r ≡ registerBytes a.0.kind a.0.flags a.0.second a.0.third a.0.task a.0.eleven a.0.fifteen a.0.bytes)
 tied-register-bytes = named (say (λ κs a. tt) (λ κs a r ws p. p)) (λ κs a ws ws'. refl)
 
 pub tied-task-fits : Tied shared-said.task_fits.ended shared.task_fits.Reads.Asked shared.task_fits.Reads.Post (λ κs a r ws. r ≡ taskFits a.0)

@@ -1,11 +1,11 @@
 -- Several frames one behind the other, cut by kind and length. Assumes nothing.
-use Rattle.std.specs.Prelude.{◌&&◌, List, [], ◌∷◌, ◌++◌, ℕ, zero, suc, length, get_or, take, drop, eqb, leb}
+use Rattle.std.specs.Prelude.{List, [], ◌∷◌, ◌++◌, ℕ, zero, suc, length, get_or, take, drop, eqb, min, unwrap_or}
 use Rattle.bits.specs.Pick.{pick}
 use Rattle.frame_parts.specs.Size.{fixedSize}
 
--- the length of the first frame: its kind's, where so much is there; 46h, an unknown kind and a frame cut short take what is left
+-- the length of the first frame: its kind's, and no more than is there; 46h and an unknown kind take what is left
 unfoldable pub firstLength : List ℕ → ℕ
-firstLength l = pick (leb 1 (fixedSize (get_or l 0 0)) && leb (fixedSize (get_or l 0 0)) (length l)) (fixedSize (get_or l 0 0)) (length l)
+firstLength l = min (unwrap_or (fixedSize (get_or l 0 0)) (length l)) (length l)
 
 -- the pieces of l, at most n of them; nothing is left of l once n is its length (`Cut-all`)
 unfoldable pub cut_to : ℕ → List ℕ → List (List ℕ)

@@ -12,11 +12,11 @@ pub fn emit(buf: &mut [u8], fit: bool, head: &[u8], rest: &[u8]) -> Result<usize
     if !fit {
         return Err(Refusal::Unfit);
     }
-    let n = head.len();
-    if buf.len() < n || buf.len() - n < rest.len() {
+    let n = head.len() + rest.len();
+    if buf.len() < n {
         return Err(Refusal::BufferShort);
     }
     bits::lay(buf, head);
-    bits::lay(&mut buf[n..], rest);
-    Ok(n + rest.len())
+    bits::lay(&mut buf[head.len()..], rest);
+    Ok(n)
 }

@@ -6,8 +6,11 @@ ghost use Rattle.frame_parts.specs.Shared.{flags_of, halvesOf, LbaGiven, task_of
 /// Bytes 4-10 and 12-13 of the frames that repeat a command: LBA 0-23 at 4-6, device at 7, LBA 24-47 at 8-10, count at 12-13.
 #[derive(Clone, Copy, Debug, Default, PartialEq, Eq)]
 pub struct Task {
+    /// a sector's number, in 48 bits
     pub lba: u64,
+    /// the byte, as it stands
     pub device: u8,
+    /// sectors; of a queued command bits 7:3 are its tag
     pub count: u16,
 }
 
@@ -22,7 +25,7 @@ pub fn byte_of(s: &[u8], k: usize) -> u8
 pub fn flag(b: u8, k: u32) -> bool
     ensures { result ≡ bitIn 8 b k }
 {
-    k < 8 && bits::bit(b as u32, k)
+    k < 8 && bits::bit(u32::from(b), k)
 }
 
 /// Bit 2 of the control byte is SRST.
@@ -36,7 +39,7 @@ pub fn srst(control: u8) -> bool
 pub fn flags(seven: bool, six: bool, five: bool) -> u8
     ensures { result ≡ flags_of seven six five }
 {
-    ((seven as u8) << 7) | ((six as u8) << 6) | ((five as u8) << 5)
+    (u8::from(seven) << 7) | (u8::from(six) << 6) | (u8::from(five) << 5)
 }
 
 /// Bits 6:4 and 2:0.
@@ -81,31 +84,47 @@ pub fn tag_of(count: u16) -> u8
 pub fn sectors_of(features: u8, high: u8) -> u32
     ensures { result ≡ sectorsOf features high }
 {
-    let n = ((high as u32) << 8) | features as u32;
+    let n = (u32::from(high) << 8) | u32::from(features);
     if n == 0 { 65536 } else { n }
 }
 
-/// The layout that 27h, 34h and 5Fh share. It refuses nothing: of an LBA the 48 bits that have a place are laid, and the writers
+/// What stands in the layout that 27h, 34h and 5Fh share: bytes 0 to 3, the command's bytes, bytes 11 and 15, and the
+/// byte count at 16-17. The rest is 0.
+#[derive(Clone, Copy, Debug, Default, PartialEq, Eq)]
+pub struct Registers {
+    pub kind: u8,
+    pub flags: u8,
+    pub second: u8,
+    pub third: u8,
+    pub task: Task,
+    pub eleven: u8,
+    pub fifteen: u8,
+    pub bytes: u16,
+}
+
+/// The bytes of that layout. It refuses nothing: of an LBA the 48 bits that have a place are laid, and the writers
 /// above, which ask `task_fits`, turn a larger one down.
 #[tactic(auto, unfolding(crate::specs::Shared::registerBytes))]
-pub fn register_bytes(
-    kind: u8,
-    flags: u8,
-    second: u8,
-    third: u8,
-    t: Task,
-    eleven: u8,
-    fifteen: u8,
-    bytes: u16,
-) -> [u8; 20]
-    ensures { result ≡ registerBytes kind flags second third t eleven fifteen bytes }
+pub fn register_bytes(r: Registers) -> [u8; 20]
+    ensures { result ≡ registerBytes r.kind r.flags r.second r.third r.task r.eleven r.fifteen r.bytes }
 {
-    let [l0, l1, l2, l3, l4, l5, _, _] = t.lba.to_le_bytes();
-    let [c0, c1] = t.count.to_le_bytes();
+    let Registers {
+        kind,
+        flags,
+        second,
+        third,
+        task,
+        eleven,
+        fifteen,
+        bytes,
+    } = r;
+    let [l0, l1, l2, l3, l4, l5, _, _] = task.lba.to_le_bytes();
+    let device = task.device;
+    let [c0, c1] = task.count.to_le_bytes();
     let [n0, n1] = bytes.to_le_bytes();
     [
-        kind, flags, second, third, l0, l1, l2, t.device, l3, l4, l5, eleven, c0, c1, 0, fifteen,
-        n0, n1, 0, 0,
+        kind, flags, second, third, l0, l1, l2, device, l3, l4, l5, eleven, c0, c1, 0, fifteen, n0,
+        n1, 0, 0,
     ]
 }
 

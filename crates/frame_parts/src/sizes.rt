@@ -2,18 +2,24 @@
 ghost use Rattle.std.specs.Prelude.{◌≡◌, ◌-◌};
 ghost use Rattle.frame_parts.specs.Size.{fixedSize, payloadSize, readable};
 
-/// The length that a kind fixes; 0 for 46h and for an unknown kind.
+/// The most bytes of a data frame's payload.
+pub const PAYLOAD_LIMIT: usize = 8192;
+
+/// The most bytes of a data frame: the payload behind its header.
+pub const DATA_FRAME_LIMIT: usize = 4 + PAYLOAD_LIMIT;
+
+/// The length that a kind fixes; 46h and an unknown kind fix none.
 #[tactic(auto, unfolding(crate::specs::Size::fixedSize, bits::specs::Pick::pick))]
-pub fn fixed_size(kind: u8) -> usize
+pub fn fixed_size(kind: u8) -> Option<usize>
     ensures { result ≡ fixedSize kind }
 {
     match kind {
-        0x27 | 0x34 | 0x5F => 20,
-        0xA1 => 8,
-        0x41 => 28,
-        0x39 => 4,
-        0x58 => 12,
-        _ => 0,
+        0x27 | 0x34 | 0x5F => Some(20),
+        0xA1 => Some(8),
+        0x41 => Some(28),
+        0x39 => Some(4),
+        0x58 => Some(12),
+        _ => None,
     }
 }
 
@@ -21,7 +27,7 @@ pub fn fixed_size(kind: u8) -> usize
 pub fn payload_size(n: usize) -> bool
     ensures { result ≡ payloadSize n }
 {
-    4 <= n && n <= 8192 && n & 3 == 0
+    (4..=PAYLOAD_LIMIT).contains(&n) && n % 4 == 0
 }
 
 /// Whether a frame of this kind may have this length.
@@ -32,6 +38,5 @@ pub fn is_readable(kind: u8, n: usize) -> bool
     if kind == 0x46 {
         return payload_size(n.saturating_sub(4));
     }
-    let size = fixed_size(kind);
-    1 <= size && n == size
+    fixed_size(kind) == Some(n)
 }

@@ -17,15 +17,15 @@ use Rattle.frames.specs.DataLast.{isPayload, DataLast}
 -- a frame in front is cut off whole
 pub first-length-of : (f : FrameValue) (rest : List ℕ) → (isPayload f ≡ true → rest ≡ []) → firstLength (encode f ++ rest) ≡ length (encode f)
 unfolding encode registerBytes bitsBytes setupBytes fixedSize pick
-first-length-of (host f) rest h = fixed 0x27 20 _ refl refl (omega arith) (omega arith)
-first-length-of (device f) rest h = fixed 0x34 20 _ refl refl (omega arith) (omega arith)
-first-length-of (setBits f) rest h = fixed 0xA1 8 _ refl refl (omega arith) (omega arith)
-first-length-of (setup f) rest h = fixed 0x41 28 _ refl refl (omega arith) (omega arith)
-first-length-of activate rest h = fixed 0x39 4 _ refl refl (omega arith) (omega arith)
+first-length-of (host f) rest h = fixed 0x27 20 _ refl refl (omega arith)
+first-length-of (device f) rest h = fixed 0x34 20 _ refl refl (omega arith)
+first-length-of (setBits f) rest h = fixed 0xA1 8 _ refl refl (omega arith)
+first-length-of (setup f) rest h = fixed 0x41 28 _ refl refl (omega arith)
+first-length-of activate rest h = fixed 0x39 4 _ refl refl (omega arith)
 first-length-of (payload p) rest h =
     unfixed 0x46 (encode (payload p) ++ rest) refl refl ∙ ap length (ap (λ (x : List ℕ). encode (payload p) ++ x) (h refl) ∙ append-nil (encode (payload p)))
-first-length-of bist rest h = fixed 0x58 12 _ refl refl (omega arith) (omega arith)
-first-length-of (pio f) rest h = fixed 0x5F 20 _ refl refl (omega arith) (omega arith)
+first-length-of bist rest h = fixed 0x58 12 _ refl refl (omega arith)
+first-length-of (pio f) rest h = fixed 0x5F 20 _ refl refl (omega arith)
 
 -- no frame is empty
 pub encode-some : (f : FrameValue) → 0 < length (encode f)

@@ -7,7 +7,7 @@ use native.Mathlib.Nat.{mod-eq_of_lt, mod-one, div-one, le_of_eq}
 use native.Mathlib.Omega.{arith}
 use lib.Bits.{bit_and, and_mask}
 use lib.Pow.{shr-shr}
-use lib.Dec.{T, eqb, ltb, leb, eqb→eq, lit<}
+use lib.Dec.{T, eqb, ltb, eqb→eq, lit<}
 use lib.ListN.{length, get_or, drop, drop_of_length-le, length-drop}
 use borrow.Author.Tests.{eqb-true, lt-ltb}
 use Rattle.bits.specs.Pick.{pick}
@@ -21,12 +21,11 @@ use Rattle.frame_parts.specs.Size.{fixedSize, payloadSize, readable}
 use Rattle.frames.specs.Read.{flagAt, hostOf, deviceOf, bits_of, setupOf, pioOf, frameByKind, readFrame}
 use Rattle.frames.specs.Write.{FrameValue, host, device, setBits, setup, activate, payload, bist, pio, bitsBytes, setupBytes, encode, fits, FrameWriteGiven}
 use Rattle.frames.specs.RoundTrip.{again, namedBits, zeroed}
-use Rattle.bits.proofs.Picks.{and_right}
 use Rattle.frame_parts.specs.Emit.{WriteGiven}
 use Rattle.frame_parts.proofs.SizeLaws.{payload-4}
 use Rattle.frame_parts.proofs.TaskLaws.{task-fits}
 use Rattle.frames.proofs.WriteLaws.{length-payload}
-use Rattle.std.proofs.Common.{Result, Ok, Err}
+use Rattle.std.proofs.Common.{Result, Ok, Err, Some}
 use Rattle.refusals.specs.declared.reasons.Refusal.{Refusal}
 use Rattle.frames.specs.declared.shapes.Frame.{Frame}
 
@@ -199,9 +198,9 @@ module _ (l : List ℕ) (bytes : Bytes l) where
       whole (payload (drop 4 l)) (length l) (omega (arith, length-payload (drop 4 l), length-drop 4 l)) refl (rw (length-drop 4 l) h) (sym (rw e (simp (keep, drops, e))))
 
   -- the length that a kind's test lets through
-  exact : (k n : ℕ) → readable k (length l) ≡ true → (eqb k 0x46 ≡ false) → fixedSize k ≡ n → length l ≡ n
+  exact : (k n : ℕ) → readable k (length l) ≡ true → (eqb k 0x46 ≡ false) → fixedSize k ≡ Some n → length l ≡ n
   unfolding readable pick
-  exact k n r d f = eqb-true (length l) n (and_right (leb 1 n) (eqb (length l) n) (rw (d, f) at r))
+  exact k n r d f = sym (eqb-true n (length l) (rw (d, f) at r))
 
   sized : readable 0x46 (length l) ≡ true → payloadSize (length l - 4) ≡ true
   unfolding readable pick

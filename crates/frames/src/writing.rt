@@ -5,24 +5,23 @@ ghost use Rattle.frames.specs.Write.{bitsBytes, setupBytes, FrameWriteGiven};
 ghost use Rattle.frames.specs.Write.FrameValue.{host, device, setBits, setup, activate, payload, bist, pio};
 
 use crate::shapes::{DevReg, DmaSetup, HostReg, PioSetup, SetBits};
-use frame_parts::{emit, flag, flags, halves, payload_size, register_bytes, task_fits};
+use frame_parts::{Registers, emit, flag, flags, halves, payload_size, register_bytes, task_fits};
 use refusals::Refusal;
 
 /// 27h, host register: 20 bytes.
 pub fn write_host(buf: &mut [u8], f: HostReg) -> Result<usize, Refusal>
     ensures { FrameWriteGiven (host f) buf.old result buf.new }
 {
-    let one = flags(f.command_bit, false, false);
-    let b = register_bytes(
-        0x27,
-        one,
-        f.command,
-        f.features,
-        f.task,
-        f.features_high,
-        f.control,
-        0,
-    );
+    let b = register_bytes(Registers {
+        kind: 0x27,
+        flags: flags(f.command_bit, false, false),
+        second: f.command,
+        third: f.features,
+        task: f.task,
+        eleven: f.features_high,
+        fifteen: f.control,
+        ..Registers::default()
+    });
     emit(buf, task_fits(f.task), &b, b"")
 }
 
@@ -30,8 +29,14 @@ pub fn write_host(buf: &mut [u8], f: HostReg) -> Result<usize, Refusal>
 pub fn write_device(buf: &mut [u8], f: DevReg) -> Result<usize, Refusal>
     ensures { FrameWriteGiven (device f) buf.old result buf.new }
 {
-    let one = flags(false, f.interrupt, false);
-    let b = register_bytes(0x34, one, f.status, f.error, f.task, 0, 0, 0);
+    let b = register_bytes(Registers {
+        kind: 0x34,
+        flags: flags(false, f.interrupt, false),
+        second: f.status,
+        third: f.error,
+        task: f.task,
+        ..Registers::default()
+    });
     emit(buf, task_fits(f.task), &b, b"")
 }
 
@@ -39,8 +44,16 @@ pub fn write_device(buf: &mut [u8], f: DevReg) -> Result<usize, Refusal>
 pub fn write_pio(buf: &mut [u8], f: PioSetup) -> Result<usize, Refusal>
     ensures { FrameWriteGiven (pio f) buf.old result buf.new }
 {
-    let one = flags(false, f.interrupt, f.to_host);
-    let b = register_bytes(0x5F, one, f.status, f.error, f.task, 0, f.ending, f.bytes);
+    let b = register_bytes(Registers {
+        kind: 0x5F,
+        flags: flags(false, f.interrupt, f.to_host),
+        second: f.status,
+        third: f.error,
+        task: f.task,
+        fifteen: f.ending,
+        bytes: f.bytes,
+        ..Registers::default()
+    });
     emit(buf, task_fits(f.task), &b, b"")
 }
 
@@ -71,38 +84,13 @@ pub fn write_bits(buf: &mut [u8], f: SetBits) -> Result<usize, Refusal>
 fn setup_bytes(f: &DmaSetup) -> [u8; 28]
     ensures { result ≡ setupBytes f.now }
 {
+    let one = flags(f.auto, f.interrupt, f.to_host);
     let [t0, t1, t2, t3] = f.tag.to_le_bytes();
     let [o0, o1, o2, o3] = f.offset.to_le_bytes();
     let [c0, c1, c2, c3] = f.count.to_le_bytes();
     [
-        0x41,
-        flags(f.auto, f.interrupt, f.to_host),
-        0,
-        0,
-        t0,
-        t1,
-        t2,
-        t3,
-        0,
-        0,
-        0,
-        0,
-        0,
-        0,
-        0,
-        0,
-        o0,
-        o1,
-        o2,
-        o3,
-        c0,
-        c1,
-        c2,
-        c3,
-        0,
-        0,
-        0,
-        0,
+        0x41, one, 0, 0, t0, t1, t2, t3, 0, 0, 0, 0, 0, 0, 0, 0, o0, o1, o2, o3, c0, c1, c2, c3, 0,
+        0, 0, 0,
     ]
 }
 
@@ -132,6 +120,7 @@ pub fn write_bist(buf: &mut [u8]) -> Result<usize, Refusal>
 }
 
 /// 46h, data: the payload is copied once, from the caller's slice to behind the four bytes of the head.
+#[tactic(auto, unfolding(crate::specs::Write::fits, crate::specs::Write::encode))]
 pub fn write_data(buf: &mut [u8], p: &[u8]) -> Result<usize, Refusal>
     ensures { FrameWriteGiven (payload p.now) buf.old result buf.new }
 {

@@ -38,7 +38,8 @@ use Rattle.replies.specs.Replies.{repliesOf, activateIf}
 use Rattle.replies.proofs.Fits.{page10-long, page11-long}
 use Rattle.device.specs.Device.{powerOn, contradictoryDevice}
 use Rattle.device.specs.Lent.{Lent, lent, Typed}
-use Rattle.device.specs.FactsOf.{facts_of, openTag}
+use Rattle.device.specs.DataDue.{phaseEntry}
+use Rattle.device.specs.FactsOf.{facts_of}
 use Rattle.device.specs.Step.{Step, shown, stepBy, actOf, step}
 use Rattle.device.specs.declared.state.Device.{Device}
 use Rattle.device.proofs.Sized.{SizedRecord}
@@ -68,7 +69,7 @@ use Rattle.history.proofs.Runs.{Held, held-step, held-power}
 use Rattle.history.proofs.Soundness.{by-power}
 use Rattle.history.proofs.Knows.{Known}
 use Rattle.history.proofs.Otherwise.{same-other, Paged, by-other, names-ten, names-eleven}
-use Rattle.device.proofs.Phases.{some-open, open-tag}
+use Rattle.device.proofs.Phases.{some-open, open-entry}
 
 -- a state and the history before it, as every run has them
 pub record Stands (d : Device) (h : List Event) : Type 0 where
@@ -115,19 +116,19 @@ module _ (d : Device) (h : List Event) (k : Stands d h) where
   busy_is = ap (ltb 0) (inv-total k.inv) ∙ ones-some d.status.outstanding
 
   -- what is left of the open phase, in its direction
-  left-is : contradictoryDevice d ≡ false → is_none d.status.phase ≡ false → (b : Bool) → (entry_of d.entries (openTag d.status.phase)).write ≡ not b
-      → leftOf b (underWayAfter h) ≡ left_of (entry_of d.entries (openTag d.status.phase))
-  unfolding openTag pick
+  left-is : contradictoryDevice d ≡ false → is_none d.status.phase ≡ false → (b : Bool) → (phaseEntry d).write ≡ not b
+      → leftOf b (underWayAfter h) ≡ left_of (phaseEntry d)
+  unfolding pick
   left-is g p b w =
       let t : ℕ = unwrap_or d.status.phase 0 in
       let o : d.status.phase ≡ Some t = some-open d.status.phase p in
-      let q : openTag d.status.phase ≡ t = open-tag d.status.phase p in
       let e : Entry = entry_of d.entries t in
+      let q : phaseEntry d ≡ e = open-entry d.entries d.status.phase p in
       let way : leftOf b (underWayAfter h) ≡ pick (pick b (not e.write) (not (not e.write))) (512 * e.count - e.moved) 0 = ap (leftOf b) (k.tracked.under ∙ transfer-open d t o) in
       let due : pick (pick b (not e.write) (not (not e.write))) (512 * e.count - e.moved) 0 ≡ left_of e =
-      in_way b e.write (512 * e.count - e.moved) (subst (λ (u : ℕ). (entry_of d.entries u).write ≡ not b) q w)
+      in_way b e.write (512 * e.count - e.moved) (subst (λ (x : Entry). x.write ≡ not b) q w)
       ∙ ap (λ (m : ℕ). m - e.moved) (sym (whole_is d t g (k.tracked.phased.busy t o))) in
-      way ∙ due ∙ ap (λ (u : ℕ). left_of (entry_of d.entries u)) (sym q)
+      way ∙ due ∙ ap left_of (sym q)
     where
       in_way : (b w : Bool) (n : ℕ) → w ≡ not b → pick (pick b (not w) (not (not w))) n 0 ≡ n
       in_way true w n e = rw e refl
@@ -153,11 +154,11 @@ module _ (d : Device) (h : List Event) (k : Stands d h) where
       ∙ same-other v.status.halted _ f.task (x ∙ sym k.known.halted) (names-ten f t) (names-eleven f t) (ap (λ (n : ℕ). not (eqb n 0)) o ∙ sym busy_is))
 
   -- host data
-  due-answers : (n : ℕ) → contradictoryDevice d ≡ false → is_none d.status.phase ≡ false → (entry_of d.entries (openTag d.status.phase)).write ≡ true
-      → Reads d [] (Store (move_of d.status (entry_of d.entries (openTag d.status.phase)) n)) ≡ ByHost d h (Ok (fs.Data n))
+  due-answers : (n : ℕ) → contradictoryDevice d ≡ false → is_none d.status.phase ≡ false → (phaseEntry d).write ≡ true
+      → Reads d [] (Store (move_of d.status (phaseEntry d) n)) ≡ ByHost d h (Ok (fs.Data n))
   unfolding repliesOf move_of
   due-answers n g p w =
-      let l : ℕ = left_of (entry_of d.entries (openTag d.status.phase)) in
+      let l : ℕ = left_of (phaseEntry d) in
       activates (not (leb l n)) ∙ ap (λ (b : Bool). pick b (fs.Activate ∷ []) []) (not-leb l n ∙ ap (ltb n) (sym (left-is g p false w)))
 
   -- by the rule that holds
@@ -226,7 +227,7 @@ module _ (d : Device) (h : List Event) (k : Stands d h) where
   unfolding repliesOf repliesBy touch_of move_of
   own-answers m b (by.opened t g s o p e) = open-answers t g o
   own-answers m b (by.sent g w s p r) =
-      let e : Entry = entry_of d.entries (openTag d.status.phase) in
+      let e : Entry = phaseEntry d in
       let y = move_of d.status e 8192 in
       ap (λ (n : ℕ). fs.Data n ∷ []) (part-long m y.at y.size (move-within d g p 8192 (length m) w) ∙ ap (min 8192) (sym (left-is g p true r)))
   own-answers m b (by.finished u g s p e r) = refl

@@ -12,7 +12,6 @@ use Rattle.bits.proofs.Picks.{and_left}
 use Rattle.rules.specs.Positions.{place_of}
 use Rattle.device.proofs.Sized.{SizedRecord}
 use Rattle.device.specs.Step.{step}
-use Rattle.device.specs.FactsOf.{openTag}
 use Rattle.device.specs.DataDue.{phaseEntry}
 use Rattle.device.specs.declared.state.Device.{Device}
 use Rattle.history.specs.Event.{Event}
@@ -37,7 +36,6 @@ use Rattle.std.proofs.Common.{Option, Some, None}
 
 -- the place of the open phase: that of its tag's entry
 phase-place : (d : Device) (t : ℕ) → d.status.phase ≡ Some t → place_of (phaseEntry d) ≡ place_of (deviceEntry d t)
-unfolding openTag
 phase-place d t p = rw p refl
 
 -- every call's data stand at the next byte of the open phase's command

@@ -25,7 +25,8 @@ use Rattle.rules.specs.declared.acts.Act.TheVariants.{Open, Send, Finish, Media,
 use Rattle.replies.specs.Replies.{repliesOf}
 use Rattle.device.specs.Device.{contradictoryDevice}
 use Rattle.device.specs.After.{withValue, renewed, after_of, haltWith, failedBy, openedFor, finishedBy, resetHeld, released}
-use Rattle.device.specs.FactsOf.{openTag, mediumWrong}
+use Rattle.device.specs.DataDue.{phaseEntry}
+use Rattle.device.specs.FactsOf.{mediumWrong}
 use Rattle.device.specs.Step.{shown}
 use Rattle.device.specs.declared.state.Device.{Device}
 use Rattle.device.proofs.Rooms.{move-within}
@@ -36,8 +37,8 @@ use Rattle.history.proofs.Class.{Class, Same, plain, halts, resets, opens, carri
 use Rattle.history.proofs.Sets.{no-busy, no_bits}
 use Rattle.history.proofs.Views.{view, is-silent, is-finish, is-failed, is-reset, is-setup, setup-begins, is-sent, silent-unbegun, answer-unbegun, bits-unbegun, sent-unbegun}
 use Rattle.history.proofs.Changes.{halted-empty, carried-by, unmoved, cleared-other}
-use Rattle.device.proofs.Phases.{open-tag}
-use Rattle.std.proofs.Common.{None, is_none, unwrap_or}
+use Rattle.device.proofs.Phases.{open-entry}
+use Rattle.std.proofs.Common.{Some, None, is_none, unwrap_or}
 
 -- an act's part of the medium, and what is seen of it
 abbrev pub Happens : Device → List ℕ → Act → Type 0
@@ -74,30 +75,28 @@ sent-comes d part g p w l =
     carries t (min 8192 (left_of e)) (rw (w, ← l) (is-sent part)) (sent-unbegun quiet part) (carried-by d g p 8192 (lit< tt))
 
 -- the part of the medium that is sent is as long as it should be
-pub part-long : (m : List ℕ) (at size : ℕ) → at + size ≤ length m → length (part_of (record { at = at; size = size }) m) ≡ size
+pub part-long : (m : List ℕ) (at size : ℕ) → at + size ≤ length m → length (part_of (Some (record { at = at; size = size })) m) ≡ size
 part-long m at size h = simp (length-take, length-drop) (omega arith)
 
 -- the entry of the open phase is that of its tag
 at_tag : (d : Device) (m : List ℕ) → contradictoryDevice d ≡ false → (p : is_none d.status.phase ≡ false)
     → let x : Entry → Act = λ e. Send (move_of d.status e 8192) in
-    let e : Entry = entry_of d.entries (openTag d.status.phase) in
+    let e : Entry = phaseEntry d in
     e.write ≡ false → length (part_of (span_of (x e)) m) ≡ (move_of d.status e 8192).size → Happens d (part_of (span_of (x e)) m) (x e)
-unfolding openTag move_of touch_of
+unfolding move_of touch_of
 at_tag d m g p =
-    let t : ℕ = unwrap_or d.status.phase 0 in
+    let own : Entry = entry_of d.entries (unwrap_or d.status.phase 0) in
     subst
-    (λ (u : ℕ).
-    let e : Entry = entry_of d.entries u in
-    e.write ≡ false → length (part_of (span_of (Send (move_of d.status e 8192))) m) ≡ (move_of d.status e 8192).size → Happens d (part_of (span_of (Send (move_of d.status e 8192))) m) (Send (move_of d.status e 8192)))
-    (sym (open-tag d.status.phase p))
-    (λ w l. sent-comes d (part_of (span_of (Send (move_of d.status (entry_of d.entries t) 8192))) m) g p w l)
+    (λ (e : Entry). e.write ≡ false → length (part_of (span_of (Send (move_of d.status e 8192))) m) ≡ (move_of d.status e 8192).size → Happens d (part_of (span_of (Send (move_of d.status e 8192))) m) (Send (move_of d.status e 8192)))
+    (sym (open-entry d.entries d.status.phase p))
+    (λ w l. sent-comes d (part_of (span_of (Send (move_of d.status own 8192))) m) g p w l)
 
 -- send
 pub send-comes : (d : Device) (m : List ℕ) → contradictoryDevice d ≡ false → mediumWrong d.settings.capacity (length m) ≡ false → is_none d.status.phase ≡ false
-    → let e : Entry = entry_of d.entries (openTag d.status.phase) in e.write ≡ false → Happens d (part_of (span_of (Send (move_of d.status e 8192))) m) (Send (move_of d.status e 8192))
+    → let e : Entry = phaseEntry d in e.write ≡ false → Happens d (part_of (span_of (Send (move_of d.status e 8192))) m) (Send (move_of d.status e 8192))
 unfolding touch_of
 send-comes d m g w p r =
-    let e : Entry = entry_of d.entries (openTag d.status.phase) in
+    let e : Entry = phaseEntry d in
     at_tag d m g p r (part-long m (move_of d.status e 8192).at (move_of d.status e 8192).size (move-within d g p 8192 (length m) w))
 
 -- a tag that is not unready

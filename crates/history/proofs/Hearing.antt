@@ -17,9 +17,10 @@ use Rattle.frames.specs.declared.shapes.Frame.TheVariants as fs
 use Rattle.device_state.specs.State.{echoOf}
 use Rattle.device_state.specs.declared.shapes.Echo.{Echo}
 use Rattle.verdicts.specs.Other.{asksErrors, asksCounters}
-use Rattle.verdicts.specs.declared.commands.LogPage.{LogPage}
-use Rattle.verdicts.specs.declared.commands.LogPage.TheVariants.{Errors, Counters}
-use Rattle.rules.specs.Decide.{pageNamed, logPage, pageAsked}
+use Rattle.frame_parts.specs.declared.log_pages.LogPage.{LogPage}
+use Rattle.frame_parts.specs.declared.log_pages.LogPage.TheVariants.{Errors, Counters}
+use Rattle.frame_parts.specs.Pages.{pageNamed}
+use Rattle.rules.specs.Decide.{logPage, pageAsked}
 use Rattle.rules.specs.declared.acts.CountersRead.{CountersRead}
 use Rattle.rules.specs.declared.acts.Move.{Move}
 use Rattle.rules.specs.declared.acts.Act.{Act}

@@ -4,7 +4,7 @@ use mathlib.Core.Bool.{Bool, true, false, not, false≢true}
 use mathlib.Core.List.{List, []}
 use mathlib.Core.Logic.{inl, inr}
 use Prim.Native.Nat.{ℕ}
-use Rattle.std.proofs.Common.{Ok}
+use Rattle.std.proofs.Common.{Option, Some, None, Ok}
 use lib.Dec.{leb}
 use lib.ListN.{get_or}
 use borrow.Author.Tests.{eqb-true}
@@ -79,9 +79,9 @@ module _ (d : Device) (g : contradictoryDevice d ≡ false) where
     badly e c = mildly (bad h e) refl refl refl refl refl (λ k. k) (to-other h c _ (inl refl) refl refl)
 
     -- a command answered bad that halts the device
-    faultily : (nq : Bool) (t e : ℕ) → h.command_bit ≡ true → Comes d [] (registerAsks h) (fault h nq t e) → HostGoes d [] (Ok (fs.Host h)) (fault h nq t e)
+    faultily : (t : Option ℕ) (e : ℕ) → h.command_bit ≡ true → Comes d [] (registerAsks h) (fault h t e) → HostGoes d [] (Ok (fs.Host h)) (fault h t e)
     unfolding repliesOf after_of haltWith some collect pick touch_of
-    faultily nq t e c = mildly (fault h nq t e) refl refl refl refl refl (λ _ _. refl) (to-other h c _ (inl refl) refl refl)
+    faultily t e c = mildly (fault h t e) refl refl refl refl refl (λ _ _. refl) (to-other h c _ (inl refl) refl refl)
 
   -- by the rule that holds
   heard-goes : (x m b : List ℕ) {f : FrameRead} {a : Act} → DataRead (get_or x 0 0) x f → by.Heard (facts_of d (lent (hostFrame x) m b)) f a → HostGoes d [] f a
@@ -90,13 +90,13 @@ module _ (d : Device) (g : contradictoryDevice d ≡ false) where
   heard-goes x m b r (by.release h c s y) = mildly h _ refl refl refl refl refl (λ k. k) (unblamed _ c (rw (c, s) (inr (inl refl))) refl refl) (hosts.freed d g h c s)
   heard-goes x m b r (by.nothing h c s y) = mildly h _ refl refl refl refl refl (λ k. k) (unblamed [] c (rw (c, s) (inl refl)) refl refl) (hosts.idle d g h c s)
   heard-goes x m b r (by.rule1 h c y) = badly h 0x04 c.command (hosts.answered-again d g h 0x04 c.command y)
-  heard-goes x m b r (by.rule2 h c y u) = faultily h false (tagAsked h) 0x04 c.command (hosts.queued-faulted d g h (tagAsked h) 0x04 c.command c.kind y)
-  heard-goes x m b r (by.rule3 h c y u z) = faultily h false (tagAsked h) 0x10 c.command (hosts.queued-faulted d g h (tagAsked h) 0x10 c.command c.kind y)
+  heard-goes x m b r (by.rule2 h c y u) = faultily h (Some (tagAsked h)) 0x04 c.command (hosts.queued-faulted d g h (tagAsked h) 0x04 c.command c.kind y)
+  heard-goes x m b r (by.rule3 h c y u z) = faultily h (Some (tagAsked h)) 0x10 c.command (hosts.queued-faulted d g h (tagAsked h) 0x10 c.command c.kind y)
   heard-goes x m b r (by.rule4 h c y u z) =
       mildly h _ refl refl refl refl refl (λ k. k) (to-queued h c.command c.kind _ refl refl)
       (hosts.accepted d g h c.command c.kind y (none-open d.status.phase c.calm) (or_right (leb d.settings.depth (tagAsked h)) (bitIn 32 d.status.outstanding (tagAsked h)) u))
   heard-goes x m b r (by.other-halted h c y) = badly h 0x04 c.command (hosts.answered-again d g h 0x04 c.command y)
-  heard-goes x m b r (by.other-busy h c y) = faultily h true 0 0x04 c.command (hosts.busy-faulted d g h c.command c.kind y)
+  heard-goes x m b r (by.other-busy h c y) = faultily h None 0x04 c.command (hosts.busy-faulted d g h c.command c.kind y)
   heard-goes x m b r (by.page10 h c e p) = record {
     medium = untouched _ _ refl (λ _. refl);
     shaped = to-log h c.command d.status.halted h.task (page10Of d.errors);
@@ -132,4 +132,4 @@ module _ (d : Device) (g : contradictoryDevice d ≡ false) where
 -- of a frame as its bytes; it is given no part of the medium
 pub host-goes : (d : Device) (f m b : List ℕ) {a : Act} → contradictoryDevice d ≡ false → by.Heard (facts_of d (lent (hostFrame f) m b)) (readFrame f) a → HostGoes d (part_of (span_of a) m) (readFrame f) a
 host-goes d f m b {a} g h =
-    subst (λ (s : Span). HostGoes d (part_of s m) (readFrame f) a) (sym (by.heard-unsent (facts_of d (lent (hostFrame f) m b)) h)) (heard-goes d g f m b (read-data f) h)
+    subst (λ (s : Option Span). HostGoes d (part_of s m) (readFrame f) a) (sym (by.heard-unsent (facts_of d (lent (hostFrame f) m b)) h)) (heard-goes d g f m b (read-data f) h)

@@ -16,13 +16,14 @@ use Rattle.frame_parts.specs.Size.{payloadSize}
 use Rattle.frame_parts.specs.declared.shared.Task.{Task}
 use Rattle.frames.specs.declared.shapes.HostReg.{HostReg}
 use Rattle.device_state.specs.Table.{entry_of}
+use Rattle.device_state.specs.declared.shapes.Entry.{Entry}
 use Rattle.rules.specs.Positions.{left_of, move_of}
 use Rattle.rules.specs.Decide.{bad, fault, tagAsked, entryFor, isQueued}
 use Rattle.rules.specs.declared.acts.Act.{Act}
 use Rattle.rules.specs.declared.acts.Act.TheVariants.{Nothing, Accept, Log10, Log11, Reset, Release, ZeroCounters, Store}
 use Rattle.replies.specs.Replies.{logReplies, page10Of, repliesOf}
 use Rattle.device.specs.Device.{contradictoryDevice}
-use Rattle.device.specs.FactsOf.{openTag}
+use Rattle.device.specs.DataDue.{phaseEntry}
 use Rattle.device.specs.After.{after_of, haltWith, unhalted, zeroedIf, resetHeld, released}
 use Rattle.device.specs.Step.{shown}
 use Rattle.device.specs.declared.state.Device.{Device}
@@ -31,8 +32,8 @@ use Rattle.history.specs.Seen.{Seen}
 use Rattle.history.proofs.Class.{none, Is, Class, plain, again, freely, halts, resets, sweeps, takes, carries}
 use Rattle.history.proofs.Views.{view, is-silent, is-bad, is-good, is-page, is-swept, is-brought, silent-unbegun, answer-unbegun, page-unbegun, swept-unbegun, active-unbegun}
 use Rattle.history.proofs.Changes.{same, halted-empty, took_by, carried-by}
-use Rattle.device.proofs.Phases.{none-open, open-tag}
-use Rattle.std.proofs.Common.{None, is_some, is_none, unwrap_or}
+use Rattle.device.proofs.Phases.{none-open, open-entry}
+use Rattle.std.proofs.Common.{Option, Some, None, is_some, is_none, unwrap_or}
 
 -- what is seen of an act that answers what was asked, with a part of the medium
 abbrev pub actSeen : Device → List ℕ → Asked → Act → Seen
@@ -63,14 +64,14 @@ module _ (d : Device) (g : contradictoryDevice d ≡ false) where
     answered-again e c x = again k.queued (is-bad k _ refl c (no-reset c) refl) (answer-unbegun k _) x (halted-empty d g x) (same d)
 
     -- a halt that a command raises
-    faulted : (nq : Bool) (t e : ℕ) → h.command_bit ≡ true → d.status.halted ≡ false → k.queued || not (eqb d.status.outstanding 0) ≡ true → Comes d [] k (fault h nq t e)
+    faulted : (t : Option ℕ) (e : ℕ) → h.command_bit ≡ true → d.status.halted ≡ false → k.queued || not (eqb d.status.outstanding 0) ≡ true → Comes d [] k (fault h t e)
     unfolding repliesOf after_of haltWith
-    faulted nq t e c x r =
+    faulted t e c x r =
         halts k.queued true false (is-bad k _ refl c (no-reset c) refl) (answer-unbegun k _) (λ _. refl) x (rw r) (record { settings = refl; outstanding = refl; phase = refl; halted = refl })
 
     -- a queued command raises one
-    pub queued-faulted : (t e : ℕ) → h.command_bit ≡ true → isQueued h ≡ true → d.status.halted ≡ false → Comes d [] k (fault h false t e)
-    queued-faulted t e c q x = faulted false t e c x (let u : k.queued ≡ true = rw (c, q) in rw u)
+    pub queued-faulted : (t e : ℕ) → h.command_bit ≡ true → isQueued h ≡ true → d.status.halted ≡ false → Comes d [] k (fault h (Some t) e)
+    queued-faulted t e c q x = faulted (Some t) e c x (let u : k.queued ≡ true = rw (c, q) in rw u)
 
     -- rule 4
     pub accepted : h.command_bit ≡ true → isQueued h ≡ true → d.status.halted ≡ false → d.status.phase ≡ None → bitIn 32 d.status.outstanding (tagAsked h) ≡ false
@@ -94,8 +95,8 @@ module _ (d : Device) (g : contradictoryDevice d ≡ false) where
         go false e = e
 
     -- and a command that is not queued raises a halt
-    pub busy-faulted : h.command_bit ≡ true → isQueued h ≡ false → eqb d.status.outstanding 0 ≡ false → Comes d [] k (fault h true 0 0x04)
-    busy-faulted c q n = faulted true 0 0x04 c (calm n) (rw (other c q, n))
+    pub busy-faulted : h.command_bit ≡ true → isQueued h ≡ false → eqb d.status.outstanding 0 ≡ false → Comes d [] k (fault h None 0x04)
+    busy-faulted c q n = faulted None 0x04 c (calm n) (rw (other c q, n))
 
     -- bad, and nothing is outstanding
     pub answered-free : (e : ℕ) → h.command_bit ≡ true → k.queued ≡ false → d.status.halted ≡ false → d.status.outstanding ≡ 0 → Comes d [] k (bad h e)
@@ -154,17 +155,16 @@ module _ (d : Device) (g : contradictoryDevice d ≡ false) where
       let i = is-brought n (not (move_of d.status (entry_of d.entries t) n).last) in
       carries t (min n (left_of (entry_of d.entries t))) (rw (w, ← e) i) (active-unbegun (dataAsks n) (not (move_of d.status (entry_of d.entries t) n).last)) (carried-by d g p n pos)
 
-  pub data-comes : (n : ℕ) → payloadSize n ≡ true → is_none d.status.phase ≡ false → let e = entry_of d.entries (openTag d.status.phase) in e.write ≡ true → ltb (left_of e) n ≡ false
+  pub data-comes : (n : ℕ) → payloadSize n ≡ true → is_none d.status.phase ≡ false → let e = phaseEntry d in e.write ≡ true → ltb (left_of e) n ≡ false
       → Comes d [] (dataAsks n) (Store (move_of d.status e n))
-  unfolding openTag
   data-comes n size p w y =
-      let e = entry_of d.entries (openTag d.status.phase) in
+      let e = phaseEntry d in
       let some = leb-true 4 n (and_left (leb 4 n) (leb n 8192) (and_left (leb 4 n && leb n 8192) (eqb (n % 4) 0) size)) in
       let most = ltb-false (left_of e) n y in
       let s : n ≡ min n (left_of e) = omega arith in
-      let q : openTag d.status.phase ≡ t = open-tag d.status.phase p in
-      subst (λ (u : ℕ). Comes d [] (dataAsks n) (Store (move_of d.status (entry_of d.entries u) n))) (sym q)
-      (kept-comes n p (subst (λ (u : ℕ). (entry_of d.entries u).write ≡ true) q w) (omega arith) (subst (λ (u : ℕ). n ≡ min n (left_of (entry_of d.entries u))) q s))
+      let q : e ≡ entry_of d.entries t = open-entry d.entries d.status.phase p in
+      subst (λ (x : Entry). Comes d [] (dataAsks n) (Store (move_of d.status x n))) (sym q)
+      (kept-comes n p (subst (λ (x : Entry). x.write ≡ true) q w) (omega arith) (subst (λ (x : Entry). n ≡ min n (left_of x)) q s))
 
   pub bist-comes : (k : Asked) → k.queued ≡ false → k.resets ≡ false → k.brings ≡ 0 → Comes d [] k ZeroCounters
   unfolding repliesOf after_of zeroedIf pick

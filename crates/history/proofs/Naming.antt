@@ -29,7 +29,8 @@ use Rattle.replies.specs.Replies.{setupReply, logReplies, activateIf, page10Of, 
 use Rattle.device.specs.Device.{powerOn, freshDevice}
 use Rattle.device.specs.Lent.{Lent, lent, Typed}
 use Rattle.device.specs.After.{after_of, haltWith, resetHeld, released, acceptedBy, unhalted, zeroedIf, movedBy, openedFor, finishedBy, failedBy, renewed, withValue}
-use Rattle.device.specs.FactsOf.{facts_of, openTag}
+use Rattle.device.specs.DataDue.{phaseEntry}
+use Rattle.device.specs.FactsOf.{facts_of}
 use Rattle.device.specs.Step.{Step, shown, stepBy, step}
 use Rattle.device.specs.declared.state.Device.{Device}
 use Rattle.device.proofs.Doing.{heard-unsent}
@@ -54,7 +55,7 @@ use Rattle.history.proofs.Decided.{by-decided}
 use Rattle.history.proofs.Moving.{deviceEntry, busyAt}
 use Rattle.history.proofs.Sets.{no-busy}
 use Rattle.history.proofs.Soundness.{from-power}
-use Rattle.device.proofs.Phases.{open-tag}
+use Rattle.device.proofs.Phases.{open-entry}
 
 -- what the bytes that are kept of tag t's command name
 abbrev kept : Device → ℕ → Task
@@ -73,18 +74,18 @@ empty-stay : (d d' : Device) → d'.status.outstanding ≡ 0 → Stay d d'
 empty-stay d d' z t b = absurd (no-busy d'.status.outstanding t z b)
 
 -- a part of the open phase's command moves: its bytes stay
-moved-stay : (d : Device) (n : ℕ) → is_none d.status.phase ≡ false → Stay d (movedBy d (move_of d.status (entry_of d.entries (openTag d.status.phase)) n))
-unfolding movedBy move_of advancedBy openTag
+moved-stay : (d : Device) (n : ℕ) → is_none d.status.phase ≡ false → Stay d (movedBy d (move_of d.status (phaseEntry d) n))
+unfolding movedBy move_of advancedBy
 moved-stay d n p t b =
     let u : ℕ = unwrap_or d.status.phase 0 in
-    let d' : Device = movedBy d (move_of d.status (entry_of d.entries (openTag d.status.phase)) n) in
-    let q : openTag d.status.phase ≡ u = open-tag d.status.phase p in
+    let d' : Device = movedBy d (move_of d.status (phaseEntry d) n) in
+    let q : phaseEntry d ≡ deviceEntry d u = open-entry d.entries d.status.phase p in
     let l = busy-below d.status.outstanding t b in (
       b,
       ⊎_elim
           (λ (y : eqb t u ≡ true).
           let e = eqb-true t u y in
-          ap (kept d') e ∙ ap (λ (x : Entry). taskIn x.echo) (placed_same d.entries u _ (subst (λ (x : ℕ). x < 32) e l)) ∙ ap (kept d) (q ∙ sym e))
+          ap (kept d') e ∙ ap (λ (x : Entry). taskIn x.echo) (placed_same d.entries u _ (subst (λ (x : ℕ). x < 32) e l)) ∙ ap (λ (x : Entry). taskIn x.echo) q ∙ ap (kept d) (sym e))
           (λ (y : eqb t u ≡ false). ap (λ (x : Entry). taskIn x.echo) (placed-other d.entries u _ t l (eqb-false t u y)))
           (tested (eqb t u)),
     )
@@ -170,7 +171,7 @@ module _ (d : Device) (h : List Event) (n : Named d h) where
   heard-named x m b {y} {a} t (by.page10 f c z p) = paged-named f d.status.halted (page10Of d.errors) f.task (after_of d a) c.command c.kind same
   heard-named x m b {y} {a} t (by.page11 f c z u p) = paged-named f false (page11Of d.settings.mask d.values) f.task (after_of d a) c.command c.kind same
   heard-named x m b {y} {a} t (by.other-bad f c z u) = by-act (frameAsks y) [] (frameTask y) a (and-never _) same
-  heard-named x m b {y} {a} t (by.due l p q z) = data-named l (not (move_of d.status (entry_of d.entries (openTag d.status.phase)) l).last) noTask (after_of d a) (moved-stay d l p)
+  heard-named x m b {y} {a} t (by.due l p q z) = data-named l (not (move_of d.status (phaseEntry d) l).last) noTask (after_of d a) (moved-stay d l p)
   heard-named x m b {y} {a} t (by.bist z) = by-act (frameAsks y) [] (frameTask y) a refl same
 
   -- a device event that is taken

@@ -21,9 +21,10 @@ use Rattle.device_state.specs.State.{echoOf}
 use Rattle.device_state.specs.declared.shapes.Echo.{Echo}
 use Rattle.device_state.proofs.EchoLaws.{echo-task}
 use Rattle.verdicts.specs.Other.{asksErrors, asksCounters}
-use Rattle.verdicts.specs.declared.commands.LogPage.{LogPage}
-use Rattle.verdicts.specs.declared.commands.LogPage.TheVariants.{Errors, Counters}
-use Rattle.rules.specs.Decide.{pageNamed, pageAsked, logPage, otherAct}
+use Rattle.frame_parts.specs.declared.log_pages.LogPage.{LogPage}
+use Rattle.frame_parts.specs.declared.log_pages.LogPage.TheVariants.{Errors, Counters}
+use Rattle.frame_parts.specs.Pages.{pageNamed}
+use Rattle.rules.specs.Decide.{pageAsked, logPage, otherAct}
 use Rattle.rules.specs.declared.facts.Facts.{Facts}
 use Rattle.replies.specs.Replies.{repliesOf, page10Of, page11Of}
 use Rattle.replies.specs.declared.shown.Shown.{Shown}

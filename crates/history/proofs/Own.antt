@@ -10,6 +10,7 @@ use Rattle.frames.specs.Write.{FrameValue}
 use Rattle.device_state.specs.Table.{entry_of}
 use Rattle.rules.specs.Call.{Call, openPhase}
 use Rattle.rules.specs.Positions.{place_of, move_of}
+use Rattle.rules.specs.Act.{failing}
 use Rattle.rules.specs.Medium.{touch_of, span_of, part_of, mediumAfter}
 use Rattle.rules.specs.declared.acts.Queued.{Queued}
 use Rattle.rules.specs.declared.acts.Act.{Act}
@@ -35,7 +36,7 @@ use Rattle.history.proofs.Hearing.{pioIn}
 use Rattle.history.proofs.Shaped.{kindsOf, erring, sendsFaulty, CallShaped, unblamed}
 use Rattle.history.proofs.Speechless.{SpokenBy, Utters, none-finished, event-utters}
 use Rattle.device.proofs.Phases.{none-open}
-use Rattle.std.proofs.Common.{None, is_some}
+use Rattle.std.proofs.Common.{Some, None, is_some}
 
 -- the replies rs of an event: no page, of a shape that they may have, and they say no more than they may
 pub record OwnReplies (c : Call) (rs : List FrameValue) : Type 0 where
@@ -104,7 +105,7 @@ own-goes d m b (by.failed t e x g s o y w) = record {
   replies = own-replies _ _ refl (inl refl) refl refl refl ((is-failed _ refl refl).fails, (is-failed _ refl refl).finishes);
   reckons = failed-values d (bitIn 8 e 7);
   marked = λ _ _. refl;
-  comes = λ _. failed-comes d [] _ (busy-calm d g t o);
+  comes = λ _. failed-comes d [] (record { tag = Some t; error = e; echo = failing (entry_of d.entries t).echo x }) (busy-calm d g t o);
 }
 own-goes d m b (by.linked r g x) = record {
   lies = nowhere-lies _ m;

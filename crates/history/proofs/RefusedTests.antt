@@ -24,7 +24,7 @@ use Rattle.rules.specs.Positions.{left_of}
 use Rattle.rules.specs.Tests.{wrongKind, wrongTime, wrongSize, allMoved, unreadyAt, someUnready, outside}
 use Rattle.device.specs.Device.{contradictoryDevice, powerOn}
 use Rattle.device.specs.DataDue.{phaseEntry}
-use Rattle.device.specs.FactsOf.{openTag, linkBusy, facts_of}
+use Rattle.device.specs.FactsOf.{linkBusy, facts_of}
 use Rattle.device.specs.Lent.{lent}
 use Rattle.device.specs.declared.state.Device.{Device}
 use Rattle.device.proofs.Busy.{whole_is, moves-on}
@@ -39,7 +39,7 @@ use Rattle.history.specs.Refused.{outOfBounds, notHeard, writeOpen, untimely, to
 use Rattle.history.proofs.Transfers.{transferOf, transfer-shut, transfer-open}
 use Rattle.history.proofs.Moving.{deviceEntry, busyAt}
 use Rattle.history.proofs.Knows.{Known, below-not}
-use Rattle.device.proofs.Phases.{none-open, some-open, open-tag}
+use Rattle.device.proofs.Phases.{none-open, some-open, open-entry}
 
 -- ---- settings
 
@@ -103,10 +103,9 @@ row-same mask r = go (eqb r 0) (eqb r 9) (ltb 15 r || not (bitIn 16 mask r))
 module _ (d : Device) where
   -- the open phase, while one is open
   phase-at : is_none d.status.phase ≡ false → transferOf d ≡ underWay (not (phaseEntry d).write) (unwrap_or d.status.phase 0) (phaseEntry d).moved (512 * (phaseEntry d).count)
-  unfolding openTag
   phase-at n =
       let t = unwrap_or d.status.phase 0 in
-      rw (open-tag d.status.phase n) (transfer-open d t (some-open d.status.phase n))
+      rw (open-entry d.entries d.status.phase n) (transfer-open d t (some-open d.status.phase n))
 
   -- 5 and 8 of a phase
   pub open-same : isOpen (transferOf d) ≡ linkBusy d
@@ -127,10 +126,9 @@ module _ (d : Device) where
   module _ (g : contradictoryDevice d ≡ false) where
     -- all of the open phase's command
     phase-whole : is_none d.status.phase ≡ false → whole_of (phaseEntry d).count ≡ 512 * (phaseEntry d).count
-    unfolding openTag
     phase-whole n =
         let t = unwrap_or d.status.phase 0 in
-        rw (open-tag d.status.phase n) (whole_is d t g (phase-busy d.status d.errors.set (status-good d g) n))
+        rw (open-entry d.entries d.status.phase n) (whole_is d t g (phase-busy d.status d.errors.set (status-good d g) n))
 
     -- 6: what is left of an open write phase
     left-same : not (writeOpen (transferOf d)) ≡ false → left_of (phaseEntry d) ≡ leftOf false (transferOf d)

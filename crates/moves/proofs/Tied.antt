@@ -1,5 +1,5 @@
 -- Each public function's own contract: what it says, and that two answers which it allows are equal. Assumes nothing.
-use Rattle.moves.specs.Amounts.{leftIn, partIn, lastIn, dueIn, afterIn}
+use Rattle.moves.specs.Amounts.{leftIn, partIn, lastIn, wholly, dueIn, afterIn}
 use Rattle.moves.specs.Stored.{place_in, stored}
 use mathlib.Core.Path.{◌≡◌, refl}
 use Rattle.bits.specs.Contract.{Tied}
@@ -17,6 +17,9 @@ tied-part = named (say (λ κs a. tt) (λ κs a r ws p. p)) (λ κs a ws ws'. re
 
 pub tied-is-last : Tied amounts-said.Progress.is_last.ended amounts.Progress.is_last.Reads.Asked amounts.Progress.is_last.Reads.Post (λ κs a r ws. r ≡ lastIn a.0.whole a.0.moved a.1.0)
 tied-is-last = named (say (λ κs a. tt) (λ κs a r ws p. p)) (λ κs a ws ws'. refl)
+
+pub tied-is-whole : Tied amounts-said.Progress.is_whole.ended amounts.Progress.is_whole.Reads.Asked amounts.Progress.is_whole.Reads.Post (λ κs a r ws. r ≡ wholly a.0.moved a.0.whole)
+tied-is-whole = named (say (λ κs a. tt) (λ κs a r ws p. p)) (λ κs a ws ws'. refl)
 
 pub tied-after : Tied amounts-said.Progress.after.ended amounts.Progress.after.Reads.Asked amounts.Progress.after.Reads.Post (λ κs a r ws. r ≡ afterIn a.0 a.1.0)
 tied-after = named (say (λ κs a. tt) (λ κs a r ws p. p)) (λ κs a ws ws'. refl)

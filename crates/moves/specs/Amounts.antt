@@ -1,5 +1,5 @@
 -- Of the whole of a command's bytes: what is left, and what moves next. Assumes nothing.
-use Rattle.std.specs.Prelude.{Bool, ℕ, ◌+◌, ◌-◌, min, leb}
+use Rattle.std.specs.Prelude.{Bool, ℕ, ◌+◌, ◌-◌, min, leb, eqb}
 use Rattle.bits.specs.Pick.{pick}
 use Rattle.moves.specs.declared.amounts.Progress.{Progress}
 
@@ -14,6 +14,10 @@ partIn whole moved n = min n (leftIn whole moved)
 -- nothing is left once they have moved
 abbrev pub lastIn : ℕ → ℕ → ℕ → Bool
 lastIn whole moved n = leb (leftIn whole moved) n
+
+-- all moved already
+abbrev pub wholly : ℕ → ℕ → Bool
+wholly moved whole = eqb moved whole
 
 -- the host data due: min(8,192, what is left) in a write phase; 4 payload bytes if none is open
 abbrev pub dueIn : Bool → ℕ → ℕ

@@ -1,11 +1,15 @@
 // Of the whole of a command's bytes: what is left, and what moves next.
 ghost use Rattle.std.specs.Prelude.{◌≡◌};
-ghost use Rattle.moves.specs.Amounts.{leftIn, partIn, lastIn, dueIn, afterIn};
+ghost use Rattle.moves.specs.Amounts.{leftIn, partIn, lastIn, wholly, dueIn, afterIn};
+
+use frame_parts::PAYLOAD_LIMIT;
 
 /// The whole of a command's bytes, and how many of them have moved.
 #[derive(Clone, Copy, Debug, PartialEq, Eq)]
 pub struct Progress {
+    /// bytes
     pub whole: u32,
+    /// bytes, in whole Dwords
     pub moved: u32,
 }
 
@@ -31,6 +35,13 @@ impl Progress {
         self.left() as usize <= n
     }
 
+    /// All of them have moved.
+    pub fn is_whole(self) -> bool
+        ensures { result ≡ wholly self.moved self.whole }
+    {
+        self.moved == self.whole
+    }
+
     /// How far it is once `n` bytes more have moved, or what is left.
     pub fn after(self, n: usize) -> Progress
         ensures { result ≡ afterIn self n }
@@ -42,16 +53,13 @@ impl Progress {
     }
 }
 
-// The most that one data frame holds.
-const FRAME_SIZE: u32 = 8192;
-
 /// The length of the host data that is due, or 4 if no write phase is open.
 #[tactic(auto, unfolding(bits::specs::Pick::pick))]
 pub fn due(writing: bool, left: u32) -> usize
     ensures { result ≡ dueIn writing left }
 {
     if writing {
-        FRAME_SIZE.min(left) as usize
+        PAYLOAD_LIMIT.min(left as usize)
     } else {
         4
     }

@@ -5,4 +5,4 @@ mod amounts;
 mod medium;
 
 pub use amounts::{Progress, due};
-pub use medium::{place, store};
+pub use medium::{SECTOR_SIZE, place, store};

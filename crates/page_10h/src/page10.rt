@@ -2,8 +2,8 @@
 ghost use Rattle.std.specs.Prelude.{◌≡◌};
 ghost use Rattle.page_10h.specs.Page10.{firstByte, tagShown, fits10, page10, fields10, LogGiven};
 
-use frame_parts::Task;
-use page_sum::{byte_sum, sum_byte};
+use frame_parts::{Registers, Task, register_bytes};
+use page_sum::{PAGE_SIZE, byte_sum, seal};
 use refusals::Refusal;
 
 /// The named fields of page 10h.
@@ -19,9 +19,6 @@ pub struct ErrorLog {
 }
 
 impl ErrorLog {
-    /// A log page has 512 bytes, whichever it is.
-    pub const PAGE_SIZE: usize = 512;
-
     /// The tag has five bits, and is 0 under NQ. All else but the LBA has the width of its field.
     #[tactic(auto, unfolding(crate::specs::Page10::fits10), using(frame_parts::proofs::SharedLaws::high_zero, std::proofs::lemmas::Bool::Decides::nat_tests))]
     pub fn fits(self) -> bool
@@ -35,18 +32,23 @@ impl ErrorLog {
 fn first_byte(nq: bool, tag: u8) -> u8
     ensures { result ≡ firstByte nq tag }
 {
-    ((nq as u8) << 7) | (tag & 31)
+    (u8::from(nq) << 7) | (tag & 31)
 }
 
 /// The page of a record. Private to the crate: a writer that refuses stands over it.
-pub fn page10_bytes(log: ErrorLog) -> [u8; 512]
+pub fn page10_bytes(log: ErrorLog) -> [u8; PAGE_SIZE]
     ensures { result ≡ page10 log }
 {
-    let first = first_byte(log.nq, log.tag);
-    let head = frame_parts::register_bytes(first, 0, log.status, log.error, log.task, 0, 0, 0);
-    let mut page = [0u8; 512];
+    let head = register_bytes(Registers {
+        kind: first_byte(log.nq, log.tag),
+        second: log.status,
+        third: log.error,
+        task: log.task,
+        ..Registers::default()
+    });
+    let mut page = [0u8; PAGE_SIZE];
     bits::lay(&mut page, &head);
-    page[511] = sum_byte(&page);
+    seal(&mut page);
     page
 }
 
@@ -77,7 +79,7 @@ fn read_fields(page: &[u8]) -> ErrorLog
 pub fn read_log(page: &[u8]) -> Result<ErrorLog, Refusal>
     ensures { LogGiven page.now result }
 {
-    if page.len() != ErrorLog::PAGE_SIZE {
+    if page.len() != PAGE_SIZE {
         return Err(Refusal::PageLength);
     }
     if byte_sum(page) != 0 {

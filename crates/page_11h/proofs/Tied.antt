@@ -1,17 +1,23 @@
 -- Each public function's own contract: what it says, and that two answers which it allows are equal. Assumes nothing.
 use Rattle.page_11h.specs.Entries.{idAsked}
 use Rattle.page_11h.specs.Top.{atTop}
-use Rattle.page_11h.specs.Page11.{PageCounterGiven}
+use Rattle.page_11h.specs.Page11.{noNumber, PageCounterGiven}
 use Rattle.page_11h.specs.WalkStep.{stepAt}
+use mathlib.Core.Bool.{not}
 use mathlib.Core.Path.{◌≡◌, refl}
 use Rattle.bits.specs.Contract.{Tied}
 use Rattle.bits.proofs.Tying.{same, say, by, named}
+use Rattle.page_11h.proofs.number
+use Rattle.page_11h.specs.contracts.number as number-said
 use Rattle.page_11h.proofs.page11
 use Rattle.page_11h.specs.contracts.page11 as page11-said
 use Rattle.page_11h.proofs.value
 use Rattle.page_11h.specs.contracts.value as value-said
 use Rattle.page_11h.proofs.walk
 use Rattle.page_11h.specs.contracts.walk as walk-said
+
+pub tied-is-counter-number : Tied number-said.is_counter_number.ended number.is_counter_number.Reads.Asked number.is_counter_number.Reads.Post (λ κs a r ws. r ≡ not (noNumber a.0))
+tied-is-counter-number = named (say (λ κs a. tt) (λ κs a r ws p. p)) (λ κs a ws ws'. refl)
 
 pub tied-read-counter : Tied page11-said.read_counter.ended page11.read_counter.Reads.Asked page11.read_counter.Reads.Post (λ κs a r ws. PageCounterGiven a.0.now a.1.0 r)
 tied-read-counter = by (say (λ κs a. tt) (λ κs a r ws p. p)) (λ κs a r r' ws ws' p q. (same p.answer q.answer, refl))

@@ -27,10 +27,10 @@ pub tied-new : Tied walk-said.Walk.new.ended walk.Walk.new.Reads.Asked walk.Walk
 tied-new = by (say (λ κs a. tt) (λ κs a r ws p. p)) (λ κs a r r' ws ws' p q. (begun-once a.0 a.1.0 r r' p q, refl))
 
 -- a step allows one answer and one walk only
-pub stepped-once : (w : Walk) (r r' : Result (Option WalkEntry) Refusal) (v v' : Walk) → Stepped w r v → Stepped w r' v' → (r ≡ r') × (v ≡ v')
+pub stepped-once : (w : Walk) (r r' : Option (Result WalkEntry Refusal)) (v v' : Walk) → Stepped w r v → Stepped w r' v' → (r ≡ r') × (v ≡ v')
 stepped-once w r r' v v' p q =
     let e = same p.answer q.answer in
     (e, same-walk (same p.page q.page) (p.at ∙ ap (placeAfter w.at) e ∙ sym q.at))
 
-pub tied-step : Tied walk-said.Walk.step.ended walk.Walk.step.Reads.Asked walk.Walk.step.Reads.Post (λ κs a r ws. Stepped a.0.now r ws.0)
-tied-step = by (say (λ κs a. tt) (λ κs a r ws p. p)) (λ κs a r r' ws ws' p q. let e = stepped-once _ r r' ws.0 ws'.0 p q in (e.0, λ i. (e.1 i, tt)))
+pub tied-step : Tied walk-said.WalkIterator.next.ended walk.WalkIterator.next.Reads.Asked walk.WalkIterator.next.Reads.Post (λ κs a r ws. Stepped a.0.now r ws.0)
+tied-step = by (say (λ κs a. tt) (λ κs a r ws p. p.0)) (λ κs a r r' ws ws' p q. let e = stepped-once _ r r' ws.0 ws'.0 p q in (e.0, λ i. (e.1 i, tt)))

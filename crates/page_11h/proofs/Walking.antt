@@ -14,7 +14,7 @@ use Rattle.refusals.specs.declared.reasons.Refusal.TheVariants.{PageDamaged}
 use Rattle.page_sum.specs.Sum.{sum256}
 use Rattle.page_11h.specs.Entries.{CounterEntry, entry_at, id_at, end_of, bytesIn, width_of, wrongWidth, pastEnd, nameless, idAsked, entryAsked, entriesFrom, entries}
 use Rattle.page_11h.specs.Page11.{damaged, valueIn, readCounter}
-use Rattle.page_11h.specs.WalkStep.{faulty, walkEntry, stepAt, Stepped}
+use Rattle.page_11h.specs.WalkStep.{faulty, walkEntry, stepAt, placeAfter, Stepped}
 use Rattle.page_11h.specs.declared.value.CounterValue.{CounterValue}
 use Rattle.page_11h.specs.declared.walk.Walk.{Walk}
 use Rattle.page_11h.specs.declared.walk.WalkEntry.{WalkEntry}
@@ -52,22 +52,30 @@ sized e h =
 sound : (e : CounterEntry) → faulty e ≡ false → Lies e.place (e.place + 2) (bytesIn e.id)
 sound e h = sized e (or_left (wrongWidth e || pastEnd e) (nameless e) h)
 
--- of a step at a place: if it is an entry, where its value lies
-unfoldable pub Placed : ℕ → Result (Option WalkEntry) Refusal → Type 0
-Placed at (Ok None) = Unit
-Placed at (Err r) = Unit
-Placed at (Ok (Some e)) = Lies at e.start e.bytes
+-- of a step at a place: if it is an entry, where its value lies; if it is a fault, that the end is not reached
+unfoldable pub Placed : ℕ → Option (Result WalkEntry Refusal) → Type 0
+Placed at None = Unit
+Placed at (Some (Err r)) = at < 508
+Placed at (Some (Ok e)) = Lies at e.start e.bytes
 
 pub step-placed : (page : List ℕ) (at : ℕ) → Placed at (stepAt page at)
 unfolding stepAt Placed
-step-placed page at = by-test (Placed at) _ _ _ (λ _. tt) (λ _. by-test (Placed at) _ _ _ (λ _. tt) (λ h. sound (entry_at page at) h))
+step-placed page at =
+    by-test (Placed at) _ _ _ (λ _. tt)
+    (λ n. by-test (λ r. Placed at (Some r)) _ _ _ (λ _. leb-false 508 at (or_left (leb 508 at) (eqb (id_at page at) 0) n)) (λ h. sound (entry_at page at) h))
 
-pub entry_lies : (page : List ℕ) (at : ℕ) (e : WalkEntry) → stepAt page at ≡ Ok (Some e) → Lies at e.start e.bytes
+pub entry_lies : (page : List ℕ) (at : ℕ) (e : WalkEntry) → stepAt page at ≡ Some (Ok e) → Lies at e.start e.bytes
 unfolding Placed
 entry_lies page at e q = rw q at (step-placed page at)
 
-pub end_within : (page : List ℕ) (at : ℕ) (e : WalkEntry) → stepAt page at ≡ Ok (Some e) → e.start + e.bytes ≤ 508
+pub end_within : (page : List ℕ) (at : ℕ) (e : WalkEntry) → stepAt page at ≡ Some (Ok e) → e.start + e.bytes ≤ 508
 end_within page at e q = (entry_lies page at e q).within
+
+-- what stands at a place leads on
+pub leads-on : (page : List ℕ) (at : ℕ) (r : Result WalkEntry Refusal) → stepAt page at ≡ Some r → 508 - placeAfter at (Some r) < 508 - at
+unfolding Placed
+leads-on page at (Ok e) q = let l = entry_lies page at e q in omega arith
+leads-on page at (Err r) q = let l : at < 508 = rw q at (step-placed page at) in omega arith
 
 -- ---- the entries from a place on
 
@@ -98,17 +106,17 @@ module _ (page : List ℕ) (at : ℕ) where
       (pick_no (wrongWidth (entry_at page at) || pastEnd (entry_at page at)) [] (entriesFrom page fuel (end_of (entry_at page at)))
       (or_left (wrongWidth (entry_at page at) || pastEnd (entry_at page at)) (nameless (entry_at page at)) s))
 
-  pub step_end : ends ≡ true → stepAt page at ≡ Ok None
+  pub step_end : ends ≡ true → stepAt page at ≡ None
   unfolding stepAt
-  step_end h = pick_yes ends (Ok None) _ h
+  step_end h = pick_yes ends None _ h
 
-  pub step-fault : ends ≡ false → faulty (entry_at page at) ≡ true → stepAt page at ≡ Err PageDamaged
+  pub step-fault : ends ≡ false → faulty (entry_at page at) ≡ true → stepAt page at ≡ Some (Err PageDamaged)
   unfolding stepAt
-  step-fault h s = pick_no ends (Ok None) _ h ∙ pick_yes (faulty (entry_at page at)) (Err PageDamaged) _ s
+  step-fault h s = pick_no ends None _ h ∙ ap Some (pick_yes (faulty (entry_at page at)) (Err PageDamaged) _ s)
 
-  pub step_entry : ends ≡ false → faulty (entry_at page at) ≡ false → stepAt page at ≡ Ok (Some (walkEntry (id_at page at) (at + 2) (bytesIn (id_at page at))))
+  pub step_entry : ends ≡ false → faulty (entry_at page at) ≡ false → stepAt page at ≡ Some (Ok (walkEntry (id_at page at) (at + 2) (bytesIn (id_at page at))))
   unfolding stepAt
-  step_entry h s = pick_no ends (Ok None) _ h ∙ pick_no (faulty (entry_at page at)) (Err PageDamaged) _ s
+  step_entry h s = pick_no ends None _ h ∙ ap Some (pick_no (faulty (entry_at page at)) (Err PageDamaged) _ s)
 
 same-tail : (b : Bool) (xs ys : List CounterEntry) → (b ≡ false → xs ≡ ys) → pick b [] xs ≡ pick b [] ys
 unfolding pick
@@ -148,10 +156,10 @@ after_hit page number e None = fromHere page number (e.start + e.bytes) (Some (r
 after_hit page number e (Some v) = Err PageDamaged
 
 -- the answer by what a step answers
-abbrev pub after_step : List ℕ → ℕ → Option CounterValue → Result (Option WalkEntry) Refusal → Result (Option CounterValue) Refusal
-after_step page number found (Ok None) = Ok found
-after_step page number found (Err r) = Err r
-after_step page number found (Ok (Some e)) = pick (idAsked number e.id) (after_hit page number e found) (fromHere page number (e.start + e.bytes) found)
+abbrev pub after_step : List ℕ → ℕ → Option CounterValue → Option (Result WalkEntry Refusal) → Result (Option CounterValue) Refusal
+after_step page number found None = Ok found
+after_step page number found (Some (Err r)) = Err r
+after_step page number found (Some (Ok e)) = pick (idAsked number e.id) (after_hit page number e found) (fromHere page number (e.start + e.bytes) found)
 
 module _ (page : List ℕ) (number at : ℕ) where
   -- an entry, and those behind it
@@ -167,7 +175,7 @@ module _ (page : List ℕ) (number at : ℕ) where
       (entries-fuel page (507 - at) (508 - end_of (entry_at page at)) (end_of (entry_at page at)) (omega arith) (omega arith)))
 
   entry-rest : (found : Option CounterValue) → ends page at ≡ false → faulty (entry_at page at) ≡ false
-      → fromHere page number at found ≡ after_step page number found (Ok (Some (walkEntry (id_at page at) (at + 2) (bytesIn (id_at page at)))))
+      → fromHere page number at found ≡ after_step page number found (Some (Ok (walkEntry (id_at page at) (at + 2) (bytesIn (id_at page at)))))
   entry-rest found n s =
       rw (from-entry n s)
       (⊎_elim
@@ -201,52 +209,64 @@ module _ (page : List ℕ) (number at : ℕ) where
       (tested (faulty (entry_at page at))))
       (tested (ends page at))
 
--- a step of a walk that holds the page
-module _ (page : List ℕ) (number : ℕ) (w w' : Walk) (r : Result (Option WalkEntry) Refusal) (t : Stepped w r w') (s : w.page.now ≡ page) (found : Option CounterValue) where
-  pub step-rest : fromHere page number w.at found ≡ after_step page number found r
-  step-rest = rw (t.answer, s) (turn-rest page number w.at found)
+-- ---- the walk from one step to the next
 
-  pub step-held : w'.page.now ≡ page
-  step-held = rw t.page s
+-- the answer for a counter's number, of a page that is refused for nothing else
+abbrev pub asked_of : List ℕ → ℕ → Result (Option CounterValue) Refusal
+asked_of page number = pick (damaged number (entries page)) (Err PageDamaged) (Ok (valueIn page number (entries page)))
 
-  pub fault-here : (x : Refusal) → r ≡ Err x → fromHere page number w.at found ≡ Err x
+-- it starts at 4, with nothing found
+pub walk-starts : (page : List ℕ) (number : ℕ) → asked_of page number ≡ fromHere page number 4 None
+unfolding entries rest_of
+walk-starts page number = rw (entries-fuel page 508 504 4 (omega arith) (omega arith))
+
+-- a walk over the page, with what is found so far: the answer is the answer from its place on
+pub record Ahead (page : List ℕ) (number : ℕ) (w : Walk) (found : Option CounterValue) : Type 0 where
+  pub same : w.page.now ≡ page
+  pub rest : asked_of page number ≡ fromHere page number w.at found
+
+module _ {page : List ℕ} {number : ℕ} {w w' : Walk} {r : Option (Result WalkEntry Refusal)} {found : Option CounterValue} (a : Ahead page number w found) (t : Stepped w r w') where
+  step-rest : asked_of page number ≡ after_step page number found r
+  step-rest = a.rest ∙ rw (t.answer, a.same) (turn-rest page number w.at found)
+
+  step-same : w'.page.now ≡ page
+  step-same = rw t.page a.same
+
+  pub fault-here : (x : Refusal) → r ≡ Some (Err x) → asked_of page number ≡ Err x
   fault-here x q = step-rest ∙ rw q
 
-  pub end-here : r ≡ Ok None → fromHere page number w.at found ≡ Ok found
+  pub end-here : r ≡ None → asked_of page number ≡ Ok found
   end-here q = step-rest ∙ rw q
 
-  module _ (e : WalkEntry) (q : r ≡ Ok (Some e)) where
-    pub entry-ahead : (w'.at ≡ e.start + e.bytes) × Lies w.at e.start e.bytes
-    entry-ahead = (t.at ∙ rw q, entry_lies w.page.now w.at e (sym t.answer ∙ q))
+  module _ (e : WalkEntry) (q : r ≡ Some (Ok e)) where
+    next-at : w'.at ≡ e.start + e.bytes
+    next-at = t.at ∙ rw q
 
     -- one that is not asked for is passed by
-    pub miss-ahead : idAsked number e.id ≡ false → fromHere page number w.at found ≡ fromHere page number w'.at found
+    pub miss-ahead : idAsked number e.id ≡ false → Ahead page number w' found
     unfolding pick
-    miss-ahead m = step-rest ∙ rw (entry-ahead.0, q, m)
+    miss-ahead m = record { same = step-same; rest = step-rest ∙ rw (next-at, q, m) }
 
     -- the first that is asked for is found
     pub hit-ahead : (v : ℕ) → idAsked number e.id ≡ true → is_some found ≡ false → NumberGiven page e.start (min e.bytes 8) v
-        → fromHere page number w.at found ≡ fromHere page number w'.at (Some (record { value = v; bytes = e.bytes }))
+        → Ahead page number w' (Some (record { value = v; bytes = e.bytes }))
     unfolding pick
-    hit-ahead v h o n = step-rest ∙ rw (entry-ahead.0, q, h, value_read page e.start e.bytes v entry-ahead.1.most n) (first found o)
+    hit-ahead v h o n =
+        let l = entry_lies w.page.now w.at e (sym t.answer ∙ q) in
+        record { same = step-same; rest = step-rest ∙ rw (next-at, q, h, value_read page e.start e.bytes v l.most n) (first found o) }
       where
         first : (f : Option CounterValue) → is_some f ≡ false → after_hit page number e f ≡ fromHere page number (e.start + e.bytes) (Some (readOf page e))
         first None o = refl
         first (Some x) o = absurd (let z : true ≡ false = o in cc)
 
     -- and a second is a fault
-    pub hit-twice : idAsked number e.id ≡ true → is_some found ≡ true → fromHere page number w.at found ≡ Err PageDamaged
+    pub hit-twice : idAsked number e.id ≡ true → is_some found ≡ true → asked_of page number ≡ Err PageDamaged
     unfolding pick
     hit-twice h o = step-rest ∙ rw (q, h) (second found o)
       where
         second : (f : Option CounterValue) → is_some f ≡ true → after_hit page number e f ≡ Err PageDamaged
         second None o = absurd (let z : false ≡ true = o in cc)
         second (Some x) o = refl
-
--- the walk starts at 4, with nothing found
-pub walk-starts : (page : List ℕ) (number : ℕ) → pick (damaged number (entries page)) (Err PageDamaged) (Ok (valueIn page number (entries page))) ≡ fromHere page number 4 None
-unfolding entries rest_of
-walk-starts page number = rw (entries-fuel page 508 504 4 (omega arith) (omega arith))
 
 -- the last rung alone: 22, or what is found
 pub last_rung : (d : Bool) (v : Option CounterValue) → pick d (Err PageDamaged) (Ok v) ≡ unless (pick d (Some PageDamaged) None) v

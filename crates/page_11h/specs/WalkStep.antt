@@ -16,19 +16,19 @@ abbrev pub walkEntry : ℕ → ℕ → ℕ → WalkEntry
 walkEntry id start bytes = record { id = id; start = start; bytes = bytes }
 
 -- what stands at a place: nothing more at 508 or at 0000h, a fault, or an entry
-unfoldable pub stepAt : List ℕ → ℕ → Result (Option WalkEntry) Refusal
+unfoldable pub stepAt : List ℕ → ℕ → Option (Result WalkEntry Refusal)
 stepAt page at =
-    pick (ends_at page at) (Ok None)
-    (pick (faulty (entry_at page at)) (Err PageDamaged) (Ok (Some (walkEntry (id_at page at) (at + 2) (bytesIn (id_at page at))))))
+    pick (ends_at page at) None
+    (Some (pick (faulty (entry_at page at)) (Err PageDamaged) (Ok (walkEntry (id_at page at) (at + 2) (bytesIn (id_at page at))))))
 
--- where the walk stands then: behind the entry, if there is one
-abbrev pub placeAfter : ℕ → Result (Option WalkEntry) Refusal → ℕ
-placeAfter at (Ok (Some e)) = e.start + e.bytes
-placeAfter at (Ok None) = at
-placeAfter at (Err r) = at
+-- where the walk stands then: behind an entry, and at the end of the entries behind a fault
+abbrev pub placeAfter : ℕ → Option (Result WalkEntry Refusal) → ℕ
+placeAfter at (Some (Ok e)) = e.start + e.bytes
+placeAfter at (Some (Err r)) = 508
+placeAfter at None = at
 
 -- what a step answers, and the walk that it leaves
-pub record Stepped (w : Walk) (r : Result (Option WalkEntry) Refusal) (w' : Walk) : Type 0 where
+pub record Stepped (w : Walk) (r : Option (Result WalkEntry Refusal)) (w' : Walk) : Type 0 where
   pub answer : r ≡ stepAt w.page.now w.at
   pub page : w'.page ≡ w.page
   pub at : w'.at ≡ placeAfter w.at r

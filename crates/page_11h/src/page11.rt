@@ -4,18 +4,19 @@ ghost use Rattle.bits.specs.Pick.{pick};
 ghost use Rattle.page_11h.specs.Entries.{entries};
 ghost use Rattle.page_11h.specs.Page11.{damaged, valueIn, PageCounterGiven};
 
+use crate::number::is_counter_number;
 use crate::value::CounterValue;
 use crate::walk::Walk;
-use page_sum::byte_sum;
+use page_sum::{PAGE_SIZE, byte_sum};
 use refusals::Refusal;
 
 // The walk from 4 to 0000h or to 508. It goes on after a hit, since a fault or a second hit behind it refuses the page.
 fn find_counter(page: &[u8], number: u16) -> Result<Option<CounterValue>, Refusal>
     ensures { result ≡ pick (damaged number (entries page.now)) (Err Refusal.PageDamaged) (Ok (valueIn page.now number (entries page.now))) }
 {
-    let mut walk = Walk::new(page, 4);
     let mut found = None;
-    while let Some(entry) = walk.step()? {
+    for entry in Walk::new(page, 4) {
+        let entry = entry?;
         if entry.is_asked(number) {
             if found.is_some() {
                 return Err(Refusal::PageDamaged);
@@ -36,10 +37,10 @@ fn find_counter(page: &[u8], number: u16) -> Result<Option<CounterValue>, Refusa
 pub fn read_counter(page: &[u8], number: u16) -> Result<Option<CounterValue>, Refusal>
     ensures { PageCounterGiven page.now number result }
 {
-    if page.len() != 512 {
+    if page.len() != PAGE_SIZE {
         return Err(Refusal::PageLength);
     }
-    if !(1..=0xfff).contains(&number) {
+    if !is_counter_number(number) {
         return Err(Refusal::NoCounter);
     }
     if byte_sum(page) != 0 {

@@ -1,7 +1,8 @@
 // The walk over the entries of page 11h. It is the crate's own: only a page that has passed 20, 23 and 21 is walked.
 // Places are even: the walk starts at 4, an identifier takes 2 bytes and a value 2, 4, 6 or 8. So an identifier never
 // straddles 508 (`no-straddle`), and it is enough to test where each value ends.
-ghost use Rattle.std.specs.Prelude.{◌≡◌, ◌<◌};
+ghost use Rattle.std.specs.Prelude.{◌≡◌, ◌<◌, ◌-◌};
+ghost use Rattle.std.specs.Iterator.{at_most};
 ghost use Rattle.page_11h.specs.Entries.{counterEntry, width_of, number_in, vendorOf, idAsked};
 ghost use Rattle.page_11h.specs.WalkStep.{faulty, stepAt, Stepped};
 
@@ -54,22 +55,22 @@ impl WalkEntry {
     }
 }
 
-/// What stands at a place: an entry; nothing more, at 508 or at 0000h; or what no page may have.
+/// What stands at a place: an entry, or what no page may have; `None` at 508 or at 0000h, where no more is to come.
 #[tactic(auto, unfolding(crate::specs::WalkStep::stepAt, crate::specs::Entries::id_at, bits::specs::Pick::pick))]
-pub fn entry_at(page: &[u8], at: usize) -> Result<Option<WalkEntry>, Refusal>
+pub fn entry_at(page: &[u8], at: usize) -> Option<Result<WalkEntry, Refusal>>
     ensures { result ≡ stepAt page.now at }
 {
     if 508 <= at {
-        return Ok(None);
+        return None;
     }
     let id = bits::le16(page, at);
     if id == 0 {
-        return Ok(None);
+        return None;
     }
     if is_faulty(at, id) {
-        return Err(Refusal::PageDamaged);
+        return Some(Err(Refusal::PageDamaged));
     }
-    Ok(Some(WalkEntry {
+    Some(Ok(WalkEntry {
         id,
         start: at + 2,
         bytes: 2 * width_of(id),
@@ -77,7 +78,7 @@ pub fn entry_at(page: &[u8], at: usize) -> Result<Option<WalkEntry>, Refusal>
 }
 
 /// The walk keeps its page and its place together.
-#[derive(Clone, Copy, Debug)]
+#[derive(Debug, Drop)]
 pub struct Walk<'a> {
     pub page: &'a [u8],
     pub at: usize,
@@ -89,16 +90,23 @@ impl<'a> Walk<'a> {
     {
         Walk { page, at }
     }
+}
 
-    /// What stands at the walk's place; behind an entry it goes on.
+impl<'a> Iterator for Walk<'a> {
+    type Item = Result<WalkEntry, Refusal>;
+
+    ghost next_gives = { Stepped };
+
+    ghost remaining = { λ walk. at_most (508 - walk.at) };
+
+    // What stands at the walk's place. Behind an entry the walk goes on, and a fault ends it.
     #[tactic(auto, using(crate::proofs::Walking::end_within))]
-    pub fn step(&mut self) -> Result<Option<WalkEntry>, Refusal>
-        ensures { Stepped self.old result self.new }
-    {
+    fn next(&mut self) -> Option<Result<WalkEntry, Refusal>> {
         let entry = entry_at(self.page, self.at)?;
-        if let Some(entry) = entry {
-            self.at = entry.start + entry.bytes;
-        }
-        Ok(entry)
+        self.at = match entry {
+            Ok(entry) => entry.start + entry.bytes,
+            Err(_) => 508,
+        };
+        Some(entry)
     }
 }

@@ -8,6 +8,6 @@ mod rows;
 mod shown;
 mod writing;
 
-pub use rows::{id_of, is_kept, row_of};
+pub use rows::{Counters, ROWS, identifiers, is_kept, keeps_both, row_of};
 pub use shown::shown_at;
 pub use writing::write_counters;

@@ -2,8 +2,8 @@
 ghost use Rattle.std.specs.Prelude.{◌≡◌, ◌<◌};
 ghost use Rattle.page_rows.specs.Made11.{rowBytes, page11};
 
-use crate::rows::{id_of, is_kept};
-use page_sum::sum_byte;
+use crate::rows::{Counters, IDS, is_kept};
+use page_sum::PAGE_SIZE;
 
 // A row: 2000h + identifier, then the value. Width bits of 2 stand above the identifier's 12.
 #[tactic(auto, unfolding(crate::specs::Made11::rowBytes))]
@@ -16,20 +16,16 @@ fn row_bytes(id: u16, value: u32) -> [u8; 6]
     [i0, i1, v0, v1, v2, v3]
 }
 
-/// The page is filled in place, row by row, and its sum byte comes last. `at` is where the next kept row goes: only a
-/// kept row moves it, so that no iterator over the rows gives it.
-pub fn page11_bytes(mask: u16, values: [u32; 16]) -> [u8; 512]
-    ensures { result ≡ page11 mask values }
+/// The kept rows stand one behind the other from byte 4 on, and the sum byte comes last.
+pub fn page11_bytes(mask: u16, values: &Counters) -> [u8; PAGE_SIZE]
+    ensures { result ≡ page11 mask values.now }
 {
-    let mut page = [0u8; 512];
-    let mut at: usize = 4;
-    for row in 0..16 {
-        if is_kept(mask, row) {
-            let bytes = row_bytes(id_of(row), values[row]);
-            bits::lay(&mut page[at..], &bytes);
-            at += 6;
-        }
+    let mut page = [0u8; PAGE_SIZE];
+    let rows = IDS.iter().zip(values.iter()).enumerate();
+    let kept = rows.filter(|(row, _)| is_kept(mask, *row));
+    for (place, (_, (id, value))) in kept.enumerate() {
+        bits::lay(&mut page[4 + 6 * place..], &row_bytes(*id, *value));
     }
-    page[511] = sum_byte(&page);
+    page_sum::seal(&mut page);
     page
 }

@@ -1,19 +1,25 @@
 // The sixteen rows of page 11h: which identifier each has, and which are kept.
 ghost use Rattle.std.specs.Prelude.{◌≡◌};
-ghost use Rattle.page_rows.specs.Rows.{id_of, row_of, kept};
+ghost use Rattle.page_rows.specs.Rows.{ids, row_of, kept, keepsBoth};
+
+/// How many rows there are: a counter each.
+pub const ROWS: usize = 16;
+
+/// The values of the counters, in the order of the rows.
+pub type Counters = [u32; ROWS];
 
 // The identifiers, in the order of the rows.
-const IDS: [u16; 16] = [
+pub(crate) const IDS: [u16; ROWS] = [
     0x001, 0x002, 0x003, 0x004, 0x005, 0x006, 0x007, 0x008, 0x009, 0x00A, 0x00B, 0x00D, 0x00F,
     0x010, 0x012, 0x013,
 ];
 
-/// The identifier of a row, 0 to 15; from 16 on there is none, and it is 0.
+/// The identifiers of the sixteen rows, in their order.
 #[tactic(auto, unfolding(crate::specs::Rows::ids))]
-pub fn id_of(row: usize) -> u16
-    ensures { result ≡ id_of row }
+pub fn identifiers() -> [u16; ROWS]
+    ensures { result ≡ ids }
 {
-    if row < IDS.len() { IDS[row] } else { 0 }
+    IDS
 }
 
 /// The row of an identifier, 0 to 15, if it has one.
@@ -28,5 +34,12 @@ pub fn row_of(number: u16) -> Option<usize>
 pub fn is_kept(mask: u16, row: usize) -> bool
     ensures { result ≡ kept mask row }
 {
-    row < 16 && bits::bit(mask as u32, row as u32)
+    row < ROWS && bits::bit(u32::from(mask), row as u32)
+}
+
+/// Whether the mask keeps rows 0 and 9, which are always kept.
+pub fn keeps_both(mask: u16) -> bool
+    ensures { result ≡ keepsBoth mask }
+{
+    is_kept(mask, 0) && is_kept(mask, 9)
 }

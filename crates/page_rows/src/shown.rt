@@ -2,15 +2,15 @@
 ghost use Rattle.std.specs.Prelude.{◌≡◌};
 ghost use Rattle.page_rows.specs.Made11.{onRow};
 
-use crate::rows::is_kept;
+use crate::rows::{Counters, is_kept};
 
 /// The value that the page shows of a row; `None` for a row that is not kept, and where there is no row.
 #[tactic(auto, unfolding(crate::specs::Made11::onRow, bits::specs::Pick::pick))]
-pub fn shown_at(mask: u16, values: [u32; 16], row: Option<usize>) -> Option<u64>
-    ensures { result ≡ onRow mask values row }
+pub fn shown_at(mask: u16, values: &Counters, row: Option<usize>) -> Option<u64>
+    ensures { result ≡ onRow mask values.now row }
 {
     let row = row?;
-    if row < 16 && is_kept(mask, row) {
+    if is_kept(mask, row) {
         Some(values[row] as u64)
     } else {
         None

@@ -1,25 +1,17 @@
 // The writer of page 11h: the page in front of the buffer, or 25, or 26, and then no byte is changed.
-ghost use Rattle.std.specs.Prelude.{◌≡◌};
 ghost use Rattle.frame_parts.specs.Emit.{WriteGiven};
 ghost use Rattle.page_rows.specs.Rows.{keepsBoth};
 ghost use Rattle.page_rows.specs.Made11.{page11};
 
 use crate::made11::page11_bytes;
-use crate::rows::is_kept;
+use crate::rows::{Counters, keeps_both};
 use refusals::Refusal;
-
-// Rows 0 and 9 are always kept.
-fn keeps_both(mask: u16) -> bool
-    ensures { result ≡ keepsBoth mask }
-{
-    is_kept(mask, 0) && is_kept(mask, 9)
-}
 
 /// Writes page 11h of the counters to the front of `buf`: 512, the bytes written; `Unfit` where the mask does not keep
 /// rows 0 and 9, `BufferShort` where `buf` has no room, and then no byte is changed. Values of rows that the mask does
 /// not keep are not written.
-pub fn write_counters(buf: &mut [u8], mask: u16, values: [u32; 16]) -> Result<usize, Refusal>
-    ensures { WriteGiven (keepsBoth mask) (page11 mask values) buf.old result buf.new }
+pub fn write_counters(buf: &mut [u8], mask: u16, values: &Counters) -> Result<usize, Refusal>
+    ensures { WriteGiven (keepsBoth mask) (page11 mask values.now) buf.old result buf.new }
 {
     frame_parts::emit(buf, keeps_both(mask), &page11_bytes(mask, values), b"")
 }

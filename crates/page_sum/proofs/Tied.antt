@@ -1,8 +1,8 @@
 -- Each public function's own contract: what it says, and that two answers which it allows are equal. Assumes nothing.
-use Rattle.page_sum.specs.Sum.{sum256, sumByte}
+use Rattle.page_sum.specs.Sum.{sum256, sumByte, sealed}
 use mathlib.Core.Path.{◌≡◌, refl}
 use Rattle.bits.specs.Contract.{Tied}
-use Rattle.bits.proofs.Tying.{say, named}
+use Rattle.bits.proofs.Tying.{same, say, by, named}
 use Rattle.page_sum.proofs.sums
 use Rattle.page_sum.specs.contracts.sums as sums-said
 
@@ -11,3 +11,6 @@ tied-byte-sum = named (say (λ κs a. tt) (λ κs a r ws p. p)) (λ κs a ws ws'
 
 pub tied-sum-byte : Tied sums-said.sum_byte.ended sums.sum_byte.Reads.Asked sums.sum_byte.Reads.Post (λ κs a r ws. r ≡ sumByte a.0.now)
 tied-sum-byte = named (say (λ κs a. tt) (λ κs a r ws p. p)) (λ κs a ws ws'. refl)
+
+pub tied-seal : Tied sums-said.seal.ended sums.seal.Reads.Asked sums.seal.Reads.Post (λ κs a r ws. ws.0 ≡ sealed a.0.now)
+tied-seal = by (say (λ κs a. tt) (λ κs a r ws p. p)) (λ κs a r r' ws ws' p q. (refl, λ i. (same p q i, tt)))

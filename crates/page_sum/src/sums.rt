@@ -1,17 +1,15 @@
 // The sum of a page's bytes.
 ghost use Rattle.std.specs.Prelude.{◌≡◌};
-ghost use Rattle.page_sum.specs.Sum.{sum256, sumByte};
+ghost use Rattle.page_sum.specs.Sum.{sum256, sumByte, sealed};
+
+use crate::PAGE_SIZE;
 
 /// The sum of all bytes, modulo 256.
-#[tactic(auto, unfolding(crate::specs::Sum::sum256), using(std::proofs::lemmas::List::Sums::sum_by_more))]
+#[tactic(auto, unfolding(crate::specs::Sum::sum256))]
 pub fn byte_sum(bytes: &[u8]) -> u8
     ensures { result ≡ sum256 bytes.now }
 {
-    let mut sum: u8 = 0;
-    for byte in bytes {
-        sum = sum.wrapping_add(*byte);
-    }
-    sum
+    bytes.iter().fold(0, |sum, &byte| sum.wrapping_add(byte))
 }
 
 /// The byte that is missing to a sum of 0 modulo 256.
@@ -19,4 +17,12 @@ pub fn sum_byte(bytes: &[u8]) -> u8
     ensures { result ≡ sumByte bytes.now }
 {
     byte_sum(bytes).wrapping_neg()
+}
+
+/// Sets the last byte of a page, which is still 0, so that all its bytes sum to 0 modulo 256.
+#[tactic(auto, unfolding(crate::specs::Sum::sealed))]
+pub fn seal(page: &mut [u8; PAGE_SIZE])
+    ensures { page.new ≡ sealed page.old }
+{
+    page[PAGE_SIZE - 1] = sum_byte(page);
 }

@@ -1,8 +1,10 @@
 -- The sixteen numbers of page 11h, asked one after the other. Assumes nothing.
-use Rattle.std.proofs.Common.{◌≡◌, ℕ, ◌+◌, ◌<◌, ◌≤◌, List, [], ◌∷◌, ◌++◌, length, drop, refl, sym, ap, ◌∙◌, append_assoc, append-nil, add-one, drop-cons, Option, Result, Ok, Err}
+use Rattle.std.proofs.Common.{◌≡◌, ℕ, ◌+◌, ◌<◌, ◌≤◌, List, [], ◌∷◌, ◌++◌, length, drop, take, map, set, get_or, None, arith, refl, sym, ap, ◌∙◌, append_assoc, append-nil, add-one, drop-cons, Option, Result, Ok, Err}
 use lib.ListN.{drop_of_length-le}
+use lib.Seq.{map-set_same, take_all}
+use Rattle.std.proofs.lemmas.List.{take_more_set, get_or-map, length-map, ext_get_or}
 use Rattle.refusals.specs.declared.reasons.Refusal.{Refusal}
-use Rattle.page_rows.specs.Rows.{ids, id_of}
+use Rattle.page_rows.specs.Rows.{ids}
 use Rattle.page_11h.specs.Page11.{readCounter}
 use Rattle.page_11h.specs.declared.value.CounterValue.{CounterValue}
 use Rattle.page_text.specs.Counters.{Counter, in_front, counters_in}
@@ -11,7 +13,8 @@ pub length_ids : length ids ≡ 16
 unfolding ids
 length_ids = refl
 
--- what was read so far, in front of what is read of the rest
+-- ---- what was read so far, in front of what is read of the rest
+
 abbrev pub behind : List Counter → Result (List Counter) Refusal → Result (List Counter) Refusal
 behind read (Ok more) = Ok (read ++ more)
 behind read (Err refusal) = Err refusal
@@ -20,30 +23,54 @@ behind-nil : (r : Result (List Counter) Refusal) → behind [] r ≡ r
 behind-nil (Ok more) = refl
 behind-nil (Err refusal) = refl
 
-pub behind-none : (page : List ℕ) → counters_in page ids ≡ behind [] (counters_in page (drop 0 ids))
-behind-none page = sym (behind-nil (counters_in page ids))
-
 behind-one : (read : List Counter) (number : ℕ) (counter : Option CounterValue) (r : Result (List Counter) Refusal) → behind read (in_front number (Ok counter) r) ≡ behind (read ++ (number, counter) ∷ []) r
 behind-one read number counter (Ok more) = ap Ok (sym (append_assoc read ((number, counter) ∷ []) more))
 behind-one read number counter (Err refusal) = refl
 
--- the numbers from a row on: number is the row's own
-module _ (page : List ℕ) (row : ℕ) (h : row < 16) (number : ℕ) (i : number ≡ id_of row) where
-  rest : counters_in page (drop row ids) ≡ in_front number (readCounter page number) (counters_in page (drop (row + 1) ids))
+-- ---- the counters, each with its number, of which the first are read
+
+abbrev number_of : Counter → ℕ
+number_of counter = counter.0
+
+-- the first n are read, and what the page says of all is these in front of what it says of the rest
+pub record Reads (page : List ℕ) (counters : List Counter) (n : ℕ) : Type 0 where
+  pub numbers : map number_of counters ≡ ids
+  pub read : counters_in page ids ≡ behind (take n counters) (counters_in page (drop n ids))
+
+-- none is read yet
+pub reads-none : (page : List ℕ) (counters : List Counter) → length counters ≡ 16 → ((i : ℕ) → i < 16 → (get_or counters i (0, None)).0 ≡ get_or ids i 0) → Reads page counters 0
+reads-none page counters l h = record {
+  numbers = ext_get_or 0 (map number_of counters) ids (length-map counters number_of ∙ l ∙ sym length_ids) (λ i k. let k' : i < 16 = omega (arith, k, length-map counters number_of, l) in get_or-map number_of counters i (0, None) 0 (rw l k') ∙ h i k');
+  read = sym (behind-nil (counters_in page ids));
+}
+
+module _ {page : List ℕ} {counters : List Counter} {n : ℕ} (s : Reads page counters n) where
+  length-read : length counters ≡ 16
+  length-read = sym (length-map counters number_of) ∙ ap length s.numbers ∙ length_ids
+
+  -- all are read
+  pub reads-all : 16 ≤ n → counters_in page ids ≡ Ok counters
   unfolding counters_in
-  rest = rw (add-one row, drop-cons ids row 0 (rw length_ids h), i) refl
+  reads-all h =
+      let d : drop n ids ≡ [] = drop_of_length-le ids {i = n} (rw length_ids h) in
+      s.read ∙ rw (d, take_all n counters (rw length-read h)) (ap Ok (append-nil counters))
 
-  -- it is read
-  pub rest-read : (read : List Counter) (r : Result (Option CounterValue) Refusal) (counter : Option CounterValue) → r ≡ readCounter page number → r ≡ Ok counter
-      → behind read (counters_in page (drop row ids)) ≡ behind (read ++ (number, counter) ∷ []) (counters_in page (drop (row + 1) ids))
-  rest-read read r counter e o = ap (behind read) (rest ∙ ap (λ a. in_front number a (counters_in page (drop (row + 1) ids))) (sym e ∙ o)) ∙ behind-one read number counter _
+  module _ (h : n < 16) (r : Result (Option CounterValue) Refusal) (e : r ≡ readCounter page (get_or counters n (0, None)).0) where
+    number-here : (get_or counters n (0, None)).0 ≡ get_or ids n 0
+    number-here = sym (get_or-map number_of counters n (0, None) 0 (rw length-read h)) ∙ ap (λ numbers. get_or numbers n 0) s.numbers
 
-  -- it is refused
-  pub rest-refused : (read : List Counter) (r : Result (Option CounterValue) Refusal) (refusal : Refusal) → r ≡ readCounter page number → r ≡ Err refusal
-      → behind read (counters_in page (drop row ids)) ≡ Err refusal
-  rest-refused read r refusal e o = ap (behind read) (rest ∙ ap (λ a. in_front number a (counters_in page (drop (row + 1) ids))) (sym e ∙ o))
+    -- the numbers from here on
+    rest : counters_in page (drop n ids) ≡ in_front (get_or counters n (0, None)).0 r (counters_in page (drop (n + 1) ids))
+    unfolding counters_in
+    rest = rw (drop-cons ids n 0 (rw length_ids h), e, number-here, add-one n) refl
 
--- all are read
-pub rest-done : (page : List ℕ) (row : ℕ) (read : List Counter) → 16 ≤ row → behind read (counters_in page (drop row ids)) ≡ Ok read
-unfolding counters_in
-rest-done page row read h = rw (drop_of_length-le ids {i = row} (rw length_ids h)) (ap Ok (append-nil read))
+    -- it is refused
+    pub reads-refused : (refusal : Refusal) → r ≡ Err refusal → counters_in page ids ≡ Err refusal
+    reads-refused refusal o = s.read ∙ rw (rest, o) refl
+
+    -- it is read
+    pub reads-one : (counter : Option CounterValue) → r ≡ Ok counter → Reads page (set counters n ((get_or counters n (0, None)).0, counter)) (n + 1)
+    reads-one counter o = record {
+      numbers = map-set_same number_of counters n _ (0, None) refl ∙ s.numbers;
+      read = s.read ∙ rw (rest, o, take_more_set counters n ((get_or counters n (0, None)).0, counter) (rw length-read h)) (behind-one (take n counters) (get_or counters n (0, None)).0 counter _);
+    }

@@ -6,12 +6,13 @@ ghost use Rattle.page_text.specs.Counters.{counters_in, shown_text, lines_text, 
 
 use crate::words::write_refusal;
 use page_11h::CounterValue;
+use page_rows::ROWS;
 use refusals::Refusal;
 use std::io::Write;
 use std::{fmt, io};
 
 // What a page says of a counter that it was asked for.
-#[derive(Clone, Copy)]
+#[derive(Clone, Copy, Debug, PartialEq, Eq)]
 struct Shown(Option<CounterValue>);
 
 impl fmt::Display for Shown {
@@ -28,13 +29,12 @@ impl fmt::Display for Shown {
 }
 
 // What the page says of each of the sixteen numbers, unless it refuses one: such a page is an unread page.
-fn read_counters(page: &[u8]) -> Result<[(u16, Option<CounterValue>); 16], Refusal>
+fn read_counters(page: &[u8]) -> Result<[(u16, Option<CounterValue>); ROWS], Refusal>
     ensures { result ≡ counters_in page.now ids }
 {
-    let mut counters = [(0, None); 16];
-    for row in 0..16 {
-        let number = page_rows::id_of(row);
-        counters[row] = (number, page_11h::read_counter(page, number)?);
+    let mut counters = page_rows::identifiers().map(|number| (number, None));
+    for (number, counter) in &mut counters {
+        *counter = page_11h::read_counter(page, *number)?;
     }
     Ok(counters)
 }

@@ -10,5 +10,5 @@ use std::io::Write;
 pub(crate) fn write_refusal<W: Write>(out: &mut W, refusal: Refusal) -> io::Result<()>
     ensures { OnOk result (Appends (W.contents out.old) (W.contents out.new) (refusal_text refusal)) }
 {
-    writeln!(out, "refused {}", refusal.number())
+    writeln!(out, "refused {refusal}")
 }

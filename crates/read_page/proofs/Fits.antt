@@ -2,12 +2,12 @@
 use Rattle.std.proofs.Common.{ℕ, ◌≤◌, List, length, arith}
 use Rattle.bits.specs.Little.{Bytes}
 use Rattle.page_text.proofs.Longest.{fields-most, counters-most}
-use Rattle.read_page.specs.declared.Page.{Page}
-use Rattle.read_page.specs.declared.Page.TheVariants.{Errors, Counters}
+use Rattle.frame_parts.specs.declared.log_pages.LogPage.{LogPage}
+use Rattle.frame_parts.specs.declared.log_pages.LogPage.TheVariants.{Errors, Counters}
 use Rattle.read_page.specs.Told.{text_of}
 
 -- `Bytes page` is what the type of a page gives
-pub text-most : (which : Page) (page : List ℕ) → Bytes page → length (text_of which page) ≤ 1024
+pub text-most : (which : LogPage) (page : List ℕ) → Bytes page → length (text_of which page) ≤ 1024
 unfolding text_of
 text-most Errors page bytes = omega (arith, fields-most page bytes)
 text-most Counters page bytes = omega (arith, counters-most page bytes)

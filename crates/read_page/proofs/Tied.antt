@@ -5,20 +5,12 @@ use denote.Param.Laws.{Laws}
 use denote.RattleType.{RattleType}
 use mir.Syntax.{Dict}
 use Rattle.bits.specs.Contract.{SaysOver}
-use Rattle.std.specs.Prelude.{OnOk, IfOk}
-use Rattle.std.specs.Io.KnownBytes.{Appends}
+use Rattle.std.specs.Prelude.{IfOk}
 use Rattle.std.specs.declared.io.traits.Read as Reader
 use Rattle.std.specs.declared.io.traits.Write as Writer
-use Rattle.read_page.specs.Told.{page_named, complaint, Ran}
+use Rattle.read_page.specs.Told.{page_named, Ran}
 use Rattle.read_page.proofs as program
-use Rattle.read_page.proofs.output
 use Rattle.read_page.specs.contracts as program-said
-use Rattle.read_page.specs.contracts.output as output-said
-
-pub tied-complain : (W : RattleType) (l : Laws W) (g : Writer.Ghosts W.Denot) (d : Dict)
-    → SaysOver (output-said.complain.ended W g d) (λ κs a. (x : ℕ) → Mem x W.lives → Mem x κs.1.0) (output.complain.Reads.Asked W l g d) (output.complain.Reads.Post W l g d)
-    (λ κs a r ws. OnOk r (Appends (g.contents a.0.now) (g.contents ws.0) complaint))
-tied-complain W l g d = record { free = λ κs a h. h; says = λ κs a r ws p. p }
 
 -- the whole run: all that it wrote, and what it complained of, by what it read and by the word
 pub tied-run : (R W E : RattleType) (l : Laws R) (m : Laws W) (n : Laws E) (g : Reader.Ghosts R.Denot) (d : Dict) (h : Writer.Ghosts W.Denot) (e : Dict) (i : Writer.Ghosts E.Denot) (j : Dict)

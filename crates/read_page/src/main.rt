@@ -8,14 +8,12 @@ ghost use Rattle.std.specs.Io.KnownBytes.{Appends};
 ghost use Rattle.streams.specs.Fronts.{AppendsFront};
 ghost use Rattle.read_page.specs.Told.{text_of, page_named, Writes, WritesFront, Ran};
 
-mod output;
-
-use output::complain;
+use frame_parts::LogPage;
 use std::alloc::Global;
 use std::io;
 use std::io::{Read, Write};
 use std::rt::Env;
-use streams::put;
+use streams::{complain, put};
 
 // What was written: a page's text, that a read failed, or the question which page; or not all of it, and that was told.
 #[derive(Clone, Copy, Debug, PartialEq, Eq)]
@@ -26,24 +24,18 @@ enum Told {
     Lost,
 }
 
-#[derive(Clone, Copy, Debug, PartialEq, Eq)]
-enum Page {
-    Errors,
-    Counters,
-}
-
 #[tactic(auto, unfolding(crate::specs::Told::text_of))]
-fn write_page<W: Write>(out: &mut W, which: Page, page: &[u8]) -> io::Result<()>
+fn write_page<W: Write>(out: &mut W, which: LogPage, page: &[u8]) -> io::Result<()>
     ensures { OnOk result (Appends (W.contents out.old) (W.contents out.new) (text_of which page.now)) }
 {
     match which {
-        Page::Errors => page_text::write_fields(out, page),
-        Page::Counters => page_text::write_counters(out, page),
+        LogPage::Errors => page_text::write_fields(out, page),
+        LogPage::Counters => page_text::write_counters(out, page),
     }
 }
 
 // The text is put together before the first write, which so knows a front of it from all.
-fn show_page<W: Write>(alloc: Global, out: &mut W, which: Page, page: &[u8]) -> io::Result<()>
+fn show_page<W: Write>(alloc: Global, out: &mut W, which: LogPage, page: &[u8]) -> io::Result<()>
     ensures ok { OnOk result (Appends (W.contents out.old) (W.contents out.new) (text_of which page.now)) }
     ensures err { OnErr result (AppendsFront (W.contents out.old) (W.contents out.new) (text_of which page.now)) }
 {
@@ -52,13 +44,13 @@ fn show_page<W: Write>(alloc: Global, out: &mut W, which: Page, page: &[u8]) -> 
     put(out, &text)
 }
 
-// Of a page that is not 512 bytes long one byte more shows that it is too long. A read that fails is told from an end:
+// One byte more than 512 shows that a page is too long. A read that fails is told from an end:
 // what it keeps from us may be the rest of the page.
 fn answer_page<R: Read, W: Write>(
     alloc: Global,
     reader: &mut R,
     out: &mut W,
-    which: Page,
+    which: LogPage,
 ) -> io::Result<Told>
     ensures ok { IfOk result (λ told. Writes (Some which) (R.remaining reader.old) (W.contents out.old) (W.contents out.new) told) }
     ensures err { OnErr result (WritesFront (Some which) (R.remaining reader.old) (W.contents out.old) (W.contents out.new)) }
@@ -72,16 +64,14 @@ fn answer_page<R: Read, W: Write>(
     Ok(Told::Text)
 }
 
-fn page_named(word: &[u8]) -> Option<Page>
+fn page_named(word: &[u8]) -> Option<LogPage>
     ensures { result ≡ page_named word.now }
 {
-    if word == b"10".as_slice() {
-        return Some(Page::Errors);
+    match word {
+        b"10" => Some(LogPage::Errors),
+        b"11" => Some(LogPage::Counters),
+        _ => None,
     }
-    if word == b"11".as_slice() {
-        return Some(Page::Counters);
-    }
-    None
 }
 
 // The word is looked at before anything is read: without a page's name nobody waits for one. The one error is of a write.

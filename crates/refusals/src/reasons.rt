@@ -1,6 +1,8 @@
 // Why a call, a reader or a writer turns down what it is handed.
-ghost use Rattle.std.specs.Prelude.{◌≡◌};
+ghost use Rattle.std.specs.Prelude.{◌≡◌, Some, decimal};
 ghost use Rattle.refusals.specs.Number.{number, number_told};
+
+use std::fmt;
 
 /// Why something is turned down; its discriminant is the number that is told.
 #[derive(Clone, Copy, Debug, PartialEq, Eq)]
@@ -63,5 +65,14 @@ impl Refusal {
             Some(refusal) => refusal.number(),
             None => 0,
         }
+    }
+}
+
+/// A refusal is printed as its number, in decimal.
+impl fmt::Display for Refusal {
+    ghost output = { λ r. Some (decimal (number r)) };
+
+    fn fmt<W: fmt::Write>(&self, f: &mut fmt::Formatter<W>) -> fmt::Result {
+        write!(f, "{}", self.number())
     }
 }

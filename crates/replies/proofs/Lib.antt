@@ -1,4 +1,5 @@
 pub mod Sending
+pub mod Room
 pub mod Fit
 pub mod Fits
 pub mod Repeats

@@ -1,7 +1,8 @@
 -- A device register reply repeats bytes 4-10 and 12-13 of the command. Assumes nothing.
 use mathlib.Core.Path.{◌≡◌, refl, ap}
-use mathlib.Core.Bool.{Bool, true}
+use mathlib.Core.Bool.{true}
 use mathlib.Core.List.{List, [], ◌∷◌}
+use Rattle.std.proofs.Common.{Option}
 use Prim.Native.Nat.{ℕ}
 use Rattle.frame_parts.specs.Shared.{taskFits}
 use Rattle.frame_parts.specs.declared.shared.Task.{Task}
@@ -23,9 +24,9 @@ module _ (s : Shown) (part : List ℕ) (h : HostReg) where
   bad-repeats e = refl
 
   -- bad with a halt
-  pub fault-repeats : (nq : Bool) (t e : ℕ) → taskFits h.task ≡ true → repliesOf s part (fault h nq t e) ≡ badReply e h.task ∷ []
+  pub fault-repeats : (t : Option ℕ) (e : ℕ) → taskFits h.task ≡ true → repliesOf s part (fault h t e) ≡ badReply e h.task ∷ []
   unfolding repliesOf
-  fault-repeats nq t e f = ap (λ (x : Task). one (badReply e x)) (echo-task h.task f)
+  fault-repeats t e f = ap (λ (x : Task). one (badReply e x)) (echo-task h.task f)
 
   -- good
   pub accept-repeats : taskFits h.task ≡ true → repliesOf s part (Accept (record { tag = tagAsked h; entry = entryFor h })) ≡ good h.task ∷ []

@@ -1,32 +1,26 @@
 -- Laws of frames sent one behind the other. Assumes nothing.
 use mathlib.Core.Path.{◌≡◌, refl, sym, ap, ap₂, ◌∙◌}
-use mathlib.Core.Bool.{Bool, true, false, ◌&&◌}
+use mathlib.Core.Bool.{Bool, true, false, true≢false}
 use mathlib.Core.List.{List, [], ◌∷◌, ◌++◌, append-nil, append_assoc}
-use Prim.Native.Nat.{ℕ, ◌+◌, ◌-◌, ◌%◌, ◌≤◌, ◌<◌}
-use lib.Dec.{leb, eqb}
-use borrow.Author.Tests.{lt-leb}
+use Prim.Native.Nat.{ℕ, ◌+◌, ◌-◌, ◌≤◌}
 use native.Mathlib.Omega.{arith}
 use borrow.Rule.Slice.PartMut.{mid_of, put_mid}
-use lib.ListN.{length, take, drop, length-append}
-use lib.Seq.{take_at}
-use Rattle.std.specs.Prelude.{Result, Err}
+use lib.ListN.{length, take, drop, length-append, length-drop, drop_of_length-le}
+use lib.Seq.{length-take-le}
+use Rattle.std.specs.Prelude.{Result, Ok, Err, IsErr}
 use Rattle.std.specs.Result.{result_unwrap_or}
 use Rattle.refusals.specs.declared.reasons.Refusal.{Refusal}
 use Rattle.refusals.specs.declared.reasons.Refusal.TheVariants.{Unfit}
 use Rattle.bits.specs.Pick.{pick}
 use Rattle.bits.specs.Laid.{laid}
-use Rattle.bits.proofs.Picks.{by-test}
-use Rattle.bits.proofs.Fronts.{laid_next}
+use Rattle.bits.proofs.Picks.{pick_yes, by-test}
+use Rattle.bits.proofs.Fronts.{laid_next, rest_part, rest_put}
 use Rattle.frame_parts.specs.Cut.{joined}
 use Rattle.frame_parts.specs.Emit.{WriteGiven}
-use Rattle.frame_parts.proofs.EmitLaws.{write_refusal-unfit, wrote-room}
-use Rattle.frame_parts.specs.Shared.{registerBytes}
-use Rattle.frames.specs.Write.{FrameValue, activate, setBits, setup, payload, bitsBytes, setupBytes, encode, fits, FrameWriteGiven}
-use Rattle.frame_parts.specs.declared.shared.Task.{Task}
-use Rattle.frame_parts.specs.Size.{payloadSize}
-use Rattle.frames.specs.declared.shapes.SetBits.{SetBits}
-use Rattle.frames.specs.declared.shapes.DmaSetup.{DmaSetup}
-use Rattle.replies.specs.Replies.{register, pioReply, sweep, sentBytes, sentAll, RepliesGiven}
+use Rattle.frame_parts.proofs.EmitLaws.{write_refusal-unfit, wrote-all, wrote-room}
+use Rattle.frames.specs.Write.{FrameValue, encode, fits, FrameWriteGiven}
+use Rattle.replies.specs.Replies.{sentBytes, sentAll, RepliesGiven}
+use Rattle.replies.specs.Sends.{Sends}
 
 -- nothing sent
 pub sends_none : (d : List ℕ) → RepliesGiven [] d 0 d
@@ -34,16 +28,30 @@ unfolding sentAll joined
 sends_none d = record { len = refl; bytes = refl }
 
 -- the bytes of one frame
-sent-one : (f : FrameValue) → sentAll (f ∷ []) ≡ sentBytes f
+pub sent-one : (f : FrameValue) → sentAll (f ∷ []) ≡ sentBytes f
 unfolding sentAll joined
 sent-one f = append-nil (sentBytes f)
 
+-- one list of frames behind another
+sent-append : (fs gs : List FrameValue) → sentAll (fs ++ gs) ≡ sentAll fs ++ sentAll gs
+unfolding sentAll joined
+sent-append [] gs = refl
+sent-append (f ∷ fs) gs = ap (λ (x : List ℕ). sentBytes f ++ x) (sent-append fs gs) ∙ sym (append_assoc (sentBytes f) (sentAll fs) (sentAll gs))
+
+pub length-sent : (fs gs : List FrameValue) → length (sentAll (fs ++ gs)) ≡ length (sentAll fs) + length (sentAll gs)
+length-sent fs gs = ap length (sent-append fs gs) ∙ length-append (sentAll fs) (sentAll gs)
+
 -- how many bytes a writer sent: none where it turned its values down
-abbrev sent : Result ℕ Refusal → ℕ
+abbrev pub sent : Result ℕ Refusal → ℕ
 sent r = result_unwrap_or r 0
 
--- a writer that has room sends its frame if that fits, and else nothing
-one-fit : (b : Bool) (s d : List ℕ) (r : Result ℕ Refusal) (d' : List ℕ) → WriteGiven b s d r d' → length s ≤ length d → (sent r ≡ length (pick b s [])) × (d' ≡ laid (pick b s []) d)
+-- they are in the room that it was lent
+sent-within : (b : Bool) (s d : List ℕ) (r : Result ℕ Refusal) (d' : List ℕ) → WriteGiven b s d r d' → sent r ≤ length d
+sent-within b s d (Ok k) d' w = let a = wrote-all b s d k d' w in omega (arith, a.1, a.2)
+sent-within b s d (Err e) d' w = omega arith
+
+-- a writer sends its frame if that fits, and else nothing
+one-fit : (b : Bool) (s d : List ℕ) (r : Result ℕ Refusal) (d' : List ℕ) → WriteGiven b s d r d' → length (pick b s []) ≤ length d → (sent r ≡ length (pick b s [])) × (d' ≡ laid (pick b s []) d)
 unfolding pick
 one-fit true s d r d' w h = let a = wrote-room true s d r d' w refl h in (ap sent a.0, a.1)
 one-fit false s d r d' w h =
@@ -51,17 +59,11 @@ one-fit false s d r d' w h =
     let e : r ≡ Err Unfit = w.answer ∙ rw n in
     (ap sent e, w.bytes ∙ rw n)
 
-pub sends-one : (f : FrameValue) (d : List ℕ) (r : Result ℕ Refusal) (n : ℕ) (d' : List ℕ) → FrameWriteGiven f d r d' → n ≡ sent r → length (encode f) ≤ length d → RepliesGiven (f ∷ []) d n d'
+pub sends-one : (f : FrameValue) (d : List ℕ) (r : Result ℕ Refusal) (n : ℕ) (d' : List ℕ) → FrameWriteGiven f d r d' → n ≡ sent r → length (sentBytes f) ≤ length d → RepliesGiven (f ∷ []) d n d'
 unfolding sentBytes
 sends-one f d r n d' w e h =
     let a = one-fit (fits f) (encode f) d r d' w h in
     record { len = e ∙ a.0 ∙ sym (ap length (sent-one f)); bytes = a.1 ∙ sym (ap (λ (s : List ℕ). laid s d) (sent-one f)) }
-
--- one list of frames behind another
-sent-append : (fs gs : List FrameValue) → sentAll (fs ++ gs) ≡ sentAll fs ++ sentAll gs
-unfolding sentAll joined
-sent-append [] gs = refl
-sent-append (f ∷ fs) gs = ap (λ (x : List ℕ). sentBytes f ++ x) (sent-append fs gs) ∙ sym (append_assoc (sentBytes f) (sentAll fs) (sentAll gs))
 
 -- the second writer was lent the room that the first one left
 pub sends-next : (fs gs : List FrameValue) (d xs ys : List ℕ) (n m : ℕ) → RepliesGiven fs d n xs → RepliesGiven gs (mid_of n (length xs - n) xs) m ys
@@ -71,62 +73,76 @@ sends-next fs gs d xs ys n m a b = record {
   bytes = laid_next n (sentAll fs) (sentAll gs) d xs ys (sym a.len) a.bytes b.bytes ∙ sym (ap (λ (s : List ℕ). laid s d) (sent-append fs gs));
 }
 
--- and no more than its length
-picked-short : (b : Bool) (s : List ℕ) → length (pick b s []) ≤ length s
-picked-short b s = by-test (λ (t : List ℕ). length t ≤ length s) b s [] (λ _. omega arith) (λ _. omega arith)
+-- the room that is left behind what was sent
+room-left : (n : ℕ) (xs : List ℕ) → length (mid_of n (length xs - n) xs) ≡ length xs - n
+room-left n xs = ap length (rest_part n xs) ∙ length-drop n xs
 
-pub one-most : (f : FrameValue) (d : List ℕ) (r : Result ℕ Refusal) (n : ℕ) (d' : List ℕ) → FrameWriteGiven f d r d' → n ≡ sent r → length (encode f) ≤ length d → n ≤ length (encode f)
-one-most f d r n d' w e h =
-    let a = (one-fit (fits f) (encode f) d r d' w h).0 in
-    let b = picked-short (fits f) (encode f) in
-    omega arith
+pub room-after : (fs : List FrameValue) (d xs : List ℕ) (n : ℕ) → RepliesGiven fs d n xs → length (sentAll fs) ≤ length d → length (mid_of n (length xs - n) xs) + n ≡ length d
+room-after fs d xs n g h =
+    let l : length xs ≡ length (sentAll fs) + length (drop (length (sentAll fs)) d) = ap length g.bytes ∙ length-append (sentAll fs) (drop (length (sentAll fs)) d) in
+    omega (arith, l, length-drop (length (sentAll fs)) d, g.len, room-left n xs)
 
--- how long the replies are
-pub length-register : (i : Bool) (status error : ℕ) (task : Task) → length (encode (register i status error task)) ≡ 20
-unfolding encode registerBytes
-length-register i status error task = refl
+-- no frame
+pub sends-nothing : (n : ℕ) (d : List ℕ) → Sends [] n d n d
+sends-nothing n d = record { behind = λ before empty h g. rw (append-nil before) g }
 
-pub length-pio : (task : Task) → length (encode (pioReply task)) ≡ 20
-unfolding encode registerBytes
-length-pio task = refl
+-- a frame that is sent on a condition: where it holds, and where it does not
+pub sends-if : {on : Bool} {f : FrameValue} {n n' : ℕ} {d d' : List ℕ} → on ≡ true → Sends (f ∷ []) n d n' d' → Sends (pick on (f ∷ []) []) n d n' d'
+unfolding pick
+sends-if e s = rw e s
 
-pub length-sweep : length (encode sweep) ≡ 8
-unfolding encode bitsBytes
-length-sweep = refl
+pub sends-unless : {on : Bool} {n : ℕ} {d : List ℕ} (f : FrameValue) → on ≡ false → Sends (pick on (f ∷ []) []) n d n d
+unfolding pick
+sends-unless {n = n} {d = d} f e = rw e (sends-nothing n d)
 
-pub length-activate : length (encode activate) ≡ 4
-unfolding encode
-length-activate = refl
+-- one frame, written into the room that is left
+module _ (f : FrameValue) (n : ℕ) (xs : List ℕ) (r : Result ℕ Refusal) (m : ℕ) (ys : List ℕ) where
+  abbrev room : List ℕ
+  room = mid_of n (length xs - n) xs
 
-pub length-setup : (f : DmaSetup) → length (encode (setup f)) ≡ 28
-unfolding encode setupBytes
-length-setup f = refl
+  pub sends-put : FrameWriteGiven f room r ys → m ≡ sent r → Sends (f ∷ []) n xs (n + m) (put_mid n (length xs - n) xs ys)
+  sends-put w e = record {
+    behind = λ before empty h g.
+        let l = length-sent before (f ∷ []) in
+        let one : length (sentAll (f ∷ [])) ≡ length (sentBytes f) = ap length (sent-one f) in
+        let left = room-after before empty xs n g (omega (arith, l)) in
+        sends-next before (f ∷ []) empty xs ys n m g (sends-one f room r m ys w e (omega (arith, l, one, left, g.len)));
+  }
 
-pub length-bits : (f : SetBits) → length (encode (setBits f)) ≡ 8
-unfolding encode bitsBytes
-length-bits f = refl
+  -- it ends where the buffer does, at the most
+  pub put-within : FrameWriteGiven f room r ys → m ≡ sent r → n ≤ length xs → n + m ≤ length xs
+  put-within w e h = omega (arith, sent-within (fits f) (encode f) room r ys w, room-left n xs)
 
-and-never : (a b : Bool) → (a && false) && b ≡ false
-and-never true b = refl
-and-never false b = refl
+  -- and the buffer stays as long as it was
+  pub put-inside : FrameWriteGiven f room r ys → m ≡ sent r → length ys ≡ length room → n ≤ length xs → n + m ≤ length (put_mid n (length xs - n) xs ys)
+  put-inside w e k h =
+      rw (ap length (rest_put n xs ys), length-append (take n xs) ys) (omega (arith, put-within w e h, length-take-le n xs h, k, room-left n xs))
 
--- a payload that is too long is not sent
-pub sends-long : (p d : List ℕ) → 8192 < length p → RepliesGiven (payload p ∷ []) d 0 d
-unfolding sentAll sentBytes joined fits pick
-sends-long p d h = let z : payloadSize (length p) ≡ false = rw (lt-leb (length p) 8192 h) (and-never (leb 4 (length p)) (eqb (length p % 4) 0)) in record { len = rw z; bytes = rw z }
+-- one list of frames, and then another
+pub sends-then : {fs gs : List FrameValue} {n n' n'' : ℕ} {d d' d'' : List ℕ} → Sends fs n d n' d' → Sends gs n' d' n'' d'' → Sends (fs ++ gs) n d n'' d''
+sends-then {fs} {gs} a b = record {
+  behind = λ before empty h g.
+      let e = append_assoc before fs gs in
+      let all : length (sentAll ((before ++ fs) ++ gs)) ≤ length empty = rw e h in
+      rw e at (b.behind (before ++ fs) empty all (a.behind before empty (omega (arith, all, length-sent (before ++ fs) gs)) g));
+}
 
--- three in a row
-pub sends-three : (a b c : List FrameValue) (d : List ℕ) (n : ℕ) (d' : List ℕ) → RepliesGiven ((a ++ b) ++ c) d n d' → RepliesGiven (a ++ (b ++ c)) d n d'
-sends-three a b c d n d' s = rw (append_assoc a b c) at s
+-- what was sent into a buffer that nothing was sent into before
+pub sends-all : (fs : List FrameValue) (d : List ℕ) (n : ℕ) (d' : List ℕ) → Sends fs 0 d n d' → length (sentAll fs) ≤ length d → RepliesGiven fs d n d'
+sends-all fs d n d' s h = s.behind [] d h (sends_none d)
 
--- a page that was written into room enough is all that its length names
-pub page-taken : (b : Bool) (s d : List ℕ) (r : Result ℕ Refusal) (n : ℕ) (d' : List ℕ) → WriteGiven b s d r d' → n ≡ sent r → length s ≤ length d → take n d' ≡ pick b s []
-page-taken b s d r n d' w e h =
-    let a = one-fit b s d r d' w h in
-    rw (e, a.0, a.1) (take_at (pick b s []) (drop (length (pick b s [])) d) (length (pick b s [])) refl)
+-- what was turned down has no bytes
+pub refused-empty : (r : Result (List ℕ) Refusal) → IsErr r → result_unwrap_or r [] ≡ []
+refused-empty (Ok p) h = absurd (true≢false (sym h))
+refused-empty (Err e) h = refl
 
-pub page-most : (b : Bool) (s d : List ℕ) (r : Result ℕ Refusal) (n : ℕ) (d' : List ℕ) → WriteGiven b s d r d' → n ≡ sent r → length s ≤ length d → n ≤ length s
-page-most b s d r n d' w e h =
-    let a = (one-fit b s d r d' w h).0 in
-    let p = picked-short b s in
-    omega arith
+-- a page that its writer wrote over all of the room, and one that it turned down
+module _ (b : Bool) (s d : List ℕ) (d' : List ℕ) (h : length s ≡ length d) where
+  pub page-written : (k : ℕ) → WriteGiven b s d (Ok k) d' → d' ≡ pick b s []
+  page-written k w =
+      let a = wrote-all b s d k d' w in
+      a.3 ∙ ap (λ (x : List ℕ). s ++ x) (drop_of_length-le d (omega arith)) ∙ append-nil s ∙ sym (pick_yes b s [] a.0)
+
+  pub page-refused : (e : Refusal) → WriteGiven b s d (Err e) d' → [] ≡ pick b s []
+  page-refused e w =
+      by-test (λ (x : List ℕ). [] ≡ x) b s [] (λ (t : b ≡ true). absurd (let a = (wrote-room b s d (Err e) d' w t (omega arith)).0 in cc)) (λ _. refl)

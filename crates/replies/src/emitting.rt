@@ -1,225 +1,135 @@
-// The replies of an act, one behind the other, each in the room that the last one left.
-ghost use Rattle.std.specs.Prelude.{◌≡◌, true, false, [], ◌∷◌, ◌+◌, ◌≤◌, leb, length};
+// The replies of an act, each behind the ones before.
+ghost use Rattle.std.specs.Prelude.{◌≡◌, [], ◌∷◌, ◌≤◌, leb, length};
+ghost use Rattle.std.specs.Result.{result_unwrap_or};
 ghost use Rattle.bits.specs.Pick.{pick};
-ghost use Rattle.frames.specs.Write.{payload, setBits};
-ghost use Rattle.replies.specs.Replies.{register, signature, sweepIf, activateIf, pioReply, setupReply, openReplies, logReplies, page10Of, page11Of, repliesOf, RepliesGiven};
+ghost use Rattle.replies.specs.Replies.{page10Of, page11Of, logReplies, openReplies, repliesOf, RepliesGiven};
+ghost use Rattle.replies.specs.Sends.{framed, Sends};
 
+use crate::reply::Reply;
 use crate::shown::{Shown, log_of};
 use device_state::{ErrorRecord, Settings};
 use frame_parts::Task;
-use frames::{DevReg, DmaSetup, PioSetup, SetBits};
-use page_10h::ErrorLog;
+use page_rows::Counters;
+use page_sum::PAGE_SIZE;
+use refusals::Refusal;
 use rules::{Act, Queued};
 
-fn put_register(reply: &mut [u8], interrupt: bool, status: u8, error: u8, task: Task) -> usize
-    requires { 20 ≤ length reply.old }
-    ensures { RepliesGiven (register interrupt status error task ∷ []) reply.old result reply.new }
+type Page = [u8; PAGE_SIZE];
+
+fn page10(r: ErrorRecord) -> Result<Page, Refusal>
+    ensures { result_unwrap_or result [] ≡ page10Of r }
 {
-    frames::write_device(
-        reply,
-        DevReg {
-            interrupt,
-            status,
-            error,
-            task,
-        },
-    )
-    .unwrap_or(0)
+    let mut page = [0u8; PAGE_SIZE];
+    page_10h::write_log(&mut page, log_of(r))?;
+    Ok(page)
 }
 
-fn put_signature(reply: &mut [u8]) -> usize
-    requires { 20 ≤ length reply.old }
-    ensures { RepliesGiven (signature ∷ []) reply.old result reply.new }
+fn page11(mask: u16, values: &Counters) -> Result<Page, Refusal>
+    ensures { result_unwrap_or result [] ≡ page11Of mask values.now }
 {
-    let task = Task {
-        lba: 1,
-        device: 0,
-        count: 1,
-    };
-    put_register(reply, false, 0x40, 0x01, task)
+    let mut page = [0u8; PAGE_SIZE];
+    page_rows::write_counters(&mut page, mask, values)?;
+    Ok(page)
 }
 
-fn put_sweep_if(reply: &mut [u8], on: bool) -> usize
-    requires { 8 ≤ length reply.old }
-    ensures bytes { RepliesGiven (sweepIf on) reply.old result reply.new }
-    ensures most { result ≤ 8 }
+// The bytes of a page; none of one that its writer turned down.
+fn page_bytes(page: &Result<Page, Refusal>) -> &[u8]
+    ensures { result.now ≡ result_unwrap_or page.now [] }
 {
-    if !on {
-        return 0;
+    match page {
+        Ok(bytes) => bytes,
+        Err(_) => &[],
     }
-    frames::write_bits(
-        reply,
-        SetBits {
-            interrupt: false,
-            status: 0x40,
-            error: 0,
-            active: 0xFFFF_FFFF,
-        },
-    )
-    .unwrap_or(0)
 }
 
-fn put_activate_if(reply: &mut [u8], on: bool) -> usize
-    requires { 4 ≤ length reply.old }
-    ensures bytes { RepliesGiven (activateIf on) reply.old result reply.new }
-    ensures most { result ≤ 4 }
-{
-    if !on {
-        return 0;
+// What was sent so far stands in the front of the buffer, and the next reply goes behind it.
+#[derive(Drop)]
+struct Sent<'a> {
+    buffer: &'a mut [u8],
+    len: usize,
+    ghost within: { len ≤ length buffer.now },
+}
+
+impl<'a> Sent<'a> {
+    fn put(&mut self, reply: Reply<'_>)
+        ensures same_buffer { self.new.buffer.ghost_name ≡ self.old.buffer.ghost_name }
+        ensures sends { Sends (framed reply.entry ∷ []) self.old.len self.old.buffer.now self.new.len self.new.buffer.now }
+    {
+        let room = &mut self.buffer[self.len..];
+        self.len += reply.write(room).unwrap_or(0);
     }
-    frames::write_activate(reply).unwrap_or(0)
-}
 
-fn put_setup(reply: &mut [u8], q: &Queued) -> usize
-    requires { 28 ≤ length reply.old }
-    ensures bytes { RepliesGiven (setupReply q.now ∷ []) reply.old result reply.new }
-    ensures most { result ≤ 28 }
-{
-    frames::write_setup(
-        reply,
-        DmaSetup {
-            auto: false,
-            interrupt: false,
-            to_host: !q.entry.write,
-            tag: q.tag as u32,
-            offset: 0,
-            count: q.entry.whole(),
-        },
-    )
-    .unwrap_or(0)
-}
-
-// DMA Setup, and for a write an Activate.
-fn put_open(reply: &mut [u8], q: &Queued) -> usize
-    requires { 8196 ≤ length reply.old }
-    ensures { RepliesGiven (openReplies q.now) reply.old result reply.new }
-{
-    let first = put_setup(reply, q);
-    let second = put_activate_if(&mut reply[first..], q.entry.write);
-    first + second
-}
-
-fn put_bits(reply: &mut [u8], status: u8, error: u8, active: u32) -> usize
-    requires { 8 ≤ length reply.old }
-    ensures { RepliesGiven (setBits (record { interrupt = true; status = status; error = error; active = active }) ∷ []) reply.old result reply.new }
-{
-    frames::write_bits(
-        reply,
-        SetBits {
-            interrupt: true,
-            status,
-            error,
-            active,
-        },
-    )
-    .unwrap_or(0)
-}
-
-fn put_pio(reply: &mut [u8], task: Task) -> usize
-    requires { 20 ≤ length reply.old }
-    ensures bytes { RepliesGiven (pioReply task ∷ []) reply.old result reply.new }
-    ensures most { result ≤ 20 }
-{
-    frames::write_pio(
-        reply,
-        PioSetup {
-            interrupt: true,
-            to_host: true,
-            status: 0x48,
-            error: 0,
-            task,
-            ending: 0x40,
-            bytes: ErrorLog::PAGE_SIZE as u16,
-        },
-    )
-    .unwrap_or(0)
-}
-
-fn put_data(reply: &mut [u8], p: &[u8]) -> usize
-    requires { 4 + length p.now ≤ length reply.old }
-    ensures bytes { RepliesGiven (payload p.now ∷ []) reply.old result reply.new }
-    ensures most { result ≤ 4 + length p.now }
-{
-    frames::write_data(reply, p).unwrap_or(0)
-}
-
-// A data frame of a part of the medium; one that is too long is no data frame's.
-fn put_part(reply: &mut [u8], part: &[u8]) -> usize
-    requires { 8196 ≤ length reply.old }
-    ensures { RepliesGiven (payload part.now ∷ []) reply.old result reply.new }
-{
-    if Settings::FRAME_SIZE < part.len() {
-        return 0;
+    // DMA Setup, and for a write an Activate.
+    fn put_open(&mut self, q: &Queued)
+        ensures same_buffer { self.new.buffer.ghost_name ≡ self.old.buffer.ghost_name }
+        ensures sends { Sends (openReplies q.now) self.old.len self.old.buffer.now self.new.len self.new.buffer.now }
+    {
+        self.put(Reply::setup(q));
+        if q.entry.write {
+            self.put(Reply::Activate);
+        }
     }
-    put_data(reply, part)
+
+    // Sweep, PIO Setup and page.
+    fn put_log(&mut self, sweep: bool, task: Task, page: Result<Page, Refusal>)
+        ensures same_buffer { self.new.buffer.ghost_name ≡ self.old.buffer.ghost_name }
+        ensures sends { Sends (logReplies sweep task (result_unwrap_or page [])) self.old.len self.old.buffer.now self.new.len self.new.buffer.now }
+    {
+        if sweep {
+            self.put(Reply::sweep());
+        }
+        self.put(Reply::pio(task));
+        self.put(Reply::Data(page_bytes(&page)));
+    }
+
+    #[tactic(auto, unfolding(crate::specs::Replies::repliesOf))]
+    fn put_all(&mut self, act: &Act, shown: &Shown, part: &[u8])
+        ensures same_buffer { self.new.buffer.ghost_name ≡ self.old.buffer.ghost_name }
+        ensures sends { Sends (repliesOf shown.now part.now act.now) self.old.len self.old.buffer.now self.new.len self.new.buffer.now }
+    {
+        match act {
+            Act::Bad(b) => self.put(Reply::bad(b.error, b.task)),
+            Act::BadAndHalt(f) => self.put(Reply::bad(f.error, Task::from(f.echo))),
+            Act::Accept(q) => self.put(Reply::good(Task::from(q.entry.echo))),
+            Act::Log10(task) => self.put_log(shown.halted, *task, page10(shown.errors)),
+            Act::Log11(l) => self.put_log(
+                false,
+                l.task,
+                page11(shown.settings.mask, &shown.values),
+            ),
+            Act::Release | Act::Renew => self.put(Reply::signature()),
+            Act::Store(m) => {
+                if !m.last {
+                    self.put(Reply::Activate);
+                }
+            }
+            Act::Open(q) => self.put_open(q),
+            Act::Send(_) => self.put(Reply::Data(part)),
+            Act::Finish(set) => self.put(Reply::finish(*set)),
+            Act::Media(f) => self.put(Reply::media(f.error)),
+            Act::Nothing | Act::Reset | Act::ZeroCounters | Act::Count(_) => {}
+        }
+    }
 }
 
-// Sweep, PIO Setup and page.
-fn put_log(reply: &mut [u8], sweep: bool, task: Task, page: &[u8]) -> usize
-    requires { 32 + length page.now ≤ length reply.old }
-    ensures { RepliesGiven (logReplies sweep task page.now) reply.old result reply.new }
-{
-    let first = put_sweep_if(reply, sweep);
-    let second = put_pio(&mut reply[first..], task);
-    let both = first + second;
-    let third = put_data(&mut reply[both..], page);
-    both + third
-}
-
-// Room for a page.
-fn page_room() -> [u8; ErrorLog::PAGE_SIZE]
-    ensures { 512 ≡ length result }
-{
-    [0u8; ErrorLog::PAGE_SIZE]
-}
-
-fn put_log10(reply: &mut [u8], sweep: bool, task: Task, r: ErrorRecord) -> usize
-    requires { 8196 ≤ length reply.old }
-    ensures { RepliesGiven (logReplies sweep task (page10Of r)) reply.old result reply.new }
-{
-    let mut page = page_room();
-    let f = log_of(r);
-    let n = page_10h::write_log(&mut page, f).unwrap_or(0);
-    put_log(reply, sweep, task, &page[..n])
-}
-
-fn put_log11(reply: &mut [u8], task: Task, mask: u16, values: [u32; 16]) -> usize
-    requires { 8196 ≤ length reply.old }
-    ensures { RepliesGiven (logReplies false task (page11Of mask values)) reply.old result reply.new }
-{
-    let mut page = page_room();
-    let n = page_rows::write_counters(&mut page, mask, values).unwrap_or(0);
-    put_log(reply, false, task, &page[..n])
-}
-
-#[tactic(auto, unfolding(crate::specs::Replies::repliesOf, crate::specs::Replies::sentAll, frame_parts::specs::Cut::joined))]
 fn send(reply: &mut [u8], act: &Act, shown: &Shown, part: &[u8]) -> usize
-    requires { 8196 ≤ length reply.old }
-    ensures { RepliesGiven (repliesOf shown.now part.now act.now) reply.old result reply.new }
+    ensures { Sends (repliesOf shown.now part.now act.now) 0 reply.old result reply.new }
 {
-    match act {
-        Act::Bad(b) => put_register(reply, true, 0x41, b.error, b.task),
-        Act::BadAndHalt(f) => { put_register(reply, true, 0x41, f.error, Task::from(f.echo)) }
-        Act::Accept(q) => put_register(reply, false, 0x40, 0, Task::from(q.entry.echo)),
-        Act::Log10(task) => put_log10(reply, shown.halted, *task, shown.errors),
-        Act::Log11(l) => put_log11(reply, l.task, shown.settings.mask, shown.values),
-        Act::Release | Act::Renew => put_signature(reply),
-        Act::Store(m) => put_activate_if(reply, !m.last),
-        Act::Open(q) => put_open(reply, q),
-        Act::Send(_) => put_part(reply, part),
-        Act::Finish(set) => put_bits(reply, 0x40, 0, *set),
-        Act::Media(f) => put_bits(reply, 0x41, f.error, 0),
-        Act::Nothing | Act::Reset | Act::ZeroCounters | Act::Count(_) => 0,
-    }
+    let mut sent = Sent {
+        buffer: reply,
+        len: 0,
+    };
+    sent.put_all(act, shown, part);
+    sent.len
 }
 
 /// The replies of an act, in front of `reply`, and how many bytes they are; none where `reply` has not the room that every call asks for.
 #[tactic(auto, unfolding(bits::specs::Pick::pick, crate::specs::Replies::sentAll, frame_parts::specs::Cut::joined))]
-pub fn emit(reply: &mut [u8], act: Act, shown: Shown, part: &[u8]) -> usize
-    ensures { RepliesGiven (pick (leb 8196 (length reply.old)) (repliesOf shown part.now act) []) reply.old result reply.new }
+pub fn emit(reply: &mut [u8], act: &Act, shown: &Shown, part: &[u8]) -> usize
+    ensures { RepliesGiven (pick (leb 8196 (length reply.old)) (repliesOf shown.now part.now act.now) []) reply.old result reply.new }
 {
     if reply.len() < Settings::REPLY_SIZE {
         return 0;
     }
-    send(reply, &act, &shown, part)
+    send(reply, act, shown, part)
 }

@@ -2,7 +2,9 @@
 #![tactic(auto)]
 
 mod emitting;
+mod reply;
 mod shown;
+mod status;
 
 pub use emitting::emit;
 pub use shown::Shown;

@@ -2,9 +2,11 @@
 ghost use Rattle.std.specs.Prelude.{◌≡◌};
 ghost use Rattle.replies.specs.Replies.{logOf};
 
+use crate::status::READY_ERROR;
 use device_state::{ErrorRecord, Settings};
 use frame_parts::Task;
 use page_10h::ErrorLog;
+use page_rows::Counters;
 
 /// What replies show of the state.
 #[derive(Clone, Copy, Debug, PartialEq, Eq)]
@@ -12,7 +14,7 @@ pub struct Shown {
     pub halted: bool,
     pub settings: Settings,
     pub errors: ErrorRecord,
-    pub values: [u32; 16],
+    pub values: Counters,
 }
 
 /// The record as page 10h shows it.
@@ -24,7 +26,7 @@ pub fn log_of(r: ErrorRecord) -> ErrorLog
         return ErrorLog {
             nq: r.nq,
             tag: r.tag,
-            status: 0x41,
+            status: READY_ERROR,
             error: r.error,
             task: Task::from(r.echo),
         };

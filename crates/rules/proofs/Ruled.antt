@@ -13,6 +13,7 @@ use Rattle.refusals.specs.declared.reasons.Refusal.{Refusal}
 use Rattle.bits.proofs.Picks.{by-test, or_left, or_right, and_left}
 use Rattle.refusals.proofs.FirstLaws as firsts
 use Rattle.frame_parts.specs.Shared.{srstOf}
+use Rattle.frame_parts.specs.declared.log_pages.LogPage.{LogPage}
 use Rattle.frames.specs.Read.{readFrame}
 use Rattle.frames.specs.declared.shapes.HostReg.{HostReg}
 use Rattle.frames.specs.declared.shapes.Frame.{Frame}
@@ -20,7 +21,6 @@ use Rattle.frames.specs.declared.shapes.Frame.TheVariants.{Host, Data, Bist}
 use Rattle.verdicts.specs.Range.{tooFar}
 use Rattle.verdicts.specs.Queued.{tagRefused}
 use Rattle.verdicts.specs.Other.{asksErrors, asksCounters}
-use Rattle.verdicts.specs.declared.commands.LogPage.{LogPage}
 use Rattle.verdicts.specs.declared.commands.Bad as verdict
 use Rattle.verdicts.proofs.Rules.{by-page}
 use Rattle.contradictions.specs.Clauses.{rowRefused}
@@ -30,7 +30,7 @@ use Rattle.rules.specs.Positions.{left_of, move_of}
 use Rattle.rules.specs.Tests.{wrongKind, wrongTime, wrongSize, allMoved, outside, tests}
 use Rattle.rules.specs.Decide.{bad, fault, tagAsked, countAsked, entryFor, pageAsked, isQueued, queuedDoes, queuedAct, otherDoes, otherAct, controlAct, registerAct, frameAct}
 use Rattle.rules.specs.Act.{failing, does, act}
-use Rattle.rules.specs.Medium.{leaves, touch_of, nowhere, span_of}
+use Rattle.rules.specs.Medium.{leaves, touch_of, span_of}
 use Rattle.rules.specs.declared.facts.Facts.{Facts}
 use Rattle.rules.specs.declared.acts.Act.{Act}
 use Rattle.rules.specs.declared.acts.Act.TheVariants.{Nothing, Accept, Log10, Log11, Reset, Release, ZeroCounters, Store, Open, Send, Finish, Media, Count, Renew}
@@ -51,14 +51,14 @@ pub data Heard (v : Facts) : Result Frame Refusal → Act → Type 0 where
   -- queued commands, rules 1 to 4
   rule1 : (h : HostReg) → TimelyCommand v h true → v.status.halted ≡ true → Heard v (Ok (Host h)) (bad h 0x04)
   rule2 : (h : HostReg) → TimelyCommand v h true → v.status.halted ≡ false → leb v.settings.depth (tagAsked h) || bitIn 32 v.status.outstanding (tagAsked h) ≡ true
-      → Heard v (Ok (Host h)) (fault h false (tagAsked h) 0x04)
+      → Heard v (Ok (Host h)) (fault h (Some (tagAsked h)) 0x04)
   rule3 : (h : HostReg) → TimelyCommand v h true → v.status.halted ≡ false → leb v.settings.depth (tagAsked h) || bitIn 32 v.status.outstanding (tagAsked h) ≡ false
-      → ltb v.settings.capacity (h.task.lba + countAsked h) ≡ true → Heard v (Ok (Host h)) (fault h false (tagAsked h) 0x10)
+      → ltb v.settings.capacity (h.task.lba + countAsked h) ≡ true → Heard v (Ok (Host h)) (fault h (Some (tagAsked h)) 0x10)
   rule4 : (h : HostReg) → TimelyCommand v h true → v.status.halted ≡ false → leb v.settings.depth (tagAsked h) || bitIn 32 v.status.outstanding (tagAsked h) ≡ false
       → ltb v.settings.capacity (h.task.lba + countAsked h) ≡ false → Heard v (Ok (Host h)) (Accept (record { tag = tagAsked h; entry = entryFor h }))
   -- any other command
   other-halted : (h : HostReg) → TimelyCommand v h false → v.status.halted ≡ true → Heard v (Ok (Host h)) (bad h 0x04)
-  other-busy : (h : HostReg) → TimelyCommand v h false → eqb v.status.outstanding 0 ≡ false → Heard v (Ok (Host h)) (fault h true 0 0x04)
+  other-busy : (h : HostReg) → TimelyCommand v h false → eqb v.status.outstanding 0 ≡ false → Heard v (Ok (Host h)) (fault h None 0x04)
   page10 : (h : HostReg) → TimelyCommand v h false → eqb v.status.outstanding 0 ≡ true → asksErrors (pageAsked h) ≡ true → Heard v (Ok (Host h)) (Log10 h.task)
   page11 : (h : HostReg) → TimelyCommand v h false → v.status.halted ≡ false → eqb v.status.outstanding 0 ≡ true → asksCounters (pageAsked h) ≡ true
       → Heard v (Ok (Host h)) (Log11 (record { zero = bitIn 8 h.features 0; task = h.task }))
@@ -74,7 +74,7 @@ pub data Own (v : Facts) : Call → Act → Type 0 where
   sent : v.contradicts ≡ false → v.medium_wrong ≡ false → v.reply_short ≡ false → is_none v.status.phase ≡ false → v.entry.write ≡ false → Own v sendData (Send (move_of v.status v.entry 8192))
   finished : (s : ℕ) → v.contradicts ≡ false → v.reply_short ≡ false → v.link_busy ≡ false → eqb s 0 ≡ false → v.unready ≡ false → Own v (finishTags s) (Finish s)
   failed : (t e s : ℕ) → v.contradicts ≡ false → v.reply_short ≡ false → bitIn 32 v.status.outstanding t ≡ true → eqb e 0 ≡ false → outside v.entry s ≡ false
-      → Own v (mediaError t e s) (Media (record { nq = false; tag = t; error = e; echo = failing v.entry.echo s }))
+      → Own v (mediaError t e s) (Media (record { tag = Some t; error = e; echo = failing v.entry.echo s }))
   linked : (r : ℕ) → v.contradicts ≡ false → rowRefused v.settings.mask r ≡ false → Own v (linkEvent r) (Count r)
   renewed : v.contradicts ≡ false → v.reply_short ≡ false → Own v comReset Renew
 
@@ -85,7 +85,7 @@ pub data Ruled (v : Facts) : Call → Result Act Refusal → Type 0 where
   own : {c : Call} {a : Act} → Own v c a → Ruled v c (Ok a)
 
 -- what a host frame that is not turned down makes the device do sends nothing of the medium
-pub heard-unsent : (v : Facts) {f : Result Frame Refusal} {a : Act} → Heard v f a → span_of a ≡ nowhere
+pub heard-unsent : (v : Facts) {f : Result Frame Refusal} {a : Act} → Heard v f a → span_of a ≡ None
 unfolding touch_of
 heard-unsent v (srst h c s) = refl
 heard-unsent v (release h c s x) = refl

@@ -7,6 +7,8 @@ use Rattle.rules.specs.Medium.{mediumAfter, span_of}
 use mathlib.Core.Path.{◌≡◌, refl}
 use Rattle.bits.specs.Contract.{Tied}
 use Rattle.bits.proofs.Tying.{same, say, by, named}
+use Rattle.rules.proofs.acts
+use Rattle.rules.specs.contracts.acts as acts-said
 use Rattle.rules.proofs.decide
 use Rattle.rules.specs.contracts.decide as decide-said
 use Rattle.rules.proofs.device_events
@@ -48,8 +50,8 @@ tied-left-of = named (say (λ κs a. tt) (λ κs a r ws p. p)) (λ κs a ws ws'.
 pub tied-next-move : Tied facts-said.next_move.ended facts.next_move.Reads.Asked facts.next_move.Reads.Post (λ κs a r ws. r ≡ move_of a.0 a.1.0 a.1.1.0)
 tied-next-move = named (say (λ κs a. tt) (λ κs a r ws p. p)) (λ κs a ws ws'. refl)
 
-pub tied-span-of : Tied medium-said.span_of.ended medium.span_of.Reads.Asked medium.span_of.Reads.Post (λ κs a r ws. r ≡ span_of a.0)
-tied-span-of = named (say (λ κs a. tt) (λ κs a r ws p. p)) (λ κs a ws ws'. refl)
+pub tied-span : Tied acts-said.Act.span.ended acts.Act.span.Reads.Asked acts.Act.span.Reads.Post (λ κs a r ws. r ≡ span_of a.0)
+tied-span = named (say (λ κs a. tt) (λ κs a r ws p. p)) (λ κs a ws ws'. refl)
 
 pub tied-store-data : Tied medium-said.store_data.ended medium.store_data.Reads.Asked medium.store_data.Reads.Post (λ κs a r ws. ws.0 ≡ mediumAfter a.1.0 a.1.1.0.now a.0.now)
 tied-store-data = by (say (λ κs a. tt) (λ κs a r ws p. p)) (λ κs a r r' ws ws' p q. (refl, λ i. (same p q i, (tt, (tt, tt)))))

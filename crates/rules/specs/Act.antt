@@ -1,5 +1,5 @@
 -- What a call makes the device do: refused by the first of its tests that holds, and otherwise done. Assumes nothing.
-use Rattle.std.specs.Prelude.{false, ℕ, Result}
+use Rattle.std.specs.Prelude.{ℕ, Some, Result}
 use Rattle.bits.specs.Little.{byte_of}
 use Rattle.refusals.specs.First.{first_of, unless}
 use Rattle.refusals.specs.declared.reasons.Refusal.{Refusal}
@@ -31,7 +31,7 @@ does v (hostFrame f) = frameAct v (readFrame f)
 does v (openPhase t) = Open (record { tag = t; entry = v.entry })
 does v sendData = Send (move_of v.status v.entry 8192)
 does v (finishTags s) = Finish s
-does v (mediaError t e s) = Media (record { nq = false; tag = t; error = e; echo = failing v.entry.echo s })
+does v (mediaError t e s) = Media (record { tag = Some t; error = e; echo = failing v.entry.echo s })
 does v (linkEvent r) = Count r
 does v comReset = Renew
 

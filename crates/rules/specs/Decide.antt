@@ -1,8 +1,11 @@
 -- What a host frame makes the device do where it is not turned down: the first rule that holds. Assumes nothing.
-use Rattle.std.specs.Prelude.{Bool, true, false, not, ◌&&◌, ◌||◌, ℕ, eqb, Option, Some, None, Result, Ok, Err}
+use Rattle.std.specs.Prelude.{Bool, not, ◌&&◌, ◌||◌, ℕ, eqb, Option, Some, None, Result, Ok, Err}
 use Rattle.bits.specs.Pick.{pick}
 use Rattle.bits.specs.Bit.{bitIn}
 use Rattle.frame_parts.specs.Shared.{tag_of, sectorsOf, srstOf}
+use Rattle.frame_parts.specs.Pages.{pageNamed}
+use Rattle.frame_parts.specs.declared.log_pages.LogPage.{LogPage}
+use Rattle.frame_parts.specs.declared.log_pages.LogPage.TheVariants.{Errors, Counters}
 use Rattle.frames.specs.declared.shapes.HostReg.{HostReg}
 use Rattle.frames.specs.declared.shapes.Frame.{Frame}
 use Rattle.frames.specs.declared.shapes.Frame.TheVariants.{Host, Data, Bist}
@@ -10,8 +13,6 @@ use Rattle.refusals.specs.declared.reasons.Refusal.{Refusal}
 use Rattle.verdicts.specs.Range.{tooFar}
 use Rattle.verdicts.specs.Queued.{tagRefused, queuedRule}
 use Rattle.verdicts.specs.Other.{otherRule, logZeroes}
-use Rattle.verdicts.specs.declared.commands.LogPage.{LogPage}
-use Rattle.verdicts.specs.declared.commands.LogPage.TheVariants.{Errors, Counters}
 use Rattle.verdicts.specs.declared.commands.Bad as verdict
 use Rattle.verdicts.specs.declared.commands.Bad.TheVariants.{Only, Halts}
 use Rattle.device_state.specs.State.{echoOf}
@@ -27,13 +28,13 @@ abbrev pub bad : HostReg → ℕ → Act
 bad h e = Bad (record { error = e; task = h.task })
 
 -- bad, and a halt whose record holds this command's bytes
-abbrev pub fault : HostReg → Bool → ℕ → ℕ → Act
-fault h nq t e = BadAndHalt (record { nq = nq; tag = t; error = e; echo = echoOf h.task })
+abbrev pub fault : HostReg → Option ℕ → ℕ → Act
+fault h t e = BadAndHalt (record { tag = t; error = e; echo = echoOf h.task })
 
--- a bad command: bad alone, or with a halt for NQ and a tag
-abbrev pub badDoes : HostReg → Bool → ℕ → verdict.Bad → Act
-badDoes h nq t (Only e) = bad h e
-badDoes h nq t (Halts e) = fault h nq t e
+-- a bad command: bad alone, or with a halt, for a tag if it was queued
+abbrev pub badDoes : HostReg → Option ℕ → verdict.Bad → Act
+badDoes h t (Only e) = bad h e
+badDoes h t (Halts e) = fault h t e
 
 -- the tag that a queued command names
 abbrev pub tagAsked : HostReg → ℕ
@@ -55,10 +56,10 @@ entryFor h = record {
   echo = echoOf h.task;
 }
 
--- what a rule of a queued command makes the device do; a halt is for its tag, with NQ 0
+-- what a rule of a queued command makes the device do; a halt is for its tag
 abbrev pub queuedDoes : HostReg → Result Unit verdict.Bad → Act
 queuedDoes h (Ok _) = Accept (record { tag = tagAsked h; entry = entryFor h })
-queuedDoes h (Err b) = badDoes h false (tagAsked h) b
+queuedDoes h (Err b) = badDoes h (Some (tagAsked h)) b
 
 -- queued command: what the first rule that holds says
 unfoldable pub queuedAct : Facts → HostReg → Act
@@ -66,10 +67,6 @@ queuedAct v h =
     queuedDoes h
     (queuedRule v.status.halted (tagRefused v.settings.depth (tagAsked h) (bitIn 32 v.status.outstanding (tagAsked h)))
     (tooFar v.settings.capacity h.task.lba (countAsked h)))
-
--- the log page of a number: 10h and 11h alone
-abbrev pub pageNamed : ℕ → Option LogPage
-pageNamed n = pick (eqb n 0x10) (Some Errors) (pick (eqb n 0x11) (Some Counters) None)
 
 -- READ LOG EXT (2Fh) is well-formed if byte 4 is 10h or 11h, bytes 5 and 9 are 0, byte 12 is 1 and 13 is 0: the page that it asks for, if it does
 unfoldable pub logPage : ℕ → Echo → Option LogPage
@@ -79,11 +76,11 @@ logPage command e = pick (eqb command 0x2F && (eqb e.b5 0 && eqb e.b9 0) && (eqb
 abbrev pub pageAsked : HostReg → Option LogPage
 pageAsked h = logPage h.command (echoOf h.task)
 
--- what a rule of any other command makes the device do; a halt is for no tag, with NQ 1
+-- what a rule of any other command makes the device do; a halt is for no tag
 abbrev pub otherDoes : HostReg → Result LogPage verdict.Bad → Act
 otherDoes h (Ok Errors) = Log10 h.task
 otherDoes h (Ok Counters) = Log11 (record { zero = logZeroes h.features; task = h.task })
-otherDoes h (Err b) = badDoes h true 0 b
+otherDoes h (Err b) = badDoes h None b
 
 -- any other command: what the first rule that holds says
 unfoldable pub otherAct : Facts → HostReg → Act

@@ -1,5 +1,5 @@
 -- What an act takes from the medium, or puts there. Assumes nothing.
-use Rattle.std.specs.Prelude.{List, ℕ, take, drop}
+use Rattle.std.specs.Prelude.{List, [], ℕ, take, drop, Option, Some, None}
 unfoldable pub use Rattle.moves.specs.Stored.{stored}
 use Rattle.rules.specs.declared.acts.Move.{Move}
 use Rattle.rules.specs.declared.acts.Act.{Act}
@@ -18,23 +18,20 @@ touch_of (Store k) = stores k
 touch_of (Send k) = sends k
 touch_of _ = leaves
 
--- no part of the medium
-abbrev pub nowhere : Span
-nowhere = record { at = 0; size = 0 }
+-- what of the medium is sent, if something is
+abbrev pub spanIn : Touch → Option Span
+spanIn leaves = None
+spanIn (sends m) = Some (record { at = m.at; size = m.size })
+spanIn (stores m) = None
 
--- what of the medium is sent
-abbrev pub spanIn : Touch → Span
-spanIn leaves = nowhere
-spanIn (sends m) = record { at = m.at; size = m.size }
-spanIn (stores m) = nowhere
-
--- what of the medium an act sends
-abbrev pub span_of : Act → Span
+-- what of the medium an act sends, if it sends something
+abbrev pub span_of : Act → Option Span
 span_of a = spanIn (touch_of a)
 
--- the bytes of a part of the medium
-abbrev pub part_of : Span → List ℕ → List ℕ
-part_of s m = take s.size (drop s.at m)
+-- the bytes of a part of the medium; of no part, none
+abbrev pub part_of : Option Span → List ℕ → List ℕ
+part_of None m = []
+part_of (Some s) m = take s.size (drop s.at m)
 
 -- the medium m after such a touch, by frame f
 abbrev pub keptBy : Touch → List ℕ → List ℕ → List ℕ

@@ -3,6 +3,7 @@ use Rattle.std.specs.Prelude.{ℕ, unwrap_or}
 use Rattle.moves.specs.Amounts.{leftIn, partIn, lastIn, movedOn}
 use Rattle.moves.specs.Stored.{place_in}
 use Rattle.moves.specs.declared.amounts.Progress.{Progress}
+use Rattle.verdicts.specs.declared.ranges.Sectors.{Sectors}
 use Rattle.device_state.specs.State.{whole_of}
 use Rattle.device_state.specs.declared.shapes.Entry.{Entry}
 use Rattle.device_state.specs.declared.shapes.Status.{Status}
@@ -11,6 +12,10 @@ use Rattle.rules.specs.declared.acts.Move.{Move}
 -- the whole of a command, and what has moved of it
 abbrev pub progress_of : Entry → Progress
 progress_of e = record { whole = whole_of e.count; moved = e.moved }
+
+-- its sectors
+abbrev pub sectors_of : Entry → Sectors
+sectors_of e = record { first = e.first; count = e.count }
 
 -- what is left of a command, in bytes
 abbrev pub left_of : Entry → ℕ

@@ -9,7 +9,8 @@ use Rattle.frames.specs.declared.shapes.Frame.{Frame}
 use Rattle.frames.specs.declared.shapes.Frame.TheVariants.{Host, Data, Bist}
 use Rattle.refusals.specs.Ladders.{hostLadder, openLadder, sendLadder, finishLadder, mediaLadder, linkLadder, comresetLadder}
 use Rattle.verdicts.specs.Range.{outsideOf}
-use Rattle.verdicts.specs.Moved.{longer, wholly, notReady}
+use Rattle.moves.specs.Amounts.{wholly}
+use Rattle.verdicts.specs.Moved.{longer, notReady}
 use Rattle.device_state.specs.State.{whole_of}
 use Rattle.device_state.specs.Table.{someBelow, entry_of}
 use Rattle.contradictions.specs.Clauses.{rowRefused}

@@ -1,19 +1,29 @@
 // What a host frame makes the device do: the first rule that holds.
 ghost use Rattle.std.specs.Prelude.{◌≡◌, Ok};
 ghost use Rattle.frames.specs.declared.shapes.Frame.TheVariants.{Host, Data, Bist};
-ghost use Rattle.rules.specs.Decide.{badDoes, queuedAct, pageNamed, logPage, otherAct, controlAct, registerAct};
+ghost use Rattle.rules.specs.Decide.{badDoes, queuedAct, logPage, otherAct, controlAct, registerAct};
 ghost use Rattle.rules.specs.Act.{kindAct, heardAct};
 
 use crate::acts::{Act, BadReply, CountersRead, Fault, Queued};
 use crate::facts::{Facts, left_of, next_move};
 use device_state::{Echo, Entry};
+use frame_parts::LogPage;
 use frames::{Frame, HostReg};
 use refusals::{Refusal, check};
-use verdicts::{Bad, LogPage};
+use verdicts::{Bad, Sectors, TagNamed};
 
-// A bad command: answered, with a halt for NQ and a tag if it halts.
-fn bad_act(h: HostReg, nq: bool, tag: u8, bad: Bad) -> Act
-    ensures { result ≡ badDoes h nq tag bad }
+// The command that reads a log page.
+const READ_LOG_EXT: u8 = 0x2F;
+
+// The queued read.
+const READ_FPDMA_QUEUED: u8 = 0x60;
+
+// The queued write.
+const WRITE_FPDMA_QUEUED: u8 = 0x61;
+
+// A bad command: answered, and if it halts, for its tag if it was queued.
+fn bad_act(h: HostReg, tag: Option<u8>, bad: Bad) -> Act
+    ensures { result ≡ badDoes h tag bad }
 {
     match bad {
         Bad::Only(error) => Act::Bad(BadReply {
@@ -21,7 +31,6 @@ fn bad_act(h: HostReg, nq: bool, tag: u8, bad: Bad) -> Act
             task: h.task,
         }),
         Bad::Halts(error) => Act::BadAndHalt(Fault {
-            nq,
             tag,
             error,
             echo: Echo::from(h.task),
@@ -36,20 +45,26 @@ fn queued_act(v: &Facts, h: HostReg) -> Act
 {
     let tag = frame_parts::tag_of(h.task.count);
     let count = frame_parts::sectors_of(h.features, h.features_high);
+    let named = TagNamed {
+        tag,
+        busy: bits::bit(v.status.outstanding, tag as u32),
+    };
+    let sectors = Sectors {
+        first: h.task.lba,
+        count,
+    };
     let rule = verdicts::queued_rule(
         v.status.halted,
         v.settings.depth,
-        tag,
-        bits::bit(v.status.outstanding, tag as u32),
+        named,
         v.settings.capacity,
-        h.task.lba,
-        count,
+        sectors,
     );
     match rule {
-        Err(bad) => bad_act(h, false, tag, bad),
+        Err(bad) => bad_act(h, Some(tag), bad),
         Ok(()) => {
             let entry = Entry {
-                write: h.command == 0x61,
+                write: h.command == WRITE_FPDMA_QUEUED,
                 first: h.task.lba as u32,
                 count,
                 moved: 0,
@@ -62,25 +77,13 @@ fn queued_act(v: &Facts, h: HostReg) -> Act
     }
 }
 
-// The log page of a number, if it is one of the two.
-#[tactic(auto, unfolding(bits::specs::Pick::pick))]
-fn page_named(number: u8) -> Option<LogPage>
-    ensures { result ≡ pageNamed number }
-{
-    match number {
-        0x10 => Some(LogPage::Errors),
-        0x11 => Some(LogPage::Counters),
-        _ => None,
-    }
-}
-
 // The page that a well-formed READ LOG EXT asks for; any other command asks for none.
 #[tactic(auto, unfolding(crate::specs::Decide::logPage, bits::specs::Pick::pick))]
 fn log_page(command: u8, e: Echo) -> Option<LogPage>
     ensures { result ≡ logPage command e }
 {
-    if command == 0x2F && (e.b5 == 0 && e.b9 == 0) && (e.b12 == 1 && e.b13 == 0) {
-        return page_named(e.b4);
+    if command == READ_LOG_EXT && (e.b5 == 0 && e.b9 == 0) && (e.b12 == 1 && e.b13 == 0) {
+        return LogPage::from_number(e.b4);
     }
     None
 }
@@ -92,7 +95,7 @@ fn other_act(v: &Facts, h: HostReg) -> Act
 {
     let page = log_page(h.command, Echo::from(h.task));
     match verdicts::other_rule(v.status.halted, page, v.status.outstanding != 0) {
-        Err(bad) => bad_act(h, true, 0, bad),
+        Err(bad) => bad_act(h, None, bad),
         Ok(LogPage::Errors) => Act::Log10(h.task),
         Ok(LogPage::Counters) => Act::Log11(CountersRead {
             zero: verdicts::log_zeroes(h.features),
@@ -123,7 +126,7 @@ fn timely_act(v: &Facts, h: HostReg) -> Act
     if !h.command_bit {
         return control_act(v, h);
     }
-    if h.command == 0x60 || h.command == 0x61 {
+    if h.command == READ_FPDMA_QUEUED || h.command == WRITE_FPDMA_QUEUED {
         return queued_act(v, h);
     }
     other_act(v, h)

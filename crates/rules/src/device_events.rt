@@ -5,7 +5,7 @@ ghost use Rattle.rules.specs.Tests.{unready, someUnready};
 ghost use Rattle.rules.specs.Act.{failing, act};
 
 use crate::acts::{Act, Fault};
-use crate::facts::Facts;
+use crate::facts::{Facts, progress, sectors};
 use device_state::{Echo, Entry, Settings};
 use refusals::{Refusal, check};
 
@@ -13,7 +13,7 @@ use refusals::{Refusal, check};
 fn unready(e: &Entry, asked: bool, busy: bool) -> bool
     ensures { result ≡ unready e.now asked busy }
 {
-    verdicts::not_ready(asked, busy, e.moved, e.whole())
+    verdicts::not_ready(asked, busy, progress(e))
 }
 
 /// One walk over the thirty-two entries: whether a tag of the set is not outstanding, or not wholly moved.
@@ -45,14 +45,14 @@ pub fn finish_act(v: &Facts, set: u32) -> Result<Act, Refusal>
 fn failing(e: Echo, sector: u32) -> Echo
     ensures { result ≡ failing e sector }
 {
-    let lba = sector as u64;
+    let [b4, b5, b6, b8, b9, b10, ..] = (sector as u64).to_le_bytes();
     Echo {
-        b4: bits::byte(lba, 0),
-        b5: bits::byte(lba, 1),
-        b6: bits::byte(lba, 2),
-        b8: bits::byte(lba, 3),
-        b9: bits::byte(lba, 4),
-        b10: bits::byte(lba, 5),
+        b4,
+        b5,
+        b6,
+        b8,
+        b9,
+        b10,
         ..e
     }
 }
@@ -70,16 +70,16 @@ pub fn media_act(v: &Facts, tag: u8, error: u8, sector: u32) -> Result<Act, Refu
             Refusal::TagIdle,
         ),
         (
-            error == 0 || verdicts::outside_of(v.entry.first, v.entry.count, sector),
+            error == 0 || sectors(&v.entry).leaves_out(sector),
             Refusal::OutsideCommand,
         ),
     ])?;
-    Ok(Act::Media(Fault {
-        nq: false,
-        tag,
+    let fault = Fault {
+        tag: Some(tag),
         error,
         echo: failing(v.entry.echo, sector),
-    }))
+    };
+    Ok(Act::Media(fault))
 }
 
 /// Link event. Refused with 1 or 13.

@@ -1,10 +1,11 @@
 // What a decision looks at: lengths and control values, never medium or payload bytes.
 ghost use Rattle.std.specs.Prelude.{◌≡◌};
-ghost use Rattle.rules.specs.Positions.{progress_of, left_of, move_of};
+ghost use Rattle.rules.specs.Positions.{progress_of, sectors_of, left_of, move_of};
 
 use crate::acts::Move;
 use device_state::{Entry, Settings, Status};
 use moves::Progress;
+use verdicts::Sectors;
 
 /// The tests of refusals 1, 2 (of a host frame and of a send) and 3 (of a call that replies), and whether a phase is open on the link; settings and control values. `entry`: that of the tag asked for, or of the open phase; an idle one if there is none. `unready`: a tag of the set asked for is not outstanding or not wholly moved.
 #[derive(Clone, Copy, Debug, PartialEq, Eq)]
@@ -20,12 +21,22 @@ pub struct Facts {
 }
 
 // The whole of a command, and what has moved of it.
-fn progress(e: &Entry) -> Progress
+pub(crate) fn progress(e: &Entry) -> Progress
     ensures { result ≡ progress_of e.now }
 {
     Progress {
         whole: e.whole(),
         moved: e.moved,
+    }
+}
+
+// The sectors of a command.
+pub(crate) fn sectors(e: &Entry) -> Sectors
+    ensures { result ≡ sectors_of e.now }
+{
+    Sectors {
+        first: e.first as u64,
+        count: e.count,
     }
 }
 

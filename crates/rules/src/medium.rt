@@ -11,17 +11,19 @@ pub struct Span {
     pub size: usize,
 }
 
-/// What of the medium is sent.
-#[tactic(auto, unfolding(crate::specs::Medium::touch_of))]
-pub fn span_of(act: Act) -> Span
-    ensures { result ≡ span_of act }
-{
-    let Act::Send(m) = act else {
-        return Span { at: 0, size: 0 };
-    };
-    Span {
-        at: m.at,
-        size: m.size,
+impl Act {
+    /// What of the medium is sent, if something is.
+    #[tactic(auto, unfolding(crate::specs::Medium::touch_of))]
+    pub fn span(self) -> Option<Span>
+        ensures { result ≡ span_of self }
+    {
+        match self {
+            Act::Send(m) => Some(Span {
+                at: m.at,
+                size: m.size,
+            }),
+            _ => None,
+        }
     }
 }
 

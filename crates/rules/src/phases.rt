@@ -1,20 +1,12 @@
 // What opening a phase, and sending in it, makes the device do, or what it is refused with.
 ghost use Rattle.std.specs.Prelude.{◌≡◌};
 ghost use Rattle.rules.specs.Call.{openPhase, sendData};
-ghost use Rattle.rules.specs.Tests.{allMoved};
 ghost use Rattle.rules.specs.Act.{act};
 
 use crate::acts::{Act, Queued};
-use crate::facts::{Facts, next_move};
-use device_state::{Entry, Settings};
+use crate::facts::{Facts, next_move, progress};
+use device_state::Settings;
 use refusals::{Refusal, check};
-
-// Wholly moved.
-fn all_moved(e: &Entry) -> bool
-    ensures { result ≡ allMoved e.now }
-{
-    verdicts::wholly(e.moved, e.whole())
-}
 
 /// Open a phase for a tag. A tag of 32 or more is not outstanding. Refused with 1, 3, 7, 8 or 9.
 #[tactic(auto, unfolding(crate::specs::Act::act, crate::specs::Act::does, crate::specs::Tests::tests))]
@@ -29,12 +21,10 @@ pub fn open_act(v: &Facts, tag: u8) -> Result<Act, Refusal>
             Refusal::TagIdle,
         ),
         (v.link_busy, Refusal::PhaseOpen),
-        (all_moved(&v.entry), Refusal::AllMoved),
+        (progress(&v.entry).is_whole(), Refusal::AllMoved),
     ])?;
-    Ok(Act::Open(Queued {
-        tag,
-        entry: v.entry,
-    }))
+    let entry = v.entry;
+    Ok(Act::Open(Queued { tag, entry }))
 }
 
 /// Send, in a read phase. Refused with 1, 2, 3 or 10.

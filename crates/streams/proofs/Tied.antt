@@ -10,9 +10,12 @@ use Rattle.std.specs.Io.KnownBytes.{Appends}
 use Rattle.std.specs.declared.io.traits.Read as Reader
 use Rattle.std.specs.declared.io.traits.Write as Writer
 use Rattle.streams.specs.Fronts.{AppendsFront, Filled, StuckBefore}
+use Rattle.streams.specs.Lost.{complaint}
 use Rattle.streams.proofs.writing
+use Rattle.streams.proofs.lost
 use Rattle.streams.proofs.reading
 use Rattle.streams.specs.contracts.writing as writing-said
+use Rattle.streams.specs.contracts.lost as lost-said
 use Rattle.streams.specs.contracts.reading as reading-said
 
 pub tied-put : (W : RattleType) (l : Laws W) (g : Writer.Ghosts W.Denot) (d : Dict)
@@ -24,3 +27,8 @@ pub tied-fill : (R : RattleType) (l : Laws R) (g : Reader.Ghosts R.Denot) (d : D
     → SaysOver (reading-said.fill.ended R g d) (λ κs a. (x : ℕ) → Mem x R.lives → Mem x κs.1.1.0) (reading.fill.Reads.Asked R l g d) (reading.fill.Reads.Post R l g d)
     (λ κs a r ws. (length ws.1.0 ≡ length a.1.0.now) × IfOk r (λ n. Filled (g.remaining a.0.now) (g.remaining ws.0) n ws.1.0) × OnErr r (StuckBefore (g.remaining a.0.now) (g.remaining ws.0) ws.1.0))
 tied-fill R l g d = record { free = λ κs a h. h; says = λ κs a r ws p. (p.0, p.1.0, p.1.1) }
+
+pub tied-complain : (W : RattleType) (l : Laws W) (g : Writer.Ghosts W.Denot) (d : Dict)
+    → SaysOver (lost-said.complain.ended W g d) (λ κs a. (x : ℕ) → Mem x W.lives → Mem x κs.1.0) (lost.complain.Reads.Asked W l g d) (lost.complain.Reads.Post W l g d)
+    (λ κs a r ws. OnOk r (Appends (g.contents a.0.now) (g.contents ws.0) complaint))
+tied-complain W l g d = record { free = λ κs a h. h; says = λ κs a r ws p. p }

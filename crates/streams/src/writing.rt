@@ -12,14 +12,14 @@ pub fn put<W: Write>(out: &mut W, text: &[u8]) -> io::Result<()>
     ensures ok { OnOk result (Appends (W.contents out.old) (W.contents out.new) text.now) }
     ensures err { OnErr result (AppendsFront (W.contents out.old) (W.contents out.new) text.now) }
 {
-    let mut at: usize = 0;
+    let mut rest = text;
     for _ in 0..u64::MAX {
-        if at >= text.len() {
+        if rest.is_empty() {
             return Ok(());
         }
-        match out.write(&text[at..]) {
+        match out.write(rest) {
             Ok(0) => return Err(Error::from(ErrorKind::WriteZero)),
-            Ok(n) => at += n,
+            Ok(n) => rest = &rest[n..],
             Err(e) if e.kind() == ErrorKind::Interrupted => {}
             Err(e) => return Err(e),
         }

@@ -7,9 +7,10 @@ use frame_parts::byte_of;
 use rules::Facts;
 use std::io;
 use std::io::Write;
+use vector_io::Answers;
 
 // A part of the state that a record sets by hand, or the medium.
-#[derive(Clone, Copy)]
+#[derive(Clone, Copy, Debug, PartialEq, Eq)]
 enum Part {
     State,
     Entry,
@@ -19,7 +20,7 @@ enum Part {
 }
 
 // What a record asks for.
-#[derive(Clone, Copy)]
+#[derive(Clone, Copy, Debug, PartialEq, Eq)]
 enum Op {
     Set(Part),
     Counter,
@@ -51,64 +52,70 @@ fn op_of(byte: u8) -> Option<Op> {
     }
 }
 
-// The records that only set something up: they print nothing.
-fn set(what: Part, state: &mut Device, r: &[u8; 32], medium: &mut [u8]) {
-    match what {
-        Part::State => *state = parts::raw_state(r),
-        Part::Entry => parts::set_entry(state, r),
-        Part::Record => state.errors = parts::errors(r),
-        Part::Counter => parts::set_counter(state, r),
-        Part::Medium => fills::fill_medium(medium, r[1]),
+/// The state and the medium that stay between the records.
+#[derive(Drop)]
+pub struct Bench<'a> {
+    pub state: Device,
+    pub medium: &'a mut [u8],
+}
+
+impl<'a> Bench<'a> {
+    // The records that only set something up: they print nothing.
+    fn set(&mut self, what: Part, r: &[u8; 32]) {
+        match what {
+            Part::State => self.state = parts::raw_state(r),
+            Part::Entry => parts::set_entry(&mut self.state, r),
+            Part::Record => self.state.errors = parts::errors(r),
+            Part::Counter => parts::set_counter(&mut self.state, r),
+            Part::Medium => fills::fill_medium(self.medium, r[1]),
+        }
+    }
+
+    // What a queued command comes to, for which no medium is lent.
+    fn say_queued<W: Write>(&self, out: &mut W, r: &[u8; 32]) -> io::Result<()> {
+        let facts = Facts {
+            contradicts: self.state.contradicts(),
+            medium_wrong: false,
+            reply_short: false,
+            link_busy: self.state.status.phase.is_some(),
+            settings: self.state.settings,
+            status: self.state.status,
+            entry: device_state::Entry::default(),
+            unready: false,
+        };
+        let frame = frames::read_frame(&r[9..29]);
+        lines::say_ruling(out, rules::frame_act(&facts, frame))
+    }
+
+    // A call that is lent nothing.
+    fn say_short<W: Write>(&mut self, out: &mut W, outcome: Outcome) -> io::Result<()> {
+        self.state = outcome.state;
+        lines::say_short(out, &outcome)
     }
 }
 
-// What a queued command comes to, for which no medium is lent.
-fn say_queued<W: Write>(out: &mut W, state: &Device, r: &[u8; 32]) -> io::Result<()> {
-    let facts = Facts {
-        contradicts: state.contradicts(),
-        medium_wrong: false,
-        reply_short: false,
-        link_busy: state.status.phase.is_some(),
-        settings: state.settings,
-        status: state.status,
-        entry: device_state::Entry::default(),
-        unready: false,
-    };
-    let frame = frames::read_frame(&r[9..29]);
-    lines::say_ruling(out, rules::frame_act(&facts, frame))
-}
-
-// A call that is lent nothing.
-fn say_short<W: Write>(out: &mut W, state: &mut Device, outcome: Outcome) -> io::Result<()> {
-    *state = outcome.state;
-    lines::say_short(out, &outcome)
-}
-
-pub fn answer<W: Write>(
-    out: &mut W,
-    state: &mut Device,
-    r: &[u8; 32],
-    medium: &mut [u8],
-) -> io::Result<()> {
-    match op_of(r[0]) {
-        Some(Op::Set(part)) => {
-            set(part, state, r, medium);
-            Ok(())
+impl<'a> Answers<32> for Bench<'a> {
+    fn answer<W: Write>(&mut self, out: &mut W, r: &[u8; 32]) -> io::Result<()> {
+        match op_of(r[0]) {
+            Some(Op::Set(part)) => {
+                self.set(part, r);
+                Ok(())
+            }
+            Some(Op::Counter) => {
+                vector_io::counter(out, self.state.counter(le16(r, 1)))?;
+                writeln!(out)
+            }
+            Some(Op::Queued) => self.say_queued(out, r),
+            Some(Op::PowerOn) => {
+                let outcome = Device::power_on(parts::settings(r));
+                self.say_short(out, outcome)
+            }
+            Some(Op::LinkEvent) => {
+                let outcome = self.state.link_event(byte_of(r, 1));
+                self.say_short(out, outcome)
+            }
+            Some(Op::Call(call)) => calls::say_call(out, call, &mut self.state, r, self.medium),
+            None => writeln!(out, "unknown"),
         }
-        Some(Op::Counter) => {
-            vector_io::counter(out, state.counter(le16(r, 1)))?;
-            writeln!(out)
-        }
-        Some(Op::Queued) => say_queued(out, state, r),
-        Some(Op::PowerOn) => {
-            let outcome = Device::power_on(parts::settings(r));
-            say_short(out, state, outcome)
-        }
-        Some(Op::LinkEvent) => {
-            let outcome = state.link_event(byte_of(r, 1));
-            say_short(out, state, outcome)
-        }
-        Some(Op::Call(call)) => calls::say_call(out, call, state, r, medium),
-        None => writeln!(out, "unknown"),
     }
 }

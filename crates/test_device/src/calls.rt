@@ -4,8 +4,9 @@ use bits::{le16, le32};
 use device::{Device, Outcome};
 use std::io;
 use std::io::Write;
+use vector_io::ROOM;
 
-#[derive(Clone, Copy)]
+#[derive(Clone, Copy, Debug, PartialEq, Eq)]
 pub enum Call {
     HostFrame,
     Open,
@@ -14,9 +15,6 @@ pub enum Call {
     MediaError,
     Comreset,
 }
-
-// Room for the longest frame and for every reply.
-const ROOM: usize = 8300;
 
 impl Call {
     // Whether it is lent the medium.
@@ -28,7 +26,7 @@ impl Call {
     }
 }
 
-// How many bytes of the medium a call is lent, and how many its frame has.
+// How many bytes of the medium a call is lent.
 fn medium_size(call: Call, r: &[u8; 32]) -> usize {
     if call.takes_medium() {
         le32(r, 3) as usize
@@ -37,6 +35,7 @@ fn medium_size(call: Call, r: &[u8; 32]) -> usize {
     }
 }
 
+// How many bytes the frame has that it is given.
 fn frame_size(call: Call, r: &[u8; 32]) -> usize {
     match call {
         Call::HostFrame => le16(r, 7) as usize,

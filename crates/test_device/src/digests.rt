@@ -15,7 +15,7 @@ pub fn echo_bytes(e: &Echo) -> [u8; 9] {
 }
 
 fn with_entry(d: u64, e: &Entry) -> u64 {
-    let first = with_number(more(d, &[e.write as u8]), e.first);
+    let first = with_number(more(d, &[u8::from(e.write)]), e.first);
     let moved = with_number(with_number(first, e.count), e.moved);
     more(
         more(moved, &[e.features, e.features_high]),
@@ -24,17 +24,9 @@ fn with_entry(d: u64, e: &Entry) -> u64 {
 }
 
 pub fn of_entries(entries: &[Entry; Settings::ENTRIES]) -> u64 {
-    let mut d = 0;
-    for e in entries {
-        d = with_entry(d, e);
-    }
-    d
+    entries.iter().fold(0, with_entry)
 }
 
-pub fn of_counters(values: &[u32; 16]) -> u64 {
-    let mut d = 0;
-    for &value in values {
-        d = with_number(d, value);
-    }
-    d
+pub fn of_counters(values: &[u32]) -> u64 {
+    values.iter().fold(0, |d, &value| with_number(d, value))
 }

@@ -1,16 +1,5 @@
 // Bytes that a record does not hold, but says how they count up: the medium's, and those of a long frame.
-
-// The byte behind b: a step on, and a jump more where a sector begins.
-fn fill(s: &mut [u8], first: u8, step: u8, jump: u8) {
-    let mut next = first;
-    for (i, b) in s.iter_mut().enumerate() {
-        if 0 < i && i % 512 == 0 {
-            next = next.wrapping_add(jump);
-        }
-        *b = next;
-        next = next.wrapping_add(step);
-    }
-}
+use vector_io::fill;
 
 /// Each sector differs from its neighbours, so that one that lands elsewhere shows.
 pub fn fill_medium(medium: &mut [u8], seed: u8) {

@@ -58,7 +58,7 @@ pub fn say_short<W: Write>(out: &mut W, outcome: &Outcome) -> io::Result<()> {
 /// What a queued command comes to.
 pub fn say_ruling<W: Write>(out: &mut W, ruling: Result<Act, Refusal>) -> io::Result<()> {
     match ruling {
-        Err(refusal) => writeln!(out, "{}", refusal.number()),
+        Err(refusal) => writeln!(out, "{refusal}"),
         Ok(Act::Accept(_)) => writeln!(out, "0 good"),
         Ok(Act::Bad(b)) => writeln!(out, "0 bad {}", b.error),
         Ok(Act::BadAndHalt(f)) => writeln!(out, "0 halt {}", f.error),

@@ -27,12 +27,7 @@ fn echo(b: &[u8; 9]) -> Echo {
 
 /// All zeros: what a power-on that is refused hands back.
 pub fn blank() -> Device {
-    let refused = Device::power_on(Settings {
-        depth: 0,
-        capacity: 0,
-        mask: 0,
-    });
-    refused.state
+    Device::power_on(Settings::default()).state
 }
 
 /// A state that need not be one that the device reaches.
@@ -61,7 +56,7 @@ pub fn set_entry(state: &mut Device, r: &[u8; 32]) {
             r[17], r[18], r[19], r[20], r[21], r[22], r[23], r[24], r[25],
         ]),
     };
-    device_state::put_entry(&mut state.entries, r[1] as u32, entry);
+    device_state::put_entry(&mut state.entries, u32::from(r[1]), entry);
 }
 
 pub fn errors(r: &[u8; 32]) -> ErrorRecord {
@@ -75,7 +70,7 @@ pub fn errors(r: &[u8; 32]) -> ErrorRecord {
 }
 
 pub fn set_counter(state: &mut Device, r: &[u8; 32]) {
-    if let Some(value) = state.values.get_mut(r[1] as usize) {
+    if let Some(value) = state.values.get_mut(usize::from(r[1])) {
         *value = le32(r, 2);
     }
 }

@@ -1,12 +1,13 @@
 // One case, taken apart by its op.
+use crate::writes::Body;
 use crate::{reads, writes};
 use bits::le16;
-use frame_parts::byte_of;
 use std::io;
 use std::io::Write;
+use vector_io::{Answers, ROOM};
 
 // What a case reads.
-#[derive(Clone, Copy)]
+#[derive(Clone, Copy, Debug, PartialEq, Eq)]
 enum Reading {
     Frame,
     Log,
@@ -15,7 +16,7 @@ enum Reading {
 }
 
 // What a case writes.
-#[derive(Clone, Copy)]
+#[derive(Clone, Copy, Debug, PartialEq, Eq)]
 enum Writing {
     Frame,
     Log,
@@ -23,7 +24,7 @@ enum Writing {
 }
 
 // What a case asks for.
-#[derive(Clone, Copy)]
+#[derive(Clone, Copy, Debug, PartialEq, Eq)]
 enum Op {
     Read(Reading),
     Write(Writing),
@@ -47,75 +48,102 @@ fn op_of(byte: u8) -> Option<Op> {
     }
 }
 
-// Room for the longest input and for the longest frame.
-const ROOM: usize = 8300;
-
-// What is read is n bytes long: the body's, and every further byte is the fill.
-fn read<W: Write>(
-    out: &mut W,
-    what: Reading,
-    fill: u8,
-    n: usize,
+// A case behind its op. What its numbers mean is the op's to say.
+#[derive(Clone, Copy, Debug)]
+struct Case<'a> {
+    // Of what is read, the bytes behind the body; of a frame that is written, its kind.
+    mark: u8,
+    // How long what is read is, or the buffer that is written to.
+    size: usize,
+    // The number of a counter, or how long a payload is.
     asked: u16,
-    body: &[u8],
-) -> io::Result<()> {
-    let mut input = [fill; ROOM];
-    bits::lay(&mut input, body);
-    let Some(s) = input.get(..n) else {
-        return write!(out, "too long");
-    };
-    match what {
-        Reading::Frame => reads::say_frame(out, s),
-        Reading::Log => reads::say_log(out, s),
-        Reading::Counter => vector_io::counter(out, reads::counter(s, asked)),
-        Reading::Cut => reads::say_cut(out, s),
-    }
-}
-
-// What is written goes to a buffer of n bytes, all EEh, so that a byte that a writer changed shows.
-fn write<W: Write>(
-    out: &mut W,
-    what: Writing,
-    kind: u8,
-    n: usize,
-    m: usize,
+    // Where a payload begins to count.
     first: u8,
-    body: &[u8],
-) -> io::Result<()> {
-    let mut room = [0xEEu8; ROOM];
-    let Some(buf) = room.get_mut(..n) else {
-        return write!(out, "too long");
-    };
-    match what {
-        Writing::Frame => writes::say_frame(out, buf, kind, body, m, first),
-        Writing::Log => writes::say_log(out, buf, body),
-        Writing::Counters => writes::say_counters(out, buf, body),
+    body: &'a Body,
+}
+
+impl<'a> Case<'a> {
+    fn new(bytes: &'a [u8; 544]) -> Case<'a> {
+        Case {
+            mark: bytes[1],
+            size: le16(bytes, 2) as usize,
+            asked: le16(bytes, 4),
+            first: bytes[6],
+            body: bytes.last_chunk::<528>().unwrap(),
+        }
+    }
+
+    // What is read is the body, cut off or filled up.
+    fn read<W: Write>(&self, out: &mut W, what: Reading) -> io::Result<()> {
+        let mut input = [self.mark; ROOM];
+        let body = self.body;
+        bits::lay(&mut input, body);
+        let Some(s) = input.get(..self.size) else {
+            return write!(out, "too long");
+        };
+        match what {
+            Reading::Frame => reads::say_frame(out, s),
+            Reading::Log => reads::say_log(out, s),
+            Reading::Counter => vector_io::counter(out, reads::counter(s, self.asked)),
+            Reading::Cut => reads::say_cut(out, s),
+        }
+    }
+
+    // A frame of the kind that is named; its payload counts up.
+    fn write_frame<W: Write>(&self, out: &mut W, buf: &mut [u8]) -> io::Result<()> {
+        let mut payload = [0u8; ROOM];
+        vector_io::fill(&mut payload, self.first, 1, 0);
+        let Some(payload) = payload.get(..self.asked as usize) else {
+            return write!(out, "too long");
+        };
+        writes::say_frame(out, buf, self.mark, self.body, payload)
+    }
+
+    // What is written goes to a buffer that is all EEh, so that a byte that a writer changed shows.
+    fn write<W: Write>(&self, out: &mut W, what: Writing) -> io::Result<()> {
+        let mut room = [0xEEu8; ROOM];
+        let Some(buf) = room.get_mut(..self.size) else {
+            return write!(out, "too long");
+        };
+        match what {
+            Writing::Frame => self.write_frame(out, buf),
+            Writing::Log => writes::say_log(out, buf, self.body),
+            Writing::Counters => writes::say_counters(out, buf, self.body),
+        }
+    }
+
+    fn say_row<W: Write>(&self, out: &mut W) -> io::Result<()> {
+        match page_rows::row_of(self.asked) {
+            Some(row) => write!(out, "{row}"),
+            None => write!(out, "none"),
+        }
+    }
+
+    fn say_queued<W: Write>(&self, out: &mut W) -> io::Result<()> {
+        let body = self.body;
+        let tag = frame_parts::tag_of(le16(body, 2));
+        let count = frame_parts::sectors_of(body[0], body[1]);
+        write!(out, "{tag} {count}")
+    }
+
+    fn answer<W: Write>(&self, out: &mut W, op: Option<Op>) -> io::Result<()> {
+        match op {
+            Some(Op::Read(what)) => self.read(out, what),
+            Some(Op::Write(what)) => self.write(out, what),
+            Some(Op::Row) => self.say_row(out),
+            Some(Op::Queued) => self.say_queued(out),
+            None => write!(out, "unknown"),
+        }
     }
 }
 
-fn say_row<W: Write>(out: &mut W, asked: u16) -> io::Result<()> {
-    match page_rows::row_of(asked) {
-        Some(row) => write!(out, "{row}"),
-        None => write!(out, "none"),
-    }
-}
+/// Frames and pages: nothing stays between two cases.
+#[derive(Clone, Copy, Debug)]
+pub struct Frames;
 
-fn say_queued<W: Write>(out: &mut W, body: &[u8]) -> io::Result<()> {
-    let tag = frame_parts::tag_of(le16(body, 2));
-    let count = frame_parts::sectors_of(byte_of(body, 0), byte_of(body, 1));
-    write!(out, "{tag} {count}")
-}
-
-pub fn answer<W: Write>(out: &mut W, case: &[u8; 544]) -> io::Result<()> {
-    let body = &case[16..544];
-    let a = case[1];
-    let n = le16(case, 2) as usize;
-    let m = le16(case, 4);
-    match op_of(case[0]) {
-        Some(Op::Read(what)) => read(out, what, a, n, m, body),
-        Some(Op::Write(what)) => write(out, what, a, n, m as usize, case[6], body),
-        Some(Op::Row) => say_row(out, m),
-        Some(Op::Queued) => say_queued(out, body),
-        None => write!(out, "unknown"),
+impl Answers<544> for Frames {
+    fn answer<W: Write>(&mut self, out: &mut W, case: &[u8; 544]) -> io::Result<()> {
+        Case::new(case).answer(out, op_of(case[0]))?;
+        writeln!(out)
     }
 }

@@ -1,4 +1,5 @@
 // The reading ops: a frame, page 10h, page 11h, and the cut of several frames.
+use frame_parts::{byte_of, frames_of};
 use frames::{DevReg, DmaSetup, Frame, HostReg, PioSetup, SetBits};
 use page_10h::ErrorLog;
 use refusals::Refusal;
@@ -12,10 +13,6 @@ fn say_values<W: Write>(out: &mut W, values: &[u64]) -> io::Result<()> {
         write!(out, " {value}")?;
     }
     Ok(())
-}
-
-fn say_refusal<W: Write>(out: &mut W, refusal: Refusal) -> io::Result<()> {
-    write!(out, "{}", refusal.number())
 }
 
 // The kind and the fields of a frame, as numbers.
@@ -100,7 +97,7 @@ fn say_pio<W: Write>(out: &mut W, f: PioSetup) -> io::Result<()> {
 pub fn say_frame<W: Write>(out: &mut W, s: &[u8]) -> io::Result<()> {
     let frame = match frames::read_frame(s) {
         Ok(frame) => frame,
-        Err(refusal) => return say_refusal(out, refusal),
+        Err(refusal) => return write!(out, "{refusal}"),
     };
     match frame {
         Frame::Host(f) => say_host(out, f),
@@ -132,7 +129,7 @@ fn say_fields<W: Write>(out: &mut W, log: ErrorLog) -> io::Result<()> {
 pub fn say_log<W: Write>(out: &mut W, s: &[u8]) -> io::Result<()> {
     match page_10h::read_log(s) {
         Ok(log) => say_fields(out, log),
-        Err(refusal) => say_refusal(out, refusal),
+        Err(refusal) => write!(out, "{refusal}"),
     }
 }
 
@@ -142,23 +139,20 @@ pub fn counter(s: &[u8], asked: u16) -> Result<Option<u64>, Refusal> {
     Ok(found.map(|entry| entry.value))
 }
 
+fn say_piece<W: Write>(out: &mut W, piece: &[u8]) -> io::Result<()> {
+    write!(out, "{}:{}", byte_of(piece, 0), piece.len())
+}
+
 // The pieces of s, each as its kind and its length, between blanks.
 pub fn say_cut<W: Write>(out: &mut W, s: &[u8]) -> io::Result<()> {
-    if s.is_empty() {
+    let mut pieces = frames_of(s);
+    let Some(first) = pieces.next() else {
         return write!(out, "none");
-    }
-    let mut rest = s;
-    let mut blank = "";
-    for _ in 0..s.len() {
-        let Some(kind) = rest.first() else {
-            return Ok(());
-        };
-        let Some((piece, more)) = rest.split_at_checked(frame_parts::cut_first(rest)) else {
-            return Ok(());
-        };
-        write!(out, "{blank}{kind}:{}", piece.len())?;
-        blank = " ";
-        rest = more;
+    };
+    say_piece(out, first)?;
+    for piece in pieces {
+        write!(out, " ")?;
+        say_piece(out, piece)?;
     }
     Ok(())
 }

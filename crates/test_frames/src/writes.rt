@@ -1,14 +1,16 @@
 // The writing ops: a frame of a kind, page 10h, page 11h, each into a buffer of EEh bytes.
-ghost use Rattle.std.specs.Prelude.{◌≤◌};
-
 use bits::{le16, le32};
 use frame_parts::{Task, byte_of};
 use frames::{DevReg, DmaSetup, HostReg, PioSetup, SetBits};
 use page_10h::ErrorLog;
+use page_rows::ROWS;
 use refusals::Refusal;
 use std::io;
 use std::io::Write;
 use vector_io::hex;
+
+/// The fields of a case that writes.
+pub type Body = [u8; 528];
 
 // Refusal's number and length written, 0 for the one that there is not, a digest of the buffer and its first bytes.
 fn say_written<W: Write>(
@@ -18,65 +20,63 @@ fn say_written<W: Write>(
 ) -> io::Result<()> {
     match written {
         Ok(n) => write!(out, "0 {n}")?,
-        Err(refusal) => write!(out, "{} 0", refusal.number())?,
+        Err(refusal) => write!(out, "{refusal} 0")?,
     }
     write!(out, " {}", vector_io::digest(0, buf, 31, 65521))?;
     hex(out, buf, 32)
 }
 
-fn flag(s: &[u8], k: u32) -> bool {
-    frame_parts::flag(byte_of(s, 0), k)
+fn flag(s: &Body, k: u32) -> bool {
+    frame_parts::flag(s[0], k)
 }
 
-fn task(s: &[u8], at: usize) -> Task
-    requires { at ≤ 16 }
-{
+fn task(s: &[u8]) -> Task {
     Task {
-        lba: bits::le(s, at, 8),
-        device: byte_of(s, at + 8),
-        count: le16(s, at + 9),
+        lba: bits::le(s, 0, 8),
+        device: byte_of(s, 8),
+        count: le16(s, 9),
     }
 }
 
-fn write_host(buf: &mut [u8], s: &[u8]) -> Result<usize, Refusal> {
+fn write_host(buf: &mut [u8], s: &Body) -> Result<usize, Refusal> {
     frames::write_host(
         buf,
         HostReg {
             command_bit: flag(s, 7),
-            command: byte_of(s, 1),
-            features: byte_of(s, 2),
-            task: task(s, 3),
-            features_high: byte_of(s, 14),
-            control: byte_of(s, 15),
+            command: s[1],
+            features: s[2],
+            task: task(&s[3..]),
+            features_high: s[14],
+            control: s[15],
         },
     )
 }
 
-fn write_device(buf: &mut [u8], s: &[u8]) -> Result<usize, Refusal> {
+fn write_device(buf: &mut [u8], s: &Body) -> Result<usize, Refusal> {
     frames::write_device(
         buf,
         DevReg {
             interrupt: flag(s, 6),
-            status: byte_of(s, 1),
-            error: byte_of(s, 2),
-            task: task(s, 3),
+            status: s[1],
+            error: s[2],
+            task: task(&s[3..]),
         },
     )
 }
 
-fn write_bits(buf: &mut [u8], s: &[u8]) -> Result<usize, Refusal> {
+fn write_bits(buf: &mut [u8], s: &Body) -> Result<usize, Refusal> {
     frames::write_bits(
         buf,
         SetBits {
             interrupt: flag(s, 6),
-            status: byte_of(s, 1),
-            error: byte_of(s, 2),
+            status: s[1],
+            error: s[2],
             active: le32(s, 18),
         },
     )
 }
 
-fn write_setup(buf: &mut [u8], s: &[u8]) -> Result<usize, Refusal> {
+fn write_setup(buf: &mut [u8], s: &Body) -> Result<usize, Refusal> {
     frames::write_setup(
         buf,
         DmaSetup {
@@ -90,36 +90,22 @@ fn write_setup(buf: &mut [u8], s: &[u8]) -> Result<usize, Refusal> {
     )
 }
 
-fn write_pio(buf: &mut [u8], s: &[u8]) -> Result<usize, Refusal> {
+fn write_pio(buf: &mut [u8], s: &Body) -> Result<usize, Refusal> {
     frames::write_pio(
         buf,
         PioSetup {
             interrupt: flag(s, 6),
             to_host: flag(s, 5),
-            status: byte_of(s, 1),
-            error: byte_of(s, 2),
-            task: task(s, 3),
-            ending: byte_of(s, 15),
+            status: s[1],
+            error: s[2],
+            task: task(&s[3..]),
+            ending: s[15],
             bytes: le16(s, 16),
         },
     )
 }
 
-// A payload of n bytes that count up from first.
-fn write_data(buf: &mut [u8], n: usize, first: u8) -> Result<usize, Refusal> {
-    let mut payload = [0u8; 8300];
-    let mut next = first;
-    for b in &mut payload {
-        *b = next;
-        next = next.wrapping_add(1);
-    }
-    let Some(payload) = payload.get(..n) else {
-        return Ok(0);
-    };
-    frames::write_data(buf, payload)
-}
-
-fn write_kind(buf: &mut [u8], kind: u8, s: &[u8], n: usize, first: u8) -> Result<usize, Refusal> {
+fn write_kind(buf: &mut [u8], kind: u8, s: &Body, payload: &[u8]) -> Result<usize, Refusal> {
     match kind {
         0x27 => write_host(buf, s),
         0x34 => write_device(buf, s),
@@ -128,7 +114,7 @@ fn write_kind(buf: &mut [u8], kind: u8, s: &[u8], n: usize, first: u8) -> Result
         0x39 => frames::write_activate(buf),
         0x58 => frames::write_bist(buf),
         0x5F => write_pio(buf, s),
-        _ => write_data(buf, n, first),
+        _ => frames::write_data(buf, payload),
     }
 }
 
@@ -136,33 +122,32 @@ pub fn say_frame<W: Write>(
     out: &mut W,
     buf: &mut [u8],
     kind: u8,
-    s: &[u8],
-    n: usize,
-    first: u8,
+    s: &Body,
+    payload: &[u8],
 ) -> io::Result<()> {
-    let written = write_kind(buf, kind, s, n, first);
+    let written = write_kind(buf, kind, s, payload);
     say_written(out, written, buf)
 }
 
-pub fn say_log<W: Write>(out: &mut W, buf: &mut [u8], s: &[u8]) -> io::Result<()> {
+pub fn say_log<W: Write>(out: &mut W, buf: &mut [u8], s: &Body) -> io::Result<()> {
     let written = page_10h::write_log(
         buf,
         ErrorLog {
-            nq: byte_of(s, 0) == 1,
-            tag: byte_of(s, 1),
-            status: byte_of(s, 2),
-            error: byte_of(s, 3),
-            task: task(s, 4),
+            nq: s[0] == 1,
+            tag: s[1],
+            status: s[2],
+            error: s[3],
+            task: task(&s[4..]),
         },
     );
     say_written(out, written, buf)
 }
 
-pub fn say_counters<W: Write>(out: &mut W, buf: &mut [u8], s: &[u8]) -> io::Result<()> {
-    let mut values = [0u32; 16];
+pub fn say_counters<W: Write>(out: &mut W, buf: &mut [u8], s: &Body) -> io::Result<()> {
+    let mut values = [0u32; ROWS];
     for (row, value) in values.iter_mut().enumerate() {
         *value = le32(s, 2 + 4 * row);
     }
-    let written = page_rows::write_counters(buf, le16(s, 0), values);
+    let written = page_rows::write_counters(buf, le16(s, 0), &values);
     say_written(out, written, buf)
 }

@@ -6,11 +6,11 @@ pub fn digest(from: u64, s: &[u8], factor: u16, modulus: u32) -> u64 {
     if modulus == 0 {
         return 0;
     }
-    let factor = factor as u64;
-    let modulus = modulus as u64;
+    let factor = u64::from(factor);
+    let modulus = u64::from(modulus);
     let mut d = from % modulus;
     for &b in s {
-        d = (d * factor + b as u64 + 1) % modulus;
+        d = (d * factor + u64::from(b) + 1) % modulus;
     }
     d
 }

@@ -8,7 +8,7 @@ pub fn counter<W: Write>(out: &mut W, answer: Result<Option<u64>, Refusal>) -> i
     match answer {
         Ok(Some(value)) => write!(out, "0 value {value}"),
         Ok(None) => write!(out, "0 absent"),
-        Err(refusal) => write!(out, "{}", refusal.number()),
+        Err(refusal) => write!(out, "{refusal}"),
     }
 }
 

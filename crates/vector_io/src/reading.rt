@@ -2,15 +2,19 @@
 use std::io;
 use std::io::{Read, Write};
 
-/// One case, and whether there was one: an input that ends within a case has a line of its own, and a read that fails is no end.
-pub fn read_case<R: Read, W: Write>(
+/// The next case, in `room`, if there is one: an input that ends within a case has a line of its own, and a read that fails
+/// is no end.
+pub(crate) fn read_case<'a, const N: usize, R: Read, W: Write>(
     input: &mut R,
     out: &mut W,
-    case: &mut [u8],
-) -> io::Result<bool> {
-    let n = streams::fill(input, case)?;
-    if 0 < n && n < case.len() {
-        writeln!(out, "cut short")?;
+    room: &'a mut [u8; N],
+) -> io::Result<Option<&'a [u8; N]>> {
+    match streams::fill(input, room)? {
+        0 => Ok(None),
+        n if n < N => {
+            writeln!(out, "cut short")?;
+            Ok(None)
+        }
+        _ => Ok(Some(room)),
     }
-    Ok(0 < n && n == case.len())
 }

@@ -6,8 +6,8 @@ use Rattle.std.specs.Option.{ok_or}
 use Rattle.bits.specs.Pick.{pick}
 use Rattle.verdicts.specs.Queued.{queuedRule}
 use Rattle.verdicts.specs.Other.{asksErrors, asksCounters}
-use Rattle.verdicts.specs.declared.commands.LogPage.{LogPage}
-use Rattle.verdicts.specs.declared.commands.LogPage.TheVariants.{Errors, Counters}
+use Rattle.frame_parts.specs.declared.log_pages.LogPage.{LogPage}
+use Rattle.frame_parts.specs.declared.log_pages.LogPage.TheVariants.{Errors, Counters}
 use Rattle.verdicts.specs.declared.commands.Bad.{Bad}
 use Rattle.verdicts.specs.declared.commands.Bad.TheVariants.{Only}
 

@@ -1,6 +1,6 @@
 -- Each public function's own contract: what it says, and that two answers which it allows are equal. Assumes nothing.
 use Rattle.verdicts.specs.Range.{tooFar, outsideOf}
-use Rattle.verdicts.specs.Moved.{longer, wholly, notReady}
+use Rattle.verdicts.specs.Moved.{longer, notReady}
 use Rattle.verdicts.specs.Queued.{tagRefused, queuedRule}
 use Rattle.verdicts.specs.Other.{otherRule, logZeroes}
 use mathlib.Core.Path.{◌≡◌, refl}
@@ -10,9 +10,14 @@ use Rattle.verdicts.proofs.commands
 use Rattle.verdicts.specs.contracts.commands as commands-said
 use Rattle.verdicts.proofs.moving
 use Rattle.verdicts.specs.contracts.moving as moving-said
+use Rattle.verdicts.proofs.ranges
+use Rattle.verdicts.specs.contracts.ranges as ranges-said
+
+pub tied-is-refused : Tied commands-said.TagNamed.is_refused.ended commands.TagNamed.is_refused.Reads.Asked commands.TagNamed.is_refused.Reads.Post (λ κs a r ws. r ≡ tagRefused a.1.0 a.0.tag a.0.busy)
+tied-is-refused = named (say (λ κs a. tt) (λ κs a r ws p. p)) (λ κs a ws ws'. refl)
 
 pub tied-queued-rule : Tied commands-said.queued_rule.ended commands.queued_rule.Reads.Asked commands.queued_rule.Reads.Post
-    (λ κs a r ws. r ≡ queuedRule a.0 (tagRefused a.1.0 a.1.1.0 a.1.1.1.0) (tooFar a.1.1.1.1.0 a.1.1.1.1.1.0 a.1.1.1.1.1.1.0))
+    (λ κs a r ws. r ≡ queuedRule a.0 (tagRefused a.1.0 a.1.1.0.tag a.1.1.0.busy) (tooFar a.1.1.1.0 a.1.1.1.1.0.first a.1.1.1.1.0.count))
 tied-queued-rule = named (say (λ κs a. tt) (λ κs a r ws p. p)) (λ κs a ws ws'. refl)
 
 pub tied-other-rule : Tied commands-said.other_rule.ended commands.other_rule.Reads.Asked commands.other_rule.Reads.Post (λ κs a r ws. r ≡ otherRule a.0 a.1.0 a.1.1.0)
@@ -24,11 +29,11 @@ tied-log-zeroes = named (say (λ κs a. tt) (λ κs a r ws p. p)) (λ κs a ws w
 pub tied-longer : Tied moving-said.longer.ended moving.longer.Reads.Asked moving.longer.Reads.Post (λ κs a r ws. r ≡ longer a.0 a.1.0)
 tied-longer = named (say (λ κs a. tt) (λ κs a r ws p. p)) (λ κs a ws ws'. refl)
 
-pub tied-wholly : Tied moving-said.wholly.ended moving.wholly.Reads.Asked moving.wholly.Reads.Post (λ κs a r ws. r ≡ wholly a.0 a.1.0)
-tied-wholly = named (say (λ κs a. tt) (λ κs a r ws p. p)) (λ κs a ws ws'. refl)
-
-pub tied-not-ready : Tied moving-said.not_ready.ended moving.not_ready.Reads.Asked moving.not_ready.Reads.Post (λ κs a r ws. r ≡ notReady a.0 a.1.0 a.1.1.0 a.1.1.1.0)
+pub tied-not-ready : Tied moving-said.not_ready.ended moving.not_ready.Reads.Asked moving.not_ready.Reads.Post (λ κs a r ws. r ≡ notReady a.0 a.1.0 a.1.1.0.moved a.1.1.0.whole)
 tied-not-ready = named (say (λ κs a. tt) (λ κs a r ws p. p)) (λ κs a ws ws'. refl)
 
-pub tied-outside-of : Tied moving-said.outside_of.ended moving.outside_of.Reads.Asked moving.outside_of.Reads.Post (λ κs a r ws. r ≡ outsideOf a.0 a.1.0 a.1.1.0)
-tied-outside-of = named (say (λ κs a. tt) (λ κs a r ws p. p)) (λ κs a ws ws'. refl)
+pub tied-is-beyond : Tied ranges-said.Sectors.is_beyond.ended ranges.Sectors.is_beyond.Reads.Asked ranges.Sectors.is_beyond.Reads.Post (λ κs a r ws. r ≡ tooFar a.1.0 a.0.first a.0.count)
+tied-is-beyond = named (say (λ κs a. tt) (λ κs a r ws p. p)) (λ κs a ws ws'. refl)
+
+pub tied-leaves-out : Tied ranges-said.Sectors.leaves_out.ended ranges.Sectors.leaves_out.Reads.Asked ranges.Sectors.leaves_out.Reads.Post (λ κs a r ws. r ≡ outsideOf a.0.first a.0.count a.1.0)
+tied-leaves-out = named (say (λ κs a. tt) (λ κs a r ws p. p)) (λ κs a ws ws'. refl)

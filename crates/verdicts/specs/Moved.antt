@@ -1,13 +1,10 @@
 -- What is refused for what has moved of a command, in bytes. Assumes nothing.
-use Rattle.std.specs.Prelude.{Bool, not, ◌&&◌, ◌||◌, ℕ, ltb, eqb}
+use Rattle.std.specs.Prelude.{Bool, not, ◌&&◌, ◌||◌, ℕ, ltb}
+use Rattle.moves.specs.Amounts.{wholly}
 
 -- 6: the payload is longer than what is left
 abbrev pub longer : ℕ → ℕ → Bool
 longer left n = ltb left n
-
--- 9: all moved already
-abbrev pub wholly : ℕ → ℕ → Bool
-wholly moved whole = eqb moved whole
 
 -- 11: a tag of the set that is not outstanding or not wholly moved
 abbrev pub notReady : Bool → Bool → ℕ → ℕ → Bool

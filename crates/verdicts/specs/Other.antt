@@ -3,8 +3,8 @@ use Rattle.std.specs.Prelude.{Bool, true, false, not, ◌&&◌, ℕ, Option, Som
 use Rattle.std.specs.Option.{ok_or}
 use Rattle.bits.specs.Pick.{pick}
 use Rattle.bits.specs.Bit.{bitIn}
-use Rattle.verdicts.specs.declared.commands.LogPage.{LogPage}
-use Rattle.verdicts.specs.declared.commands.LogPage.TheVariants.{Errors, Counters}
+use Rattle.frame_parts.specs.declared.log_pages.LogPage.{LogPage}
+use Rattle.frame_parts.specs.declared.log_pages.LogPage.TheVariants.{Errors, Counters}
 use Rattle.verdicts.specs.declared.commands.Bad.{Bad}
 use Rattle.verdicts.specs.declared.commands.Bad.TheVariants.{Only, Halts}
 

@@ -4,52 +4,59 @@ ghost use Rattle.verdicts.specs.Range.{tooFar};
 ghost use Rattle.verdicts.specs.Queued.{tagRefused, queuedRule};
 ghost use Rattle.verdicts.specs.Other.{otherRule, logZeroes};
 
-/// A bad command, with its error: answered with it, and no more; or with a halt whose record holds it.
+use crate::ranges::Sectors;
+use frame_parts::LogPage;
+
+// The error of a command that was aborted.
+const ABORTED: u8 = 0x04;
+
+// The error of a command that names a sector which is not there.
+const ID_NOT_FOUND: u8 = 0x10;
+
+/// A bad command, with its error.
 #[derive(Clone, Copy, Debug, PartialEq, Eq)]
 pub enum Bad {
+    /// Answered with the error, and no more.
     Only(u8),
+    /// Answered with the error, and with a halt whose record holds it.
     Halts(u8),
 }
 
-/// A log page that a well-formed READ LOG EXT asks for: 10h, of errors, or 11h, of counters.
+/// The tag that a queued command names. `busy`: it is outstanding.
 #[derive(Clone, Copy, Debug, PartialEq, Eq)]
-pub enum LogPage {
-    Errors,
-    Counters,
+pub struct TagNamed {
+    pub tag: u8,
+    pub busy: bool,
 }
 
-// First sector + count above capacity, compared without wrap.
-fn too_far(capacity: u32, first: u64, count: u32) -> bool
-    ensures { result ≡ tooFar capacity first count }
-{
-    let most = capacity as u64;
-    if most < first {
-        return true;
+impl TagNamed {
+    /// It is at or above the depth, or outstanding already.
+    pub fn is_refused(self, depth: u32) -> bool
+        ensures { result ≡ tagRefused depth self.tag self.busy }
+    {
+        depth <= self.tag as u32 || self.busy
     }
-    most - first < count as u64
 }
 
-/// Rules 1 to 4 of a queued command: bad, or good. `busy`: its tag is outstanding.
+/// Rules 1 to 4 of a queued command: bad, or good.
 #[tactic(auto, unfolding(bits::specs::Pick::pick))]
 pub fn queued_rule(
     halted: bool,
     depth: u32,
-    tag: u8,
-    busy: bool,
+    tag: TagNamed,
     capacity: u32,
-    first: u64,
-    count: u32,
+    sectors: Sectors,
 ) -> Result<(), Bad>
-    ensures { result ≡ queuedRule halted (tagRefused depth tag busy) (tooFar capacity first count) }
+    ensures { result ≡ queuedRule halted (tagRefused depth tag.tag tag.busy) (tooFar capacity sectors.first sectors.count) }
 {
     if halted {
-        return Err(Bad::Only(0x04));
+        return Err(Bad::Only(ABORTED));
     }
-    if depth <= tag as u32 || busy {
-        return Err(Bad::Halts(0x04));
+    if tag.is_refused(depth) {
+        return Err(Bad::Halts(ABORTED));
     }
-    if too_far(capacity, first, count) {
-        return Err(Bad::Halts(0x10));
+    if sectors.is_beyond(capacity) {
+        return Err(Bad::Halts(ID_NOT_FOUND));
     }
     Ok(())
 }
@@ -60,12 +67,12 @@ pub fn other_rule(halted: bool, page: Option<LogPage>, busy: bool) -> Result<Log
     ensures { result ≡ otherRule halted page busy }
 {
     if halted && !matches!(page, Some(LogPage::Errors)) {
-        return Err(Bad::Only(0x04));
+        return Err(Bad::Only(ABORTED));
     }
     if busy {
-        return Err(Bad::Halts(0x04));
+        return Err(Bad::Halts(ABORTED));
     }
-    page.ok_or(Bad::Only(0x04))
+    page.ok_or(Bad::Only(ABORTED))
 }
 
 /// Page 11h, by the features of the command that asks for it.

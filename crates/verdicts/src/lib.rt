@@ -3,6 +3,8 @@
 
 mod commands;
 mod moving;
+mod ranges;
 
-pub use commands::{Bad, LogPage, log_zeroes, other_rule, queued_rule};
-pub use moving::{longer, not_ready, outside_of, wholly};
+pub use commands::{Bad, TagNamed, log_zeroes, other_rule, queued_rule};
+pub use moving::{longer, not_ready};
+pub use ranges::Sectors;

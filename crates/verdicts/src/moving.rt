@@ -1,7 +1,8 @@
-// What of a data frame, of a set of tags and of a sector is refused for what has moved and where a command lies.
+// What of a data frame and of a set of tags is refused for what has moved.
 ghost use Rattle.std.specs.Prelude.{◌≡◌};
-ghost use Rattle.verdicts.specs.Moved.{longer, wholly, notReady};
-ghost use Rattle.verdicts.specs.Range.{outsideOf};
+ghost use Rattle.verdicts.specs.Moved.{longer, notReady};
+
+use moves::Progress;
 
 /// A payload of n bytes against what is left.
 pub fn longer(left: u32, n: usize) -> bool
@@ -10,23 +11,9 @@ pub fn longer(left: u32, n: usize) -> bool
     (left as usize) < n
 }
 
-/// All of a command's bytes have moved.
-pub fn wholly(moved: u32, whole: u32) -> bool
-    ensures { result ≡ wholly moved whole }
+/// A tag, asked for or not, whose command is so far.
+pub fn not_ready(asked: bool, busy: bool, progress: Progress) -> bool
+    ensures { result ≡ notReady asked busy progress.moved progress.whole }
 {
-    moved == whole
-}
-
-/// A tag, asked for or not, of which so much has moved.
-pub fn not_ready(asked: bool, busy: bool, moved: u32, whole: u32) -> bool
-    ensures { result ≡ notReady asked busy moved whole }
-{
-    asked && (!busy || !wholly(moved, whole))
-}
-
-/// A sector outside a command of `count` sectors from `first` on. The sum is taken in 64 bits, so that it does not wrap.
-pub fn outside_of(first: u32, count: u32, sector: u32) -> bool
-    ensures { result ≡ outsideOf first count sector }
-{
-    sector < first || (first as u64) + (count as u64) <= sector as u64
+    asked && (!busy || !progress.is_whole())
 }

@@ -34,21 +34,21 @@ use Rattle.replies.specs.Replies.{repliesOf}
 use Rattle.device.specs.Device.{contradictoryDevice, freshDevice}
 use Rattle.device.specs.After.{withValue, haltWith, acceptedBy, unhalted, movedBy, openedFor, finishedBy, failedBy, after_of}
 use Rattle.device.specs.Lent.{lent}
-use Rattle.device.specs.FactsOf.{openTag, mediumWrong, factsWith}
+use Rattle.device.specs.FactsOf.{mediumWrong, factsWith}
 use Rattle.device.specs.declared.state.Device.{Device}
 use Rattle.device.proofs.Doing.{part_none, host-unsent, none-unready}
 use Rattle.device.specs.Step.{Step, shown, stepBy, actOf, step}
 use Rattle.worked_examples.specs.Points.{Hold, examples as all, room, replyTo}
 
 pub examples : Hold all
-unfolding Hold all pick first_of joined registerBytes fixedSize readable frameByKind readFrame bitsBytes setupBytes encode sum256 sealed ids id_at entriesFrom entries page10 fits10 damaged valueIn readCounter counterAnswer rowBytes rows_to openTo page11 taskIn echoOf someBelow tab placed cleared settingsOut busyBad idleBad entryBad tableBad statusBad recordBad rowsBad contradictory advancedBy move_of queuedAct logPage otherAct controlAct registerAct frameAct wrongKind wrongTime wrongSize tests does act someUnready failing touch_of actOf repliesOf contradictoryDevice freshDevice withValue haltWith acceptedBy unhalted movedBy openedFor finishedBy failedBy after_of openTag movedBad
+unfolding Hold all pick first_of joined registerBytes fixedSize readable frameByKind readFrame bitsBytes setupBytes encode sum256 sealed ids id_at entriesFrom entries page10 fits10 damaged valueIn readCounter counterAnswer rowBytes rows_to openTo page11 taskIn echoOf someBelow tab placed cleared settingsOut busyBad idleBad entryBad tableBad statusBad recordBad rowsBad contradictory advancedBy move_of queuedAct logPage otherAct controlAct registerAct frameAct wrongKind wrongTime wrongSize tests does act someUnready failing touch_of actOf repliesOf contradictoryDevice freshDevice withValue haltWith acceptedBy unhalted movedBy openedFor finishedBy failedBy after_of movedBad
 examples = (refl, (refl, (refl, (refl, (refl, (refl, (refl, (refl, (refl, (refl, (refl, (refl, (refl, (refl, (refl, tt)))))))))))))))
 
 -- what decides it there is what decides it with such a medium
-same-act : (d : Device) (f m : List ℕ) → length m ≡ 512 * d.settings.capacity → act (factsWith d (openTag d.status.phase) false false 8196) (hostFrame f) ≡ actOf d (lent (hostFrame f) m room)
+same-act : (d : Device) (f m : List ℕ) → length m ≡ 512 * d.settings.capacity → act (factsWith d d.status.phase false false 8196) (hostFrame f) ≡ actOf d (lent (hostFrame f) m room)
 unfolding actOf
 same-act d f m h =
-    let t = openTag d.status.phase in
+    let t = d.status.phase in
     let right : mediumWrong d.settings.capacity (length m) ≡ false = rw (eq-eqb (length m) (512 * d.settings.capacity) h) refl in
     ap (λ (n : ℕ). act (factsWith d t false false n) (hostFrame f)) (sym (length-replicate {A = ℕ} 8196 0))
     ∙ ap (λ (w : Bool). act (factsWith d t w false (length room)) (hostFrame f)) (sym right)
@@ -67,5 +67,5 @@ same-step d f m (Ok a) e = (refl, (refl, ap (λ (q : List ℕ). repliesOf (shown
 pub reply-to-is : (d : Device) (f m : List ℕ) → length m ≡ 512 * d.settings.capacity → Same (replyTo d f) (step d (lent (hostFrame f) m room))
 reply-to-is d f m h =
     let e = same-act d f m h in
-    let x : Result Act Refusal = act (factsWith d (openTag d.status.phase) false false 8196) (hostFrame f) in
+    let x : Result Act Refusal = act (factsWith d d.status.phase false false 8196) (hostFrame f) in
     subst (λ (y : Result Act Refusal). Same (stepBy d (lent (hostFrame f) [] room) x) (stepBy d (lent (hostFrame f) m room) y)) e (same-step d f m x e)

@@ -20,7 +20,6 @@ use Rattle.rules.specs.Positions.{move_of, advancedBy}
 use Rattle.rules.specs.Medium.{touch_of, stored}
 use Rattle.replies.specs.Replies.{sentAll, sentBytes, repliesOf}
 use Rattle.device.specs.After.{after_of, resetHeld, movedBy, unhalted, finishedBy, haltWith, released, openedFor, acceptedBy}
-use Rattle.device.specs.FactsOf.{openTag}
 use Rattle.device.specs.Step.{actOf}
 use Rattle.device.specs.Device.{contradictoryDevice, powerOn, freshDevice}
 use Rattle.history.specs.Carried.{carriedAt, span, transfer}
@@ -66,7 +65,7 @@ second-not-empty = record {
 
 -- the run of long commands
 pub long-not-empty : LongShows
-unfolding first_of over pick joined cut cut_to firstLength registerBytes readable fixedSize readFrame frameByKind fits encode setupBytes bitsBytes contradictory statusBad settingsOut recordBad rowsBad tableBad entryBad busyBad idleBad echoOf taskIn someBelow placed tab registerAct queuedAct someUnready move_of advancedBy stored sentAll sentBytes repliesOf after_of movedBy finishedBy openedFor acceptedBy openTag contradictoryDevice powerOn freshDevice carriedAt span transfer long tagsFrom lines_of commands outstandingAt finishedAt givenUpAt droppedAt total collect some payloads run seen begun waits sactive movedBad wrongKind wrongTime wrongSize tests frameAct does act touch_of actOf
+unfolding first_of over pick joined cut cut_to firstLength registerBytes readable fixedSize readFrame frameByKind fits encode setupBytes bitsBytes contradictory statusBad settingsOut recordBad rowsBad tableBad entryBad busyBad idleBad echoOf taskIn someBelow placed tab registerAct queuedAct someUnready move_of advancedBy stored sentAll sentBytes repliesOf after_of movedBy finishedBy openedFor acceptedBy contradictoryDevice powerOn freshDevice carriedAt span transfer long tagsFrom lines_of commands outstandingAt finishedAt givenUpAt droppedAt total collect some payloads run seen begun waits sactive movedBad wrongKind wrongTime wrongSize tests frameAct does act touch_of actOf
 long-not-empty = record {
   powered = refl;
   typed = typed_long;

@@ -34,7 +34,6 @@ use Rattle.rules.specs.Positions.{move_of, advancedBy}
 use Rattle.rules.specs.Medium.{touch_of, stored}
 use Rattle.replies.specs.Replies.{sentAll, sentBytes, repliesOf}
 use Rattle.device.specs.After.{withValue, renewed, after_of, zeroedIf, resetHeld, movedBy, unhalted, finishedBy, failedBy, haltWith, released, openedFor, acceptedBy}
-use Rattle.device.specs.FactsOf.{openTag}
 use Rattle.device.specs.Step.{actOf}
 use Rattle.device.specs.Device.{contradictoryDevice, powerOn, freshDevice}
 use Rattle.history.specs.Carried.{carriedAt, span, transfer}
@@ -92,7 +91,7 @@ typed = all_typed calls refl
 
 -- the run: all four fates, an error that waits and is read, a tag used three times, a page that shows counters
 pub not-empty : ExampleShows
-unfolding first_of over pick joined cut cut_to firstLength registerBytes readable fixedSize readFrame frameByKind fits encode setupBytes bitsBytes entries entriesFrom id_at page11 openTo rows_to rowBytes fits10 page10 readCounter damaged valueIn ids row_of sealed sum256 contradictory statusBad settingsOut recordBad rowsBad tableBad entryBad busyBad idleBad echoOf taskIn someBelow placed tab cleared registerAct queuedAct otherAct logPage failing someUnready move_of advancedBy stored sentAll sentBytes repliesOf after_of zeroedIf resetHeld movedBy unhalted finishedBy failedBy haltWith released openedFor acceptedBy openTag contradictoryDevice powerOn freshDevice withValue renewed carriedAt span transfer countedIn story tagsFrom lines_of commands outstandingAt finishedAt givenUpAt droppedAt total totalWith howMany collect some payloads run seen begun waits sactive before since movedBad wrongKind wrongTime wrongSize tests frameAct does act touch_of actOf
+unfolding first_of over pick joined cut cut_to firstLength registerBytes readable fixedSize readFrame frameByKind fits encode setupBytes bitsBytes entries entriesFrom id_at page11 openTo rows_to rowBytes fits10 page10 readCounter damaged valueIn ids row_of sealed sum256 contradictory statusBad settingsOut recordBad rowsBad tableBad entryBad busyBad idleBad echoOf taskIn someBelow placed tab cleared registerAct queuedAct otherAct logPage failing someUnready move_of advancedBy stored sentAll sentBytes repliesOf after_of zeroedIf resetHeld movedBy unhalted finishedBy failedBy haltWith released openedFor acceptedBy contradictoryDevice powerOn freshDevice withValue renewed carriedAt span transfer countedIn story tagsFrom lines_of commands outstandingAt finishedAt givenUpAt droppedAt total totalWith howMany collect some payloads run seen begun waits sactive before since movedBad wrongKind wrongTime wrongSize tests frameAct does act touch_of actOf
 not-empty = record {
   powered = refl;
   typed = typed;

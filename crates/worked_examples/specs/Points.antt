@@ -13,7 +13,7 @@ use Rattle.device.specs.Step.{Step, stepBy, step}
 use Rattle.rules.specs.Call.{hostFrame, openPhase, sendData, finishTags, mediaError}
 use Rattle.rules.specs.Act.{act}
 use Rattle.device.specs.Lent.{lent}
-use Rattle.device.specs.FactsOf.{openTag, factsWith}
+use Rattle.device.specs.FactsOf.{factsWith}
 use Rattle.device.specs.declared.state.Device.{Device}
 
 -- one example: its number in 01, what the definitions give, and what 01 says
@@ -55,7 +55,7 @@ room = replicate 8196 0
 
 -- what a host frame comes to with a medium of the right length and room enough; that this is the machine's own `step` is `reply-to-is`
 abbrev pub replyTo : Device → List ℕ → Step
-replyTo d f = stepBy d (lent (hostFrame f) [] room) (act (factsWith d (openTag d.status.phase) false false 8196) (hostFrame f))
+replyTo d f = stepBy d (lent (hostFrame f) [] room) (act (factsWith d d.status.phase false false 8196) (hostFrame f))
 
 -- READ LOG EXT of page 10h
 abbrev pub readLog10 : List ℕ

@@ -1,11 +1,21 @@
-use Rattle.std.proofs.Common.{◌+◌, ◌-◌, ◌<◌, min, get_or, arith}
-use Rattle.bits.proofs.Littles.{le-more}
+use Rattle.std.proofs.Common.{rules, arith, ◌≡◌, min, ℕ, List, length, length-take, take, drop, reverse, sym, ap, ◌∙◌}
+use Rattle.std.specs.List.{fold}
+use borrow.Author.Tests.{tests}
+use Rattle.std.proofs.lemmas.Grind.{common_steps}
+use Rattle.std.proofs.lemmas.Iterator.Consumers.{fold_from_yields_List}
+use Rattle.std.proofs.lemmas.Iterator.Adapters.{YieldsList-from_rev_slice}
+use Rattle.bits.specs.Little.{leAt, Bytes}
+use Rattle.bits.proofs.Littles.{joined, le-joined, leAt-there, le-lt}
 use Rattle.bits.proofs.little.le.Goals as goal
 
-pub loop-i-preserved : goal.loop-i-preserved
-loop-i-preserved c =
-    let l = c.loop-i in
+pub returns : goal.returns
+returns c =
     let a = c.args in
-    let e = c.byte_at.ensures in
-    let b : get_or a.s.now (a.at + (l.i - 1)) 0 < 256 = rw e at c.byte_at.type_inv in
-    rw e (le-more a.s.now a.at (min a.n 8) l.i l.x (omega arith) (omega arith) (omega arith) b l.invariant.0 l.invariant.1)
+    let m = min a.n 8 in
+    let bs = c.unwrap_or-bytes.result.now in
+    let e : bs ≡ take m (drop a.at a.s.now) = grind (arith, common_steps) in
+    let bytes : Bytes bs = search rules in
+    let folded : c.fold.result ≡ fold joined 0 (reverse bs) = fold_from_yields_List _ joined 0 c.fold.result c.fold.ensures.ran (YieldsList-from_rev_slice bs (cc)) (λ a x b q k. search (rules, tests)) in
+    let value : c.fold.result ≡ leAt a.s.now a.at m =
+    folded ∙ (le-joined bs bytes (omega (arith, ap length e, length-take m (drop a.at a.s.now)))).0 ∙ ap (λ (l : List ℕ). leAt l 0 (length l)) e ∙ sym (leAt-there a.s.now a.at m) in
+    record { value = value; bound = rw value (le-lt a.s.now (search rules) a.at m) }

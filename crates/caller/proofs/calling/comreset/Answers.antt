@@ -1,7 +1,8 @@
-use Rattle.history.proofs.Allowed.{reset}
+use mathlib.Core.Path.{refl}
+use Rattle.rules.specs.Call.{comReset}
 use Rattle.device.proofs.Typing.{none-typed}
-use Rattle.caller.proofs.Continuing.{continues}
+use Rattle.caller.proofs.Continuing.{continues-replying}
 use Rattle.caller.proofs.calling.comreset.Goals as goal
 
 pub returns : goal.returns
-returns c = λ m. continues _ _ _ none-typed (reset c.lifetimes c.args.reply _ m _ c.comreset.ensures)
+returns c = continues-replying _ comReset _ _ _ refl none-typed c.comreset.ensures

@@ -1,8 +1,9 @@
 use native.Mathlib.Omega.{arith}
-use Rattle.history.proofs.Allowed.{finished}
+use mathlib.Core.Path.{refl}
+use Rattle.rules.specs.Call.{finishTags}
 use Rattle.device.proofs.Typing.{set_typed}
-use Rattle.caller.proofs.Continuing.{continues}
+use Rattle.caller.proofs.Continuing.{continues-replying}
 use Rattle.caller.proofs.calling.finish.Goals as goal
 
 pub returns : goal.returns
-returns c = λ m. continues _ _ _ (set_typed _ (omega arith)) (finished c.lifetimes _ c.args.reply _ m _ c.finish.ensures)
+returns c = continues-replying _ (finishTags _) _ _ _ refl (set_typed _ (omega arith)) c.finish.ensures

@@ -1,7 +1,8 @@
-use Rattle.history.proofs.Allowed.{linked}
+use mathlib.Core.Path.{refl}
+use Rattle.rules.specs.Call.{linkEvent}
 use Rattle.device.proofs.Typing.{none-typed}
-use Rattle.caller.proofs.Continuing.{continues}
+use Rattle.caller.proofs.Continuing.{continues-alone}
 use Rattle.caller.proofs.calling.link_event.Goals as goal
 
 pub returns : goal.returns
-returns c = λ m b. continues _ _ _ none-typed (linked _ _ m b c.link_event.ensures)
+returns c = continues-alone _ (linkEvent _) _ refl refl none-typed c.link_event.ensures

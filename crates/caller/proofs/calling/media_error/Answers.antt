@@ -1,8 +1,9 @@
 use native.Mathlib.Omega.{arith}
-use Rattle.history.proofs.Allowed.{failed}
+use mathlib.Core.Path.{refl}
+use Rattle.rules.specs.Call.{mediaError}
 use Rattle.device.proofs.Typing.{error-typed}
-use Rattle.caller.proofs.Continuing.{continues}
+use Rattle.caller.proofs.Continuing.{continues-replying}
 use Rattle.caller.proofs.calling.media_error.Goals as goal
 
 pub returns : goal.returns
-returns c = λ m. continues _ _ _ (error-typed _ (omega arith)) (failed c.lifetimes _ _ _ c.args.reply _ m _ c.media_error.ensures)
+returns c = continues-replying _ (mediaError _ _ _) _ _ _ refl (error-typed _ (omega arith)) c.media_error.ensures

@@ -17,7 +17,7 @@ unfolding tableBad
 returns c =
     let a = c.args in
     let es = a.entries.now in
-    let test = λ (x : ℕ × Entry). entryBad a.s x.1 x.0 (bitIn 32 a.outstanding x.0) (openFor a.phase x.0) in
+    let test = λ (x : ℕ × Entry). entryBad a.settings x.1 x.0 (bitIn 32 a.outstanding x.0) (openFor a.phase x.0) in
     any_from_yields_List test _ _ _ c.any.ensures.ran (YieldsList-from_enumerate (YieldsList-from_slice es cc) cc) (λ x b q k. search (rules, tests))
-    ∙ some-walked test (tagBad a.s es a.outstanding a.phase) zeroEntry es 0 (λ i l. ap (λ (j : ℕ). test (j, entry_of es i)) (omega arith))
+    ∙ some-walked test (tagBad a.settings es a.outstanding a.phase) zeroEntry es 0 (λ i l. ap (λ (j : ℕ). test (j, entry_of es i)) (omega arith))
     ∙ rw (c.told-entries) refl

@@ -1,9 +1,10 @@
-use Rattle.std.proofs.Common.{rules, ◌≡◌, ℕ, ◌<◌, length, set, get_or, Bool, ap, ap₂, ◌∙◌, List, arith}
-use Rattle.bits.specs.Pick.{pick}
+use Rattle.std.proofs.Common.{rules, ◌≡◌, ℕ, ◌<◌, length, set, get_or, sym, ap, ◌∙◌, List, arith}
+use Rattle.bits.proofs.Picks.{pick_yes, pick_no}
 use Rattle.device_state.specs.State.{zeroEntry}
-use Rattle.device_state.specs.Table.{cleared}
+use Rattle.device_state.specs.Table.{cleared, entry_of}
 use Rattle.device_state.specs.declared.shapes.Entry.{Entry}
-use Rattle.device_state.proofs.TableLaws.{partly, partly_none, partly-next, partly-put, partly-end, clearedAt}
+use Rattle.device_state.proofs.TableLaws.{partly, partly_none, partly-put, partly-next, partly-end, clearedAt}
+use Rattle.device_state.proofs.table.clear_entries.Goals.{then-bit, else-bit}
 use Rattle.device_state.proofs.table.clear_entries.Goals as goal
 
 pub loop-tag-init : goal.loop-tag-init
@@ -15,10 +16,18 @@ loop-tag-preserved c =
     let es : List Entry = c.args.entries.now in
     let f = clearedAt es c.args.set in
     let more : l.tag < length es = omega (arith, l.invariant.0, c.loop-tag-test.true) in
-    let new : c.idle_if.result ≡ f l.tag =
-    c.idle_if.ensures ∙ ap (λ (t : List Entry). pick c.bit.result zeroEntry (get_or t l.tag zeroEntry)) l.invariant.1
-    ∙ ap₂ (λ (b : Bool) (e : Entry). pick b zeroEntry e) c.bit.ensures (partly-next l.tag f es zeroEntry more) in
-    (l.invariant.0, ap (λ (t : List Entry). set t l.tag c.idle_if.result) l.invariant.1 ∙ partly-put l.tag f es zeroEntry c.idle_if.result more new)
+    elim c.if-bit.branch [
+      | then-bit w ↦
+          let zero : w.default.result ≡ zeroEntry = search rules in
+          let idle : w.default.result ≡ f l.tag = zero ∙ sym (pick_yes _ zeroEntry (entry_of es l.tag) (sym c.bit.ensures ∙ w.if-bit.true)) in
+          (l.invariant.0, w.entries-is ∙ ap (λ (t : List Entry). set t l.tag w.default.result) l.invariant.1 ∙ partly-put l.tag f es zeroEntry w.default.result more idle)
+      | else-bit w ↦
+          let kept : entry_of es l.tag ≡ f l.tag = sym (pick_no _ zeroEntry (entry_of es l.tag) (sym c.bit.ensures ∙ w.if-bit.false)) in (
+            l.invariant.0,
+            w.entries-is ∙ ap (λ (t : List Entry). set t l.tag (get_or t l.tag zeroEntry)) l.invariant.1
+                ∙ partly-put l.tag f es zeroEntry _ more (partly-next l.tag f es zeroEntry more ∙ kept),
+          )
+    ]
 
 pub returns : goal.returns
 unfolding cleared

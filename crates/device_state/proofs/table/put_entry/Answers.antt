@@ -4,14 +4,14 @@ use Rattle.device_state.proofs.TableLaws.{set-placed, none-placed}
 use borrow.Author.Rules.{rules}
 use Rattle.device_state.proofs.table.put_entry.Goals as goal
 
-pub returns-then-tag-ge-DEPTH_LIMIT : goal.returns-then-tag-ge-DEPTH_LIMIT
-returns-then-tag-ge-DEPTH_LIMIT c =
+pub returns-then-place-lt32 : goal.returns-then-place-lt32
+returns-then-place-lt32 c =
     let es = c.args.entries.now in
     let l : length es ≡ 32 = search rules in
-    none-placed es c.args.tag c.args.e l c.if-tag-ge-DEPTH_LIMIT.true
+    set-placed es c.args.tag c.args.entry l
 
-pub returns : goal.returns
-returns c =
+pub returns-else-place-lt32 : goal.returns-else-place-lt32
+returns-else-place-lt32 c =
     let es = c.args.entries.now in
     let l : length es ≡ 32 = search rules in
-    set-placed es c.args.tag c.args.e l
+    none-placed es c.args.tag c.args.entry l c.if-place-lt32.false

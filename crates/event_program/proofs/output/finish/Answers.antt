@@ -1,15 +1,19 @@
-use Rattle.std.proofs.Common.{rules}
+use Rattle.std.proofs.Common.{rules, IfErr}
+use Rattle.std.specs.Io.KnownBytes.{Appends}
 use Rattle.streams.specs.Fronts.{AppendsFront}
+use Rattle.event_program.specs.Ends.{last_text}
 use Rattle.event_program.specs.Output.{IsOutput}
-use Rattle.event_program.proofs.Fronts.{if_err_so, front-first, front-then}
+use Rattle.event_program.proofs.Fronts.{front-first, front-then}
+use Rattle.event_program.proofs.Runs.{unfinished}
 use Rattle.event_program.proofs.output.finish.Goals as goal
 
-pub returns-in_err-map_err-clause-err : goal.returns-in_err-map_err-clause-err
-returns-in_err-map_err-clause-err g c =
-    if_err_so c.from_residual.result (λ e. IsOutput e × AppendsFront (g.W.Write.contents c.args.out.now) (g.W.Write.contents c.put.new.out) c.args.left.now) _
-    (λ e f. (f.0, front-first _ _ c.args.left.now c.args.last.now f.1)) (search rules)
+pub returns-in_err-map_err : goal.returns-in_err-map_err
+returns-in_err-map_err g c =
+    let failed : IfErr c.from_residual.result (λ e. IsOutput e × AppendsFront (g.W.Write.contents c.args.out.now) (g.W.Write.contents c.put.new.out) c.args.left.now) = search rules in
+    unfinished c.args.end _ _ _ _ c.from_residual.result c.from_residual.ensures.0 failed (front-first _ _ c.args.left.now (last_text c.args.end))
 
-pub returns-clause-err : goal.returns-clause-err
-returns-clause-err g c =
-    if_err_so c.map_err-2.result (λ e. IsOutput e × AppendsFront (g.W.Write.contents c.put.new.out) (g.W.Write.contents c.put-2.new.out) c.args.last.now) _
-    (λ e f. (f.0, front-then _ _ _ c.args.left.now c.args.last.now (search rules) f.1)) (search rules)
+pub returns-in_err-map_err-2 : goal.returns-in_err-map_err-2
+returns-in_err-map_err-2 g c =
+    let failed : IfErr c.from_residual-in_err-map_err-2.result (λ e. IsOutput e × AppendsFront (g.W.Write.contents c.put.new.out) (g.W.Write.contents c.put-2.new.out) c.last_text.result.now) = search rules in
+    let lines : Appends (g.W.Write.contents c.args.out.now) (g.W.Write.contents c.put.new.out) c.args.left.now = search rules in
+    unfinished c.args.end _ _ _ _ c.from_residual-in_err-map_err-2.result c.from_residual-in_err-map_err-2.ensures.0 (rw c.last_text.ensures at failed) (front-then _ _ _ c.args.left.now (last_text c.args.end) lines)

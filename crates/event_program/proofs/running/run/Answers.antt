@@ -1,33 +1,21 @@
-use Rattle.std.proofs.Common.{refl, []}
-use Rattle.std.proofs.KnownBytes.{Consumes-nil, Appends-nil}
-use Rattle.event_kinds.specs.declared.kinds.Next.TheVariants.{Stop, End}
-use Rattle.event_program.specs.Running.{ReadsOn, ending, Plays, next_behind, run_lines}
-use Rattle.event_program.proofs.Runs.{begins, over, told-lost, told-end}
+use Rattle.std.proofs.Common.{rules, []}
+use Rattle.std.proofs.KnownBytes.{Consumes-nil}
+use Rattle.event_program.specs.declared.errors.RunEnd.TheVariants.{NoEvent, Broken}
+use Rattle.event_program.specs.Running.{ReadsOn, Plays, next_behind, run_lines}
+use Rattle.event_program.proofs.Nexts.{stops-first}
+use Rattle.event_program.specs.Reading.{Ends}
+use Rattle.event_program.proofs.Runs.{finished}
 use Rattle.event_program.proofs.running.run.Goals as goal
 
+-- no event was read: the run ends so
 pub returns-in-Ok-Stop : goal.returns-in-Ok-Stop
-unfolding ending Plays run_lines next_behind
+unfolding Plays run_lines next_behind
 returns-in-Ok-Stop g c =
-    let rest = rw c.in-Ok-Stop.field-0-is at c.in-Ok-Stop.ensures.ok in
-    told-end Plays ReadsOn next_behind (run_lines c.args.traced) _ _ _ _ _ _ _ c.finish.result c.finish.ensures.ok c.finish.ensures.err
-    (λ ok. over Plays next_behind (run_lines c.args.traced) _ _ _ _ [] Stop tt (Consumes-nil (g.R.Read.remaining c.args.reader.now)) rest tt ok)
-    (λ err. record { es = []; begins = begins _ _ [] (Consumes-nil (g.R.Read.remaining c.args.reader.now)); events = tt; written = err })
+    let ends : Ends c.in-Ok-Stop.field-0 = search rules in
+    let rest = stops-first _ _ _ _ ends c.in-Ok-Stop.ensures.ok in
+    finished Plays ReadsOn next_behind (run_lines c.args.traced) _ _ _ _ _ _ [] NoEvent _ tt (Consumes-nil (g.R.Read.remaining c.args.reader.now)) rest c.finish.ensures
 
-pub returns-in-Ok-End : goal.returns-in-Ok-End
-unfolding ending Plays run_lines next_behind
-returns-in-Ok-End g c =
-    let rest = rw c.in-Ok-End.field-0-is at c.in-Ok-End.ensures.ok in
-    over Plays next_behind (run_lines c.args.traced) _ _ _ _ [] End tt (Consumes-nil (g.R.Read.remaining c.args.reader.now)) rest tt (Appends-nil _)
-
-pub returns-in_err-finish-in-Err : goal.returns-in_err-finish-in-Err
-unfolding ending Plays run_lines
-returns-in_err-finish-in-Err g c =
-    let failed = c.in_err-finish-in-Err.ensures.err in
-    told-lost Plays ReadsOn next_behind (run_lines c.args.traced) _ _ _ _ _ c.from_residual.result c.in_err-finish-in-Err.field-0.0 c.from_residual.ensures.0 c.from_residual.ensures.1 failed.0
-    (record { es = []; begins = begins _ _ [] (Consumes-nil (g.R.Read.remaining c.args.reader.now)); events = tt; written = failed.1 })
-
-pub returns-in_ok-finish-in-Err : goal.returns-in_ok-finish-in-Err
-unfolding ending Plays ReadsOn run_lines next_behind
-returns-in_ok-finish-in-Err g c =
-    let broke = c.in-Err.ensures.err in
-    record { es = []; looked = tt; part = broke.0; read = broke.1; cut = record { whole = refl; events = tt; ends = broke.2 }; written = c.in_ok-finish-in-Err.ensures.ok }
+pub returns-in-Err : goal.returns-in-Err
+unfolding Plays ReadsOn run_lines next_behind
+returns-in-Err g c =
+    finished Plays ReadsOn next_behind (run_lines c.args.traced) _ _ _ _ _ _ [] (Broken _) _ tt (Consumes-nil (g.R.Read.remaining c.args.reader.now)) (tt, c.in-Err.ensures.err) c.finish-in-Err.ensures

@@ -9,4 +9,5 @@ pub returns : goal.returns
 unfolding encode
 returns c =
     let fit = fits-pio c.args.f (search rules) (search rules) (search rules) (search rules) ∙ sym c.task_fits.ensures in
-    rw (append-nil, c.register_bytes-b.ensures, c.flags-one.ensures, ← fit) at c.emit.ensures
+    let rest = c.default.ensures.1.1.1.1.1 in
+    rw (append-nil, c.register_bytes-b.ensures, c.flags.ensures, rest.0, ← fit) at c.emit.ensures

@@ -11,5 +11,6 @@ use Rattle.page_10h.proofs.page10.page10_bytes.Goals as goal
 pub returns : goal.returns
 unfolding page10 registerBytes
 returns c =
-    let h = rw c.first_byte-first.ensures at c.register_bytes-head.ensures in
-    made _ c.lay.new.d c.sum_byte.result refl (c.lay.ensures.1 ∙ ap (λ (x : List ℕ). over x (replicate 512 0)) h) c.sum_byte.ensures
+    let rest = c.default.ensures.1.1.1.1.1 in
+    let h = rw (c.first_byte.ensures, c.default.ensures.1.0, rest.0, rest.1.0, rest.1.1) at c.register_bytes-head.ensures in
+    c.seal.ensures ∙ made _ c.lay.new.d refl (c.lay.ensures.1 ∙ ap (λ (x : List ℕ). over x (replicate 512 0)) h)

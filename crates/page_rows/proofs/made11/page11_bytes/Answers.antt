@@ -1,34 +1,30 @@
-use Rattle.page_rows.proofs.RowLaws.{id-small}
-use mathlib.Core.Path.{refl, sym, ap, ◌∙◌}
-use Prim.Native.Nat.{ℕ, ◌<◌}
-use lib.ListN.{get_or}
-use Rattle.page_rows.specs.Made11.{rowBytes}
-use native.Mathlib.Omega.{arith}
-use Rattle.page_rows.proofs.Filling.{filled_none, filled-all, fill, skip}
+use Rattle.std.proofs.Common.{rules, ◌∙◌, length, tests}
+use Rattle.std.proofs.lemmas.List.{length_push}
+use Rattle.std.proofs.lemmas.Iterator.Consumers.{YieldsList-turn, YieldsList-end}
+use Rattle.std.proofs.lemmas.List.FromFn.{length-enumerate_from}
+use Rattle.page_rows.specs.Rows.{ids}
+use Rattle.page_rows.proofs.Filling.{gives-kept, kept_rows, placed, kept-small, lay-row, laid-all}
 use Rattle.page_rows.proofs.made11.page11_bytes.Goals as goal
-use Rattle.page_rows.proofs.made11.page11_bytes.Goals.{then-is_kept, else-is_kept}
 
-pub loop-row-init : goal.loop-row-init
-loop-row-init c = filled_none _ _
+pub row_bytes-requires : goal.row_bytes-requires
+unfolding ids
+row_bytes-requires c =
+    let l = c.loop-place in
+    let t = YieldsList-turn (gives-kept _ c.args.mask c.args.values.now c.filter-kept.result (cc) (cc) c.filter-kept.ensures.closure (cc) (cc) (cc) (λ x b q k. search (rules, tests))) l.yielded _ l.yielded_by _ c.next.new.self _ c.in-Some.is c.next.ensures.steps in
+    let p = placed c.args.mask c.args.values.now _ _ t in
+    kept-small c.args.mask c.args.values.now (search rules) _ _ p.kept p.row
 
-pub row_bytes-bytes-requires : goal.row_bytes-bytes-requires
-row_bytes-bytes-requires c = omega (arith, id-small c.loop-row.row (omega arith))
-
-pub loop-row-preserved : goal.loop-row-preserved
-loop-row-preserved c =
-    let l = c.loop-row in
-    let a = c.args in
-    let k = c.is_kept.ensures in
-    let h : l.row < 16 = omega arith in
-    elim c.if-is_kept.branch [
-      | then-is_kept w ↦
-          rw (w.page-is, w.at-is)
-          (fill a.mask a.values l.page l.at l.row w.row_bytes-bytes.result w.lay.new.d _ h (sym k ∙ w.if-is_kept.true) (w.row_bytes-bytes.ensures ∙ ap (λ (i : ℕ). rowBytes i (get_or a.values l.row 0)) w.id_of.ensures) w.lay.ensures.1 refl l.invariant)
-      | else-is_kept w ↦ rw (w.page-is, w.at-is) (skip a.mask a.values l.page l.at l.row h (sym k ∙ w.if-is_kept.false) l.invariant)
-    ]
+pub loop-place-preserved : goal.loop-place-preserved
+unfolding ids
+loop-place-preserved c =
+    let l = c.loop-place in
+    let t = YieldsList-turn (gives-kept _ c.args.mask c.args.values.now c.filter-kept.result (cc) (cc) c.filter-kept.ensures.closure (cc) (cc) (cc) (λ x b q k. search (rules, tests))) l.yielded _ l.yielded_by _ c.next.new.self _ c.in-Some.is c.next.ensures.steps in
+    let p = placed c.args.mask c.args.values.now _ _ t in
+    rw (length_push l.yielded _) (lay-row c.args.mask c.args.values.now (search rules) (length l.yielded) p.kept _ p.place _ p.row l.page c.row_bytes.result c.lay.new.d l.invariant c.row_bytes.ensures c.lay.ensures.1)
 
 pub returns : goal.returns
+unfolding ids
 returns c =
-    let l = c.loop-row in
-    let a = c.args in
-    filled-all a.mask a.values l.page l.at l.row c.sum_byte.result (omega arith) l.invariant c.sum_byte.ensures
+    let l = c.loop-place in
+    let t = YieldsList-end (gives-kept _ c.args.mask c.args.values.now c.filter-kept.result (cc) (cc) c.filter-kept.ensures.closure (cc) (cc) (cc) (λ x b q k. search (rules, tests))) l.yielded _ l.yielded_by _ c.next.new.self c.in-None.is c.next.ensures.steps in
+    c.seal.ensures ∙ laid-all c.args.mask c.args.values.now (search rules) l.page (length l.yielded) l.invariant (t.1 ∙ length-enumerate_from 0 (kept_rows c.args.mask c.args.values.now))

@@ -1,26 +1,25 @@
-use Rattle.std.proofs.Common.{arith, ◌≡◌, ℕ, ◌+◌, ◌-◌, ◌++◌, List, length, take, drop, sym, ap, ◌∙◌, subst, take-add, length-take, length-drop}
-use Rattle.std.proofs.lemmas.List.{take_rest}
-use Rattle.std.specs.Io.KnownBytes.{Appends}
-use Rattle.std.proofs.KnownBytes.{Appends-trans, Appends-kept}
+use Rattle.std.proofs.Common.{ℕ, List, sym, subst}
+use denote.Bor.{Bor}
+use Rattle.streams.proofs.Pieces.{Written, written-more, written-kept, written-front}
 use Rattle.streams.proofs.writing.put.Goals.{in-Ok, in-Err}
 use Rattle.streams.proofs.writing.put.Goals as goal
 
-grown : (a n : ℕ) (t : List ℕ) → take a t ++ take n (take (length t - a) (drop a t)) ≡ take (a + n) t
-grown a n t = ap (λ l. take a t ++ take n l) (take_rest t a) ∙ sym (take-add a n t)
+pub returns-in-Ok-eq0-clause-err : goal.returns-in-Ok-eq0-clause-err
+returns-in-Ok-eq0-clause-err g c =
+    written-front _ _ _ _ (written-more _ _ _ _ _ 0 c.loop.invariant (rw (c.in-Ok-eq0.is, c.in-Ok-eq0.field-0-test) at c.write.ensures.bytes))
+
+pub returns-in-Err-2-clause-err : goal.returns-in-Err-2-clause-err
+returns-in-Err-2-clause-err g c = written-front _ _ _ _ (written-kept _ _ _ _ _ c.loop.invariant c.in-Err.ensures.bytes)
+
+pub returns-clause-err : goal.returns-clause-err
+returns-clause-err g c = written-front _ _ _ _ c.loop.invariant
 
 pub loop-preserved : goal.loop-preserved
 loop-preserved g c =
-    let t = c.args.text.now in
-    let a = c.loop.at in
     let old = g.W.Write.contents c.args.out.now in
     let new = g.W.Write.contents c.write.new.self in
+    let written = λ (rest : Bor (List ℕ)). Written old new c.args.text.now rest.now in
     elim c.match-write.branch [
-      | in-Ok w ↦
-          let e : c.match-write.at ≡ a + w.in-Ok.n = w.at-is in (
-            omega (arith, e, w.in-Ok.ensures.bound, length-take (length t - a) (drop a t), length-drop a t),
-            subst (λ k. Appends old new (take k t)) (sym e) (subst (Appends old new) (grown a w.in-Ok.n t) (Appends-trans _ _ _ _ _ c.loop.invariant.1 w.in-Ok.ensures.bytes)),
-          )
-      | in-Err w ↦
-          let e : c.match-write.at ≡ a = w.at-is in
-          (omega (arith, e, c.loop.invariant.0), subst (λ k. Appends old new (take k t)) (sym e) (Appends-kept _ _ _ _ c.loop.invariant.1 w.in-Err.ensures.bytes))
+      | in-Ok w ↦ subst written (sym w.rest-is) (written-more _ _ _ _ _ w.in-Ok.n c.loop.invariant w.in-Ok.ensures.bytes)
+      | in-Err w ↦ subst written (sym w.rest-is) (written-kept _ _ _ _ _ c.loop.invariant w.in-Err.ensures.bytes)
     ]

@@ -1,6 +1,5 @@
-use Rattle.std.proofs.Common.{◌≤◌, length, take}
-use Rattle.std.specs.Io.KnownBytes.{Appends}
+use Rattle.streams.proofs.Pieces.{Written}
 use Rattle.streams.proofs.writing.put.Given as goal
 
 abbrev pub invariant-loop : goal.invariant-loop
-invariant-loop g l = (l.at ≤ length l.text) × Appends (g.W.Write.contents l.initial.out) (g.W.Write.contents l.out) (take l.at l.text)
+invariant-loop g l = Written (g.W.Write.contents l.initial.out) (g.W.Write.contents l.out) l.text l.rest

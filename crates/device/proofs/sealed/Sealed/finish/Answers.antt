@@ -1,33 +1,11 @@
 use native.Mathlib.Omega.{arith}
-use mathlib.Core.Path.{refl, sym, ◌∙◌}
-use mathlib.Core.List.{[]}
+use mathlib.Core.Path.{refl}
 use Rattle.rules.specs.Call.{finishTags}
-use Rattle.device.specs.Lent.{lent}
-use Rattle.device.proofs.Doing.{given-refused, given-without, unlent-act}
-use Rattle.device.proofs.Rooms.{roomy}
-use Rattle.device.proofs.NeverCalls.{sound-done}
+use Rattle.device.proofs.Doing.{unlent_act}
+use Rattle.device.proofs.Sound.{sound-answered}
 use Rattle.device.proofs.sealed.Sealed.finish.Goals as goal
-
-pub returns-in_err-act : goal.returns-in_err-act
-returns-in_err-act c =
-    let a = c.args in
-    let e = unlent-act a.self.now.device (finishTags a.set) a.reply.now _ _ _ refl c.some_unready-some.ensures c.facts-facts.ensures c.finish_act.ensures in
-    given-refused a.self.now.device (lent (finishTags a.set) [] a.reply.now) c.from_residual.result _ c.from_residual.ensures.1 (sym c.in_err-act.was ∙ e)
-
-pub done-requires : goal.done-requires
-done-requires c =
-    let a = c.args in
-    let e = unlent-act a.self.now.device (finishTags a.set) a.reply.now _ _ _ refl c.some_unready-some.ensures c.facts-facts.ensures c.finish_act.ensures in
-    roomy a.self.now.device (lent (finishTags a.set) [] a.reply.now) c.in_ok-act.act refl (sym c.in_ok-act.was ∙ e)
-
-pub returns : goal.returns
-returns c =
-    let a = c.args in
-    let e = unlent-act a.self.now.device (finishTags a.set) a.reply.now _ _ _ refl c.some_unready-some.ensures c.facts-facts.ensures c.finish_act.ensures in
-    given-without a.self.now.device (finishTags a.set) a.reply.now c.in_ok-act.act c.done.new.reply c.done.new.self c.done.result refl (sym c.in_ok-act.was ∙ e) c.done.ensures.state c.done.ensures.reply
 
 pub invariant_of-self : goal.invariant_of-self
 invariant_of-self c =
-    let a = c.args in
-    let e = sym c.in_ok-act.was ∙ unlent-act a.self.now.device (finishTags a.set) a.reply.now _ _ _ refl c.some_unready-some.ensures c.facts-facts.ensures c.finish_act.ensures in
-    record { sound = sound-done a.self.now.device (lent (finishTags a.set) [] a.reply.now) c.in_ok-act.act _ (omega arith) e c.done.ensures.state }
+    let given = c.answer.ensures (finishTags c.args.set) refl (unlent_act _ (finishTags c.args.set) _ _ _ _ refl c.some_unready.ensures c.facts.ensures c.finish_act.ensures) in
+    record { sound = sound-answered _ _ _ _ _ _ given (omega arith) c.args.self.now.sound }

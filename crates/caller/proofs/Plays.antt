@@ -1,0 +1,137 @@
+-- Events played one after the other are a history in the sense of demand 3, whatever they are and whatever is lent to them. Assumes nothing.
+use mathlib.Core.Path.{◌≡◌, refl, sym, ap, subst}
+use mathlib.Core.List.{List, [], ◌∷◌, ◌++◌}
+use Prim.Native.Nat.{ℕ, zero, suc, ◌<◌}
+use native.Mathlib.Omega.{arith}
+use lib.ListN.{get_or, replicate}
+use lib.Dec.{eqb}
+use Rattle.std.proofs.Common.{append-nil, append_assoc}
+use Rattle.std.specs.Prelude.{Option, Some, None, option_map, option_to_list, Result, Err}
+use Rattle.bits.specs.Little.{Bytes}
+use Rattle.bits.proofs.Littles.{le-lt}
+use Rattle.bits.proofs.Picks.{by-test}
+use Rattle.frame_parts.specs.Cut.{joined}
+use Rattle.replies.specs.Replies.{sentAll}
+use Rattle.refusals.specs.declared.reasons.Refusal.{Refusal}
+use Rattle.refusals.specs.declared.reasons.Refusal.TheVariants.{Contradiction}
+use Rattle.rules.specs.Call.{Call}
+use Rattle.device_state.specs.declared.shapes.Settings.{Settings}
+use Rattle.device.specs.DataDue.{dataDue}
+use Rattle.device.specs.Lent.{lent, Gave, gave, Typed}
+use Rattle.device.specs.Sealing.{poweredOf}
+use Rattle.device.specs.Step.{Gives}
+use Rattle.device.specs.declared.sealed.Sealed.{Sealed}
+use Rattle.device.specs.declared.state.Device.{Device}
+use Rattle.device.specs.declared.state.Outcome.{Outcome}
+use Rattle.device.proofs.Kept.{powered-once}
+use Rattle.device.proofs.Typing.{none-typed, frame-typed, set_typed, error-typed}
+use Rattle.event_kinds.specs.Kinds.{isEvent}
+use Rattle.event_kinds.specs.Settings.{asked_of}
+use Rattle.event_kinds.specs.Requests.{callByKind, requestOf}
+use Rattle.event_kinds.specs.declared.asked.Request.{Request}
+use Rattle.events.specs.HostData.{dataFrame}
+use Rattle.events.specs.Start.{start_by, start_of}
+use Rattle.events.specs.Calls.{call_of, callFor}
+use Rattle.events.specs.Played.{stepFor}
+use Rattle.history.specs.Run.{Done, done}
+use Rattle.caller.specs.Continued.{Reached, Holds}
+use Rattle.caller.specs.Playing.{Play, BeginsBy, doneBy, donesAll, endState, ContinuesBy, PlayContinues, PlayGiven, EachPlay, PlaysContinue, GivenPlaysHold, HeldBy}
+use Rattle.caller.proofs.Continuing.{holds, begins, continues-given}
+
+-- ---- the arguments of an event's call are of their types
+abbrev TypedCall : Option Call → Type 0
+TypedCall None = Unit
+TypedCall (Some c) = Typed c
+
+abbrev TypedFor : Device → List ℕ → Option Request → Type 0
+TypedFor d e o = TypedCall (option_map (call_of d e) o)
+
+same_bytes : (n b i : ℕ) → b < 256 → get_or (replicate n b) i 0 < 256
+same_bytes zero b i h = omega arith
+same_bytes (suc n) b zero h = h
+same_bytes (suc n) b (suc i) h = same_bytes n b i h
+
+data-bytes : (n b : ℕ) → b < 256 → Bytes (dataFrame n b)
+unfolding dataFrame
+data-bytes n b h zero = omega arith
+data-bytes n b h (suc zero) = omega arith
+data-bytes n b h (suc (suc zero)) = omega arith
+data-bytes n b h (suc (suc (suc zero))) = omega arith
+data-bytes n b h (suc (suc (suc (suc i)))) = same_bytes n b i h
+
+typed-kind : (d : Device) (k : ℕ) (e : List ℕ) → Bytes e → TypedFor d e (callByKind k e)
+unfolding callByKind call_of
+typed-kind d k e w =
+    by-test (TypedFor d e) (eqb k 0x01) _ _ (λ h. none-typed)
+    (λ h. by-test (TypedFor d e) (eqb k 0x02) _ _ (λ h. none-typed)
+    (λ h. by-test (TypedFor d e) (eqb k 0x03) _ _ (λ h. set_typed _ (le-lt e w 1 4))
+    (λ h. by-test (TypedFor d e) (eqb k 0x04) _ _ (λ h. error-typed _ (w 2))
+    (λ h. by-test (TypedFor d e) (eqb k 0x05) _ _ (λ h. none-typed)
+    (λ h. by-test (TypedFor d e) (eqb k 0x06) _ _ (λ h. none-typed)
+    (λ h. by-test (TypedFor d e) (eqb k 0x07) _ _ (λ h. frame-typed (dataFrame (dataDue d) (get_or e 1 0)) (data-bytes (dataDue d) (get_or e 1 0) (w 1)))
+    (λ h. by-test (TypedFor d e) (eqb k 0x27) _ _ (λ h. frame-typed e w)
+    (λ h. by-test (TypedFor d e) (eqb k 0x58) _ _ (λ h. frame-typed e w) (λ h. tt)))))))))
+
+typed-event : (d : Device) (e : List ℕ) → Bytes e → TypedCall (callFor d e)
+unfolding requestOf
+typed-event d e w = by-test (TypedFor d e) (isEvent e) _ _ (λ h. typed-kind d (get_or e 0 0) e w) (λ h. tt)
+
+-- ---- one event continues
+same-gave : {d d' : Device} {n n' : Option Refusal} {l l' : ℕ} {m m' b b' : List ℕ} → d ≡ d' → n ≡ n' → l ≡ l' → m ≡ m' → b ≡ b'
+    → ◌≡◌ {A = Gave} (gave (record { state = d; refusal = n; len = l }) m b) (gave (record { state = d'; refusal = n'; len = l' }) m' b')
+same-gave p q r s t = cc
+
+-- its call as it went
+abbrev went : Play → Call → Done
+went p c = done (lent c p.medium p.buffer) p.gave
+
+by-call : (d : Device) (p : Play) (c : Option Call) → TypedCall c → Gives (stepFor d p.medium p.buffer c) p.buffer p.gave → ContinuesBy d p (option_map (went p) c)
+unfolding stepFor ContinuesBy sentAll joined
+by-call d p None t h = same-gave h.state h.refusal h.len h.medium h.reply
+by-call d p (Some c) t h = continues-given d (lent c p.medium p.buffer) p.gave t h
+
+pub play-continues : (d : Device) (p : Play) → PlayGiven d p → PlayContinues d p
+play-continues d p h = by-call d p (callFor d p.event) (typed-event d p.event h.0) h.1
+
+-- ---- and so do they all
+each-continues : (d : Device) (ps : List Play) → EachPlay PlayGiven d ps → EachPlay PlayContinues d ps
+unfolding EachPlay
+each-continues d [] h = tt
+each-continues d (p ∷ ps) h = (play-continues d p h.0, each-continues p.gave.outcome.state ps h.1)
+
+-- one event more is its call more, or none
+one-more : (s : Settings) (r : Outcome) (xs : List Done) (d : Device) (p : Play) (c : Option Call) → ContinuesBy d p (option_map (went p) c) → Reached s r xs d → Reached s r (xs ++ option_to_list (option_map (went p) c)) p.gave.outcome.state
+unfolding ContinuesBy
+one-more s r xs d p None k q = subst (λ (ys : List Done). Reached s r ys p.gave.outcome.state) (sym (append-nil xs)) (subst (Reached s r xs) (sym (ap (λ (g : Gave). g.outcome.state) k)) q)
+one-more s r xs d p (Some c) k q = (k s r xs q).reached
+
+pub plays-continue : PlaysContinue
+unfolding EachPlay donesAll endState
+plays-continue d [] h s r xs q = subst (λ (ys : List Done). Holds s r ys d) (sym (append-nil xs)) (holds s r xs d q)
+plays-continue d (p ∷ ps) h s r xs q =
+    let x = option_to_list (doneBy d p) in
+    subst (λ (ys : List Done). Holds s r ys (endState p.gave.outcome.state ps)) (append_assoc xs x (donesAll p.gave.outcome.state ps))
+    (plays-continue p.gave.outcome.state ps h.1 s r (xs ++ x) (one-more s r xs d p (callFor d p.event) h.0 q))
+
+pub plays-given : GivenPlaysHold
+plays-given d ps h = let e = each-continues d ps h in (e, plays-continue d ps e)
+
+-- ---- from power-on
+by-asked : (o : Option Settings) (r : Result Sealed Refusal) → poweredOf r ≡ start_by o → BeginsBy o r
+unfolding start_by
+by-asked (Some asked) r h = begins asked (poweredOf r) h
+by-asked None r h = powered-once r (Err Contradiction) h
+
+pub begins-by : (e : List ℕ) (r : Result Sealed Refusal) → poweredOf r ≡ start_of e → BeginsBy (asked_of e) r
+unfolding start_of
+begins-by e r h = by-asked (asked_of e) r h
+
+pub held-by : (o : Option Settings) (r : Outcome) (ps : List Play) → r ≡ start_by o → EachPlay PlayGiven r.state ps → HeldBy o r ps
+unfolding start_by
+held-by (Some asked) r ps b h = (plays-given r.state ps h).1 asked r [] (begins asked r b).reached
+held-by None r ps b h = b
+
+-- whatever is played behind a settings record: each event continues, and demand 3 holds of them all
+pub plays-history : (e : List ℕ) (ps : List Play) → EachPlay PlayGiven (start_of e).state ps → EachPlay PlayContinues (start_of e).state ps × HeldBy (asked_of e) (start_of e) ps
+unfolding start_of
+plays-history e ps h = ((plays-given (start_of e).state ps h).0, held-by (asked_of e) (start_of e) ps refl h)

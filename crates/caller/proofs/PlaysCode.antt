@@ -1,0 +1,58 @@
+-- What the contracts of `events` allow, event by event: every sequence of such results is a history. Assumes nothing.
+use Rattle.std.specs.Prelude.{List, [], ◌∷◌, ℕ, Result, None}
+use contract.Lifetimes.{Lfts}
+use mathlib.Core.Path.{◌≡◌, refl, sym, ap, subst, ◌∙◌}
+use Rattle.std.specs.Borrow.{Bor, MutBor}
+use Rattle.bits.specs.Contract.{Allows}
+use Rattle.bits.specs.Little.{Bytes}
+use Rattle.refusals.specs.declared.reasons.Refusal.{Refusal}
+use Rattle.device.specs.Device.{zeroDevice}
+use Rattle.device.specs.Lent.{gave, answered}
+use Rattle.device.specs.Sealing.{poweredOf}
+use Rattle.device.specs.declared.sealed.Sealed.{Sealed}
+use Rattle.device.specs.declared.state.Device.{Device}
+use Rattle.device.specs.declared.state.Outcome.{Outcome}
+use Rattle.device.proofs.Kept.{never-zeros}
+use Rattle.event_kinds.specs.Settings.{asked_of}
+use Rattle.events.specs.Start.{start_by, start_of}
+use Rattle.events.proofs.play as playing
+use Rattle.events.proofs.start as starting
+use Rattle.events.specs.contracts.play as play-said
+use Rattle.events.specs.contracts.start as start-said
+use Rattle.caller.specs.Playing.{Play, play, PlayGiven, PlayContinues, EachPlay, HeldBy}
+use Rattle.caller.proofs.Plays.{plays-history}
+
+-- what the contract of `events::play` allows of a device: its event is of bytes
+pub data PlayCode : Device → Play → Type 0 where
+  play-code : (κs : Lfts 4) (k : MutBor Sealed) (e : Bor (List ℕ)) (m b : MutBor (List ℕ)) (r : Result ℕ Refusal) (k' : Sealed) (m' b' : List ℕ) → Bytes e.now
+      → Allows play-said.ended playing.Reads.Post κs (k, (e, (m, (b, tt)))) r (k', (tt, (m', (b', tt)))) → PlayCode k.now.device (play e.now m.now b.now (gave (answered k'.device r) m' b'))
+
+-- what the contract of `events::start` allows
+pub data StartCode : List ℕ → Outcome → Type 0 where
+  start-code : (κs : Lfts 1) (e : Bor (List ℕ)) (r : Result Sealed Refusal) → Allows start-said.ended starting.Reads.Post κs (e, tt) r (tt, tt) → StartCode e.now (poweredOf r)
+
+play-given : (d : Device) (p : Play) → PlayCode d p → PlayGiven d p
+play-given d p (play-code κs k e m b r k' m' b' w h) = (w, h)
+
+start-given : (s : List ℕ) (r : Outcome) → StartCode s r → r ≡ start_of s
+start-given s r (start-code κs e x h) = h
+
+each-given : (d : Device) (ps : List Play) → EachPlay PlayCode d ps → EachPlay PlayGiven d ps
+unfolding EachPlay
+each-given d [] h = tt
+each-given d (p ∷ ps) h = (play-given d p h.0, each-given p.gave.outcome.state ps h.1)
+
+-- every sequence of results that the contracts of `events::start` and `events::play` allow, whatever its events, media and reply buffers
+pub plays-history-code : (s : List ℕ) (r : Outcome) (ps : List Play) → StartCode s r → EachPlay PlayCode r.state ps → EachPlay PlayContinues r.state ps × HeldBy (asked_of s) r ps
+plays-history-code s r ps b h =
+    subst (λ (o : Outcome). EachPlay PlayCode o.state ps → EachPlay PlayContinues o.state ps × HeldBy (asked_of s) o ps) (sym (start-given s r b)) (λ q. plays-history s ps (each-given (start_of s).state ps q)) h
+
+-- the zeros are no device: nothing is played with them
+never-played : (d : Device) (p : Play) → PlayCode d p → d ≡ zeroDevice → ⊥
+never-played d p (play-code κs k e m b r k' m' b' w h) z = never-zeros k.now z
+
+-- nor behind a settings record that asks for no settings
+pub none-played : (s : List ℕ) (r : Outcome) (ps : List Play) → asked_of s ≡ None → StartCode s r → EachPlay PlayCode r.state ps → ps ≡ []
+unfolding EachPlay start_of start_by poweredOf
+none-played s r [] a b h = refl
+none-played s r (p ∷ ps) a b h = absurd (never-played r.state p h.0 (ap (λ (o : Outcome). o.state) (start-given s r b ∙ ap start_by a)))

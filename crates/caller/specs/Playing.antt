@@ -1,0 +1,82 @@
+-- Events played one after the other, each with any medium and any reply buffer, and the history that they are. Assumes nothing.
+-- Were only the run of an event file spoken of, a device would pass that forgets its commands where a medium of another length or a short reply buffer is lent to it, or that resets at bytes which are no event: a run lends one medium and one buffer of the right lengths, and plays no such bytes.
+use Rattle.std.specs.Prelude.{◌≡◌, List, [], ◌∷◌, ◌++◌, ℕ, Option, Some, None, option_map, option_to_list, Result, Err}
+use Rattle.bits.specs.Little.{Bytes}
+use Rattle.refusals.specs.declared.reasons.Refusal.{Refusal}
+use Rattle.refusals.specs.declared.reasons.Refusal.TheVariants.{Contradiction, NoFrame}
+use Rattle.device_state.specs.declared.shapes.Settings.{Settings}
+use Rattle.device.specs.Lent.{lent, Gave, gave, answered}
+use Rattle.device.specs.Sealing.{poweredOf}
+use Rattle.device.specs.Step.{Gives}
+use Rattle.device.specs.declared.sealed.Sealed.{Sealed}
+use Rattle.device.specs.declared.state.Device.{Device}
+use Rattle.device.specs.declared.state.Outcome.{Outcome}
+use Rattle.events.specs.Calls.{callFor}
+use Rattle.events.specs.Played.{eventStep}
+use Rattle.history.specs.Run.{Done, done}
+use Rattle.caller.specs.Continued.{Reached, Holds, Continues, Begins}
+
+-- power-on by a settings record begins a history with the settings that it asks for; where it asks for none, 1, and there is no device
+abbrev pub BeginsBy : Option Settings → Result Sealed Refusal → Type 0
+BeginsBy (Some asked) r = Begins asked (poweredOf r)
+BeginsBy None r = r ≡ Err Contradiction
+
+-- one event as it was played: its bytes, the medium and the reply buffer lent to it, and what came back
+pub record Play : Type 0 where
+  pub event : List ℕ
+  pub medium : List ℕ
+  pub buffer : List ℕ
+  pub gave : Gave
+
+-- an event as it was played, of these four
+abbrev pub play : List ℕ → List ℕ → List ℕ → Gave → Play
+play e m b g = record { event = e; medium = m; buffer = b; gave = g }
+
+-- its call as it went, if it made one in the state d
+abbrev pub doneBy : Device → Play → Option Done
+doneBy d p = option_map (λ c. done (lent c p.medium p.buffer) p.gave) (callFor d p.event)
+
+-- those of all events, the oldest first, each in the state that the last one left
+unfoldable pub donesAll : Device → List Play → List Done
+donesAll d [] = []
+donesAll d (p ∷ ps) = option_to_list (doneBy d p) ++ donesAll p.gave.outcome.state ps
+
+-- the state that they end with
+unfoldable pub endState : Device → List Play → Device
+endState d [] = d
+endState d (p ∷ ps) = endState p.gave.outcome.state ps
+
+-- the event's call continues every history that led to the state d; where it makes none, 24, and nothing has changed
+unfoldable pub ContinuesBy : Device → Play → Option Done → Type 0
+ContinuesBy d p None = p.gave ≡ gave (answered d (Err NoFrame)) p.medium p.buffer
+ContinuesBy d p (Some x) = Continues d x.lent x.gave
+
+-- by the call that it makes there
+abbrev pub PlayContinues : Device → Play → Type 0
+PlayContinues d p = ContinuesBy d p (doneBy d p)
+
+-- what came back is what the contract of `events::play` promises in the state d; an event is of bytes, as what stands in a slice of them always is
+abbrev pub PlayGiven : Device → Play → Type 0
+PlayGiven d p = Bytes p.event × Gives (eventStep d p.event p.medium p.buffer) p.buffer p.gave
+
+-- one event after the other, each as R allows it in the state that the last one left
+unfoldable pub EachPlay : (Device → Play → Type 0) → Device → List Play → Type 0
+EachPlay R d [] = Unit
+EachPlay R d (p ∷ ps) = R d p × EachPlay R p.gave.outcome.state ps
+
+-- whatever the calls were that led to the state d: with those of these events demand 3 holds of them
+abbrev pub PlaysHold : Device → List Play → Type 0
+PlaysHold d ps = (s : Settings) (r : Outcome) (xs : List Done) → Reached s r xs d → Holds s r (xs ++ donesAll d ps) (endState d ps)
+
+-- events that continue one by one hold together
+abbrev pub PlaysContinue : Type 0
+PlaysContinue = (d : Device) (ps : List Play) → EachPlay PlayContinues d ps → PlaysHold d ps
+
+-- events of which each is as it was promised, whatever they are and whatever is lent to them, continue and hold
+abbrev pub GivenPlaysHold : Type 0
+GivenPlaysHold = (d : Device) (ps : List Play) → EachPlay PlayGiven d ps → EachPlay PlayContinues d ps × PlaysHold d ps
+
+-- behind power-on by a settings record: demand 3 holds of these events, with the settings that it asks for; where it asks for none, 1, and there is no device
+abbrev pub HeldBy : Option Settings → Outcome → List Play → Type 0
+HeldBy (Some asked) r ps = Holds asked r (donesAll r.state ps) (endState r.state ps)
+HeldBy None r ps = r ≡ poweredOf (Err Contradiction)

@@ -1,0 +1,32 @@
+// One event each, with any medium and any reply buffer: what is proved is what the contracts of `events` tell a caller.
+ghost use Rattle.device.specs.Lent.{gave, answered};
+ghost use Rattle.event_kinds.specs.Settings.{asked_of};
+ghost use Rattle.caller.specs.Playing.{play as played, BeginsBy, PlayContinues, PlaysContinue, GivenPlaysHold};
+
+use device::Sealed;
+use refusals::Refusal;
+
+/// Power-on by the settings record; where it asks for no settings, refusal 1.
+pub fn start(event: &[u8]) -> Result<Sealed, Refusal>
+    ensures { BeginsBy (asked_of event.now) result }
+{
+    events::start(event)
+}
+
+/// One event: its call continues every history that led to the device; what is no event is refused with 24, and changes nothing.
+pub fn play(
+    k: &mut Sealed,
+    event: &[u8],
+    medium: &mut [u8],
+    reply: &mut [u8],
+) -> Result<usize, Refusal>
+    ensures { PlayContinues k.old.device (played event.now medium.old reply.old (gave (answered k.new.device result) medium.new reply.new)) }
+{
+    events::play(k, event, medium, reply)
+}
+
+/// Events played one after the other are a history in the sense of demand 3.
+pub fn events_are_a_history()
+    ensures together { PlaysContinue }
+    ensures given { GivenPlaysHold }
+{}

@@ -1,0 +1,119 @@
+-- The room that every call asks for is enough for the replies of any act. Assumes nothing.
+use mathlib.Core.Path.{◌≡◌, refl}
+use mathlib.Core.Bool.{Bool, true, false, not, ◌&&◌}
+use mathlib.Core.List.{List, [], ◌∷◌}
+use mathlib.Core.Logic.{⊎_elim}
+use Prim.Native.Nat.{ℕ, ◌+◌, ◌%◌, ◌≤◌, ◌<◌}
+use lib.Dec.{leb, eqb}
+use borrow.Author.Tests.{lt-leb}
+use native.Mathlib.Omega.{arith}
+use lib.ListN.{length}
+use Rattle.bits.specs.Pick.{pick}
+use Rattle.bits.proofs.Picks.{by-test}
+use Rattle.bits.proofs.Masks.{lt-or-le}
+use Rattle.frame_parts.specs.Cut.{joined}
+use Rattle.frame_parts.specs.Shared.{registerBytes}
+use Rattle.frame_parts.specs.Size.{payloadSize}
+use Rattle.frame_parts.specs.declared.shared.Task.{Task}
+use Rattle.frames.specs.Write.{FrameValue, host, device, setBits, setup, activate, payload, bist, pio, bitsBytes, setupBytes, encode, fits}
+use Rattle.frames.proofs.WriteLaws.{length-payload}
+use Rattle.page_10h.specs.Page10.{page10, fits10}
+use Rattle.page_rows.specs.Rows.{keepsBoth}
+use Rattle.page_rows.specs.Made11.{page11}
+use Rattle.page_10h.proofs.Trip10.{length-10}
+use Rattle.page_rows.proofs.Bytes11.{page-length}
+use Rattle.device_state.specs.declared.shapes.ErrorRecord.{ErrorRecord}
+use Rattle.rules.specs.declared.acts.Queued.{Queued}
+use Rattle.rules.specs.declared.acts.Act.{Act}
+use Rattle.rules.specs.declared.acts.Act.TheVariants.{Nothing, Bad, BadAndHalt, Accept, Log10, Log11, Reset, Release, ZeroCounters, Store, Open, Send, Finish, Media, Count, Renew}
+use Rattle.replies.specs.declared.shown.Shown.{Shown}
+use Rattle.replies.specs.Replies.{sweep, sweepIf, activateIf, pioReply, setupReply, logOf, page10Of, page11Of, logReplies, openReplies, repliesOf, sentBytes, sentAll}
+use Rattle.replies.proofs.Sending.{sent-one, length-sent}
+
+-- what is sent of a list is no longer than the list
+picked-short : (b : Bool) (s : List ℕ) → length (pick b s []) ≤ length s
+picked-short b s = by-test (λ (t : List ℕ). length t ≤ length s) b s [] (λ _. omega arith) (λ _. omega arith)
+
+and-never : (a b : Bool) → (a && false) && b ≡ false
+and-never true b = refl
+and-never false b = refl
+
+-- a payload that is too long is not sent
+long-unsent : (p : List ℕ) → 8192 < length p → sentBytes (payload p) ≡ []
+unfolding sentBytes fits pick
+long-unsent p h =
+    let z : payloadSize (length p) ≡ false = rw (lt-leb (length p) 8192 h) (and-never (leb 4 (length p)) (eqb (length p % 4) 0)) in
+    rw z
+
+-- what is sent of a frame is no longer than it
+within : (f : FrameValue) (n : ℕ) → length (encode f) ≡ n → length (sentAll (f ∷ [])) ≤ n
+unfolding sentBytes
+within f n e = rw (sent-one f) (omega (arith, e, picked-short (fits f) (encode f)))
+
+-- no frame that is sent is longer than a whole data frame
+one-room : (f : FrameValue) → length (sentAll (f ∷ [])) ≤ 8196
+unfolding encode registerBytes bitsBytes setupBytes
+one-room (host f) = omega (arith, within (host f) 20 refl)
+one-room (device f) = omega (arith, within (device f) 20 refl)
+one-room (setBits f) = omega (arith, within (setBits f) 8 refl)
+one-room (setup f) = omega (arith, within (setup f) 28 refl)
+one-room activate = omega (arith, within activate 4 refl)
+one-room (payload p) =
+    ⊎_elim (λ (h : 8192 < length p). rw (sent-one (payload p), long-unsent p h) (omega arith))
+    (λ (h : length p ≤ 8192). omega (arith, h, within (payload p) (4 + length p) (length-payload p))) (lt-or-le 8192 (length p))
+one-room bist = omega (arith, within bist 12 refl)
+one-room (pio f) = omega (arith, within (pio f) 20 refl)
+
+-- a frame that is sent on a condition
+if-room : (on : Bool) (f : FrameValue) (n : ℕ) → length (encode f) ≡ n → length (sentAll (pick on (f ∷ []) [])) ≤ n
+unfolding pick sentAll joined
+if-room true f n e = within f n e
+if-room false f n e = omega arith
+
+activate-room : (on : Bool) → length (sentAll (activateIf on)) ≤ 4
+unfolding encode
+activate-room on = if-room on activate 4 refl
+
+open-room : (q : Queued) → length (sentAll (openReplies q)) ≤ 8196
+unfolding encode setupBytes
+open-room q =
+    let a = within (setupReply q) 28 refl in
+    omega (arith, a, activate-room q.entry.write, length-sent (setupReply q ∷ []) (activateIf q.entry.write))
+
+log-room : (on : Bool) (task : Task) (page : List ℕ) → length page ≤ 512 → length (sentAll (logReplies on task page)) ≤ 8196
+unfolding encode registerBytes bitsBytes
+log-room on task page h =
+    let a = if-room on sweep 8 refl in
+    let b = within (pioReply task) 20 refl in
+    let c = within (payload page) (4 + length page) (length-payload page) in
+    omega (arith, h, a, b, c, length-sent (sweepIf on) (pioReply task ∷ payload page ∷ []), length-sent (pioReply task ∷ []) (payload page ∷ []))
+
+page10-short : (r : ErrorRecord) → length (page10Of r) ≤ 512
+page10-short r = omega (arith, picked-short (fits10 (logOf r)) (page10 (logOf r)), length-10 (logOf r))
+
+page11-short : (mask : ℕ) (values : List ℕ) → length (page11Of mask values) ≤ 512
+page11-short mask values = omega (arith, picked-short (keepsBoth mask) (page11 mask values), page-length mask values)
+
+none-room : length (sentAll []) ≤ 8196
+unfolding sentAll joined
+none-room = omega arith
+
+-- by the act
+pub replies-room : (s : Shown) (part : List ℕ) (a : Act) → length (sentAll (repliesOf s part a)) ≤ 8196
+unfolding repliesOf
+replies-room s part Nothing = none-room
+replies-room s part (Bad b) = one-room _
+replies-room s part (BadAndHalt f) = one-room _
+replies-room s part (Accept q) = one-room _
+replies-room s part (Log10 task) = log-room s.halted task (page10Of s.errors) (page10-short s.errors)
+replies-room s part (Log11 l) = log-room false l.task (page11Of s.settings.mask s.values) (page11-short s.settings.mask s.values)
+replies-room s part Reset = none-room
+replies-room s part Release = one-room _
+replies-room s part ZeroCounters = none-room
+replies-room s part (Store m) = omega (arith, activate-room (not m.last))
+replies-room s part (Open q) = open-room q
+replies-room s part (Send m) = one-room _
+replies-room s part (Finish set) = one-room _
+replies-room s part (Media f) = one-room _
+replies-room s part (Count r) = none-room
+replies-room s part Renew = one-room _

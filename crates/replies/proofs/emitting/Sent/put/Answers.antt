@@ -1,0 +1,12 @@
+use native.Mathlib.Omega.{arith}
+use Rattle.replies.proofs.Sending.{sends-put, put-within, put-inside}
+use Rattle.replies.proofs.emitting.Sent.put.Goals as goal
+
+pub overflow_add-self : goal.overflow_add-self
+overflow_add-self c = omega (arith, put-within _ _ _ _ _ _ c.write.ensures c.unwrap_or.ensures c.args.self.now.within)
+
+pub invariant_of-self : goal.invariant_of-self
+invariant_of-self c = record { within = put-inside _ _ _ _ _ _ c.write.ensures c.unwrap_or.ensures c.write.auto.room c.args.self.now.within }
+
+pub returns-clause-sends : goal.returns-clause-sends
+returns-clause-sends c = sends-put _ _ _ _ _ _ c.write.ensures c.unwrap_or.ensures

@@ -1,0 +1,18 @@
+use native.Mathlib.Omega.{arith}
+use mathlib.Core.List.{[]}
+use lib.Dec.{leb}
+use lib.ListN.{length}
+use borrow.Author.Tests.{le-leb}
+use Rattle.bits.proofs.Picks.{pick_yes}
+use Rattle.replies.specs.Replies.{repliesOf}
+use Rattle.replies.proofs.Sending.{sends-all}
+use Rattle.replies.proofs.Room.{replies-room}
+use Rattle.replies.proofs.emitting.emit.Goals as goal
+
+pub returns : goal.returns
+returns c =
+    let a = c.args in
+    let d = a.reply.now in
+    let h = c.if-reply-lt-REPLY_SIZE.false in
+    rw (pick_yes (leb 8196 (length d)) (repliesOf a.shown.now a.part.now a.act.now) [] (le-leb 8196 (length d) h))
+    (sends-all _ d _ _ c.send.ensures (omega (arith, h, replies-room a.shown.now a.part.now a.act.now)))

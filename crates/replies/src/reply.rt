@@ -1,0 +1,128 @@
+// A reply, by its kind: each that an act gives, and how it is written.
+ghost use Rattle.std.specs.Prelude.{◌≡◌};
+ghost use Rattle.frames.specs.Write.{setBits, FrameWriteGiven};
+ghost use Rattle.replies.specs.Replies.{register, good, badReply, signature, sweep, pioReply, setupReply, finishReply, mediaReply};
+ghost use Rattle.replies.specs.Sends.{framed};
+
+use crate::status::{READY, READY_DATA, READY_ERROR};
+use frame_parts::Task;
+use frames::{DevReg, DmaSetup, PioSetup, SetBits};
+use page_sum::PAGE_SIZE;
+use refusals::Refusal;
+use rules::Queued;
+
+#[derive(Clone, Copy)]
+pub(crate) enum Reply<'a> {
+    Register(DevReg),
+    Bits(SetBits),
+    Setup(DmaSetup),
+    Activate,
+    Pio(PioSetup),
+    Data(&'a [u8]),
+}
+
+impl<'a> Reply<'a> {
+    fn register(interrupt: bool, status: u8, error: u8, task: Task) -> Reply<'a>
+        ensures { framed result ≡ register interrupt status error task }
+    {
+        Reply::Register(DevReg {
+            interrupt,
+            status,
+            error,
+            task,
+        })
+    }
+
+    fn bits(interrupt: bool, status: u8, error: u8, active: u32) -> Reply<'a>
+        ensures { framed result ≡ setBits (record { interrupt = interrupt; status = status; error = error; active = active }) }
+    {
+        Reply::Bits(SetBits {
+            interrupt,
+            status,
+            error,
+            active,
+        })
+    }
+
+    pub(crate) fn good(task: Task) -> Reply<'a>
+        ensures { framed result ≡ good task }
+    {
+        Reply::register(false, READY, 0, task)
+    }
+
+    pub(crate) fn bad(error: u8, task: Task) -> Reply<'a>
+        ensures { framed result ≡ badReply error task }
+    {
+        Reply::register(true, READY_ERROR, error, task)
+    }
+
+    pub(crate) fn signature() -> Reply<'a>
+        ensures { framed result ≡ signature }
+    {
+        let task = Task {
+            lba: 1,
+            device: 0,
+            count: 1,
+        };
+        Reply::register(false, READY, 0x01, task)
+    }
+
+    pub(crate) fn sweep() -> Reply<'a>
+        ensures { framed result ≡ sweep }
+    {
+        Reply::bits(false, READY, 0, 0xFFFF_FFFF)
+    }
+
+    pub(crate) fn finish(set: u32) -> Reply<'a>
+        ensures { framed result ≡ finishReply set }
+    {
+        Reply::bits(true, READY, 0, set)
+    }
+
+    pub(crate) fn media(error: u8) -> Reply<'a>
+        ensures { framed result ≡ mediaReply error }
+    {
+        Reply::bits(true, READY_ERROR, error, 0)
+    }
+
+    pub(crate) fn pio(task: Task) -> Reply<'a>
+        ensures { framed result ≡ pioReply task }
+    {
+        Reply::Pio(PioSetup {
+            interrupt: true,
+            to_host: true,
+            status: READY_DATA,
+            error: 0,
+            task,
+            ending: READY,
+            bytes: PAGE_SIZE as u16,
+        })
+    }
+
+    pub(crate) fn setup(q: &Queued) -> Reply<'a>
+        ensures { framed result ≡ setupReply q.now }
+    {
+        Reply::Setup(DmaSetup {
+            auto: false,
+            interrupt: false,
+            to_host: !q.entry.write,
+            tag: q.tag as u32,
+            offset: 0,
+            count: q.entry.whole(),
+        })
+    }
+
+    /// The reply in front of `room`, if its values fit their fields and it has the room.
+    pub(crate) fn write(&self, room: &mut [u8]) -> Result<usize, Refusal>
+        ensures { FrameWriteGiven (framed self.now) room.old result room.new }
+    {
+        match self {
+            Reply::Register(f) => frames::write_device(room, *f),
+            Reply::Bits(f) => frames::write_bits(room, *f),
+            Reply::Setup(f) => frames::write_setup(room, *f),
+            Reply::Activate => frames::write_activate(room),
+            Reply::Pio(f) => frames::write_pio(room, *f),
+            Reply::Data(p) => frames::write_data(room, p),
+        }
+    }
+}

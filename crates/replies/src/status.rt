@@ -1,0 +1,10 @@
+// The statuses that replies show.
+
+/// Ready.
+pub(crate) const READY: u8 = 0x40;
+
+/// Ready, with an error.
+pub(crate) const READY_ERROR: u8 = 0x41;
+
+/// Ready, with data to be moved.
+pub(crate) const READY_DATA: u8 = 0x48;

@@ -1,0 +1,6 @@
+-- What is said of output that is lost. Assumes nothing.
+use Rattle.std.specs.Prelude.{ℕ, List, codes}
+
+-- a write failed
+abbrev pub complaint : List ℕ
+complaint = codes "output failed: lines are missing\n"
