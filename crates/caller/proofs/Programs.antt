@@ -13,17 +13,18 @@ use Rattle.device_state.specs.declared.shapes.Settings.{Settings}
 use Rattle.device.specs.Device.{freshDevice, powerOn}
 use Rattle.device.specs.Lent.{lent}
 use Rattle.device.specs.Sealing.{poweredOf}
-use Rattle.device.specs.Step.{bytes_of}
+use Rattle.device.specs.Step.{Step, step, bytes_of}
 use Rattle.device.specs.declared.state.Device.{Device}
 use Rattle.device.specs.declared.state.Outcome.{Outcome}
 use Rattle.event_kinds.specs.Settings.{asked_of}
 use Rattle.events.specs.Start.{start_by, start_of}
 use Rattle.events.specs.Calls.{callFor}
+use Rattle.events.specs.Played.{stepFor}
 use Rattle.events.proofs.Playable.{run-plays}
 use Rattle.event_program.specs.Lines.{line_of}
 use Rattle.event_program.specs.Reading.{IsEvent}
-use Rattle.event_program.specs.Running.{Kept, stepIn, after, told, started, refused, kept_after, AllEvents, Plays}
-use Rattle.history.specs.Run.{done, run_from}
+use Rattle.event_program.specs.Running.{Kept, kept, after, told, started, refused, kept_after, AllEvents, Plays}
+use Rattle.history.specs.Run.{result, done, run_from}
 use Rattle.history.specs.Follows.{newestFirst, lents}
 use Rattle.history.proofs.Contracts.{began-run}
 use Rattle.caller.specs.Continued.{Holds}
@@ -39,16 +40,38 @@ front f b = take-append_seam f (drop (length f) b)
 some-call : (d : Device) (e : List ℕ) → IsEvent false e → is_none (callFor d e) ≡ false
 some-call d e i = ap (λ (l : List ℕ). is_none (callFor d l)) (sym (take-length e)) ∙ run-plays d e (length e) i
 
--- and shows it
-shows-call : (traced : Bool) (n : ℕ) (k : Kept) (e : List ℕ) (c : Option Call) → is_none c ≡ false → ShowsCall traced n k e (option_map (λ x. done (lent x k.medium k.reply) (playIn k e).gave) c)
-unfolding after told ShowsCall
-shows-call traced n k e None i = absurd (true≢false i)
-shows-call traced n k e (Some c) i = let s = stepIn k e in record { kept = refl; line = ap (line_of traced n s.refusal s.state.status.outstanding) (sym (front (bytes_of s) k.reply)) }
+-- what an event leaves and tells, by its step
+abbrev after-by : Kept → Step → Kept
+after-by k s = kept s.state s.medium (laid (bytes_of s) k.reply)
+
+abbrev told-by : Bool → ℕ → Step → List ℕ
+told-by traced number s = line_of traced number s.refusal s.state.status.outstanding (bytes_of s)
+
+module _ (traced : Bool) (number : ℕ) (k : Kept) (e : List ℕ) where
+  -- what it leaves and tells is that of its call
+  record By (c : Option Call) : Type 0 where
+    pub kept : after k e ≡ after-by k (stepFor k.device k.medium k.reply c)
+    pub line : told traced number k e ≡ told-by traced number (stepFor k.device k.medium k.reply c)
+
+  by-call : By (callFor k.device e)
+  unfolding after told
+  by-call = record { kept = refl; line = refl }
+
+  -- and a call is shown as it is told
+  shows-call : (c : Option Call) → is_none c ≡ false → By c → ShowsCall traced number k e (option_map (λ x. done (lent x k.medium k.reply) (result k.device (lent x k.medium k.reply))) c)
+  unfolding stepFor ShowsCall
+  shows-call None n t = absurd (true≢false n)
+  shows-call (Some c) n t =
+      let s = step k.device (lent c k.medium k.reply) in
+      record {
+        kept = t.kept;
+        line = t.line ∙ ap (line_of traced number s.refusal s.state.status.outstanding) (sym (front (bytes_of s) k.reply));
+      }
 
 shown-run : (traced : Bool) (n : ℕ) (k : Kept) (es : List (List ℕ)) → AllEvents es → EachShown traced n k es
 unfolding AllEvents EachShown
 shown-run traced n k [] q = tt
-shown-run traced n k (e ∷ es) q = (shows-call traced n k e (callFor k.device e) (some-call k.device e q.0), shown-run traced (n + 1) (after k e) es q.1)
+shown-run traced n k (e ∷ es) q = (shows-call traced n k e (callFor k.device e) (some-call k.device e q.0) (by-call traced n k e), shown-run traced (n + 1) (after k e) es q.1)
 
 -- each event is of bytes
 unfoldable pub AllBytes : List (List ℕ) → Type 0

@@ -1,9 +1,9 @@
 -- What the event program plays, event by event, and the calls of the device that are made. Assumes nothing.
-use Rattle.std.specs.Prelude.{◌≡◌, Bool, List, [], ◌∷◌, ◌++◌, ℕ, ◌+◌, length, Option, Some, None}
+use Rattle.std.specs.Prelude.{◌≡◌, Bool, List, [], ◌∷◌, ◌++◌, ℕ, ◌+◌, length, Option, Some, None, option_map}
 use Rattle.refusals.specs.declared.reasons.Refusal.TheVariants.{Contradiction}
 use Rattle.device_state.specs.declared.shapes.Settings.{Settings}
 use Rattle.device.specs.Device.{zeroDevice, powerOn}
-use Rattle.device.specs.Lent.{gave}
+use Rattle.device.specs.Lent.{lent, gave}
 use Rattle.device.specs.Step.{bytes_of}
 use Rattle.event_kinds.specs.Settings.{asked_of}
 use Rattle.event_kinds.specs.declared.kinds.Next.TheVariants.{Stop}
@@ -11,9 +11,10 @@ use Rattle.event_program.specs.Lines.{line_of}
 use Rattle.streams.specs.Fronts.{AppendsFront}
 use Rattle.event_program.specs.Running.{Kept, kept, stepIn, after, told, started, start_line, run_lines, kept_after, ending, Plays}
 use Rattle.event_program.specs.Runs.{joined}
-use Rattle.history.specs.Run.{Done, event}
+use Rattle.events.specs.Calls.{callFor}
+use Rattle.history.specs.Run.{result, Done, done, event}
 use Rattle.caller.specs.Continued.{Holds}
-use Rattle.caller.specs.Playing.{Play, play, doneBy, donesAll}
+use Rattle.caller.specs.Playing.{Play, play, donesAll}
 
 -- an event as the run plays it: lent what is kept, and what came back is kept
 abbrev pub playIn : Kept → List ℕ → Play
@@ -24,6 +25,10 @@ playIn k e =
 unfoldable pub playsIn : Kept → List (List ℕ) → List Play
 playsIn k [] = []
 playsIn k (e ∷ es) = playIn k e ∷ playsIn (after k e) es
+
+-- the call that an event makes, if it makes one, as the device takes it: lent what the run keeps, and what the device then gives
+abbrev pub callIn : Kept → List ℕ → Option Done
+callIn k e = option_map (λ c. done (lent c k.medium k.reply) (result k.device (lent c k.medium k.reply))) (callFor k.device e)
 
 -- behind an event the run keeps the state, medium and reply buffer that its call left, and its line shows that state, the refusal and the reply
 pub record Shows (traced : Bool) (number : ℕ) (k : Kept) (e : List ℕ) (x : Done) : Type 0 where
@@ -38,7 +43,7 @@ ShowsCall traced number k e (Some x) = Shows traced number k e x
 -- every event, numbered on
 unfoldable pub EachShown : Bool → ℕ → Kept → List (List ℕ) → Type 0
 EachShown traced n k [] = Unit
-EachShown traced n k (e ∷ es) = ShowsCall traced n k e (doneBy k.device (playIn k e)) × EachShown traced (n + 1) (after k e) es
+EachShown traced n k (e ∷ es) = ShowsCall traced n k e (callIn k e) × EachShown traced (n + 1) (after k e) es
 
 -- power-on with the settings that the record s asks for, and its line, the first
 pub record StartShown (traced : Bool) (s : List ℕ) (asked : Settings) : Type 0 where
