@@ -10,7 +10,7 @@ use lib.Dec.{lit≤, lit<}
 use lib.Pow.{pow-add, pow_mono, shr-shr, mod-pow-add}
 use lib.ListN.{get_or, length, take, drop}
 use Rattle.std.specs.List.{fold}
-use Rattle.std.proofs.lemmas.List.{reverse-append}
+use Rattle.std.proofs.lemmas.List.{reverse-append, get_or-drop}
 use Rattle.std.proofs.lemmas.List.Sums.{fold_push}
 use Rattle.bits.proofs.Masks.{shl-or}
 use Rattle.bits.specs.Little.{leAt, byte_of, bytesFrom, le_bytes, Bytes}
@@ -51,6 +51,16 @@ leAt-take l zero = refl
 leAt-take [] (suc n) = leAt-none 0 (suc n)
 leAt-take (b ∷ l) (suc n) =
     ap (λ (x : ℕ). x * 256 + b) (leAt-tail b l 0 n ∙ leAt-take l n ∙ sym (leAt-tail b (take n l) 0 (length (take n l))))
+
+-- what of some bytes is taken are bytes
+bytes-take : (n : ℕ) (l : List ℕ) → Bytes l → Bytes (take n l)
+bytes-take zero l bytes i = lit< tt
+bytes-take (suc n) [] bytes i = lit< tt
+bytes-take (suc n) (b ∷ l) bytes zero = bytes 0
+bytes-take (suc n) (b ∷ l) bytes (suc i) = bytes-take n l (λ j. bytes (suc j)) i
+
+pub bytes-part : (l : List ℕ) → Bytes l → (at n : ℕ) → Bytes (take n (drop at l))
+bytes-part l bytes at n = bytes-take n (drop at l) (λ i. rw get_or-drop (bytes (at + i)))
 
 -- so that a number is that of the bytes that there are
 pub leAt-there : (l : List ℕ) (at n : ℕ) → leAt l at n ≡ leAt (take n (drop at l)) 0 (length (take n (drop at l)))

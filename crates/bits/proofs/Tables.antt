@@ -11,22 +11,21 @@ use lib.Dec.{T}
 use lib.Pow.{shr_lt}
 use lib.Count.{ones, ones_step}
 use lib.ListN.{length, get_or}
-use Rattle.bits.proofs.Masks.{bit-suc}
+use Rattle.std.specs.List.{sum_by}
+use Rattle.std.proofs.lemmas.Nat.Bits.{bit_at-suc}
+use Rattle.std.proofs.lemmas.List.Sums.{sum_by-cons}
 
 -- ---- counts: `ones m` is the sum of what the elements of a list say, where each says bit i of m
-abbrev pub sum_of : {A : Type 0} → (A → ℕ) → List A → ℕ
-sum_of f [] = 0
-sum_of f (x ∷ xs) = f x + sum_of f xs
-
 pub ones-tied : {A : Type 0} (f : A → ℕ) (d : A) (xs : List A) (m : ℕ) → m < 2 ^ length xs
-    → ((i : ℕ) → i < length xs → m / 2 ^ i % 2 ≡ f (get_or xs i d)) → ones m ≡ sum_of f xs
+    → ((i : ℕ) → i < length xs → m / 2 ^ i % 2 ≡ f (get_or xs i d)) → ones m ≡ sum_by f xs
 unfolding ones
 ones-tied f d [] m h e = ap ones (lt-one h)
 ones-tied f d (x ∷ xs) m h e =
     ones_step m
     ∙ ap₂ (λ (a b : ℕ). a + b) (ap (λ (n : ℕ). n % 2) (sym (div-one m)) ∙ e 0 (zero-lt-suc (length xs)))
     (ones-tied f d xs (m / 2) (shr_lt (length xs) 1 (rw add-one h))
-    (λ i hi. bit-suc m i ∙ e (suc i) (suc-le-suc hi)))
+    (λ i hi. sym (bit_at-suc m i) ∙ e (suc i) (suc-le-suc hi)))
+    ∙ sym (sum_by-cons f x xs)
 
 -- ---- a rule of every number below n, by a test that antt computes
 abbrev pub all_below : ℕ → (ℕ → Bool) → Bool

@@ -5,9 +5,9 @@ use Rattle.bits.specs.Laid.{over}
 use Rattle.bits.specs.Little.{NumberGiven, leAt}
 use lib.Count.{ones}
 use lib.Dec.{leb}
-use lib.ListN.{length}
+use lib.ListN.{length, take, drop}
 use mathlib.Core.Path.{◌≡◌, refl}
-use Rattle.bits.specs.Contract.{Tied}
+use Rattle.bits.specs.Contract.{Says, Tied}
 use Rattle.bits.proofs.Tying.{same, say, by, named}
 use Rattle.bits.proofs.copying
 use Rattle.bits.specs.contracts.copying as copying-said
@@ -15,6 +15,8 @@ use Rattle.bits.proofs.little
 use Rattle.bits.specs.contracts.little as little-said
 use Rattle.bits.proofs.mask
 use Rattle.bits.specs.contracts.mask as mask-said
+use Rattle.bits.proofs.parts
+use Rattle.bits.specs.contracts.parts as parts-said
 
 pub tied-lay : Tied copying-said.lay.ended copying.lay.Reads.Asked copying.lay.Reads.Post (λ κs a r ws. (r ≡ leb (length a.1.0.now) (length a.0.now)) × (ws.0 ≡ over a.1.0.now a.0.now))
 tied-lay = by (say (λ κs a. tt) (λ κs a r ws p. p)) (λ κs a r r' ws ws' p q. (same p.0 q.0, λ i. (same p.1 q.1 i, (tt, tt))))
@@ -39,3 +41,7 @@ tied-without = named (say (λ κs a. tt) (λ κs a r ws p. p)) (λ κs a ws ws'.
 
 pub tied-ones : Tied mask-said.ones.ended mask.ones.Reads.Asked mask.ones.Reads.Post (λ κs a r ws. r ≡ ones a.0)
 tied-ones = named (say (λ κs a. tt) (λ κs a r ws p. p)) (λ κs a ws ws'. refl)
+
+-- of two answers the bytes are equal, the references need not be
+pub tied-part : Says parts-said.part.ended parts.part.Reads.Asked parts.part.Reads.Post (λ κs a r ws. r.now ≡ take a.1.1.0 (drop a.1.0 a.0.now))
+tied-part = say (λ κs a. tt) (λ κs a r ws p. p)

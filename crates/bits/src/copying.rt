@@ -2,14 +2,14 @@
 ghost use Rattle.std.specs.Prelude.{◌≡◌, length, leb};
 ghost use Rattle.bits.specs.Laid.{over};
 
-/// s laid over the front of d, where it has room: whether it had.
+/// `bytes` laid over the front of `buf`, where it has room: whether it had.
 #[tactic(auto, unfolding(crate::specs::Laid::over, crate::specs::Pick::pick))]
-pub fn lay(d: &mut [u8], s: &[u8]) -> bool
-    ensures { (result ≡ leb (length s.now) (length d.old)) × (d.new ≡ over s.now d.old) }
+pub fn lay(buf: &mut [u8], bytes: &[u8]) -> bool
+    ensures { (result ≡ leb (length bytes.now) (length buf.old)) × (buf.new ≡ over bytes.now buf.old) }
 {
-    match d.split_at_mut_checked(s.len()) {
+    match buf.split_at_mut_checked(bytes.len()) {
         Some((front, _rest)) => {
-            front.copy_from_slice(s);
+            front.copy_from_slice(bytes);
             true
         }
         None => false,

@@ -4,7 +4,9 @@
 mod copying;
 mod little;
 mod mask;
+mod parts;
 
 pub use copying::lay;
 pub use little::{le, le16, le32};
 pub use mask::{bit, ones, with_bit, without};
+pub use parts::part;

@@ -3,37 +3,37 @@ ghost use Rattle.std.specs.Prelude.{◌≡◌};
 ghost use Rattle.std.specs.Int.Count.{ones};
 ghost use Rattle.bits.specs.Bit.{bitIn, withBitIn, clearIn};
 
-/// Bit t of m.
-pub fn bit(m: u32, t: u32) -> bool
-    ensures { result ≡ bitIn 32 m t }
+/// The bit of a mask at an index.
+pub fn bit(mask: u32, index: u32) -> bool
+    ensures { result ≡ bitIn 32 mask index }
 {
-    if 32 <= t {
+    if 32 <= index {
         return false;
     }
-    (m >> t) & 1 == 1
+    (mask >> index) & 1 == 1
 }
 
-/// m with bit t on.
+/// The mask with the bit at an index on.
 #[tactic(auto, unfolding(crate::specs::Pick::pick))]
-pub fn with_bit(m: u32, t: u32) -> u32
-    ensures { result ≡ withBitIn 32 m t }
+pub fn with_bit(mask: u32, index: u32) -> u32
+    ensures { result ≡ withBitIn 32 mask index }
 {
-    if 32 <= t {
-        return m;
+    if 32 <= index {
+        return mask;
     }
-    m | (1 << t)
+    mask | (1 << index)
 }
 
-/// m with all bits of s off.
-pub fn without(m: u32, s: u32) -> u32
-    ensures { result ≡ clearIn 32 m s }
+/// The mask with all bits of `cleared` off.
+pub fn without(mask: u32, cleared: u32) -> u32
+    ensures { result ≡ clearIn 32 mask cleared }
 {
-    m & !s
+    mask & !cleared
 }
 
-/// How many bits of m are on.
-pub fn ones(m: u32) -> u32
-    ensures { result ≡ ones m }
+/// How many bits of a mask are on.
+pub fn ones(mask: u32) -> u32
+    ensures { result ≡ ones mask }
 {
-    u32::count_ones(m)
+    u32::count_ones(mask)
 }

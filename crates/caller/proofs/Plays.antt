@@ -4,12 +4,10 @@ use mathlib.Core.List.{List, [], ◌∷◌, ◌++◌}
 use Prim.Native.Nat.{ℕ, zero, suc, ◌<◌}
 use native.Mathlib.Omega.{arith}
 use lib.ListN.{get_or, replicate}
-use lib.Dec.{eqb}
 use Rattle.std.proofs.Common.{append-nil, append_assoc}
-use Rattle.std.specs.Prelude.{Option, Some, None, option_map, option_to_list, Result, Err}
+use Rattle.std.specs.Prelude.{Option, Some, None, unwrap_or, option_map, option_to_list, Result, Err}
 use Rattle.bits.specs.Little.{Bytes}
 use Rattle.bits.proofs.Littles.{le-lt}
-use Rattle.bits.proofs.Picks.{by-test}
 use Rattle.frame_parts.specs.Cut.{joined}
 use Rattle.replies.specs.Replies.{sentAll}
 use Rattle.refusals.specs.declared.reasons.Refusal.{Refusal}
@@ -25,11 +23,14 @@ use Rattle.device.specs.declared.state.Device.{Device}
 use Rattle.device.specs.declared.state.Outcome.{Outcome}
 use Rattle.device.proofs.Kept.{powered-once}
 use Rattle.device.proofs.Typing.{none-typed, frame-typed, set_typed, error-typed}
-use Rattle.event_kinds.specs.Kinds.{isEvent}
+use Rattle.event_kinds.specs.Kinds.{eventKind}
+use Rattle.event_kinds.specs.declared.kinds.Kind.{Kind}
+use Rattle.event_kinds.specs.declared.kinds.Kind.TheVariants as kinds
+use Rattle.std.specs.Option.{option_and_then}
 use Rattle.event_kinds.specs.Settings.{asked_of}
 use Rattle.event_kinds.specs.Requests.{callByKind, requestOf}
 use Rattle.event_kinds.specs.declared.asked.Request.{Request}
-use Rattle.events.specs.HostData.{dataFrame}
+use Rattle.events.specs.HostData.{dataFrame, hostData}
 use Rattle.events.specs.Start.{start_by, start_of}
 use Rattle.events.specs.Calls.{call_of, callFor}
 use Rattle.events.specs.Played.{stepFor}
@@ -59,22 +60,22 @@ data-bytes n b h (suc (suc zero)) = omega arith
 data-bytes n b h (suc (suc (suc zero))) = omega arith
 data-bytes n b h (suc (suc (suc (suc i)))) = same_bytes n b i h
 
-typed-kind : (d : Device) (k : ℕ) (e : List ℕ) → Bytes e → TypedFor d e (callByKind k e)
+typed-kind : (d : Device) (e : List ℕ) (kind : Option Kind) → Bytes e → TypedFor d e (option_and_then (callByKind e) kind)
 unfolding callByKind call_of
-typed-kind d k e w =
-    by-test (TypedFor d e) (eqb k 0x01) _ _ (λ h. none-typed)
-    (λ h. by-test (TypedFor d e) (eqb k 0x02) _ _ (λ h. none-typed)
-    (λ h. by-test (TypedFor d e) (eqb k 0x03) _ _ (λ h. set_typed _ (le-lt e w 1 4))
-    (λ h. by-test (TypedFor d e) (eqb k 0x04) _ _ (λ h. error-typed _ (w 2))
-    (λ h. by-test (TypedFor d e) (eqb k 0x05) _ _ (λ h. none-typed)
-    (λ h. by-test (TypedFor d e) (eqb k 0x06) _ _ (λ h. none-typed)
-    (λ h. by-test (TypedFor d e) (eqb k 0x07) _ _ (λ h. frame-typed (dataFrame (dataDue d) (get_or e 1 0)) (data-bytes (dataDue d) (get_or e 1 0) (w 1)))
-    (λ h. by-test (TypedFor d e) (eqb k 0x27) _ _ (λ h. frame-typed e w)
-    (λ h. by-test (TypedFor d e) (eqb k 0x58) _ _ (λ h. frame-typed e w) (λ h. tt)))))))))
+typed-kind d e None w = tt
+typed-kind d e (Some kinds.Settings) w = tt
+typed-kind d e (Some kinds.OpenPhase) w = none-typed
+typed-kind d e (Some kinds.SendData) w = none-typed
+typed-kind d e (Some kinds.FinishTags) w = set_typed _ (le-lt e w 1 4)
+typed-kind d e (Some kinds.MediaError) w = error-typed _ (w 2)
+typed-kind d e (Some kinds.LinkEvent) w = none-typed
+typed-kind d e (Some kinds.ComReset) w = none-typed
+typed-kind d e (Some kinds.HostData) w = frame-typed (hostData d (get_or e 1 0)) (data-bytes (unwrap_or (dataDue d) 4) (get_or e 1 0) (w 1))
+typed-kind d e (Some (kinds.HostFrame kind)) w = frame-typed e w
 
 typed-event : (d : Device) (e : List ℕ) → Bytes e → TypedCall (callFor d e)
 unfolding requestOf
-typed-event d e w = by-test (TypedFor d e) (isEvent e) _ _ (λ h. typed-kind d (get_or e 0 0) e w) (λ h. tt)
+typed-event d e w = typed-kind d e (eventKind e) w
 
 -- ---- one event continues
 same-gave : {d d' : Device} {n n' : Option Refusal} {l l' : ℕ} {m m' b b' : List ℕ} → d ≡ d' → n ≡ n' → l ≡ l' → m ≡ m' → b ≡ b'

@@ -1,17 +1,18 @@
 -- What the contract of the run allows is a history, however the run ended. Assumes nothing.
 use Rattle.std.proofs.Common.{◌≡◌, ℕ, ◌+◌, ◌<◌, ◌≤◌, Bool, Option, Some, None, IfSome, Result, Ok, Err, List, [], ◌∷◌, ◌++◌, length, sym, ap, ◌∙◌, subst, append-nil, append_assoc, arith, ⊎_elim}
-use Rattle.bits.proofs.Masks.{lt-or-le}
+use Rattle.std.proofs.lemmas.Bool.{cases_lt}
 use lib.ListN.{get_or-append}
 use Rattle.std.proofs.lemmas.List.{get_or-append-add, get_or_past}
 use Rattle.std.specs.Io.KnownBytes.{Appends, Consumes}
 use Rattle.bits.specs.Little.{Bytes}
-use Rattle.event_kinds.specs.declared.kinds.Next.{Next}
-use Rattle.event_kinds.specs.declared.kinds.Next.TheVariants.{Whole, Stop, End}
+use Rattle.event_kinds.specs.declared.kinds.InputEnd.{InputEnd}
+use Rattle.event_kinds.specs.declared.kinds.InputEnd.TheVariants.{Clean, NoEvent}
 use Rattle.event_program.specs.declared.errors.RunError.{RunError}
 use Rattle.event_program.specs.declared.errors.RunError.TheVariants.{Input, Output, Memory, TooMany}
 use Rattle.streams.specs.Fronts.{AppendsFront}
 use Rattle.event_program.specs.Running.{Plays, run_lines, ending, next_behind}
-use Rattle.event_program.specs.Runs.{joined, Ran}
+use Rattle.event_program.specs.Runs.{Ran}
+use Rattle.frame_parts.specs.Cut.{joined}
 use Rattle.event_program.specs.Reading.{Ends}
 use Rattle.event_program.proofs.Fronts.{front-of}
 use Rattle.event_program.proofs.Runs.{begins}
@@ -20,13 +21,13 @@ use Rattle.caller.proofs.Programs.{AllBytes, program-history}
 
 -- what begins or ends a text of bytes is of bytes
 first-bytes : (a b : List ℕ) → Bytes (a ++ b) → Bytes a
-first-bytes a b w i = ⊎_elim (λ (h : i < length a). subst (λ (x : ℕ). x < 256) (get_or-append a b 0 i h) (w i)) (λ (h : length a ≤ i). rw (get_or_past a i 0 h) (omega arith)) (lt-or-le i (length a))
+first-bytes a b w i = ⊎_elim (λ (h : i < length a). subst (λ (x : ℕ). x < 256) (get_or-append a b 0 i h) (w i)) (λ (h : length a ≤ i). rw (get_or_past a i 0 h) (omega arith)) (cases_lt i (length a))
 
 rest-bytes : (a b : List ℕ) → Bytes (a ++ b) → Bytes b
 rest-bytes a b w i = subst (λ (x : ℕ). x < 256) (get_or-append-add a b i 0) (w (length a + i))
 
 all-bytes : (es : List (List ℕ)) (rest : List ℕ) → Bytes (joined es ++ rest) → AllBytes es
-unfolding AllBytes
+unfolding AllBytes joined
 all-bytes [] rest w = tt
 all-bytes (e ∷ es) rest w =
     let all : Bytes (e ++ (joined es ++ rest)) = subst Bytes (append_assoc e (joined es) rest) w in
@@ -34,7 +35,7 @@ all-bytes (e ∷ es) rest w =
 
 -- events that an input begins with, of whose lines a front is written
 shown : (traced : Bool) (input : List ℕ) (old new : Option (List ℕ)) (es : List (List ℕ)) (rest : List ℕ) → Bytes input → input ≡ joined es ++ rest → Plays es
-    → AppendsFront old new (run_lines traced es ++ ending Stop) → RunHistory traced input old new
+    → AppendsFront old new (run_lines traced es ++ ending (Err NoEvent)) → RunHistory traced input old new
 shown traced input old new es rest w e p f = record {
   es = es;
   rest = rest;
@@ -45,14 +46,14 @@ shown traced input old new es rest w e p f = record {
 }
 
 -- what was written ends as the input does
-ended : (traced : Bool) (old new : Option (List ℕ)) (es : List (List ℕ)) (end : Next) → Ends end → Appends old new (run_lines traced es ++ ending end) → AppendsFront old new (run_lines traced es ++ ending Stop)
+ended : (traced : Bool) (old new : Option (List ℕ)) (es : List (List ℕ)) (end : Result ℕ InputEnd) → Ends end → Appends old new (run_lines traced es ++ ending end) → AppendsFront old new (run_lines traced es ++ ending (Err NoEvent))
 unfolding ending
-ended traced old new es (Whole n) e a = absurd e
-ended traced old new es Stop e a = front-of old new _ [] _ (sym (append-nil _)) a
-ended traced old new es End e a = front-of old new _ _ _ (ap (λ (l : List ℕ). l ++ ending Stop) (sym (append-nil (run_lines traced es)))) a
+ended traced old new es (Ok n) e a = absurd e
+ended traced old new es (Err NoEvent) e a = front-of old new _ [] _ (sym (append-nil _)) a
+ended traced old new es (Err Clean) e a = front-of old new _ _ _ (ap (λ (l : List ℕ). l ++ ending (Err NoEvent)) (sym (append-nil (run_lines traced es)))) a
 
 -- of an input that is known
-of-some : (traced : Bool) (input : List ℕ) (old new : Option (List ℕ)) (es : List (List ℕ)) (more : List ℕ) → Plays es → AppendsFront old new (run_lines traced es ++ ending Stop)
+of-some : (traced : Bool) (input : List ℕ) (old new : Option (List ℕ)) (es : List (List ℕ)) (more : List ℕ) → Plays es → AppendsFront old new (run_lines traced es ++ ending (Err NoEvent))
     → IfSome (Some input) (λ l. (rest : List ℕ) × (l ≡ (joined es ++ more) ++ rest)) → Bytes input → RunHistory traced input old new
 of-some traced input old new es more p f b w = shown traced input old new es (more ++ b.0) w (b.1 ∙ append_assoc (joined es) more b.0) p f
 
@@ -60,8 +61,8 @@ pub program-history-code : (traced : Bool) (known known' old new : Option (List 
     → IfSome known (λ input. Bytes input → RunHistory traced input old new)
 program-history-code traced None known' old new r t = tt
 program-history-code traced (Some input) known' old new (Ok u) t = λ w. shown traced input old new t.es t.rest w t.cut.whole t.cut.events (ended traced old new t.es (next_behind t.es t.rest) t.cut.ends t.written)
-program-history-code traced (Some input) known' old new (Err (Input e)) t = of-some traced input old new t.es t.part t.cut.events (ended traced old new t.es Stop tt t.written) (begins (Some input) known' _ t.read)
+program-history-code traced (Some input) known' old new (Err (Input e)) t = of-some traced input old new t.es t.part t.cut.events (ended traced old new t.es (Err NoEvent) tt t.written) (begins (Some input) known' _ t.read)
 program-history-code traced (Some input) known' old new (Err (Output e)) t = λ w. shown traced input old new t.es t.begins.0 w t.begins.1 t.events t.written
 program-history-code traced (Some input) known' old new (Err Memory) t = λ w. shown traced input old new t.es t.begins.0 w t.begins.1 t.events t.written
 program-history-code traced (Some input) known' old new (Err TooMany) t =
-    of-some traced input old new t.es [] t.events (ended traced old new t.es Stop tt t.written) (begins (Some input) known' _ (subst (λ (l : List ℕ). Consumes (Some input) known' l) (sym (append-nil (joined t.es))) t.read))
+    of-some traced input old new t.es [] t.events (ended traced old new t.es (Err NoEvent) tt t.written) (begins (Some input) known' _ (subst (λ (l : List ℕ). Consumes (Some input) known' l) (sym (append-nil (joined t.es))) t.read))

@@ -1,4 +1,4 @@
--- What a caller of the device is told: demand 3 of the history that its call continues. Assumes nothing.
+-- What a caller of the device is told: demand 3 (docs/DEMAND3.md: fates, data, SActive, replies, counters and refusals) of the history that its call continues. Assumes nothing.
 use Rattle.std.specs.Prelude.{◌≡◌, List, [], ◌∷◌, ◌++◌, ℕ}
 use Rattle.device_state.specs.declared.shapes.Settings.{Settings}
 use Rattle.device.specs.declared.state.Device.{Device}

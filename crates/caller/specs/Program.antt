@@ -1,16 +1,16 @@
 -- What the event program plays, event by event, and the calls of the device that are made. Assumes nothing.
-use Rattle.std.specs.Prelude.{◌≡◌, Bool, List, [], ◌∷◌, ◌++◌, ℕ, ◌+◌, length, Option, Some, None, option_map}
+use Rattle.std.specs.Prelude.{◌≡◌, Bool, List, [], ◌∷◌, ◌++◌, ℕ, ◌+◌, length, Option, Some, None, option_map, Err}
 use Rattle.refusals.specs.declared.reasons.Refusal.TheVariants.{Contradiction}
 use Rattle.device_state.specs.declared.shapes.Settings.{Settings}
 use Rattle.device.specs.Device.{zeroDevice, powerOn}
 use Rattle.device.specs.Lent.{lent, gave}
 use Rattle.device.specs.Step.{bytes_of}
 use Rattle.event_kinds.specs.Settings.{asked_of}
-use Rattle.event_kinds.specs.declared.kinds.Next.TheVariants.{Stop}
+use Rattle.event_kinds.specs.declared.kinds.InputEnd.TheVariants.{NoEvent}
 use Rattle.event_program.specs.Lines.{line_of}
 use Rattle.streams.specs.Fronts.{AppendsFront}
 use Rattle.event_program.specs.Running.{Kept, kept, stepIn, after, told, started, start_line, run_lines, kept_after, ending, Plays}
-use Rattle.event_program.specs.Runs.{joined}
+use Rattle.frame_parts.specs.Cut.{joined}
 use Rattle.events.specs.Calls.{callFor}
 use Rattle.history.specs.Run.{result, Done, done, event}
 use Rattle.caller.specs.Continued.{Holds}
@@ -79,4 +79,4 @@ pub record RunHistory (traced : Bool) (input : List ℕ) (old new : Option (List
   pub begins : input ≡ joined es ++ rest
   pub plays : Plays es
   pub history : OfHistory traced es
-  pub written : AppendsFront old new (run_lines traced es ++ ending Stop)
+  pub written : AppendsFront old new (run_lines traced es ++ ending (Err NoEvent))

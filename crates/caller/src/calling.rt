@@ -14,59 +14,58 @@ pub fn begin(settings: Settings) -> Outcome
 }
 
 /// Host frame: 27h, 46h or 58h.
-pub fn host_frame(d: Device, frame: &[u8], medium: &mut [u8], reply: &mut [u8]) -> Outcome
-    ensures { Continues d (lent (hostFrame frame.now) medium.old reply.old) (gave result medium.new reply.new) }
+pub fn host_frame(device: Device, frame: &[u8], medium: &mut [u8], reply: &mut [u8]) -> Outcome
+    ensures { Continues device (lent (hostFrame frame.now) medium.old reply.old) (gave result medium.new reply.new) }
 {
-    d.host_frame(frame, medium, reply)
+    device.host_frame(frame, medium, reply)
 }
 
 /// Open a phase for a tag.
-pub fn open(d: Device, tag: u8, reply: &mut [u8]) -> Outcome
-    ensures { ContinuesReplying d (openPhase tag) reply.old result reply.new }
+pub fn open(device: Device, tag: u8, reply: &mut [u8]) -> Outcome
+    ensures { ContinuesReplying device (openPhase tag) reply.old result reply.new }
 {
-    d.open(tag, reply)
+    device.open(tag, reply)
 }
 
 /// Send, in a read phase: one data frame.
-pub fn send(d: Device, medium: &[u8], reply: &mut [u8]) -> Outcome
-    ensures { Continues d (lent sendData medium.now reply.old) (gave result medium.now reply.new) }
+pub fn send(device: Device, medium: &[u8], reply: &mut [u8]) -> Outcome
+    ensures { Continues device (lent sendData medium.now reply.old) (gave result medium.now reply.new) }
 {
-    d.send(medium, reply)
+    device.send(medium, reply)
 }
 
 /// Finish a set of tags.
-pub fn finish(d: Device, set: u32, reply: &mut [u8]) -> Outcome
-    ensures { ContinuesReplying d (finishTags set) reply.old result reply.new }
+pub fn finish(device: Device, set: u32, reply: &mut [u8]) -> Outcome
+    ensures { ContinuesReplying device (finishTags set) reply.old result reply.new }
 {
-    d.finish(set, reply)
+    device.finish(set, reply)
 }
 
 /// Media error at a sector of a tag's command.
-pub fn media_error(d: Device, tag: u8, error: u8, sector: u32, reply: &mut [u8]) -> Outcome
-    ensures { ContinuesReplying d (mediaError tag error sector) reply.old result reply.new }
+pub fn media_error(device: Device, tag: u8, error: u8, sector: u32, reply: &mut [u8]) -> Outcome
+    ensures { ContinuesReplying device (mediaError tag error sector) reply.old result reply.new }
 {
-    d.media_error(tag, error, sector, reply)
+    device.media_error(tag, error, sector, reply)
 }
 
 /// Link event: adds one to that counter.
-pub fn link_event(d: Device, row: u8) -> Outcome
-    ensures { ContinuesAlone d (linkEvent row) result }
+pub fn link_event(device: Device, row: u8) -> Outcome
+    ensures { ContinuesAlone device (linkEvent row) result }
 {
-    d.link_event(row)
+    device.link_event(row)
 }
 
 /// COMRESET.
-pub fn comreset(d: Device, reply: &mut [u8]) -> Outcome
-    ensures { ContinuesReplying d comReset reply.old result reply.new }
+pub fn comreset(device: Device, reply: &mut [u8]) -> Outcome
+    ensures { ContinuesReplying device comReset reply.old result reply.new }
 {
-    d.comreset(reply)
+    device.comreset(reply)
 }
 
-/// Power-on and one link event, from what the two functions above tell alone.
+/// Power-on and one link event, from what `begin` and `link_event` tell alone.
 pub fn first_link(settings: Settings, row: u8) -> Outcome
     ensures { FirstCall settings (linkEvent row) result }
 {
     let begun = begin(settings);
-    let d = begun.state;
-    link_event(d, row)
+    link_event(begun.state, row)
 }

@@ -17,60 +17,60 @@ pub fn keep(settings: Settings) -> Result<Sealed, Refusal>
 
 /// Host frame: 27h, 46h or 58h.
 pub fn kept_host_frame(
-    k: &mut Sealed,
+    sealed: &mut Sealed,
     frame: &[u8],
     medium: &mut [u8],
     reply: &mut [u8],
 ) -> Result<usize, Refusal>
-    ensures { Continues k.old.device (lent (hostFrame frame.now) medium.old reply.old) (gave (answered k.new.device result) medium.new reply.new) }
+    ensures { Continues sealed.old.device (lent (hostFrame frame.now) medium.old reply.old) (gave (answered sealed.new.device result) medium.new reply.new) }
 {
-    k.host_frame(frame, medium, reply)
+    sealed.host_frame(frame, medium, reply)
 }
 
 /// Open a phase for a tag.
-pub fn kept_open(k: &mut Sealed, tag: u8, reply: &mut [u8]) -> Result<usize, Refusal>
-    ensures { ContinuesReplying k.old.device (openPhase tag) reply.old (answered k.new.device result) reply.new }
+pub fn kept_open(sealed: &mut Sealed, tag: u8, reply: &mut [u8]) -> Result<usize, Refusal>
+    ensures { ContinuesReplying sealed.old.device (openPhase tag) reply.old (answered sealed.new.device result) reply.new }
 {
-    k.open(tag, reply)
+    sealed.open(tag, reply)
 }
 
 /// Send, in a read phase: one data frame.
-pub fn kept_send(k: &mut Sealed, medium: &[u8], reply: &mut [u8]) -> Result<usize, Refusal>
-    ensures { Continues k.old.device (lent sendData medium.now reply.old) (gave (answered k.new.device result) medium.now reply.new) }
+pub fn kept_send(sealed: &mut Sealed, medium: &[u8], reply: &mut [u8]) -> Result<usize, Refusal>
+    ensures { Continues sealed.old.device (lent sendData medium.now reply.old) (gave (answered sealed.new.device result) medium.now reply.new) }
 {
-    k.send(medium, reply)
+    sealed.send(medium, reply)
 }
 
 /// Finish a set of tags.
-pub fn kept_finish(k: &mut Sealed, set: u32, reply: &mut [u8]) -> Result<usize, Refusal>
-    ensures { ContinuesReplying k.old.device (finishTags set) reply.old (answered k.new.device result) reply.new }
+pub fn kept_finish(sealed: &mut Sealed, set: u32, reply: &mut [u8]) -> Result<usize, Refusal>
+    ensures { ContinuesReplying sealed.old.device (finishTags set) reply.old (answered sealed.new.device result) reply.new }
 {
-    k.finish(set, reply)
+    sealed.finish(set, reply)
 }
 
 /// Media error at a sector of a tag's command.
 pub fn kept_media_error(
-    k: &mut Sealed,
+    sealed: &mut Sealed,
     tag: u8,
     error: u8,
     sector: u32,
     reply: &mut [u8],
 ) -> Result<usize, Refusal>
-    ensures { ContinuesReplying k.old.device (mediaError tag error sector) reply.old (answered k.new.device result) reply.new }
+    ensures { ContinuesReplying sealed.old.device (mediaError tag error sector) reply.old (answered sealed.new.device result) reply.new }
 {
-    k.media_error(tag, error, sector, reply)
+    sealed.media_error(tag, error, sector, reply)
 }
 
 /// Link event: adds one to that counter.
-pub fn kept_link_event(k: &mut Sealed, row: u8) -> Result<usize, Refusal>
-    ensures { ContinuesAlone k.old.device (linkEvent row) (answered k.new.device result) }
+pub fn kept_link_event(sealed: &mut Sealed, row: u8) -> Result<usize, Refusal>
+    ensures { ContinuesAlone sealed.old.device (linkEvent row) (answered sealed.new.device result) }
 {
-    k.link_event(row)
+    sealed.link_event(row)
 }
 
 /// COMRESET.
-pub fn kept_comreset(k: &mut Sealed, reply: &mut [u8]) -> Result<usize, Refusal>
-    ensures { ContinuesReplying k.old.device comReset reply.old (answered k.new.device result) reply.new }
+pub fn kept_comreset(sealed: &mut Sealed, reply: &mut [u8]) -> Result<usize, Refusal>
+    ensures { ContinuesReplying sealed.old.device comReset reply.old (answered sealed.new.device result) reply.new }
 {
-    k.comreset(reply)
+    sealed.comreset(reply)
 }

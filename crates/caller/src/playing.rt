@@ -15,17 +15,17 @@ pub fn start(event: &[u8]) -> Result<Sealed, Refusal>
 
 /// One event: its call continues every history that led to the device; what is no event is refused with 24, and changes nothing.
 pub fn play(
-    k: &mut Sealed,
+    sealed: &mut Sealed,
     event: &[u8],
     medium: &mut [u8],
     reply: &mut [u8],
 ) -> Result<usize, Refusal>
-    ensures { PlayContinues k.old.device (played event.now medium.old reply.old (gave (answered k.new.device result) medium.new reply.new)) }
+    ensures { PlayContinues sealed.old.device (played event.now medium.old reply.old (gave (answered sealed.new.device result) medium.new reply.new)) }
 {
-    events::play(k, event, medium, reply)
+    events::play(sealed, event, medium, reply)
 }
 
-/// Events played one after the other are a history in the sense of demand 3.
+/// Events played one after the other are a history of which all that docs/DEMAND3.md promises holds: fates, data, SActive, replies, counters and refusals.
 pub fn events_are_a_history()
     ensures together { PlaysContinue }
     ensures given { GivenPlaysHold }

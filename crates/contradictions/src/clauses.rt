@@ -2,9 +2,9 @@
 ghost use Rattle.std.specs.Prelude.{◌≡◌};
 ghost use Rattle.contradictions.specs.Clauses.{settingsOut, movedBad, busyBad, idleBad, entryBad, tableBad, statusBad, recordBad, rowBad, rowsBad, contradictory, rowRefused};
 
-use device_state::{Entry, ErrorRecord, Settings, Status};
+use device_state::{Entries, Entry, ErrorRecord, Settings, Status};
 use frame_parts::Task;
-use page_rows::Counters;
+use page_rows::{COMRESET_ROW, Counters, INTERFACE_CRC_ROW};
 
 /// Depth 1 to 32, capacity 1 to 65,536, rows 0 and 9 kept, or the settings are out of bounds.
 #[tactic(auto, unfolding(crate::specs::Clauses::settingsOut))]
@@ -34,7 +34,7 @@ fn busy_bad(settings: Settings, entry: &Entry, tag: u32, phase: bool) -> bool
 {
     let task = Task::from(entry.echo);
     settings.depth <= tag
-        || u64::from(settings.capacity) < u64::from(entry.first) + u64::from(entry.count)
+        || entry.sectors().is_beyond(settings.capacity)
         || entry.count == 0
         || u32::from(frame_parts::tag_of(task.count)) != tag
         || task.lba != u64::from(entry.first)
@@ -61,18 +61,13 @@ fn entry_bad(settings: Settings, entry: &Entry, tag: u32, busy: bool, phase: boo
 }
 
 // One walk over the thirty-two entries; the number of an entry is its tag.
-fn table_bad(
-    settings: Settings,
-    entries: &[Entry; Settings::ENTRIES],
-    outstanding: u32,
-    phase: Option<u32>,
-) -> bool
-    ensures { result ≡ tableBad settings entries.now outstanding phase }
+fn table_bad(settings: Settings, entries: &Entries, status: Status) -> bool
+    ensures { result ≡ tableBad settings entries.now status.outstanding status.phase }
 {
     entries.iter().enumerate().any(|(tag, entry)| {
         let tag = tag as u32;
-        let busy = bits::bit(outstanding, tag);
-        entry_bad(settings, entry, tag, busy, phase == Some(tag))
+        let busy = status.is_outstanding(tag);
+        entry_bad(settings, entry, tag, busy, status.phase == Some(tag))
     })
 }
 
@@ -83,9 +78,7 @@ fn status_bad(status: Status, set: bool) -> bool
     (status.halted || status.held) && status.outstanding != 0
         || status.halted && status.held
         || status.held && set
-        || status
-            .phase
-            .is_some_and(|tag| !bits::bit(status.outstanding, tag))
+        || status.phase.is_some_and(|tag| !status.is_outstanding(tag))
 }
 
 #[tactic(auto, unfolding(crate::specs::Clauses::recordBad))]
@@ -117,14 +110,14 @@ fn rows_bad(mask: u16, values: &Counters) -> bool
 pub fn contradicts(
     settings: Settings,
     status: Status,
-    entries: &[Entry; Settings::ENTRIES],
+    entries: &Entries,
     errors: ErrorRecord,
     values: &Counters,
 ) -> bool
     ensures { result ≡ contradictory settings status entries.now errors values.now }
 {
     settings_out(settings)
-        || table_bad(settings, entries, status.outstanding, status.phase)
+        || table_bad(settings, entries, status)
         || status_bad(status, errors.set)
         || record_bad(&errors)
         || rows_bad(settings.mask, values)
@@ -134,5 +127,5 @@ pub fn contradicts(
 pub fn row_refused(mask: u16, row: u8) -> bool
     ensures { result ≡ rowRefused mask row }
 {
-    row == 0 || row == 9 || 15 < row || !page_rows::is_kept(mask, row as usize)
+    row == INTERFACE_CRC_ROW || row == COMRESET_ROW || !page_rows::is_kept(mask, usize::from(row))
 }

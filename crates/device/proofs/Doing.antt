@@ -3,10 +3,10 @@ use mathlib.Core.Path.{◌≡◌, refl, sym, ap, subst, ◌∙◌}
 use mathlib.Core.Bool.{Bool, true, false}
 use mathlib.Core.List.{List, []}
 use mathlib.Core.Logic.{⊎_elim}
-use Prim.Native.Nat.{ℕ, zero, suc, ◌+◌, ◌≤◌}
+use Prim.Native.Nat.{ℕ, zero, suc}
 use lib.Dec.{leb}
 use lib.ListN.{length, take, drop}
-use Rattle.std.proofs.Common.{Option, Some, None, Result, Ok, Err}
+use Rattle.std.proofs.Common.{Result, Ok, Err}
 use Rattle.std.specs.Result.{IsErrAnd}
 use Rattle.std.proofs.lemmas.Result.{err_from_is_err_and}
 use Rattle.bits.specs.Pick.{pick}
@@ -22,8 +22,7 @@ use Rattle.rules.specs.Call.{Call, hostFrame, sendData}
 use Rattle.rules.specs.Handed.{handed}
 use Rattle.rules.specs.Tests.{tests, unreadyAt, someUnready}
 use Rattle.rules.specs.Act.{does, act, heardAct}
-use Rattle.rules.specs.Medium.{Touch, touch_of, span_of, part_of, keptBy, mediumAfter}
-use Rattle.rules.specs.declared.medium.Span.{Span}
+use Rattle.rules.specs.Medium.{Touch, leaves, sends, stores, touch_of, sentBy, part_of, keptBy, mediumAfter}
 use Rattle.rules.specs.declared.facts.Facts.{Facts}
 use Rattle.rules.specs.declared.acts.Act.{Act}
 use Rattle.rules.proofs.TestLaws.{test-laws}
@@ -70,7 +69,7 @@ room-enough d l a part e =
     nothing false = refl
 
 -- an act that is the call's, done
-given_by : (d : Device) (l : Lent) (a : Act) (part m' b' : List ℕ) (d' : Device) (n : ℕ) → Ok a ≡ actOf d l → part ≡ part_of (span_of a) l.medium → m' ≡ mediumAfter a (frameIn l.call) l.medium
+given_by : (d : Device) (l : Lent) (a : Act) (part m' b' : List ℕ) (d' : Device) (n : ℕ) → Ok a ≡ actOf d l → part ≡ part_of a l.medium → m' ≡ mediumAfter a (frameIn l.call) l.medium
     → d' ≡ after_of d a → Replied d part a l.buffer n b' → Given d l (gave (answered d' (Ok n)) m' b')
 given_by d l a part m' b' d' n e p m s w =
     let fs = room-enough d l a part e ∙ ap (λ (q : List ℕ). repliesOf (shown d) q a) p in
@@ -94,25 +93,23 @@ none-taken zero = refl
 none-taken (suc n) = refl
 
 -- of a medium that was not lent nothing is sent
-pub part_none : (s : Option Span) → [] ≡ part_of s []
-part_none None = refl
-part_none (Some s) = sym (ap (take s.size) (none_dropped s.at) ∙ none-taken s.size)
+pub part_none : (t : Touch) → [] ≡ sentBy t []
+part_none leaves = refl
+part_none (sends k) = sym (ap (take k.size) (none_dropped k.at) ∙ none-taken k.size)
+part_none (stores k) = refl
 
 -- a call that is lent no medium, done
 pub given-without : (d : Device) (c : Call) (b : List ℕ) (a : Act) (b' : List ℕ) (d' : Device) (n : ℕ) → Unlent c → Ok a ≡ actOf d (lent c [] b)
     → d' ≡ after_of d a → Replied d [] a b n b' → Given d (lent c [] b) (gave (answered d' (Ok n)) [] b')
 given-without d c b a b' d' n u e s w =
-    given_by d (lent c [] b) a [] [] b' d' n e (part_none (span_of a)) (sym (ap (λ (t : Touch). keptBy t (frameIn c) []) (act-leaves d c [] b a u e))) s w
+    given_by d (lent c [] b) a [] [] b' d' n e (part_none (touch_of a)) (sym (ap (λ (t : Touch). keptBy t (frameIn c) []) (act-leaves d c [] b a u e))) s w
 
 -- a host frame sends nothing of the medium
-pub heard-unsent : (v : Facts) (m : List ℕ) {f : Result Frame Refusal} {a : Act} → by.Heard v f a → [] ≡ part_of (span_of a) m
-heard-unsent v m h = ap (λ (s : Option Span). part_of s m) (sym (by.heard-unsent v h))
-
-ruled-unsent : (v : Facts) (m : List ℕ) {f : List ℕ} {a : Act} → by.Ruled v (hostFrame f) (Ok a) → [] ≡ part_of (span_of a) m
-ruled-unsent v m (by.host f a g w s h) = heard-unsent v m h
+ruled-unsent : (v : Facts) (m : List ℕ) {f : List ℕ} {a : Act} → by.Ruled v (hostFrame f) (Ok a) → [] ≡ part_of a m
+ruled-unsent v m (by.host f a g w s h) = by.heard-unsent v m h
 ruled-unsent v m {f = f} {a = a} (by.own x) = elim x [ ]
 
-pub host-unsent : (d : Device) (f m b : List ℕ) (a : Act) → Ok a ≡ actOf d (lent (hostFrame f) m b) → [] ≡ part_of (span_of a) m
+pub host-unsent : (d : Device) (f m b : List ℕ) (a : Act) → Ok a ≡ actOf d (lent (hostFrame f) m b) → [] ≡ part_of a m
 host-unsent d f m b a e = ruled-unsent (facts_of d (lent (hostFrame f) m b)) m (act-ruled d (lent (hostFrame f) m b) a e)
 
 -- a send leaves the medium
@@ -136,13 +133,13 @@ factsLent d m b = factsWith d d.status.phase (mediumWrong d.settings.capacity (l
 
 module _ (d : Device) where
   -- a host frame's, and a send's
-  pub host-act : (f m b : List ℕ) (v : Facts) (g : Result Frame Refusal) (x : Result Act Refusal) → v ≡ factsLent d m b → g ≡ readFrame f → x ≡ heardAct v g → x ≡ actOf d (lent (hostFrame f) m b)
+  pub host_act : (f m b : List ℕ) (v : Facts) (g : Result Frame Refusal) (x : Result Act Refusal) → v ≡ factsLent d m b → g ≡ readFrame f → x ≡ heardAct v g → x ≡ actOf d (lent (hostFrame f) m b)
   unfolding actOf act tests does
-  host-act f m b v g x r s e = e ∙ rw (r, s, none-unready d)
+  host_act f m b v g x r s e = e ∙ rw (r, s, none-unready d)
 
-  pub send-act : (m b : List ℕ) (v : Facts) (x : Result Act Refusal) → v ≡ factsLent d m b → x ≡ act v sendData → x ≡ actOf d (lent sendData m b)
+  pub send_act : (m b : List ℕ) (v : Facts) (x : Result Act Refusal) → v ≡ factsLent d m b → x ≡ act v sendData → x ≡ actOf d (lent sendData m b)
   unfolding actOf act tests does
-  send-act m b v x r e = e ∙ rw r
+  send_act m b v x r e = e ∙ rw r
 
   -- a call's that is lent no medium
   pub unlent_act : (c : Call) (b : List ℕ) (some : Bool) (v : Facts) (x : Result Act Refusal) → Unlent c → some ≡ unreadyIn d c → v ≡ factsWith d (tagMeant d.status.phase c) false false (length b)
@@ -164,5 +161,5 @@ pub given-heard : (d : Device) (f m b : List ℕ) (a : Act) (m' b' : List ℕ) (
 given-heard d f m b a m' b' d' n e k s w = given_by d (lent (hostFrame f) m b) a [] m' b' d' n e (host-unsent d f m b a e) k s w
 
 pub given-sent : (d : Device) (m b : List ℕ) (a : Act) (part b' : List ℕ) (d' : Device) (n : ℕ) → Ok a ≡ actOf d (lent sendData m b)
-    → part ≡ part_of (span_of a) m → d' ≡ after_of d a → Replied d part a b n b' → Given d (lent sendData m b) (gave (answered d' (Ok n)) m b')
+    → part ≡ part_of a m → d' ≡ after_of d a → Replied d part a b n b' → Given d (lent sendData m b) (gave (answered d' (Ok n)) m b')
 given-sent d m b a part b' d' n e p s w = given_by d (lent sendData m b) a part m b' d' n e p (send-left d m b a e) s w

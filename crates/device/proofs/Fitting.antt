@@ -2,8 +2,8 @@
 use mathlib.Core.Path.{◌≡◌, refl}
 use mathlib.Core.Bool.{Bool, true, false, not, ◌&&◌, ◌||◌}
 use mathlib.Core.List.{List, [], ◌∷◌}
-use Rattle.std.proofs.Common.{Result, Ok, Err}
-use Prim.Native.Nat.{ℕ, zero, suc, ◌-◌, ◌<◌}
+use Rattle.std.proofs.Common.{Some, Result, Ok}
+use Prim.Native.Nat.{ℕ, zero, suc, ◌<◌}
 use native.Mathlib.Omega.{arith}
 use lib.Dec.{eqb}
 use lib.ListN.{length, get_or}
@@ -11,14 +11,16 @@ use borrow.Author.Tests.{lt-ltb, ltb-true, ltb-false, not-false}
 use Rattle.bits.specs.Little.{byte_of, Bytes}
 use Rattle.bits.proofs.Picks.{by-test, and_left, or_left, or_right}
 use Rattle.frame_parts.specs.Shared.{taskFits, below}
-use Rattle.frame_parts.specs.Size.{readable}
+use Rattle.frame_parts.specs.Size.{kindNamed, allows}
+use Rattle.frame_parts.specs.declared.kinds.FrameKind.{FrameKind}
+use Rattle.frame_parts.specs.declared.kinds.FrameKind.TheVariants as kinds
 use Rattle.frame_parts.specs.declared.shared.Task.{Task}
 use Rattle.frame_parts.proofs.TaskLaws.{task-fits}
-use Rattle.frames.specs.Read.{hostOf, deviceOf, bits_of, setupOf, pioOf, frameByKind, readFrame}
+use Rattle.frames.specs.Read.{frameOf, readFrame}
 use Rattle.frames.specs.declared.shapes.Frame.{Frame}
 use Rattle.frames.specs.declared.shapes.Frame.TheVariants as fs
+use Rattle.frames.proofs.ReadLaws.{by-kind}
 use Rattle.refusals.specs.declared.reasons.Refusal.{Refusal}
-use Rattle.refusals.specs.declared.reasons.Refusal.TheVariants.{NoFrame}
 use Rattle.page_10h.specs.Page10.{fits10}
 use Rattle.page_10h.specs.declared.page10.ErrorLog.{ErrorLog}
 use Rattle.device_state.specs.State.{placedBytes, taskIn, echoOf}
@@ -83,16 +85,15 @@ ReadFits (Ok (fs.Host h)) = taskFits h.task ≡ true
 ReadFits _ = Unit
 
 pub read_fits : (l : List ℕ) → Bytes l → ReadFits (readFrame l)
-unfolding ReadFits readFrame frameByKind
-read_fits l b =
-    let k = get_or l 0 0 in
-    by-test ReadFits (readable k (length l)) (frameByKind k l) (Err NoFrame)
-    (λ _. by-test ReadFits (eqb k 0x27) (Ok (fs.Host (hostOf l))) _ (λ _. task-fits l b)
-    (λ _. by-test ReadFits (eqb k 0x34) (Ok (fs.Device (deviceOf l))) _ (λ _. tt)
-    (λ _. by-test ReadFits (eqb k 0xA1) (Ok (fs.Bits (bits_of l))) _ (λ _. tt)
-    (λ _. by-test ReadFits (eqb k 0x41) (Ok (fs.Setup (setupOf l))) _ (λ _. tt)
-    (λ _. by-test ReadFits (eqb k 0x39) (Ok fs.Activate) _ (λ _. tt)
-    (λ _. by-test ReadFits (eqb k 0x58) (Ok fs.Bist) _ (λ _. tt)
-    (λ _. by-test ReadFits (eqb k 0x5F) (Ok (fs.Pio (pioOf l))) _ (λ _. tt)
-    (λ _. by-test ReadFits (eqb k 0x46) (Ok (fs.Data (length l - 4))) (Err NoFrame) (λ _. tt) (λ _. tt)))))))))
-    (λ _. tt)
+unfolding ReadFits
+read_fits l b = by-kind ReadFits l tt of-kind
+  where
+    of-kind : (kind : FrameKind) → kindNamed (get_or l 0 0) ≡ Some kind → allows kind (length l) ≡ true → ReadFits (Ok (frameOf kind l))
+    of-kind kinds.HostRegister e a = task-fits l b
+    of-kind kinds.DeviceRegister e a = tt
+    of-kind kinds.SetDeviceBits e a = tt
+    of-kind kinds.DmaSetup e a = tt
+    of-kind kinds.DmaActivate e a = tt
+    of-kind kinds.BistActivate e a = tt
+    of-kind kinds.PioSetup e a = tt
+    of-kind kinds.Data e a = tt

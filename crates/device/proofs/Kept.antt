@@ -1,21 +1,38 @@
 -- A kept device is known by its device, and an answer by the outcome that it stands for. Assumes nothing.
-use mathlib.Core.Path.{◌≡◌, refl, sym, ap, ◌∙◌}
-use mathlib.Core.Bool.{false, Bool-set, true≢false}
+use mathlib.Core.Path.{◌≡◌, refl, sym, ap, subst, ◌∙◌}
+use mathlib.Core.Bool.{Bool, true, false, Bool-set, true≢false}
 use mathlib.Core.HLevel.{is_prop→PathP}
 use Prim.Native.Nat.{ℕ}
 use Rattle.std.proofs.Common.{Option, Some, None, Result, Ok, Err}
 use Rattle.refusals.specs.declared.reasons.Refusal.{Refusal}
-use Rattle.device.specs.Device.{contradictoryDevice, zeroDevice}
+use Rattle.bits.specs.Pick.{pick}
+use Rattle.refusals.specs.First.{first_of}
+use Rattle.refusals.specs.Ladders.{powerLadder}
+use Rattle.contradictions.specs.Clauses.{settingsOut}
+use Rattle.device_state.specs.declared.shapes.Settings.{Settings}
+use Rattle.device.specs.Device.{contradictoryDevice, zeroDevice, powered, powerOn}
 use Rattle.device.specs.Lent.{answered}
-use Rattle.device.specs.Sealing.{poweredOf}
+use Rattle.device.specs.Sealing.{Seals, poweredOf}
 use Rattle.device.specs.declared.state.Device.{Device}
 use Rattle.device.specs.declared.state.Outcome.{Outcome}
 use Rattle.device.specs.declared.sealed.Sealed.{Sealed}
-use Rattle.device.proofs.Never.{zeros-contradict}
+use Rattle.device.proofs.Never.{zeros-contradict, never-contradicts}
+use Rattle.device.proofs.Outcomes.{same_outcome}
 
 -- its other field is a fact
 pub kept-once : (k k' : Sealed) → k.device ≡ k'.device → k ≡ k'
 kept-once k k' e = λ i. record { device = e i; sound = is_prop→PathP (λ j. contradictoryDevice (e j) ≡ false) (λ j. Bool-set (contradictoryDevice (e j)) false) k.sound k'.sound i }
+
+-- a state that contradicts itself is no kept device
+contradicts-kept : (k : Sealed) (d : Device) → k.device ≡ d → contradictoryDevice d ≡ true → ⊥
+contradicts-kept k d e h = true≢false (sym h ∙ ap contradictoryDevice (sym e) ∙ k.sound)
+
+-- one state has one answer
+pub sealed-once : (d : Device) (r r' : Result Sealed Refusal) → Seals d r → Seals d r' → r ≡ r'
+sealed-once d (Ok k) (Ok k') p q = ap Ok (kept-once k k' (p ∙ sym q))
+sealed-once d (Ok k) (Err e) p q = absurd (contradicts-kept k d p q.1)
+sealed-once d (Err e) (Ok k) p q = absurd (contradicts-kept k d q p.1)
+sealed-once d (Err e) (Err e') p q = ap Err (p.0 ∙ sym q.0)
 
 -- ---- what a call on a lent device answers
 
@@ -47,7 +64,7 @@ same-state d d' r r' e = sym (answered-state d r) ∙ ap (λ (o : Outcome). o.st
 
 -- all zeros are no kept device
 pub never-zeros : (k : Sealed) → k.device ≡ zeroDevice → ⊥
-never-zeros k e = true≢false (sym zeros-contradict ∙ ap contradictoryDevice (sym e) ∙ k.sound)
+never-zeros k e = contradicts-kept k zeroDevice e zeros-contradict
 
 same-refusal : (r r' : Refusal) → Some r ≡ Some r' → r ≡ r'
 same-refusal r r' e = cc
@@ -59,3 +76,16 @@ powered-once (Ok k) (Ok k') e = ap Ok (kept-once k k' (ap (λ (o : Outcome). o.s
 powered-once (Ok k) (Err r) e = absurd (never-zeros k (ap (λ (o : Outcome). o.state) e))
 powered-once (Err r) (Ok k) e = absurd (never-zeros k (sym (ap (λ (o : Outcome). o.state) e)))
 powered-once (Err r) (Err r') e = ap Err (same-refusal r r' (ap (λ (o : Outcome). o.refusal) e))
+
+-- what power-on hands back, kept, is power-on of a kept device: refused it hands back all zeros, which contradict themselves
+by-bounds : (s : Settings) (out : Bool) (r : Result Sealed Refusal) → settingsOut s ≡ out → Seals (powered (first_of (powerLadder out)) s) r
+    → poweredOf r ≡ record { state = powered (first_of (powerLadder out)) s; refusal = first_of (powerLadder out); len = 0 }
+unfolding first_of pick poweredOf
+by-bounds s true (Ok k) e h = absurd (never-zeros k h)
+by-bounds s true (Err r) e h = same_outcome refl (ap Some h.0) refl
+by-bounds s false (Ok k) e h = same_outcome h refl refl
+by-bounds s false (Err r) e h = absurd (true≢false (sym h.1 ∙ never-contradicts s e))
+
+pub sealed_powered : (s : Settings) (o : Outcome) (r : Result Sealed Refusal) → o ≡ powerOn s → Seals o.state r → poweredOf r ≡ powerOn s
+unfolding powerOn
+sealed_powered s o r e h = by-bounds s (settingsOut s) r refl (subst (λ (x : Outcome). Seals x.state r) e h)

@@ -11,7 +11,7 @@ use Rattle.frames.specs.Write.{FrameValue}
 use Rattle.refusals.specs.declared.reasons.Refusal.{Refusal}
 use Rattle.rules.specs.Call.{Call}
 use Rattle.rules.specs.Handed.{handed}
-use Rattle.rules.specs.Medium.{Touch, leaves, touch_of, spanIn, span_of, part_of, keptBy}
+use Rattle.rules.specs.Medium.{Touch, leaves, touch_of, sentBy, part_of, keptBy}
 use Rattle.rules.specs.declared.acts.Act.{Act}
 use Rattle.rules.proofs.TestLaws.{test-laws}
 use Rattle.rules.proofs.Ruled as by
@@ -29,8 +29,8 @@ abbrev pub Unlent : Call → Type 0
 Unlent c = (handed c).medium ≡ false
 
 -- sends nothing of it, where its act leaves it
-part_left : (t : Touch) (m : List ℕ) → t ≡ leaves → part_of (spanIn t) m ≡ []
-part_left t m e = ap (λ (x : Touch). part_of (spanIn x) m) e
+part_left : (t : Touch) (m : List ℕ) → t ≡ leaves → sentBy t m ≡ []
+part_left t m e = ap (λ (x : Touch). sentBy x m) e
 
 module _ (d : Device) (c : Call) (m b : List ℕ) where
   -- it is decided without it
@@ -47,7 +47,7 @@ module _ (d : Device) (c : Call) (m b : List ℕ) where
   unlent-by b' r (Err e) u q h = record { state = h.state; refusal = h.refusal; len = h.len; reply = h.reply; medium = refl }
   unlent-by b' r (Ok a) u q h =
       let e = act-leaves a u q in
-      let fs : repliesOf (shown d) (part_of (span_of a) []) a ≡ repliesOf (shown d) (part_of (span_of a) m) a = ap (λ (p : List ℕ). repliesOf (shown d) p a) (part_left (touch_of a) [] e ∙ sym (part_left (touch_of a) m e)) in
+      let fs : repliesOf (shown d) (part_of a []) a ≡ repliesOf (shown d) (part_of a m) a = ap (λ (p : List ℕ). repliesOf (shown d) p a) (part_left (touch_of a) [] e ∙ sym (part_left (touch_of a) m e)) in
       record {
         state = h.state;
         refusal = h.refusal;
@@ -68,7 +68,7 @@ ruled-silent d m b part u (by.host f a g w s h) = absurd (true≢false u)
 ruled-silent d m b part u (by.own o) = (own-keeps d m b o).silent u part
 
 pub silent-frames : (d : Device) (c : Call) (m b : List ℕ) → (handed c).buffer ≡ false → (step d (lent c m b)).frames ≡ []
-silent-frames d c m b u = by-turn d (lent c m b) (λ (s : Step). s.frames ≡ []) (λ r q. refl) (λ a q. ruled-silent d m b (part_of (span_of a) m) u (act-ruled d (lent c m b) a q))
+silent-frames d c m b u = by-turn d (lent c m b) (λ (s : Step). s.frames ≡ []) (λ r q. refl) (λ a q. ruled-silent d m b (part_of a m) u (act-ruled d (lent c m b) a q))
 
 module _ (d : Device) (c : Call) (m b : List ℕ) where
   -- is decided without them
@@ -82,11 +82,11 @@ module _ (d : Device) (c : Call) (m b : List ℕ) where
   alone-by r (Err e) u k q h = record { state = h.state; refusal = h.refusal; len = h.len; reply = refl; medium = refl }
   alone-by r (Ok a) u k q h =
       let silent = λ (part : List ℕ). ruled-silent d m b part k (act-ruled d (lent c m b) a q) in
-      let fs = silent (part_of (span_of a) m) in
+      let fs = silent (part_of a m) in
       record {
         state = h.state;
         refusal = h.refusal;
-        len = h.len ∙ ap (λ (x : List FrameValue). length (sentAll x)) (silent (part_of (span_of a) []) ∙ sym fs);
+        len = h.len ∙ ap (λ (x : List FrameValue). length (sentAll x)) (silent (part_of a []) ∙ sym fs);
         reply = sym (ap (λ (x : List FrameValue). laid (sentAll x) b) fs);
         medium = sym (ap (λ (t : Touch). keptBy t (frameIn c) m) (act-leaves d c m b a u q));
       }

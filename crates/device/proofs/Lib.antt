@@ -36,3 +36,4 @@ pub mod Due
 pub mod Contradicted
 pub mod Zeros
 pub mod Sound
+pub mod Defaults

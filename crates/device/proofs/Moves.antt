@@ -18,7 +18,7 @@ use Rattle.refusals.specs.declared.reasons.Refusal.TheVariants.{TooLong}
 use Rattle.device_state.specs.declared.shapes.Entry.{Entry}
 use Rattle.rules.specs.Positions.{left_of, move_of}
 use Rattle.rules.specs.Call.{hostFrame, sendData}
-use Rattle.rules.specs.Medium.{touch_of, span_of, part_of}
+use Rattle.rules.specs.Medium.{touch_of, part_of}
 use Rattle.rules.specs.declared.acts.Act.{Act}
 use Rattle.rules.proofs.Ruled as by
 use Rattle.replies.specs.Replies.{repliesOf}
@@ -91,7 +91,7 @@ six-exactly d f m b k kind long some most c w s o u =
     ∙ ap (λ (x : ℕ). told (ltb x (length f - 4))) (left_is d c o) ∙ ap (λ (x : ℕ). told (ltb (left d) x)) size
 
 -- a taken send
-ruled-carries : (d : Device) (m b : List ℕ) {a : Act} → by.Ruled (facts_of d (lent sendData m b)) sendData (Ok a) → repliesOf (shown d) (part_of (span_of a) m) a ≡ payload (take (min 8192 (left d)) (drop (place d) m)) ∷ []
+ruled-carries : (d : Device) (m b : List ℕ) {a : Act} → by.Ruled (facts_of d (lent sendData m b)) sendData (Ok a) → repliesOf (shown d) (part_of a m) a ≡ payload (take (min 8192 (left d)) (drop (place d) m)) ∷ []
 unfolding touch_of repliesOf move_of
 ruled-carries d m b (by.own (by.sent g w s p r)) = ap (λ (x : ℕ). payload (take (min 8192 x) (drop (place d) m)) ∷ []) (left_is d g p)
 

@@ -12,9 +12,12 @@ use lib.Pow.{pow_pos, pow_mono, shr-shr}
 use borrow.Author.Tests.{lt-ltb, le-leb, not-false, eqb-true, eqb-false}
 use Rattle.bits.specs.Pick.{pick}
 use Rattle.bits.specs.Bit.{bitIn}
-use Rattle.bits.proofs.Masks.{bit-lt, bits-ext, lt-or-le}
+use Rattle.std.proofs.lemmas.Nat.Bits.{bit_at-lt, same_from_bits_below}
+use Rattle.std.proofs.lemmas.Bool.{cases_lt}
 use Rattle.bits.proofs.Picks.{tested, and_left, and_right, or_left, or_right}
-use Rattle.bits.proofs.Tables.{sum_of, ones-tied}
+use Rattle.bits.proofs.Tables.{ones-tied}
+use Rattle.std.specs.List.{sum_by}
+use Rattle.std.proofs.lemmas.List.Sums.{sum_by-cons}
 use Rattle.device_state.specs.State.{zeroEntry}
 use Rattle.device_state.specs.Table.{entry_of}
 use Rattle.contradictions.specs.Clauses.{aboveDepth, pastCapacity, countZero, otherTag, otherRange, echoSet, movedBad, busyBad, idleBad, entryBad}
@@ -73,7 +76,7 @@ bit-open s e o t phase l h =
     rw (busy-count s e t phase b) (eqb-true (o / 2 ^ t % 2) 1 x))
     (λ (x : eqb (o / 2 ^ t % 2) 1 ≡ false).
     let b : idleBad e ≡ false = rw (lt-ltb t 32 l, x) at h in
-    rw (idle-count e b) (zero_bit (o / 2 ^ t % 2) (bit-lt o t) x))
+    rw (idle-count e b) (zero_bit (o / 2 ^ t % 2) (bit_at-lt o t) x))
     (tested (eqb (o / 2 ^ t % 2) 1))
 
 -- the bit of a tag at or above the depth is off
@@ -86,20 +89,20 @@ bit-above s e o t phase l a h =
     let y = busy-depth s e t phase b in
     let w = le-leb s.depth t a in
     absurd (let z : ◌≡◌ {A = ℕ} 0 1 = cc in omega arith))
-    (λ (x : eqb (o / 2 ^ t % 2) 1 ≡ false). zero_bit (o / 2 ^ t % 2) (bit-lt o t) x)
+    (λ (x : eqb (o / 2 ^ t % 2) 1 ≡ false). zero_bit (o / 2 ^ t % 2) (bit_at-lt o t) x)
     (tested (eqb (o / 2 ^ t % 2) 1))
 
 -- ---- a number of w digits, all of which from k on are 0, has k digits
 
 high_zero : (w k m : ℕ) → m < 2 ^ w → ((t : ℕ) → k ≤ t → t < w → m / 2 ^ t % 2 ≡ 0) → m / 2 ^ k ≡ 0
 high_zero w k m l h =
-    bits-ext w (m / 2 ^ k) 0 (lt_of_le_of_lt (div-le_self m (2 ^ k)) l) (pow_pos w)
+    same_from_bits_below w (m / 2 ^ k) 0 (lt_of_le_of_lt (div-le_self m (2 ^ k)) l) (pow_pos w)
     (λ j _.
     ap (λ (n : ℕ). n % 2) (shr-shr m k j)
     ∙ ⊎_elim
     (λ (b : k + j < w). h (k + j) (omega arith) b)
     (λ (b : w ≤ k + j). ap (λ (n : ℕ). n % 2) (div-eq_of_lt (lt_of_lt_of_le l (pow_mono {i = w} {j = k + j} b))))
-    (lt-or-le (k + j) w)
+    (cases_lt (k + j) w)
     ∙ sym (ap (λ (n : ℕ). n % 2) (zero-div (2 ^ j))))
 
 below_top : (w k m : ℕ) → m < 2 ^ w → ((t : ℕ) → k ≤ t → t < w → m / 2 ^ t % 2 ≡ 0) → m < 2 ^ k
@@ -112,9 +115,9 @@ below_top w k m l h =
 -- ---- of a device
 
 -- the same sum, as the laws of counts have it
-open-sum : (es : List Entry) → sum_of openEntry es ≡ openEntries es
+open-sum : (es : List Entry) → sum_by openEntry es ≡ openEntries es
 open-sum [] = refl
-open-sum (e ∷ es) = ap (λ (n : ℕ). openEntry e + n) (open-sum es)
+open-sum (e ∷ es) = sum_by-cons openEntry e es ∙ ap (λ (n : ℕ). openEntry e + n) (open-sum es)
 
 -- as many tags are outstanding as there are commands in the table
 pub ones-open : (d : Device) → Sized d → contradictoryDevice d ≡ false → ones d.status.outstanding ≡ openEntries d.entries

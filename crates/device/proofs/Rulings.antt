@@ -6,7 +6,7 @@ use Rattle.std.proofs.Common.{Option, Some, None, Result, is_none, unwrap_or}
 use Prim.Native.Nat.{◌%◌, ◌*◌, ◌+◌, ◌<◌, ◌^◌, ◌≤◌, min, ℕ}
 use native.Mathlib.Omega.{arith}
 use lib.Dec.{eqb, leb, ltb, lit<}
-use lib.ListN.{length, length-drop, length-take}
+use lib.ListN.{length, take, drop, length-drop, length-take}
 use borrow.Author.Tests.{eq-eqb, eqb-true, le-leb, le-ltb, not-false}
 use Rattle.bits.specs.Bit.{bitIn}
 use Rattle.bits.proofs.Picks.{and_right, or_left, or_right}
@@ -23,7 +23,7 @@ use Rattle.rules.specs.Call.{Call}
 use Rattle.rules.specs.Handed.{handed}
 use Rattle.rules.specs.Positions.{advancedBy, left_of, move_of}
 use Rattle.rules.specs.Decide.{entryFor, fault, tagAsked}
-use Rattle.rules.specs.Medium.{part_of, span_of, touch_of}
+use Rattle.rules.specs.Medium.{part_of, touch_of}
 use Rattle.rules.specs.declared.acts.Act.{Act}
 use Rattle.rules.proofs.Ruled as by
 use Rattle.replies.specs.Replies.{repliesOf}
@@ -117,7 +117,7 @@ sized k a b z = rw (le-leb 4 k (omega arith), le-leb k 8192 b, eq-eqb (k % 4) 0 
 
 -- what is sent of the medium is a data frame's payload
 part-sized : (d : Device) (m : List ℕ) → contradictoryDevice d ≡ false → mediumWrong d.settings.capacity (length m) ≡ false → is_none d.status.phase ≡ false
-    → let k = move_of d.status (phaseEntry d) 8192 in payloadSize (length (part_of (Some (record { at = k.at; size = k.size })) m)) ≡ true
+    → let k = move_of d.status (phaseEntry d) 8192 in payloadSize (length (take k.size (drop k.at m))) ≡ true
 unfolding move_of
 part-sized d m good w phase =
     let e = phaseEntry d in
@@ -125,7 +125,7 @@ part-sized d m good w phase =
     let more = moves-on d good phase in
     let due = min 8192 (left_of e) in
     let four : due % 4 ≡ 0 = subst (λ (x : Entry). min 8192 (left_of x) % 4 ≡ 0) (sym (open-entry d.entries d.status.phase phase)) (part-fours d 8192 good phase refl) in
-    let long : length (part_of (Some (record { at = 512 * e.first + e.moved; size = due })) m) ≡ due = simp (length-take, length-drop) (omega arith) in
+    let long : length (take due (drop (512 * e.first + e.moved) m)) ≡ due = simp (length-take, length-drop) (omega arith) in
     rw long (sized due (omega arith) (omega arith) four)
 
 -- and a call that is lent no reply buffer replies nothing
@@ -133,7 +133,7 @@ pub record OwnKeeps (d : Device) (part : List ℕ) (c : Call) (a : Act) : Type 0
   pub keeps : RuleKeeps d part (Typed c) ((handed c).set < 2 ^ 32) a
   pub silent : (handed c).buffer ≡ false → (sent : List ℕ) → repliesOf (shown d) sent a ≡ []
 
-pub own-keeps : (d : Device) (m b : List ℕ) {c : Call} {a : Act} → by.Own (facts_of d (lent c m b)) c a → OwnKeeps d (part_of (span_of a) m) c a
+pub own-keeps : (d : Device) (m b : List ℕ) {c : Call} {a : Act} → by.Own (facts_of d (lent c m b)) c a → OwnKeeps d (part_of a m) c a
 unfolding after_of Fit traits touch_of repliesOf
 own-keeps d m b (by.opened u g s o p e) = record {
   keeps = record {

@@ -1,7 +1,7 @@
 -- What a call replies stands in the buffer whole, frame by frame. Assumes nothing.
-use mathlib.Core.Path.{◌≡◌, sym, subst}
+use mathlib.Core.Path.{◌≡◌, subst}
 use mathlib.Core.List.{List, map}
-use Rattle.std.proofs.Common.{Option, Ok, Err}
+use Rattle.std.proofs.Common.{Ok, Err}
 use Prim.Native.Nat.{ℕ}
 use lib.ListN.{length, take}
 use Rattle.frame_parts.specs.Cut.{cut, joined}
@@ -9,8 +9,7 @@ use Rattle.frames.proofs.ReadLaws.{read-data}
 use Rattle.frames.specs.Write.{encode}
 use Rattle.frames.specs.DataLast.{DataLast}
 use Rattle.rules.specs.Call.{Call, hostFrame}
-use Rattle.rules.specs.Medium.{span_of, part_of}
-use Rattle.rules.specs.declared.medium.Span.{Span}
+use Rattle.rules.specs.Medium.{part_of}
 use Rattle.rules.specs.declared.acts.Act.{Act}
 use Rattle.rules.proofs.Ruled as by
 use Rattle.replies.specs.Replies.{sentAll, RepliesGiven}
@@ -36,10 +35,10 @@ frames-whole : (s : Step) → Fitting s.frames → DataLast s.frames → Whole s
 frames-whole s f k = record { fitting = f; all = all-sent s.frames f; cut-replies = λ b n b' w. cut-replies s.frames b n b' f k w }
 
 -- a taken call
-ruled-fits : (d : Device) (m b : List ℕ) {c : Call} {a : Act} → Typed c → SizedRecord d → by.Ruled (facts_of d (lent c m b)) c (Ok a) → Fit (shown d) (part_of (span_of a) m) a
+ruled-fits : (d : Device) (m b : List ℕ) {c : Call} {a : Act} → Typed c → SizedRecord d → by.Ruled (facts_of d (lent c m b)) c (Ok a) → Fit (shown d) (part_of a m) a
 ruled-fits d m b t z (by.host f a g w r h) =
     let keeps = heard-keeps d (mediumWrong d.settings.capacity (length m)) (unreadyIn d (hostFrame f)) (length b) g _ f (read-data f) h in
-    subst (λ (s : Option Span). Fit (shown d) (part_of s m) a) (sym (by.heard-unsent (facts_of d (lent (hostFrame f) m b)) h)) (keeps.fits (read_fits f t.0) z)
+    subst (λ (p : List ℕ). Fit (shown d) p a) (by.heard-unsent (facts_of d (lent (hostFrame f) m b)) m h) (keeps.fits (read_fits f t.0) z)
 ruled-fits d m b t z (by.own o) = (own-keeps d m b o).keeps.fits t z
 
 -- every call whose arguments are of their types, of a device whose record is
@@ -48,5 +47,5 @@ unfolding Fitting DataLast
 whole d l t z =
     by-turn d l Whole (λ r _. frames-whole (stepBy d l (Err r)) tt tt)
     (λ a q.
-    let part = part_of (span_of a) l.medium in
+    let part = part_of a l.medium in
     frames-whole (stepBy d l (Ok a)) (replies-fit (shown d) part a (ruled-fits d l.medium l.buffer t z (act-ruled d l a q))) (replies-data-last (shown d) part a))

@@ -1,22 +1,26 @@
 -- No call makes a device contradict itself that did not. Assumes nothing.
 use mathlib.Core.Path.{◌≡◌, refl, sym, ap, ◌∙◌}
 use mathlib.Core.Bool.{false}
-use mathlib.Core.List.{List}
+use mathlib.Core.List.{List, []}
 use Prim.Native.Nat.{ℕ}
+use native.Mathlib.Omega.{arith}
+use lib.ListN.{length}
 use Rattle.std.proofs.Common.{Option, Some, None, Result, Ok, Err}
 use Rattle.refusals.specs.declared.reasons.Refusal.{Refusal}
-use Rattle.device_state.specs.declared.shapes.Settings.{Settings}
-use Rattle.device.specs.Device.{contradictoryDevice, powerRefusal, powered, powerOn}
-use Rattle.device.specs.Lent.{Lent, Gave, gave, answered}
-use Rattle.device.specs.Step.{step, Given}
-use Rattle.device.specs.Sealing.{poweredOf}
+use Rattle.rules.specs.Act.{act}
+use Rattle.rules.specs.Call.{Call}
+use Rattle.rules.specs.Handed.{handed}
+use Rattle.rules.specs.declared.acts.Act.{Act}
+use Rattle.rules.specs.declared.facts.Facts.{Facts}
+use Rattle.device.specs.Device.{contradictoryDevice}
+use Rattle.device.specs.FactsOf.{factsWith, tagMeant}
+use Rattle.device.specs.Lent.{Lent, lent, Gave, gave, answered}
+use Rattle.device.specs.Step.{step, actOf, Given}
 use Rattle.device.specs.declared.state.Device.{Device}
-use Rattle.device.specs.declared.state.Outcome.{Outcome}
-use Rattle.device.specs.declared.sealed.Sealed.{Sealed}
 use Rattle.device.proofs.Turns.{none-some}
-use Rattle.device.proofs.Outcomes.{same_outcome}
-use Rattle.device.proofs.Never.{never-contradicts-power}
 use Rattle.device.proofs.Refusals.{refused-keeps}
+use Rattle.device.proofs.Doing.{plain_act}
+use Rattle.device.proofs.Lending.{Unlent}
 use Rattle.device.proofs.NeverCalls.{SetOf32, never-contradicts-call}
 
 by-refusal : (d : Device) (l : Lent) (r : Option Refusal) → (step d l).refusal ≡ r → SetOf32 l.call → contradictoryDevice d ≡ false → contradictoryDevice (step d l).state ≡ false
@@ -31,21 +35,8 @@ pub sound-answered : (d : Device) (l : Lent) (d' : Device) (r : Result ℕ Refus
 sound-answered d l d' (Ok n) m b w t s = sound-given d l _ t s w
 sound-answered d l d' (Err r) m b w t s = sound-given d l _ t s w
 
--- ---- power-on of a device that is kept
-
-module _ (s : Settings) (o : Outcome) (p : o ≡ powerOn s) where
-  -- refused, it stands for all zeros with that refusal
-  pub kept-refused : (r : Refusal) → o.refusal ≡ Some r → poweredOf (Err r) ≡ powerOn s
-  unfolding poweredOf powerOn
-  kept-refused r h =
-      let z : Some r ≡ powerRefusal s = sym h ∙ ap (λ (x : Outcome). x.refusal) p in
-      same_outcome (ap (λ (x : Option Refusal). powered x s) z) z refl
-
-  -- taken, its device does not contradict itself
-  pub kept-sound : o.refusal ≡ None → contradictoryDevice o.state ≡ false
-  kept-sound z = ap (λ (x : Outcome). contradictoryDevice x.state) p ∙ never-contradicts-power s (ap (λ (x : Outcome). x.refusal) (sym p) ∙ z)
-
-  -- and it stands for what power-on gives
-  pub kept-taken : (k : Sealed) → k.device ≡ o.state → o.refusal ≡ None → poweredOf (Ok k) ≡ powerOn s
-  unfolding poweredOf powerOn
-  kept-taken k e z = same_outcome (e ∙ ap (λ (x : Outcome). x.state) p) (sym z ∙ ap (λ (x : Outcome). x.refusal) p) refl
+-- a call that is lent no medium and names no set: as it is decided, and as it is then answered
+pub sound_plain : (d : Device) (c : Call) (b : List ℕ) (v : Facts) (x : Result Act Refusal) (r : Result ℕ Refusal) (d' : Device) (b' : List ℕ) → Unlent c → (handed c).set ≡ 0
+    → v ≡ factsWith d (tagMeant d.status.phase c) false false (length b) → x ≡ act v c
+    → ((k : Call) → Unlent k → x ≡ actOf d (lent k [] b) → Given d (lent k [] b) (gave (answered d' r) [] b')) → contradictoryDevice d ≡ false → contradictoryDevice d' ≡ false
+sound_plain d c b v x r d' b' u z e s given h = sound-answered d (lent c [] b) d' r [] b' (given c u (plain_act d c b v x u z e s)) (omega (arith, z)) h

@@ -8,7 +8,8 @@ use lib.Dec.{ltb, leb, eqb}
 use borrow.Author.Tests.{lt-ltb, le-ltb, eq-eqb, ne_eqb, eqb-true, eqb-false, ltb-true, ltb-false, leb-true, leb-false, not-false}
 use Rattle.bits.specs.Pick.{pick}
 use Rattle.bits.specs.Bit.{bitIn, withBitIn, clearIn}
-use Rattle.bits.proofs.Masks.{bit-lt, bit-set-same, bit-set-other, bit-clear}
+use Rattle.std.proofs.lemmas.Nat.Bits.{bit_at-lt}
+use Rattle.bits.proofs.Masks.{bit-set-same, bit-set-other, bit-clear}
 use Rattle.bits.proofs.Picks.{tested, and_left, or_left, or_right}
 
 -- ---- bits
@@ -34,7 +35,7 @@ digit_clear a b ha hb =
 -- a set of tags fewer: their bits are off, each other as it was
 pub bit-without : (m s k : ℕ) → s < 2 ^ 32 → k < 32 → bitIn 32 (clearIn 32 m s) k ≡ (not (bitIn 32 s k) && bitIn 32 m k)
 bit-without m s k hs hk =
-    rw (lt-ltb k 32 hk, bit-clear 32 m s k hs hk) (digit_clear (m / 2 ^ k % 2) (s / 2 ^ k % 2) (bit-lt m k) (bit-lt s k))
+    rw (lt-ltb k 32 hk, bit-clear 32 m s k hs hk) (digit_clear (m / 2 ^ k % 2) (s / 2 ^ k % 2) (bit_at-lt m k) (bit_at-lt s k))
 
 -- a tag that is outstanding is below 32
 pub busy-below : (m t : ℕ) → bitIn 32 m t ≡ true → t < 32

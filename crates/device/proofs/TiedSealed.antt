@@ -2,10 +2,10 @@
 use Rattle.rules.specs.Call.{hostFrame, openPhase, sendData, finishTags, mediaError, linkEvent, comReset}
 use Rattle.device.specs.Device.{powerOn}
 use Rattle.device.specs.Lent.{lent, gave, answered}
-use Rattle.device.specs.Sealing.{poweredOf}
+use Rattle.device.specs.Sealing.{Seals, poweredOf}
 use Rattle.device.specs.Step.{Given}
 use Rattle.device.proofs.Outcomes.{given-once}
-use Rattle.device.proofs.Kept.{kept-once, same-answer, same-state, powered-once}
+use Rattle.device.proofs.Kept.{kept-once, sealed-once, same-answer, same-state, powered-once}
 use mathlib.Core.List.{[]}
 use mathlib.Core.Path.{◌≡◌, refl}
 use Rattle.bits.specs.Contract.{Tied}
@@ -36,3 +36,6 @@ tied-comreset = by (say (λ κs a. tt) (λ κs a r ws p. p)) (λ κs a r r' ws w
 
 pub tied-power-on : Tied sealed-said.Sealed.power_on.ended sealed.Sealed.power_on.Reads.Asked sealed.Sealed.power_on.Reads.Post (λ κs a r ws. poweredOf r ≡ powerOn a.0)
 tied-power-on = by (say (λ κs a. tt) (λ κs a r ws p. p)) (λ κs a r r' ws ws' p q. (powered-once r r' (same p q), refl))
+
+pub tied-try-from : Tied sealed-said.SealedTryFromDevice.try_from.ended sealed.SealedTryFromDevice.try_from.Reads.Asked sealed.SealedTryFromDevice.try_from.Reads.Post (λ κs a r ws. Seals a.0 r)
+tied-try-from = by (say (λ κs a. tt) (λ κs a r ws p. p)) (λ κs a r r' ws ws' p q. (sealed-once a.0 r r' p q, refl))

@@ -1,5 +1,5 @@
 -- The state after an act. Assumes nothing.
-use Rattle.std.specs.Prelude.{Bool, true, false, List, ℕ, replicate, Some, None, is_none, unwrap_or}
+use Rattle.std.specs.Prelude.{Bool, true, false, List, ℕ, replicate, Some, None}
 use Rattle.bits.specs.Pick.{pick}
 use Rattle.bits.specs.Bit.{bitIn}
 use Rattle.device_state.specs.State.{zeroEntry, blankRecord}
@@ -9,6 +9,7 @@ use Rattle.device_state.specs.declared.shapes.Status.{Status}
 use Rattle.device_state.specs.declared.shapes.Entry.{Entry}
 use Rattle.device_state.specs.declared.shapes.ErrorRecord.{ErrorRecord}
 use Rattle.counter_values.specs.Counts.{countedAt}
+use Rattle.rules.specs.Record.{recordOf}
 use Rattle.rules.specs.declared.acts.Fault.{Fault}
 use Rattle.rules.specs.declared.acts.Queued.{Queued}
 use Rattle.rules.specs.declared.acts.Move.{Move}
@@ -30,7 +31,7 @@ emptied d status record' = record d { status = status; entries = replicate 32 ze
 
 -- halt: every outstanding command is given up, an open phase closes, the error record is set: with the tag, or NQ and tag 0
 unfoldable pub haltWith : Device → Fault → Device
-haltWith d f = emptied d (noneUnderWay true false) (record { set = true; nq = is_none f.tag; tag = unwrap_or f.tag 0; error = f.error; echo = f.echo })
+haltWith d f = emptied d (noneUnderWay true false) (recordOf f)
 
 -- another status and table
 abbrev pub withStatus : Device → Status → List Entry → Device

@@ -1,8 +1,9 @@
 -- The host data that is due. Assumes nothing.
-use Rattle.std.specs.Prelude.{Bool, ◌&&◌, ℕ, is_some}
+use Rattle.std.specs.Prelude.{Bool, ◌&&◌, ℕ, Option, Some, None, is_some}
+use Rattle.bits.specs.Pick.{pick}
 use Rattle.moves.specs.Amounts.{dueIn}
+use Rattle.device_state.specs.State.{progress_of}
 use Rattle.device_state.specs.declared.shapes.Entry.{Entry}
-use Rattle.rules.specs.Positions.{left_of}
 use Rattle.device.specs.FactsOf.{entryMeant}
 use Rattle.device.specs.declared.state.Device.{Device}
 
@@ -14,6 +15,6 @@ phaseEntry d = entryMeant d.entries d.status.phase
 abbrev pub writing : Device → Bool
 writing d = is_some d.status.phase && (phaseEntry d).write
 
--- the length due, by the open write phase and what is left of it
-unfoldable pub dataDue : Device → ℕ
-dataDue d = dueIn (writing d) (left_of (phaseEntry d))
+-- the length due, by the open write phase and what is left of it; of none no data is due
+unfoldable pub dataDue : Device → Option ℕ
+dataDue d = pick (writing d) (Some (dueIn (progress_of (phaseEntry d)))) None

@@ -1,6 +1,6 @@
 -- What a decision looks at, of a device and of what is lent to a call. Assumes nothing.
-use Rattle.std.specs.Prelude.{Bool, not, List, ℕ, ◌*◌, eqb, ltb, length, Option, Some, None, is_some}
-use Rattle.device_state.specs.State.{zeroEntry}
+use Rattle.std.specs.Prelude.{Bool, not, List, ℕ, eqb, ltb, length, Option, Some, None}
+use Rattle.device_state.specs.State.{zeroEntry, medium_size}
 use Rattle.device_state.specs.Table.{entry_of}
 use Rattle.device_state.specs.declared.shapes.Entry.{Entry}
 use Rattle.rules.specs.Call.{Call}
@@ -16,13 +16,9 @@ abbrev pub entryMeant : List Entry → Option ℕ → Entry
 entryMeant es None = zeroEntry
 entryMeant es (Some t) = entry_of es t
 
--- 2: medium length wrong; it is 512 × capacity. Read of a host frame and of a send alone: of a call that is lent no medium it says nothing
+-- 2: medium length wrong; it is 512 × capacity (`medium_size`). Read of a host frame and of a send alone: of a call that is lent no medium it says nothing
 abbrev pub mediumWrong : ℕ → ℕ → Bool
-mediumWrong capacity n = not (eqb n (512 * capacity))
-
--- a phase is open on the link: what 5 for commands and BIST and 8 read, and nothing else
-abbrev pub linkBusy : Device → Bool
-linkBusy d = is_some d.status.phase
+mediumWrong capacity n = not (eqb n (medium_size capacity))
 
 -- the tests of 1, 2 (the call says) and 3 (reply buffer under 8,196), the entry of a tag if one is meant, and whether a set has an unready tag
 abbrev pub factsWith : Device → Option ℕ → Bool → Bool → ℕ → Facts
@@ -30,7 +26,6 @@ factsWith d tag wrong some room = record {
   contradicts = contradictoryDevice d;
   medium_wrong = wrong;
   reply_short = ltb room 8196;
-  link_busy = linkBusy d;
   settings = d.settings;
   status = d.status;
   entry = entryMeant d.entries tag;

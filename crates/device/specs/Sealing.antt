@@ -1,11 +1,17 @@
--- Power-on of a device that is kept. Assumes nothing.
-use Rattle.std.specs.Prelude.{Result, Ok, Err, Some, None}
+-- How a device comes to be kept: a state that is given, and power-on. Assumes nothing.
+use Rattle.std.specs.Prelude.{◌≡◌, true, Result, Ok, Err, Some, None, MatchResult}
 use Rattle.refusals.specs.declared.reasons.Refusal.{Refusal}
-use Rattle.device.specs.Device.{zeroDevice}
+use Rattle.refusals.specs.declared.reasons.Refusal.TheVariants.{Contradiction}
+use Rattle.device.specs.Device.{contradictoryDevice, zeroDevice}
+use Rattle.device.specs.declared.state.Device.{Device}
 use Rattle.device.specs.declared.state.Outcome.{Outcome}
 use Rattle.device.specs.declared.sealed.Sealed.{Sealed}
 
--- the outcome that it stands for: a refused power-on hands back all zeros, which are no device to keep
+-- a state is kept as it is, or contradicts itself and is refused with 1: that one which does is not kept is the field of `Sealed`
+abbrev pub Seals : Device → Result Sealed Refusal → Type 0
+Seals d r = MatchResult r (λ s. s.device ≡ d) (λ e. (e ≡ Contradiction) × (contradictoryDevice d ≡ true))
+
+-- the outcome that power-on of a kept device stands for: a refused power-on hands back all zeros, which are no device to keep
 unfoldable pub poweredOf : Result Sealed Refusal → Outcome
 poweredOf (Ok s) = record { state = s.device; refusal = None; len = 0 }
 poweredOf (Err r) = record { state = zeroDevice; refusal = Some r; len = 0 }

@@ -4,7 +4,7 @@ use Rattle.bits.specs.Laid.{laid}
 use Rattle.frames.specs.Write.{FrameValue}
 use Rattle.refusals.specs.declared.reasons.Refusal.{Refusal}
 use Rattle.rules.specs.Act.{act}
-use Rattle.rules.specs.Medium.{span_of, part_of, mediumAfter}
+use Rattle.rules.specs.Medium.{part_of, mediumAfter}
 use Rattle.rules.specs.declared.acts.Act.{Act}
 use Rattle.replies.specs.Replies.{repliesOf, sentAll}
 use Rattle.replies.specs.declared.shown.Shown.{Shown}
@@ -30,7 +30,7 @@ stepBy d l (Err r) = record { state = d; refusal = Some r; frames = []; medium =
 stepBy d l (Ok a) = record {
   state = after_of d a;
   refusal = None;
-  frames = repliesOf (shown d) (part_of (span_of a) l.medium) a;
+  frames = repliesOf (shown d) (part_of a l.medium) a;
   medium = mediumAfter a (frameIn l.call) l.medium;
 }
 

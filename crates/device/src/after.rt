@@ -1,12 +1,12 @@
 // The state after an act.
 #![tactic(auto, unfolding(crate::specs::After::withValue, crate::specs::After::haltWith, crate::specs::After::acceptedBy, crate::specs::After::unhalted, crate::specs::After::zeroedIf, crate::specs::After::resetHeld, crate::specs::After::released, crate::specs::After::movedBy, crate::specs::After::openedFor, crate::specs::After::finishedBy, crate::specs::After::failedBy, crate::specs::After::renewed, crate::specs::After::after_of, bits::specs::Pick::pick))]
 
-ghost use Rattle.std.specs.Prelude.{◌≡◌};
+ghost use Rattle.std.specs.Prelude.{◌≡◌, true};
 ghost use Rattle.device.specs.After.{withValue, emptied, haltWith, acceptedBy, unhalted, zeroedIf, resetHeld, released, movedBy, openedFor, finishedBy, failedBy, renewed, after_of};
 
 use crate::state::Device;
 use device_state::{Entry, ErrorRecord, Settings, Status};
-use page_rows::ROWS;
+use page_rows::{COMRESET_ROW, INTERFACE_CRC_ROW, ROWS};
 use rules::{Act, Fault, Move, Queued};
 
 impl Device {
@@ -26,26 +26,17 @@ impl Device {
         self.errors = errors;
     }
 
-    fn halt(&mut self, f: Fault)
-        ensures { self.new ≡ haltWith self.old f }
+    fn halt(&mut self, fault: Fault)
+        ensures { self.new ≡ haltWith self.old fault }
     {
-        self.empty(
-            Status::halted(),
-            ErrorRecord {
-                set: true,
-                nq: f.tag.is_none(),
-                tag: f.tag.unwrap_or(0),
-                error: f.error,
-                echo: f.echo,
-            },
-        );
+        self.empty(Status::halted(), ErrorRecord::from(fault));
     }
 
-    fn accept(&mut self, q: Queued)
-        ensures { self.new ≡ acceptedBy self.old q }
+    fn accept(&mut self, queued: Queued)
+        ensures { self.new ≡ acceptedBy self.old queued }
     {
-        let tag = q.tag as u32;
-        device_state::put_entry(&mut self.entries, tag, q.entry);
+        let tag = u32::from(queued.tag);
+        device_state::put_entry(&mut self.entries, tag, queued.entry);
         self.status = self.status.with_tag(tag);
     }
 
@@ -55,12 +46,10 @@ impl Device {
         self.status.halted = false;
     }
 
-    fn zero_if(&mut self, on: bool)
-        ensures { self.new ≡ zeroedIf self.old on }
+    fn zero(&mut self)
+        ensures { self.new ≡ zeroedIf self.old true }
     {
-        if on {
-            self.values = [0; ROWS];
-        }
+        self.values = [0; ROWS];
     }
 
     fn hold_reset(&mut self)
@@ -75,11 +64,11 @@ impl Device {
         self.status.held = false;
     }
 
-    fn move_on(&mut self, m: Move)
-        ensures { self.new ≡ movedBy self.old m }
+    fn move_on(&mut self, moved: Move)
+        ensures { self.new ≡ movedBy self.old moved }
     {
-        device_state::put_entry(&mut self.entries, m.tag, m.entry);
-        if m.last {
+        device_state::put_entry(&mut self.entries, moved.tag, moved.entry);
+        if moved.last {
             self.status.phase = None;
         }
     }
@@ -87,7 +76,7 @@ impl Device {
     fn open_for(&mut self, tag: u8)
         ensures { self.new ≡ openedFor self.old tag }
     {
-        self.status.phase = Some(tag as u32);
+        self.status.phase = Some(u32::from(tag));
     }
 
     fn finish_tags(&mut self, set: u32)
@@ -101,16 +90,16 @@ impl Device {
         ensures { self.new ≡ renewed self.old }
     {
         self.empty(Status::idle(), ErrorRecord::default());
-        self.count(9);
+        self.count(COMRESET_ROW);
     }
 
-    fn fail(&mut self, f: Fault)
-        ensures { self.new ≡ failedBy self.old f }
+    fn fail(&mut self, fault: Fault)
+        ensures { self.new ≡ failedBy self.old fault }
     {
-        if frame_parts::flag(f.error, 7) {
-            self.count(0);
+        if frame_parts::flag(fault.error, 7) {
+            self.count(INTERFACE_CRC_ROW);
         }
-        self.halt(f);
+        self.halt(fault);
     }
 
     // By the act: one function for each thing that changes.
@@ -118,20 +107,22 @@ impl Device {
         ensures { self.new ≡ after_of self.old act }
     {
         match act {
-            Act::Nothing => {}
-            Act::Bad(_) => {}
-            Act::BadAndHalt(f) => self.halt(f),
-            Act::Accept(q) => self.accept(q),
+            Act::Nothing | Act::Bad(_) => {}
+            Act::BadAndHalt(fault) => self.halt(fault),
+            Act::Accept(queued) => self.accept(queued),
             Act::Log10(_) => self.end_halt(),
-            Act::Log11(l) => self.zero_if(l.zero),
+            Act::Log11(read) => {
+                if read.zero {
+                    self.zero();
+                }
+            }
             Act::Reset => self.hold_reset(),
             Act::Release => self.release(),
-            Act::ZeroCounters => self.zero_if(true),
-            Act::Store(m) => self.move_on(m),
-            Act::Open(q) => self.open_for(q.tag),
-            Act::Send(m) => self.move_on(m),
+            Act::ZeroCounters => self.zero(),
+            Act::Store(moved) | Act::Send(moved) => self.move_on(moved),
+            Act::Open(queued) => self.open_for(queued.tag),
             Act::Finish(set) => self.finish_tags(set),
-            Act::Media(f) => self.fail(f),
+            Act::Media(fault) => self.fail(fault),
             Act::Count(row) => self.count(row),
             Act::Renew => self.renew(),
         }

@@ -6,7 +6,10 @@ use page_11h::is_counter_number;
 use refusals::{Refusal, check};
 
 impl Device {
-    /// The value of the counter with this number, `None` for one that is not kept. Refused with 1, or with 23 for a number that is not 1 to FFFh.
+    /// The value of the counter with this number, `None` for one that is not kept.
+    ///
+    /// # Errors
+    /// The first that holds of `Contradiction` (1), `NoCounter` (23): a number that is not 1 to FFFh.
     #[tactic(auto, unfolding(crate::specs::Counter::counterOf, page_rows::specs::Made11::shownFor, refusals::specs::First::first_of, bits::specs::Pick::pick))]
     pub fn counter(&self, number: u16) -> Result<Option<u64>, Refusal>
         ensures { CounterGiven self.now number result }
@@ -19,12 +22,17 @@ impl Device {
         Ok(page_rows::shown_at(self.settings.mask, &self.values, row))
     }
 
-    /// How many commands are outstanding. Refused with 1: a state that contradicts itself is not read as idle.
+    /// How many commands are outstanding, 0 to 32.
+    ///
+    /// # Errors
+    /// `Contradiction` (1): a state that contradicts itself is not read as idle.
     #[tactic(auto, unfolding(crate::specs::Counter::count_of, refusals::specs::First::first_of, bits::specs::Pick::pick))]
     pub fn outstanding_count(&self) -> Result<u32, Refusal>
         ensures { CountGiven self.now result }
     {
-        check(&[(self.contradicts(), Refusal::Contradiction)])?;
+        if self.contradicts() {
+            return Err(Refusal::Contradiction);
+        }
         Ok(bits::ones(self.status.outstanding))
     }
 }

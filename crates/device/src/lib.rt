@@ -1,4 +1,4 @@
-// The device: a state that goes in by value and is handed back by each call.
+// The device: a state that goes in by value and is handed back by each call (`Device`), or one that is kept and changed in place (`Sealed`).
 #![tactic(auto)]
 
 mod after;

@@ -3,10 +3,32 @@ ghost use Rattle.std.specs.Prelude.{◌≡◌, false};
 ghost use Rattle.device.specs.Device.{contradictoryDevice};
 
 use crate::state::Device;
+use refusals::Refusal;
 
-/// A device whose state does not contradict itself.
+/// A device whose state does not contradict itself: what `power_on` gives, or a `Device` by `try_from`.
+///
+/// Each call goes in place. It answers the bytes of its replies, which stand in front of `reply`, one behind the other;
+/// refused, it leaves device, medium and reply buffer as they were. `medium` has 512 bytes for each sector of the
+/// capacity (`Settings::medium_size`), and `reply` at least 8,196 (`Device::REPLY_SIZE`).
 #[derive(Drop)]
 pub struct Sealed {
+    /// its state
     pub device: Device,
     ghost sound: { contradictoryDevice device ≡ false },
+}
+
+/// The state as it is; `Contradiction` (1) for one that contradicts itself.
+impl TryFrom<Device> for Sealed {
+    type Error = Refusal;
+
+    ghost use Rattle.device.specs.Sealing.{Seals};
+
+    ghost try_from_gives = { Seals };
+
+    fn try_from(device: Device) -> Result<Sealed, Refusal> {
+        if device.contradicts() {
+            return Err(Refusal::Contradiction);
+        }
+        Ok(Sealed { device })
+    }
 }

@@ -5,7 +5,7 @@ ghost use Rattle.std.specs.Prelude.{◌≡◌, false, [], leb, length};
 ghost use Rattle.bits.specs.Pick.{pick};
 ghost use Rattle.rules.specs.Handed.{handed};
 ghost use Rattle.rules.specs.Call.{Call, hostFrame, openPhase, sendData, finishTags, mediaError, linkEvent, comReset};
-ghost use Rattle.rules.specs.Medium.{span_of, part_of};
+ghost use Rattle.rules.specs.Medium.{part_of};
 ghost use Rattle.replies.specs.Replies.{repliesOf, RepliesGiven};
 ghost use Rattle.device.specs.Device.{powerOn};
 ghost use Rattle.device.specs.Lent.{lent, gave, answered};
@@ -22,14 +22,14 @@ use replies::Shown;
 use rules::{Act, Facts};
 
 // What an act sends of the medium, as far as the medium has it.
+#[tactic(auto, unfolding(rules::specs::Medium::touch_of))]
 fn part_sent(act: Act, medium: &[u8]) -> &[u8]
-    ensures { result.now ≡ part_of (span_of act) medium.now }
+    ensures { result.now ≡ part_of act medium.now }
 {
-    let Some(span) = act.span() else {
+    let Act::Send(moved) = act else {
         return b"";
     };
-    let rest = medium.get(span.at..).unwrap_or_default();
-    rest.get(..span.size).unwrap_or(rest)
+    bits::part(medium, moved.at, moved.size)
 }
 
 impl Device {
@@ -37,27 +37,26 @@ impl Device {
     pub(crate) fn entry_meant(&self, tag: Option<u32>) -> Entry
         ensures { result ≡ entryMeant self.now.entries tag }
     {
-        tag.map_or(Entry::default(), |tag| {
-            device_state::entry_of(&self.entries, tag)
-        })
+        tag.map(|tag| device_state::entry_of(&self.entries, tag))
+            .unwrap_or_default()
     }
 
-    // 512 × capacity bytes are due. The product of a 32-bit capacity cannot wrap, so it may stand before the test of 1.
+    // The medium's size cannot wrap at any capacity, so it may stand before the test of 1.
     fn medium_wrong(&self, medium: &[u8]) -> bool
         ensures { result ≡ mediumWrong self.now.settings.capacity (length medium.now) }
     {
-        medium.len() != Device::SECTOR_SIZE * (self.settings.capacity as usize)
+        medium.len() != self.settings.medium_size()
     }
 
     // What replies show.
-    fn shown(&self) -> Shown
+    fn shown(&self) -> Shown<'_>
         ensures { result ≡ shown self.now }
     {
         Shown {
             halted: self.status.halted,
             settings: self.settings,
-            errors: self.errors,
-            values: self.values,
+            errors: &self.errors,
+            values: &self.values,
         }
     }
 
@@ -90,7 +89,6 @@ impl Sealed {
             contradicts: false,
             medium_wrong: false,
             reply_short: reply.len() < Device::REPLY_SIZE,
-            link_busy: device.status.phase.is_some(),
             settings: device.settings,
             status: device.status,
             entry: device.entry_meant(tag),
@@ -108,18 +106,38 @@ impl Sealed {
         }
     }
 
-    /// Power-on: a device, or the refusal.
+    // What a host frame comes to.
+    #[tactic(auto, using(crate::proofs::Doing::host_act))]
+    fn frame_act(&self, frame: &[u8], medium: &[u8], reply: &[u8]) -> Result<Act, Refusal>
+        ensures { result ≡ actOf self.now.device (lent (hostFrame frame.now) medium.now reply.now) }
+    {
+        let facts = self.facts_lent(medium, reply);
+        rules::frame_act(&facts, frames::read_frame(frame))
+    }
+
+    // What a send comes to.
+    #[tactic(auto, using(crate::proofs::Doing::send_act))]
+    fn send_act(&self, medium: &[u8], reply: &[u8]) -> Result<Act, Refusal>
+        ensures { result ≡ actOf self.now.device (lent sendData medium.now reply.now) }
+    {
+        rules::send_act(&self.facts_lent(medium, reply))
+    }
+
+    /// Power-on: idle, record blank, counters 0.
+    ///
+    /// # Errors
+    /// `Contradiction` (1) for settings out of bounds: depth 1 to 32, capacity 1 to 65,536 sectors, rows 0 and 9 kept.
+    #[tactic(auto, using(crate::proofs::Kept::sealed_powered))]
     pub fn power_on(settings: Settings) -> Result<Sealed, Refusal>
         ensures { poweredOf result ≡ powerOn settings }
     {
-        let out = Device::power_on(settings);
-        match out.refusal {
-            None => Ok(Sealed { device: out.state }),
-            Some(refusal) => Err(refusal),
-        }
+        Sealed::try_from(Device::power_on(settings).state)
     }
 
-    /// Host frame: 27h, 46h or 58h.
+    /// Host frame: 27h of 20 bytes (a command, or control), 46h of 4 bytes and a payload (data), or 58h of 12 (BIST).
+    ///
+    /// # Errors
+    /// The first that holds of `MediumLength` (2), `ReplyShort` (3), `NoHostFrame` (4), `WrongTime` (5), `TooLong` (6).
     pub fn host_frame(
         &mut self,
         frame: &[u8],
@@ -128,42 +146,53 @@ impl Sealed {
     ) -> Result<usize, Refusal>
         ensures { Given self.old.device (lent (hostFrame frame.now) medium.old reply.old) (gave (answered self.new.device result) medium.new reply.new) }
     {
-        let facts = self.facts_lent(medium, reply);
-        let act = rules::frame_act(&facts, frames::read_frame(frame))?;
-        rules::store_data(medium, act, frame);
+        let act = self.frame_act(frame, medium, reply)?;
+        act.store(medium, frame);
         Ok(self.device.done(act, b"", reply))
     }
 
-    /// Open a phase for a tag.
+    /// Open a phase for an outstanding tag: DMA Setup, and for a write an Activate.
+    ///
+    /// # Errors
+    /// The first that holds of `ReplyShort` (3), `TagIdle` (7), `PhaseOpen` (8), `AllMoved` (9).
     pub fn open(&mut self, tag: u8, reply: &mut [u8]) -> Result<usize, Refusal>
         ensures { Given self.old.device (lent (openPhase tag) [] reply.old) (gave (answered self.new.device result) [] reply.new) }
     {
-        let facts = self.facts(Some(tag as u32), reply);
+        let facts = self.facts(Some(u32::from(tag)), reply);
         self.device.answer(rules::open_act(&facts, tag), reply)
     }
 
-    /// Send, in a read phase: one data frame.
+    /// Send, in a read phase: one data frame, of 8,192 bytes or what is left of the command.
+    ///
+    /// # Errors
+    /// The first that holds of `MediumLength` (2), `ReplyShort` (3), `NoReadPhase` (10).
     pub fn send(&mut self, medium: &[u8], reply: &mut [u8]) -> Result<usize, Refusal>
         ensures { Given self.old.device (lent sendData medium.now reply.old) (gave (answered self.new.device result) medium.now reply.new) }
     {
-        let facts = self.facts_lent(medium, reply);
-        let act = rules::send_act(&facts)?;
+        let act = self.send_act(medium, reply)?;
         Ok(self.device.done(act, part_sent(act, medium), reply))
     }
 
-    /// Finish a set of tags.
+    /// Finish a set of tags, bit t for tag t, whose data have all moved: Set Device Bits.
+    ///
+    /// # Errors
+    /// The first that holds of `ReplyShort` (3), `PhaseOpen` (8), `SetUnready` (11).
     pub fn finish(&mut self, set: u32, reply: &mut [u8]) -> Result<usize, Refusal>
         ensures { Given self.old.device (lent (finishTags set) [] reply.old) (gave (answered self.new.device result) [] reply.new) }
     {
         let device = &self.device;
         let facts = Facts {
-            unready: rules::some_unready(&device.entries, device.status.outstanding, set),
+            unready: rules::some_unready(&device.entries, device.status, set),
             ..self.facts(None, reply)
         };
         self.device.answer(rules::finish_act(&facts, set), reply)
     }
 
-    /// Media error at a sector of a tag's command.
+    /// Media error at a sector of an outstanding tag's command, counted from the medium's first: Set Device Bits, and the
+    /// device halts. Bit 7 of the error byte adds one to counter 001h.
+    ///
+    /// # Errors
+    /// The first that holds of `ReplyShort` (3), `TagIdle` (7), `OutsideCommand` (12).
     pub fn media_error(
         &mut self,
         tag: u8,
@@ -173,12 +202,15 @@ impl Sealed {
     ) -> Result<usize, Refusal>
         ensures { Given self.old.device (lent (mediaError tag error sector) [] reply.old) (gave (answered self.new.device result) [] reply.new) }
     {
-        let facts = self.facts(Some(tag as u32), reply);
+        let facts = self.facts(Some(u32::from(tag)), reply);
         self.device
             .answer(rules::media_act(&facts, tag, error, sector), reply)
     }
 
-    /// Link event: adds one to that counter.
+    /// Link event: adds one to the counter of a kept row of page 11h, 1 to 15 but not 9. It replies nothing: 0 bytes.
+    ///
+    /// # Errors
+    /// `NoRow` (13).
     pub fn link_event(&mut self, row: u8) -> Result<usize, Refusal>
         ensures { Given self.old.device (lent (linkEvent row) [] []) (gave (answered self.new.device result) [] []) }
     {
@@ -186,7 +218,10 @@ impl Sealed {
         self.device.answer(rules::link_act(&facts, row), &mut [])
     }
 
-    /// COMRESET: as SRST and release together, and one link reset more.
+    /// COMRESET: as SRST and release together, and one link reset more: the signature.
+    ///
+    /// # Errors
+    /// `ReplyShort` (3).
     pub fn comreset(&mut self, reply: &mut [u8]) -> Result<usize, Refusal>
         ensures { Given self.old.device (lent comReset [] reply.old) (gave (answered self.new.device result) [] reply.new) }
     {

@@ -1,56 +1,39 @@
 // What the device is, its limits, and how it begins.
 ghost use Rattle.std.specs.Prelude.{◌≡◌};
-ghost use Rattle.device.specs.Device.{contradictoryDevice, zeroDevice, freshDevice, powerOn};
+ghost use Rattle.device.specs.Device.{contradictoryDevice, powerOn};
+ghost use Rattle.device.specs.Lent.{answered};
 
-use device_state::{Entry, ErrorRecord, Settings, Status};
-use page_rows::{Counters, ROWS};
+use device_state::{Entries, ErrorRecord, Settings, Status};
+use page_rows::Counters;
 use refusals::Refusal;
 
-/// Settings, what is under way, the entry of each tag, the error record, and the counters by row: a row that is not kept holds 0 here, and is absent to `counter` and on page 11h.
-#[derive(Clone, Copy, Debug, PartialEq, Eq)]
+/// Settings, what is under way, the entry of each tag, the error record, and the counters by row: a row that is not kept
+/// holds 0 here, and is absent to `counter` and on page 11h. By default all zeros: idle, blank, and with settings that
+/// every call refuses.
+#[derive(Clone, Copy, Debug, Default, PartialEq, Eq)]
 pub struct Device {
     /// fixed at power-on
     pub settings: Settings,
     /// the tags outstanding, the open phase, halted, held
     pub status: Status,
     /// entry t is that of tag t
-    pub entries: [Entry; Settings::ENTRIES],
+    pub entries: Entries,
     /// what page 10h shows
     pub errors: ErrorRecord,
-    /// events, by row of page 11h
+    /// events, by row of page 11h; at 2^32 - 1 one stays
     pub values: Counters,
 }
 
-/// What every call by value answers.
+/// What every call by value answers. Refused, a call leaves medium and reply buffer as they were. `medium` has 512 bytes
+/// for each sector of the capacity (`Settings::medium_size`), and `reply` at least 8,196 (`Device::REPLY_SIZE`).
 #[derive(Clone, Copy, Debug, PartialEq, Eq)]
 pub struct Outcome {
-    /// the state to be handed in next
+    /// the state to be handed in next: refused, the one that came in; of a refused power-on, all zeros
     pub state: Device,
     /// why the call was turned down, if it was
     pub refusal: Option<Refusal>,
-    /// bytes of the replies
+    /// bytes of the replies, which stand in front of `reply`, one behind the other; refused, 0
     pub len: usize,
-}
-
-// Idle, record blank, counters 0.
-#[tactic(auto, unfolding(crate::specs::Device::freshDevice))]
-fn fresh(settings: Settings) -> Device
-    ensures { result ≡ freshDevice settings }
-{
-    Device {
-        settings,
-        status: Status::idle(),
-        entries: [Entry::default(); Settings::ENTRIES],
-        errors: ErrorRecord::default(),
-        values: [0; ROWS],
-    }
-}
-
-// Nothing at all: idle, blank, and with settings that every call refuses.
-fn zeros() -> Device
-    ensures { result ≡ zeroDevice }
-{
-    fresh(Settings::default())
 }
 
 impl Device {
@@ -58,30 +41,40 @@ impl Device {
     pub const DEPTH_LIMIT: u32 = Settings::DEPTH_LIMIT;
 
     /// Bytes of a sector.
-    pub const SECTOR_SIZE: usize = Settings::SECTOR_SIZE;
+    pub const SECTOR_SIZE: usize = moves::SECTOR_SIZE;
 
     /// The most bytes of a data frame's payload.
-    pub const FRAME_SIZE: usize = Settings::FRAME_SIZE;
+    pub const FRAME_SIZE: usize = frame_parts::PAYLOAD_LIMIT;
 
     /// The fewest bytes of a reply buffer that no call turns down.
-    pub const REPLY_SIZE: usize = Settings::REPLY_SIZE;
+    pub const REPLY_SIZE: usize = frame_parts::DATA_FRAME_LIMIT;
 
-    /// Power-on: idle, record blank, counters 0. Refused with 1 for settings out of bounds; then it hands back all zeros.
-    #[tactic(auto, unfolding(crate::specs::Device::powerOn, refusals::specs::First::first_of, bits::specs::Pick::pick))]
+    /// Power-on: idle, record blank, counters 0.
+    ///
+    /// Refused with `Contradiction` (1) for settings out of bounds: depth 1 to 32, capacity 1 to 65,536 sectors, rows 0 and 9
+    /// kept. It then hands back all zeros.
+    #[tactic(auto, unfolding(crate::specs::Device::powerOn, crate::specs::Device::freshDevice, refusals::specs::First::first_of, bits::specs::Pick::pick), using(crate::proofs::Defaults::default_zeros))]
     pub fn power_on(settings: Settings) -> Outcome
         ensures { result ≡ powerOn settings }
     {
         if contradictions::settings_out(settings) {
-            return Outcome {
-                state: zeros(),
-                refusal: Some(Refusal::Contradiction),
-                len: 0,
-            };
+            return Device::default().with(Err(Refusal::Contradiction));
         }
+        let fresh = Device {
+            settings,
+            ..Device::default()
+        };
+        fresh.with(Ok(0))
+    }
+
+    // What a call on the lent state answered, with the state that it left.
+    pub(crate) fn with(self, answer: Result<usize, Refusal>) -> Outcome
+        ensures { result ≡ answered self answer }
+    {
         Outcome {
-            state: fresh(settings),
-            refusal: None,
-            len: 0,
+            state: self,
+            refusal: answer.err(),
+            len: answer.unwrap_or(0),
         }
     }
 

@@ -1,7 +1,8 @@
 -- Each public function's own contract: what it says, and that two answers which it allows are equal. Assumes nothing.
-use Rattle.device_state.specs.State.{echoOf, taskIn, whole_of}
+use Rattle.device_state.specs.State.{echoOf, medium_size, progress_of, sectors_of, taskIn, whole_of}
 use Rattle.device_state.specs.Table.{cleared, entry_of, placed}
-use Rattle.device_state.specs.UnderWay.{noneUnderWay, with_tag, withoutTags}
+use Rattle.device_state.specs.UnderWay.{linkBusy, noneUnderWay, with_tag, withoutTags}
+use Rattle.bits.specs.Bit.{bitIn}
 use mathlib.Core.Bool.{true, false}
 use mathlib.Core.Path.{◌≡◌, refl}
 use Rattle.bits.specs.Contract.{Tied}
@@ -17,8 +18,17 @@ tied-task-in = named (say (λ κs a. tt) (λ κs a r ws p. p)) (λ κs a ws ws'.
 pub tied-echo-of : Tied shapes-said.EchoFromTask.from.ended shapes.EchoFromTask.from.Reads.Asked shapes.EchoFromTask.from.Reads.Post (λ κs a r ws. r ≡ echoOf a.0)
 tied-echo-of = named (say (λ κs a. tt) (λ κs a r ws p. p)) (λ κs a ws ws'. refl)
 
+pub tied-medium-size : Tied shapes-said.Settings.medium_size.ended shapes.Settings.medium_size.Reads.Asked shapes.Settings.medium_size.Reads.Post (λ κs a r ws. r ≡ medium_size a.0.now.capacity)
+tied-medium-size = named (say (λ κs a. tt) (λ κs a r ws p. p)) (λ κs a ws ws'. refl)
+
 pub tied-whole : Tied shapes-said.Entry.whole.ended shapes.Entry.whole.Reads.Asked shapes.Entry.whole.Reads.Post (λ κs a r ws. r ≡ whole_of a.0.now.count)
 tied-whole = named (say (λ κs a. tt) (λ κs a r ws p. p)) (λ κs a ws ws'. refl)
+
+pub tied-progress : Tied shapes-said.Entry.progress.ended shapes.Entry.progress.Reads.Asked shapes.Entry.progress.Reads.Post (λ κs a r ws. r ≡ progress_of a.0.now)
+tied-progress = named (say (λ κs a. tt) (λ κs a r ws p. p)) (λ κs a ws ws'. refl)
+
+pub tied-sectors : Tied shapes-said.Entry.sectors.ended shapes.Entry.sectors.Reads.Asked shapes.Entry.sectors.Reads.Post (λ κs a r ws. r ≡ sectors_of a.0.now)
+tied-sectors = named (say (λ κs a. tt) (λ κs a r ws p. p)) (λ κs a ws ws'. refl)
 
 pub tied-entry-of : Tied table-said.entry_of.ended table.entry_of.Reads.Asked table.entry_of.Reads.Post (λ κs a r ws. r ≡ entry_of a.0.now a.1.0)
 tied-entry-of = named (say (λ κs a. tt) (λ κs a r ws p. p)) (λ κs a ws ws'. refl)
@@ -37,6 +47,12 @@ tied-halted = named (say (λ κs a. tt) (λ κs a r ws p. p)) (λ κs a ws ws'. 
 
 pub tied-held : Tied shapes-said.Status.held.ended shapes.Status.held.Reads.Asked shapes.Status.held.Reads.Post (λ κs a r ws. r ≡ noneUnderWay false true)
 tied-held = named (say (λ κs a. tt) (λ κs a r ws p. p)) (λ κs a ws ws'. refl)
+
+pub tied-is-link-busy : Tied shapes-said.Status.is_link_busy.ended shapes.Status.is_link_busy.Reads.Asked shapes.Status.is_link_busy.Reads.Post (λ κs a r ws. r ≡ linkBusy a.0)
+tied-is-link-busy = named (say (λ κs a. tt) (λ κs a r ws p. p)) (λ κs a ws ws'. refl)
+
+pub tied-is-outstanding : Tied shapes-said.Status.is_outstanding.ended shapes.Status.is_outstanding.Reads.Asked shapes.Status.is_outstanding.Reads.Post (λ κs a r ws. r ≡ bitIn 32 a.0.outstanding a.1.0)
+tied-is-outstanding = named (say (λ κs a. tt) (λ κs a r ws p. p)) (λ κs a ws ws'. refl)
 
 pub tied-with-tag : Tied shapes-said.Status.with_tag.ended shapes.Status.with_tag.Reads.Asked shapes.Status.with_tag.Reads.Post (λ κs a r ws. r ≡ with_tag a.0 a.1.0)
 tied-with-tag = named (say (λ κs a. tt) (λ κs a r ws p. p)) (λ κs a ws ws'. refl)

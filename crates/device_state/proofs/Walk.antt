@@ -23,3 +23,9 @@ some-walked f p d (e ∷ l) k h =
     some-walked f (λ i. p (suc i)) d l (k + 1)
     (λ i m. ap (λ (j : ℕ). f (j, get_or l i d)) (omega arith) ∙ h (suc i) (suc-le-suc m)) in
     ap₂ (λ (a b : Bool). a || b) here others ∙ sym (some-front p (length l))
+
+-- tests of all the elements of a table of n places, each as p says of the place
+pub some-placed : {A : Type 0} (f : ℕ × A → Bool) (p : ℕ → Bool) (d : A) (l : List A) {n : ℕ} → length l ≡ n
+    → ((i : ℕ) → f (i, get_or l i d) ≡ p i) → list_any f (enumerate_from 0 l) ≡ someBelow n p
+some-placed f p d l e h =
+    some-walked f p d l 0 (λ i m. ap (λ (j : ℕ). f (j, get_or l i d)) (omega arith) ∙ h i) ∙ ap (λ (k : ℕ). someBelow k p) e

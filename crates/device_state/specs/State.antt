@@ -3,6 +3,8 @@ use Rattle.std.specs.Prelude.{false, List, [], ◌∷◌, ℕ, ◌*◌, min}
 use Rattle.bits.specs.Little.{byte_of}
 use Rattle.frame_parts.specs.Shared.{task_of, tag_of}
 use Rattle.frame_parts.specs.declared.shared.Task.{Task}
+use Rattle.moves.specs.declared.amounts.Progress.{Progress}
+use Rattle.moves.specs.declared.ranges.Sectors.{Sectors}
 use Rattle.device_state.specs.declared.shapes.Echo.{Echo}
 use Rattle.device_state.specs.declared.shapes.Entry.{Entry}
 use Rattle.device_state.specs.declared.shapes.ErrorRecord.{ErrorRecord}
@@ -33,9 +35,21 @@ echoOf t = record {
   b13 = byte_of t.count 1;
 }
 
+-- the bytes of a medium of so many sectors
+abbrev pub medium_size : ℕ → ℕ
+medium_size capacity = 512 * capacity
+
 -- the bytes of a command of so many sectors; more than 65,536 no command has (`settingsOut`, `pastCapacity`), and then as many count, so that 32 bits hold them
 abbrev pub whole_of : ℕ → ℕ
 whole_of count = 512 * min count 65536
+
+-- the bytes of a command as a whole, and what has moved of them
+abbrev pub progress_of : Entry → Progress
+progress_of e = record { whole = whole_of e.count; moved = e.moved }
+
+-- the sectors of a command
+abbrev pub sectors_of : Entry → Sectors
+sectors_of e = record { first = e.first; count = e.count }
 
 -- no bytes of a command: all 0
 abbrev pub zeroEcho : Echo

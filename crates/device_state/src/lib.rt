@@ -5,5 +5,5 @@ mod shapes;
 mod status;
 mod table;
 
-pub use shapes::{Echo, Entry, ErrorRecord, Settings, Status};
+pub use shapes::{Echo, Entries, Entry, ErrorRecord, Settings, Status};
 pub use table::{clear_entries, entry_of, put_entry};

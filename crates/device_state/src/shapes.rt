@@ -1,8 +1,9 @@
 // What the state holds: nothing that the list of contradictions does not speak of.
 ghost use Rattle.std.specs.Prelude.{◌≡◌};
-ghost use Rattle.device_state.specs.State.{taskIn, echoOf, whole_of};
+ghost use Rattle.device_state.specs.State.{taskIn, echoOf, medium_size, whole_of, progress_of, sectors_of};
 
 use frame_parts::Task;
+use moves::{Progress, Sectors};
 
 /// Queue depth, capacity in sectors, and which rows of page 11h are kept.
 #[derive(Clone, Copy, Debug, Default, PartialEq, Eq)]
@@ -15,7 +16,7 @@ pub struct Settings {
     pub mask: u16,
 }
 
-// The fixed limits.
+// The fixed limits, and the medium that the settings ask for.
 impl Settings {
     /// The most tags.
     pub const DEPTH_LIMIT: u32 = 32;
@@ -25,25 +26,34 @@ impl Settings {
     /// The most sectors.
     pub const CAPACITY_LIMIT: u32 = 65536;
 
-    /// Bytes of a sector.
-    pub const SECTOR_SIZE: usize = moves::SECTOR_SIZE;
-    /// The most bytes of a data frame's payload.
-    pub const FRAME_SIZE: usize = frame_parts::PAYLOAD_LIMIT;
-    /// The fewest bytes of a reply buffer: the longest data frame.
-    pub const REPLY_SIZE: usize = frame_parts::DATA_FRAME_LIMIT;
+    /// The bytes of the medium: 512 for each sector of the capacity, whatever that is.
+    pub fn medium_size(&self) -> usize
+        ensures { result ≡ medium_size self.now.capacity }
+    {
+        moves::SECTOR_SIZE * self.capacity as usize
+    }
 }
 
-/// Bytes 4-10 and 12-13 of a command, as they stand: `b4` is byte 4.
+/// Bytes 4-10 and 12-13 of a command, as they stand.
 #[derive(Clone, Copy, Debug, Default, PartialEq, Eq)]
 pub struct Echo {
+    /// byte 4, the lowest of the LBA
     pub b4: u8,
+    /// byte 5, of the LBA
     pub b5: u8,
+    /// byte 6, of the LBA
     pub b6: u8,
+    /// byte 7, the device
     pub b7: u8,
+    /// byte 8, of the LBA above byte 6
     pub b8: u8,
+    /// byte 9, of the LBA
     pub b9: u8,
+    /// byte 10, the highest of the LBA
     pub b10: u8,
+    /// byte 12, the low byte of the count
     pub b12: u8,
+    /// byte 13, the high one
     pub b13: u8,
 }
 
@@ -71,16 +81,39 @@ impl Entry {
     pub fn whole(&self) -> u32
         ensures { result ≡ whole_of self.now.count }
     {
-        Settings::SECTOR_SIZE as u32 * self.count.min(Settings::CAPACITY_LIMIT)
+        moves::SECTOR_SIZE as u32 * self.count.min(Settings::CAPACITY_LIMIT)
+    }
+
+    /// The bytes of the whole command, and what has moved of them.
+    pub fn progress(&self) -> Progress
+        ensures { result ≡ progress_of self.now }
+    {
+        Progress {
+            whole: self.whole(),
+            moved: self.moved,
+        }
+    }
+
+    /// The sectors of the command.
+    pub fn sectors(&self) -> Sectors
+        ensures { result ≡ sectors_of self.now }
+    {
+        Sectors {
+            first: u64::from(self.first),
+            count: self.count,
+        }
     }
 }
+
+/// The table: an entry for each tag, by its number.
+pub type Entries = [Entry; Settings::ENTRIES];
 
 /// The outstanding tags; the tag of the open phase, if one is open; halted; reset held.
 #[derive(Clone, Copy, Debug, Default, PartialEq, Eq)]
 pub struct Status {
     /// bit t is tag t
     pub outstanding: u32,
-    /// the tag of the open phase
+    /// the tag of the open phase, if one is open: as wide as who hands a state in may make it; one that is not outstanding contradicts
     pub phase: Option<u32>,
     /// by an error, until its log page is sent or a reset
     pub halted: bool,
@@ -105,29 +138,31 @@ pub struct ErrorRecord {
 
 /// The command's bytes as a frame shows them.
 impl From<Echo> for Task {
-    ghost from_gives = { λ e t. t ≡ taskIn e };
+    ghost from_gives = { λ echo task. task ≡ taskIn echo };
 
     #[tactic(auto, unfolding(crate::specs::State::taskIn))]
-    fn from(e: Echo) -> Task {
-        frame_parts::task_of(&[
-            0, 0, 0, 0, e.b4, e.b5, e.b6, e.b7, e.b8, e.b9, e.b10, 0, e.b12, e.b13,
-        ])
+    fn from(echo: Echo) -> Task {
+        Task {
+            lba: u64::from_le_bytes([echo.b4, echo.b5, echo.b6, echo.b8, echo.b9, echo.b10, 0, 0]),
+            device: echo.b7,
+            count: u16::from_le_bytes([echo.b12, echo.b13]),
+        }
     }
 }
 
 /// The bytes of what a frame showed.
 impl From<Task> for Echo {
-    ghost from_gives = { λ t e. e ≡ echoOf t };
+    ghost from_gives = { λ task echo. echo ≡ echoOf task };
 
     #[tactic(auto, unfolding(crate::specs::State::echoOf))]
-    fn from(t: Task) -> Echo {
-        let [b4, b5, b6, b8, b9, b10, ..] = t.lba.to_le_bytes();
-        let [b12, b13] = t.count.to_le_bytes();
+    fn from(task: Task) -> Echo {
+        let [b4, b5, b6, b8, b9, b10, ..] = task.lba.to_le_bytes();
+        let [b12, b13] = task.count.to_le_bytes();
         Echo {
             b4,
             b5,
             b6,
-            b7: t.device,
+            b7: task.device,
             b8,
             b9,
             b10,

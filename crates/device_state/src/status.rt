@@ -1,6 +1,7 @@
 // What is under way.
 ghost use Rattle.std.specs.Prelude.{◌≡◌, true, false};
-ghost use Rattle.device_state.specs.UnderWay.{noneUnderWay, with_tag, withoutTags};
+ghost use Rattle.device_state.specs.UnderWay.{noneUnderWay, linkBusy, with_tag, withoutTags};
+ghost use Rattle.bits.specs.Bit.{bitIn};
 
 use crate::shapes::Status;
 
@@ -30,6 +31,20 @@ impl Status {
             held: true,
             ..Status::default()
         }
+    }
+
+    /// A phase is open on the link: no command, BIST, open or finish then.
+    pub fn is_link_busy(self) -> bool
+        ensures { result ≡ linkBusy self }
+    {
+        self.phase.is_some()
+    }
+
+    /// A tag's command is outstanding; that of a tag of 32 or more never is.
+    pub fn is_outstanding(self, tag: u32) -> bool
+        ensures { result ≡ bitIn 32 self.outstanding tag }
+    {
+        bits::bit(self.outstanding, tag)
     }
 
     /// A command of a tag is accepted; of a tag of 32 or more, none.

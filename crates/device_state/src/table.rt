@@ -2,17 +2,17 @@
 ghost use Rattle.std.specs.Prelude.{◌≡◌};
 ghost use Rattle.device_state.specs.Table.{entry_of, placed, cleared};
 
-use crate::shapes::{Entry, Settings};
+use crate::shapes::{Entries, Entry};
 
 /// The entry of a tag; of a tag that has none, an idle one.
-pub fn entry_of(entries: &[Entry; Settings::ENTRIES], tag: u32) -> Entry
+pub fn entry_of(entries: &Entries, tag: u32) -> Entry
     ensures { result ≡ entry_of entries.now tag }
 {
     entries.get(tag as usize).copied().unwrap_or_default()
 }
 
 /// The table with the entry of a tag anew.
-pub fn put_entry(entries: &mut [Entry; Settings::ENTRIES], tag: u32, entry: Entry)
+pub fn put_entry(entries: &mut Entries, tag: u32, entry: Entry)
     ensures { entries.new ≡ placed entries.old tag entry }
 {
     let place = tag as usize;
@@ -22,7 +22,7 @@ pub fn put_entry(entries: &mut [Entry; Settings::ENTRIES], tag: u32, entry: Entr
 }
 
 /// The table without the entries of a set of tags.
-pub fn clear_entries(entries: &mut [Entry; Settings::ENTRIES], set: u32)
+pub fn clear_entries(entries: &mut Entries, set: u32)
     ensures { entries.new ≡ cleared entries.old set }
 {
     for (tag, entry) in entries.iter_mut().enumerate() {

@@ -1,3 +1,4 @@
 pub mod Asking
 pub mod Exactly
+pub mod Recording
 pub mod Tied

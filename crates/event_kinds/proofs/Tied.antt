@@ -1,5 +1,5 @@
 -- Each public function's own contract: what it says, and that two answers which it allows are equal. Assumes nothing.
-use Rattle.event_kinds.specs.Kinds.{bodyLength, isEvent, misplaced}
+use Rattle.event_kinds.specs.Kinds.{kindNamed, bodyOf, eventKind, misplaced}
 use Rattle.event_kinds.specs.Requests.{requestOf}
 use Rattle.event_kinds.specs.Settings.{asked_of}
 use mathlib.Core.Path.{◌≡◌, refl}
@@ -12,14 +12,17 @@ use Rattle.event_kinds.specs.contracts.kinds as kinds-said
 use Rattle.event_kinds.proofs.settings
 use Rattle.event_kinds.specs.contracts.settings as settings-said
 
-pub tied-body-length : Tied kinds-said.body_length.ended kinds.body_length.Reads.Asked kinds.body_length.Reads.Post (λ κs a r ws. r ≡ bodyLength a.0)
+pub tied-from-byte : Tied kinds-said.Kind.from_byte.ended kinds.Kind.from_byte.Reads.Asked kinds.Kind.from_byte.Reads.Post (λ κs a r ws. r ≡ kindNamed a.0)
+tied-from-byte = named (say (λ κs a. tt) (λ κs a r ws p. p)) (λ κs a ws ws'. refl)
+
+pub tied-body-length : Tied kinds-said.Kind.body_length.ended kinds.Kind.body_length.Reads.Asked kinds.Kind.body_length.Reads.Post (λ κs a r ws. r ≡ bodyOf a.0)
 tied-body-length = named (say (λ κs a. tt) (λ κs a r ws p. p)) (λ κs a ws ws'. refl)
 
-pub tied-is-misplaced : Tied kinds-said.is_misplaced.ended kinds.is_misplaced.Reads.Asked kinds.is_misplaced.Reads.Post (λ κs a r ws. r ≡ misplaced a.0 a.1.0)
+pub tied-is-misplaced : Tied kinds-said.Kind.is_misplaced.ended kinds.Kind.is_misplaced.Reads.Asked kinds.Kind.is_misplaced.Reads.Post (λ κs a r ws. r ≡ misplaced a.1.0 a.0)
 tied-is-misplaced = named (say (λ κs a. tt) (λ κs a r ws p. p)) (λ κs a ws ws'. refl)
 
-pub tied-is-event : Tied kinds-said.is_event.ended kinds.is_event.Reads.Asked kinds.is_event.Reads.Post (λ κs a r ws. r ≡ isEvent a.0.now)
-tied-is-event = named (say (λ κs a. tt) (λ κs a r ws p. p)) (λ κs a ws ws'. refl)
+pub tied-event-kind : Tied kinds-said.event_kind.ended kinds.event_kind.Reads.Asked kinds.event_kind.Reads.Post (λ κs a r ws. r ≡ eventKind a.0.now)
+tied-event-kind = named (say (λ κs a. tt) (λ κs a r ws p. p)) (λ κs a ws ws'. refl)
 
 pub tied-request-of : Tied asked-said.request_of.ended asked.request_of.Reads.Asked asked.request_of.Reads.Post (λ κs a r ws. r ≡ requestOf a.0.now)
 tied-request-of = named (say (λ κs a. tt) (λ κs a r ws p. p)) (λ κs a ws ws'. refl)

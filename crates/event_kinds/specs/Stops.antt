@@ -1,17 +1,17 @@
 -- When a run ends with `stop`, and when its settings record is refused. Assumes nothing.
-use Rattle.std.specs.Prelude.{Bool, true, false, not, ◌&&◌, ◌||◌, List, ℕ, ◌+◌, eqb, leb, length, get_or}
+use Rattle.std.specs.Prelude.{Bool, true, false, not, ◌&&◌, ◌||◌, List, ℕ, ◌+◌, eqb, leb, length, get_or, Result, Ok, Err}
 use Rattle.contradictions.specs.Clauses.{settingsOut}
 use Rattle.event_kinds.specs.Kinds.{bodyLength, isEvent}
 use Rattle.event_kinds.specs.Settings.{inLimit, settingsOf}
 use Rattle.std.specs.Prelude.{Option, Some, None}
-use Rattle.event_kinds.specs.declared.kinds.Next.{Next}
-use Rattle.event_kinds.specs.declared.kinds.Next.TheVariants.{Whole, Stop, End}
+use Rattle.event_kinds.specs.declared.kinds.InputEnd.{InputEnd}
+use Rattle.event_kinds.specs.declared.kinds.InputEnd.TheVariants.{Clean, NoEvent}
 
 -- the answer that stops
-unfoldable pub isStop : Next → Bool
-isStop (Whole n) = false
-isStop Stop = true
-isStop End = false
+unfoldable pub isStop : Result ℕ InputEnd → Bool
+isStop (Ok n) = false
+isStop (Err NoEvent) = true
+isStop (Err Clean) = false
 
 -- an unknown kind, or a short body
 unfoldable pub notWhole : Option ℕ → ℕ → Bool

@@ -1,8 +1,8 @@
 // What an event asks for, read from its bytes.
 ghost use Rattle.std.specs.Prelude.{◌≡◌};
-ghost use Rattle.event_kinds.specs.Requests.{callByKind, requestOf};
+ghost use Rattle.event_kinds.specs.Requests.{requestOf};
 
-use crate::kinds::is_event;
+use crate::kinds::{Kind, event_kind};
 use frame_parts::byte_of;
 
 /// The calls of the device, with their arguments.
@@ -15,7 +15,14 @@ pub enum Request {
     /// Finish a set of tags.
     FinishTags(u32),
     /// A command fails at a sector.
-    MediaError { tag: u8, error: u8, sector: u32 },
+    MediaError {
+        /// The tag of the command.
+        tag: u8,
+        /// Its error byte; the device refuses 0.
+        error: u8,
+        /// The sector that it fails at, counted from the medium's first.
+        sector: u32,
+    },
     /// One more in a row's counter.
     LinkEvent(u8),
     /// COMRESET.
@@ -26,34 +33,24 @@ pub enum Request {
     HostFrame,
 }
 
-#[tactic(auto, unfolding(crate::specs::Requests::callByKind, bits::specs::Pick::pick))]
-fn by_kind(kind: u8, bytes: &[u8]) -> Option<Request>
-    ensures { result ≡ callByKind kind bytes.now }
-{
-    match kind {
-        0x01 => Some(Request::OpenPhase(byte_of(bytes, 1))),
-        0x02 => Some(Request::SendData),
-        0x03 => Some(Request::FinishTags(bits::le32(bytes, 1))),
-        0x04 => Some(Request::MediaError {
-            tag: byte_of(bytes, 1),
-            error: byte_of(bytes, 2),
-            sector: bits::le32(bytes, 3),
-        }),
-        0x05 => Some(Request::LinkEvent(byte_of(bytes, 1))),
-        0x06 => Some(Request::ComReset),
-        0x07 => Some(Request::HostData(byte_of(bytes, 1))),
-        0x27 | 0x58 => Some(Request::HostFrame),
-        _ => None,
-    }
-}
-
 /// What the bytes of an event ask for; `None` for what is no event, and for settings.
-#[tactic(auto, unfolding(crate::specs::Requests::requestOf, bits::specs::Pick::pick))]
-pub fn request_of(bytes: &[u8]) -> Option<Request>
-    ensures { result ≡ requestOf bytes.now }
+#[tactic(auto, unfolding(crate::specs::Requests::requestOf, crate::specs::Requests::callByKind))]
+pub fn request_of(event: &[u8]) -> Option<Request>
+    ensures { result ≡ requestOf event.now }
 {
-    if !is_event(bytes) {
-        return None;
+    match event_kind(event)? {
+        Kind::Settings => None,
+        Kind::OpenPhase => Some(Request::OpenPhase(byte_of(event, 1))),
+        Kind::SendData => Some(Request::SendData),
+        Kind::FinishTags => Some(Request::FinishTags(bits::le32(event, 1))),
+        Kind::MediaError => Some(Request::MediaError {
+            tag: byte_of(event, 1),
+            error: byte_of(event, 2),
+            sector: bits::le32(event, 3),
+        }),
+        Kind::LinkEvent => Some(Request::LinkEvent(byte_of(event, 1))),
+        Kind::ComReset => Some(Request::ComReset),
+        Kind::HostData => Some(Request::HostData(byte_of(event, 1))),
+        Kind::HostFrame(_) => Some(Request::HostFrame),
     }
-    by_kind(byte_of(bytes, 0), bytes)
 }

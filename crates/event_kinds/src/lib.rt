@@ -1,4 +1,4 @@
-// An event as its bytes: what the rest of the input begins with, what an event asks for, and the settings. Every public function is total and has no `requires`.
+// An event as its bytes: its kind, the length of its body, what it asks for, and the settings. Every public function is total and has no `requires`.
 #![tactic(auto)]
 
 mod asked;
@@ -6,5 +6,5 @@ mod kinds;
 mod settings;
 
 pub use asked::{Request, request_of};
-pub use kinds::{EVENT_LIMIT, Next, body_length, is_misplaced};
-pub use settings::{CAPACITY_LIMIT, settings_asked};
+pub use kinds::{EVENT_LIMIT, InputEnd, Kind};
+pub use settings::{RUN_CAPACITY_LIMIT, settings_asked};

@@ -2,7 +2,7 @@
 ghost use Rattle.std.specs.Prelude.{◌≡◌};
 ghost use Rattle.event_kinds.specs.Settings.{settingsOf, asked_of};
 
-use crate::kinds::is_event;
+use crate::kinds::{Kind, event_kind};
 use device_state::Settings;
 
 #[tactic(auto, unfolding(crate::specs::Settings::settingsOf))]
@@ -10,23 +10,22 @@ fn settings_of(event: &[u8]) -> Settings
     ensures { result ≡ settingsOf event.now }
 {
     Settings {
-        depth: frame_parts::byte_of(event, 1) as u32,
+        depth: u32::from(frame_parts::byte_of(event, 1)),
         capacity: bits::le32(event, 2),
         mask: bits::le16(event, 6),
     }
 }
 
 /// The most sectors that a run may have: its medium is an array of the program's.
-pub const CAPACITY_LIMIT: u32 = 64;
+pub const RUN_CAPACITY_LIMIT: u32 = 64;
 
 /// The settings that the record asks for; `None` for what is no settings record, and for more sectors than a run may have.
-#[tactic(auto, unfolding(bits::specs::Pick::pick))]
+#[tactic(auto, using(crate::proofs::Recording::settings_event), unfolding(bits::specs::Pick::pick))]
 pub fn settings_asked(event: &[u8]) -> Option<Settings>
     ensures { result ≡ asked_of event.now }
 {
     let settings = settings_of(event);
-    let is_in_limit = is_event(event)
-        && frame_parts::byte_of(event, 0) == 0x00
-        && settings.capacity <= CAPACITY_LIMIT;
+    let is_in_limit = event_kind(event) == Some(Kind::Settings)
+        && settings.capacity <= RUN_CAPACITY_LIMIT;
     is_in_limit.then_some(settings)
 }

@@ -5,47 +5,53 @@ use lib.Dec.{leb, eqb}
 use borrow.Author.Tests.{le-leb, leb-true, ne_eqb}
 use Rattle.std.specs.Io.KnownBytes.{Appends}
 use Rattle.bits.specs.Pick.{pick}
-use Rattle.std.specs.Prelude.{Option, Some, None}
-use Rattle.event_kinds.specs.declared.kinds.Next.{Next}
-use Rattle.event_kinds.specs.declared.kinds.Next.TheVariants.{Whole, Stop, End}
-use Rattle.event_kinds.specs.Kinds.{bodyLength, misplaced, nextWhole, next_of}
+use Rattle.frame_parts.specs.Cut.{joined}
+use Rattle.std.specs.Prelude.{Option, Some, None, Result, Ok, Err}
+use Rattle.event_kinds.specs.declared.kinds.InputEnd.{InputEnd}
+use Rattle.event_kinds.specs.declared.kinds.InputEnd.TheVariants.{Clean, NoEvent}
+use Rattle.event_kinds.specs.Kinds.{kindNamed, bodyOf, misplaced, nextWhole, nextBy, next_of}
+use Rattle.event_kinds.specs.declared.kinds.Kind.{Kind}
 use Rattle.event_program.specs.Reading.{IsEvent, Ends}
 use Rattle.event_program.specs.Running.{ReadsOn, AllEvents, Plays, refused, next_behind, run_lines, ending}
-use Rattle.event_program.specs.Runs.{joined, IsCut, RunsOut, BreaksOff}
+use Rattle.event_program.specs.Runs.{IsCut, RunsOut, BreaksOff}
 
 some : (k : ℕ) (l : List ℕ) → eqb (length (k ∷ l)) 0 ≡ false
 some k l = ne_eqb (length (k ∷ l)) 0 (λ (e : length (k ∷ l) ≡ 0). omega arith)
 
-kind-next : (first : Bool) (k : ℕ) (l : List ℕ) → next_of first (k ∷ l) ≡ pick (misplaced first k) Stop (nextWhole (bodyLength k) (length (k ∷ l)))
+kind-next : (first : Bool) (k : ℕ) (l : List ℕ) → next_of first (k ∷ l) ≡ nextBy first (kindNamed k) (length (k ∷ l))
 unfolding next_of pick
 kind-next first k l = rw (some k l) refl
 
 -- what is there of an event is enough, whatever follows
-enough : (b b' : Bool) (j n : ℕ) → (b ≡ true → b' ≡ true) → pick b (Whole j) Stop ≡ Whole n → pick b' (Whole j) Stop ≡ Whole n
+enough : (b b' : Bool) (j n : ℕ) → (b ≡ true → b' ≡ true) → pick b (Ok j) (Err NoEvent) ≡ Ok n → pick b' (Ok j) (Err NoEvent) ≡ Ok n
 unfolding pick
 enough true b' j n f e = rw (f refl) e
 enough false b' j n f e = absurd (subst Ends e tt)
 
-whole-front : (m : Bool) (k : Option ℕ) (n n' : ℕ) → n ≤ n' → pick m Stop (nextWhole k n) ≡ Whole n → pick m Stop (nextWhole k n') ≡ Whole n
+placed-front : (m : Bool) (j n n' : ℕ) → n ≤ n' → pick m (Err NoEvent) (nextWhole j n) ≡ Ok n → pick m (Err NoEvent) (nextWhole j n') ≡ Ok n
 unfolding pick nextWhole
-whole-front true k n n' h e = absurd (subst Ends e tt)
-whole-front false None n n' h e = absurd (subst Ends e tt)
-whole-front false (Some j) n n' h e = enough (leb (j + 1) n) (leb (j + 1) n') (j + 1) n (λ t. let l = leb-true (j + 1) n t in le-leb (j + 1) n' (omega (arith, l, h))) e
+placed-front true j n n' h e = absurd (subst Ends e tt)
+placed-front false j n n' h e = enough (leb (j + 1) n) (leb (j + 1) n') (j + 1) n (λ t. let l = leb-true (j + 1) n t in le-leb (j + 1) n' (omega (arith, l, h))) e
+
+whole-front : (first : Bool) (kind : Option Kind) (n n' : ℕ) → n ≤ n' → nextBy first kind n ≡ Ok n → nextBy first kind n' ≡ Ok n
+unfolding nextBy
+whole-front first (Some kind) n n' h e = placed-front (misplaced first kind) (bodyOf kind) n n' h e
+whole-front first None n n' h e = absurd (subst Ends e tt)
 
 none-empty : (first : Bool) → IsEvent first [] → ⊥
 unfolding next_of pick
 none-empty true h = subst Ends h tt
 none-empty false h = subst Ends h tt
 
-pub next-front : (first : Bool) (e more : List ℕ) → IsEvent first e → next_of first (e ++ more) ≡ Whole (length e)
+pub next-front : (first : Bool) (e more : List ℕ) → IsEvent first e → next_of first (e ++ more) ≡ Ok (length e)
 next-front first [] more h = absurd (none-empty first h)
 next-front first (k ∷ l) more h =
-    kind-next first k (l ++ more) ∙ whole-front (misplaced first k) (bodyLength k) (length (k ∷ l)) (length (k ∷ (l ++ more))) (omega (arith, length-append l more)) (sym (kind-next first k l) ∙ h)
+    kind-next first k (l ++ more) ∙ whole-front first (kindNamed k) (length (k ∷ l)) (length (k ∷ (l ++ more))) (omega (arith, length-append l more)) (sym (kind-next first k l) ∙ h)
 
-size : Next → ℕ
-size (Whole n) = n
-size Stop = 0
-size End = 0
+size : Result ℕ InputEnd → ℕ
+size (Ok n) = n
+size (Err NoEvent) = 0
+size (Err Clean) = 0
 
 -- two events that the same bytes begin with are the same
 same-front : (first : Bool) (e e' more more' : List ℕ) → IsEvent first e → IsEvent first e' → e ++ more ≡ e' ++ more' → (e ≡ e') × (more ≡ more')
@@ -64,7 +70,7 @@ both : {e e' : List ℕ} {es es' : List (List ℕ)} → e ≡ e' → es ≡ es' 
 both p q = cc
 
 later-once : (es es' : List (List ℕ)) (r r' : List ℕ) → AllEvents es → AllEvents es' → Ends (next_of false r) → Ends (next_of false r') → joined es ++ r ≡ joined es' ++ r' → (es ≡ es') × (r ≡ r')
-unfolding AllEvents
+unfolding AllEvents joined
 later-once [] [] r r' a a' n n' q = (refl, q)
 later-once [] (e' ∷ es') r r' a a' n n' q = absurd (no-front false e' (joined es' ++ r') r a'.0 n (q ∙ append_assoc e' (joined es') r'))
 later-once (e ∷ es) [] r r' a a' n n' q = absurd (no-front false e (joined es ++ r) r' a.0 n' (sym q ∙ append_assoc e (joined es) r))
@@ -74,15 +80,15 @@ later-once (e ∷ es) (e' ∷ es') r r' a a' n n' q =
     (both front.0 more.0, more.1)
 
 -- behind the same settings
-behind-once : (b : Bool) (es es' : List (List ℕ)) (r r' : List ℕ) → (b ≡ true → es ≡ []) → (b ≡ true → es' ≡ []) → AllEvents es → AllEvents es' → Ends (pick b End (next_of false r)) → Ends (pick b End (next_of false r'))
+behind-once : (b : Bool) (es es' : List (List ℕ)) (r r' : List ℕ) → (b ≡ true → es ≡ []) → (b ≡ true → es' ≡ []) → AllEvents es → AllEvents es' → Ends (pick b (Err Clean) (next_of false r)) → Ends (pick b (Err Clean) (next_of false r'))
     → joined es ++ r ≡ joined es' ++ r' → (es ≡ es') × (r ≡ r')
-unfolding pick
+unfolding pick joined
 behind-once true es es' r r' f f' a a' n n' q =
     (f refl ∙ sym (f' refl), sym (ap (λ (x : List (List ℕ)). joined x ++ r) (f refl)) ∙ q ∙ ap (λ (x : List (List ℕ)). joined x ++ r') (f' refl))
 behind-once false es es' r r' f f' a a' n n' q = later-once es es' r r' a a' n n' q
 
 pub cut-once : (input : List ℕ) (es es' : List (List ℕ)) (r r' : List ℕ) → IsCut Plays next_behind input es r → IsCut Plays next_behind input es' r' → (es ≡ es') × (r ≡ r')
-unfolding Plays next_behind
+unfolding Plays next_behind joined
 cut-once input [] [] r r' c c' = (refl, sym c.whole ∙ c'.whole)
 cut-once input [] (s' ∷ es') r r' c c' = absurd (no-front true s' (joined es' ++ r') r c'.events.0 c.ends (sym c.whole ∙ c'.whole ∙ append_assoc s' (joined es') r'))
 cut-once input (s ∷ es) [] r r' c c' = absurd (no-front true s (joined es ++ r) r' c.events.0 c'.ends (sym c'.whole ∙ c.whole ∙ append_assoc s (joined es) r))
@@ -90,7 +96,7 @@ cut-once input (s ∷ es) (s' ∷ es') r r' c c' =
     let front = same-front true s s' (joined es ++ r) (joined es' ++ r') c.events.0 c'.events.0 (sym (append_assoc s (joined es) r) ∙ sym c.whole ∙ c'.whole ∙ append_assoc s' (joined es') r') in
     let same : refused s' ≡ refused s = ap refused (sym front.0) in
     let more =
-    behind-once (refused s) es es' r r' c.events.2 (λ t. c'.events.2 (same ∙ t)) c.events.1 c'.events.1 c.ends (subst (λ (b : Bool). Ends (pick b End (next_of false r'))) same c'.ends) front.1
+    behind-once (refused s) es es' r r' c.events.2 (λ t. c'.events.2 (same ∙ t)) c.events.1 c'.events.1 c.ends (subst (λ (b : Bool). Ends (pick b (Err Clean) (next_of false r'))) same c'.ends) front.1
     in
     (both front.0 more.0, more.1)
 
@@ -116,4 +122,4 @@ pub broken-once : (traced : Bool) (input left old : List ℕ) (new new' : Option
 broken-once traced input left old new new' a b =
     let read = cancel (joined a.es ++ a.part) (joined b.es ++ b.part) left (sym a.read ∙ b.read) in
     let same = cut-once (joined b.es ++ b.part) a.es b.es a.part b.part (record { whole = sym read; events = a.cut.events; ends = a.cut.ends }) b.cut in
-    appended old _ _ new new' (ap (λ (es : List (List ℕ)). run_lines traced es ++ ending Stop) same.0) a.written b.written
+    appended old _ _ new new' (ap (λ (es : List (List ℕ)). run_lines traced es ++ ending (Err NoEvent)) same.0) a.written b.written

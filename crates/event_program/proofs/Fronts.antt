@@ -1,5 +1,5 @@
 -- Fronts of a text. Assumes nothing.
-use Rattle.std.proofs.Common.{◌≡◌, ℕ, ◌+◌, List, ◌++◌, Option, Result, Ok, Err, OnErr, IfErr, IsErrAnd, length, take, drop, sym, ap, subst, ◌∙◌, append_assoc, take-append-drop}
+use Rattle.std.proofs.Common.{◌≡◌, ℕ, ◌+◌, List, [], ◌++◌, Option, Result, Ok, Err, OnErr, IfErr, IsErrAnd, length, take, drop, sym, ap, subst, ◌∙◌, append_assoc, append-nil, take-append-drop}
 use Rattle.std.proofs.KnownBytes.{Appends-trans}
 use lib.Seq.{take-append_seam, take-append-add}
 use Rattle.std.specs.Io.KnownBytes.{Appends}
@@ -21,6 +21,10 @@ if_err_so (Err e) P Q f p = f e p
 -- what was written is a front of a text that begins with it
 pub front-of : (a b : Option (List ℕ)) (done rest all : List ℕ) → all ≡ done ++ rest → Appends a b done → AppendsFront a b all
 front-of a b done rest all e p = (length done, subst (Appends a b) (sym (ap (take (length done)) e ∙ take-append_seam done rest)) p)
+
+-- all of a text is a front of it
+pub front-all : (a b : Option (List ℕ)) (all : List ℕ) → Appends a b all → AppendsFront a b all
+front-all a b all p = front-of a b all [] all (sym (append-nil all)) p
 
 -- and of a longer one
 pub front-first : (a b : Option (List ℕ)) (s t : List ℕ) → AppendsFront a b s → AppendsFront a b (s ++ t)

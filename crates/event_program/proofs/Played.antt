@@ -1,17 +1,17 @@
 -- Where a run stands behind the events that it has played. Assumes nothing.
-use Rattle.std.proofs.Common.{◌≡◌, ℕ, ◌+◌, ◌-◌, ◌^◌, Bool, false, List, [], ◌∷◌, ◌++◌, length, take, length-append, append-nil, Option, Result, IsErr, IsErrAnd, refl, sym, subst, ◌∙◌, arith}
+use Rattle.std.proofs.Common.{◌≡◌, ℕ, ◌+◌, ◌-◌, ◌^◌, Bool, false, List, [], ◌∷◌, ◌++◌, length, length-append, append-nil, Option, Result, IsErr, IsErrAnd, refl, sym, subst, ◌∙◌, arith, Ok}
 use Rattle.std.proofs.KnownBytes.{Appends-nil, Appends-trans, Consumes-nil, Consumes-trans}
 use Rattle.std.specs.Io.KnownBytes.{Appends, Consumes}
 use Rattle.streams.specs.Fronts.{AppendsFront}
 use Rattle.event_program.specs.declared.errors.RunError.{RunError}
-use Rattle.event_program.specs.declared.errors.RunEnd.{RunEnd}
+use Rattle.event_kinds.specs.declared.kinds.InputEnd.{InputEnd}
+use Rattle.event_program.specs.declared.event.Event.{Event}
+use Rattle.frame_parts.specs.Cut.{joined}
 use Rattle.event_program.specs.Ends.{Finished}
 use Rattle.event_program.specs.Output.{PassedOn}
-use Rattle.event_kinds.specs.declared.kinds.Next.{Next}
-use Rattle.event_kinds.specs.declared.kinds.Next.TheVariants.{Whole}
-use Rattle.event_program.specs.Reading.{IsEvent, ReadEvent}
+use Rattle.event_program.specs.Reading.{IsEvent, ReadEvent, event_bytes}
 use Rattle.event_program.specs.Running.{Kept, told, after, lines_from, kept_after, AllEvents}
-use Rattle.event_program.specs.Runs.{joined, lines_on, later, always, PlayedOn}
+use Rattle.event_program.specs.Runs.{lines_on, later, always, PlayedOn}
 use Rattle.event_program.proofs.Fronts.{front-first, front-then}
 use Rattle.event_program.proofs.Runs.{joined-more, kept-more, events-more, text-more, text-passed, begins, CameTo, IsLost, told-lost, finished, finished-behind}
 
@@ -27,7 +27,7 @@ pub record Played (traced : Bool) (first : Kept) (l : List ℕ) (known old now n
   pub text : lines_on traced first l es ≡ done ++ lines
 
 pub none-yet : (traced : Bool) (first : Kept) (l : List ℕ) (known old : Option (List ℕ)) → Played traced first l known old known old first l 1
-unfolding lines_from kept_after AllEvents
+unfolding lines_from kept_after AllEvents joined
 none-yet traced first l known old = record { es = []; done = []; number = refl; events = tt; state = refl; read = Consumes-nil known; written = Appends-nil old; text = append-nil l }
 
 module _ {traced : Bool} {first : Kept} {l : List ℕ} {known old now new : Option (List ℕ)} {k : Kept} {lines : List ℕ} {n : ℕ} (p : Played traced first l known old now new k lines n) where
@@ -44,9 +44,9 @@ module _ {traced : Bool} {first : Kept} {l : List ℕ} {known old now new : Opti
     text = text-more traced first l p.es e p.done lines lines' p.text (rw (p.state, sym p.number) at t);
   }
 
-  pub one-more : (next : Next) (m : ℕ) (event : List ℕ) (now' : Option (List ℕ)) (k' : Kept) (lines' : List ℕ) → next ≡ Whole m → ReadEvent false now next event now' → k' ≡ after k (take m event) → lines' ≡ lines ++ told traced n k (take m event)
+  pub one-more : {next : Result Event InputEnd} {event : Event} {now' : Option (List ℕ)} {k' : Kept} {e lines' : List ℕ} → next ≡ Ok event → ReadEvent false now next now' → e ≡ event_bytes event → k' ≡ after k e → lines' ≡ lines ++ told traced n k e
       → Played traced first l known old now' new k' lines' (n + 1)
-  one-more next m event now' k' lines' w came q t = let read = rw w at came in one-read (take m event) now' k' lines' read.1 read.2 q t
+  one-more {e = e} w came s q t = let read = rw (w, sym s) at came in one-read e _ _ _ read.0 read.1 q t
 
   -- some of the lines are written
   pub some-passed : (new' : Option (List ℕ)) (left : List ℕ) → PassedOn new new' lines left → Played traced first l known old now new' k left n
@@ -71,7 +71,7 @@ module _ {traced : Bool} {first : Kept} {l : List ℕ} {known old now new : Opti
   })
 
   -- the run ends
-  pub ended : (known' new' : Option (List ℕ)) (end : RunEnd) (r : Result Unit RunError) → CameTo always later (2 ^ 64 - 2) now known' p.es end → Finished end new new' lines r → PlayedOn traced first l known known' old new' r
+  pub ended : (known' new' : Option (List ℕ)) (end : Result InputEnd RunError) (r : Result Unit RunError) → CameTo always later (2 ^ 64 - 2) now known' p.es end → Finished end new new' lines r → PlayedOn traced first l known known' old new' r
   ended known' new' end r c f =
-      finished AllEvents always later (lines_on traced first l) (2 ^ 64 - 2) known now known' old new' p.es end r p.events p.read c
+      finished AllEvents always later (lines_on traced first l) (2 ^ 64 - 2) known now known' old new' p.es p.events p.read end r c
       (finished-behind old new new' p.done lines (lines_on traced first l p.es) end r p.text p.written f)

@@ -3,24 +3,24 @@ use Rattle.std.proofs.Common.{◌≡◌, ℕ, suc, ◌+◌, Bool, false, List, [
 use Rattle.event_program.specs.Reading.{IsEvent}
 use Rattle.event_program.specs.Running.{Kept, told, after, lines_from, kept_after, AllEvents}
 use Rattle.std.specs.Io.KnownBytes.{Appends, Consumes}
-use Rattle.event_kinds.specs.declared.kinds.Next.{Next}
+use Rattle.event_kinds.specs.declared.kinds.InputEnd.{InputEnd}
+use Rattle.event_kinds.specs.declared.kinds.InputEnd.TheVariants.{Clean, NoEvent}
 use Rattle.event_program.specs.Reading.{Ends}
 use Rattle.event_program.specs.Running.{ending}
 use mathlib.Core.Bool.{false≢true}
-use Rattle.std.proofs.Common.{is_ok, Result, Ok, Err, IsErr, IsErrAnd, OnOk, IfErr, subst}
+use Rattle.std.proofs.Common.{is_ok, Result, Ok, Err, IsErr, IsErrAnd, OnOk, IfErr, MatchResult, subst}
 use Rattle.event_program.specs.declared.errors.RunError.{RunError}
 use Rattle.event_program.specs.declared.errors.RunError.TheVariants.{Input, Output, Memory, TooMany}
-use Rattle.event_program.specs.declared.errors.RunEnd.{RunEnd}
-use Rattle.event_program.specs.declared.errors.RunEnd.TheVariants.{Clean, NoEvent, Broken, LastNumber}
-use Rattle.event_kinds.specs.declared.kinds.Next.TheVariants.{Stop, End}
 use Rattle.std.proofs.KnownBytes.{Consumes-trans}
 use Rattle.streams.specs.Fronts.{AppendsFront}
+use Rattle.frame_parts.specs.Cut.{joined}
 use Rattle.event_program.specs.Ends.{last_text, Finished}
 use Rattle.event_program.specs.Output.{IsOutput}
-use Rattle.event_program.proofs.Fronts.{front-first, front-last, all-last}
-use Rattle.event_program.specs.Runs.{joined, lines_on, RunsOut, Loses, Told}
+use Rattle.event_program.proofs.Fronts.{front-of, front-first, front-last, all-last}
+use Rattle.event_program.specs.Runs.{lines_on, RunsOut, Loses, Told}
 
 pub joined-more : (es : List (List ℕ)) (e : List ℕ) → joined (es ++ e ∷ []) ≡ joined es ++ e
+unfolding joined
 joined-more [] e = append-nil e
 joined-more (d ∷ es) e = ap (λ (l : List ℕ). d ++ l) (joined-more es e) ∙ sym (append_assoc d (joined es) e)
 
@@ -59,7 +59,7 @@ begins (Some xs) None front c = absurd c
 begins (Some xs) (Some ys) front c = (ys, c)
 
 -- the run is over: of what was left it is known what it begins with
-pub over : (P : List (List ℕ) → Type 0) (N : List (List ℕ) → List ℕ → Next) (T : List (List ℕ) → List ℕ) (known now w w' : Option (List ℕ)) (es : List (List ℕ)) (end : Next)
+pub over : (P : List (List ℕ) → Type 0) (N : List (List ℕ) → List ℕ → Result ℕ InputEnd) (T : List (List ℕ) → List ℕ) (known now w w' : Option (List ℕ)) (es : List (List ℕ)) (end : Result ℕ InputEnd)
     → P es → Consumes known now (joined es) → IfSome now (λ rest. N es rest ≡ end) → Ends end → Appends w w' (T es ++ ending end) → IfSome known (RunsOut P N T w w')
 over P N T None now w w' es end p c n e a = tt
 over P N T (Some xs) None w w' es end p c n e a = absurd c
@@ -83,7 +83,7 @@ output-lost (Output x) o = tt
 output-lost Memory o = absurd o
 output-lost TooMany o = o
 
-lost-by : (P Q : List (List ℕ) → Type 0) (N : List (List ℕ) → List ℕ → Next) (T : List (List ℕ) → List ℕ) (n : ℕ) (known known' w w' : Option (List ℕ)) (e : RunError)
+lost-by : (P Q : List (List ℕ) → Type 0) (N : List (List ℕ) → List ℕ → Result ℕ InputEnd) (T : List (List ℕ) → List ℕ) (n : ℕ) (known known' w w' : Option (List ℕ)) (e : RunError)
     → IsLost e → Loses P T known w w' → Told P Q N T n known known' w w' (Err e)
 lost-by P Q N T n known known' w w' (Input x) o l = absurd o
 lost-by P Q N T n known known' w w' (Output x) o l = l
@@ -91,7 +91,7 @@ lost-by P Q N T n known known' w w' Memory o l = l
 lost-by P Q N T n known known' w w' TooMany o l = absurd o
 
 -- and that is handed on
-pub told-lost : (P Q : List (List ℕ) → Type 0) (N : List (List ℕ) → List ℕ → Next) (T : List (List ℕ) → List ℕ) (n : ℕ) (known known' w w' : Option (List ℕ)) (r : Result Unit RunError) (e : RunError)
+pub told-lost : (P Q : List (List ℕ) → Type 0) (N : List (List ℕ) → List ℕ → Result ℕ InputEnd) (T : List (List ℕ) → List ℕ) (n : ℕ) (known known' w w' : Option (List ℕ)) (r : Result Unit RunError) (e : RunError)
     → IsErr r → IsErrAnd r (λ x. x ≡ e) → IsLost e → Loses P T known w w' → Told P Q N T n known known' w w' r
 told-lost P Q N T n known known' w w' (Ok u) e i h o l = absurd (false≢true i)
 told-lost P Q N T n known known' w w' (Err x) e i h o l = lost-by P Q N T n known known' w w' x (subst IsLost (sym h) o) l
@@ -108,47 +108,60 @@ ok-so (Err e) (Ok x) P v p = absurd (false≢true (sym v))
 ok-so (Err e) (Err f) P v p = tt
 
 -- what a run came to behind the events es: the end of the input, a read that failed behind a part that is no event, or the last number
-abbrev pub CameTo : (Q : List (List ℕ) → Type 0) (N : List (List ℕ) → List ℕ → Next) (n : ℕ) (now known' : Option (List ℕ)) (es : List (List ℕ)) → RunEnd → Type 0
-CameTo Q N n now known' es Clean = IfSome now (λ rest. N es rest ≡ End)
-CameTo Q N n now known' es NoEvent = IfSome now (λ rest. N es rest ≡ Stop)
-CameTo Q N n now known' es (Broken e) = Q es × ((part : List ℕ) × Consumes now known' part × Ends (N es part))
-CameTo Q N n now known' es LastNumber = (length es ≡ n) × (now ≡ known')
+abbrev pub CameTo : (Q : List (List ℕ) → Type 0) (N : List (List ℕ) → List ℕ → Result ℕ InputEnd) (n : ℕ) (now known' : Option (List ℕ)) (es : List (List ℕ)) → Result InputEnd RunError → Type 0
+CameTo Q N n now known' es (Ok end) = IfSome now (λ rest. N es rest ≡ Err end)
+CameTo Q N n now known' es (Err (Input e)) = Q es × ((part : List ℕ) × Consumes now known' part × Ends (N es part))
+CameTo Q N n now known' es (Err TooMany) = (length es ≡ n) × (now ≡ known')
+CameTo Q N n now known' es (Err e) = ⊥
 
 -- a front of the lines and of the last text is one of the lines and of `stop`
-front-stop : (w w' : Option (List ℕ)) (end : RunEnd) (text : List ℕ) → AppendsFront w w' (text ++ last_text end) → AppendsFront w w' (text ++ ending Stop)
+front-stop : (w w' : Option (List ℕ)) (end : Result InputEnd RunError) (text : List ℕ) → AppendsFront w w' (text ++ last_text end) → AppendsFront w w' (text ++ ending (Err NoEvent))
 unfolding ending
-front-stop w w' Clean text f = front-first w w' text (ending Stop) (rw (append-nil text) at f)
-front-stop w w' NoEvent text f = f
-front-stop w w' (Broken e) text f = f
-front-stop w w' LastNumber text f = f
+front-stop w w' (Ok Clean) text f = front-first w w' text (ending (Err NoEvent)) (rw (append-nil text) at f)
+front-stop w w' (Ok NoEvent) text f = f
+front-stop w w' (Err e) text f = f
 
 -- so it ends, where its lines and the last text could be written, and where they could not
-pub finished : (P Q : List (List ℕ) → Type 0) (N : List (List ℕ) → List ℕ → Next) (T : List (List ℕ) → List ℕ) (n : ℕ) (known now known' w w' : Option (List ℕ)) (es : List (List ℕ)) (end : RunEnd) (r : Result Unit RunError)
-    → P es → Consumes known now (joined es) → CameTo Q N n now known' es end → Finished end w w' (T es) r → Told P Q N T n known known' w w' r
-finished P Q N T n known now known' w w' es Clean (Ok u) p c m f = over P N T known now w w' es End p c m tt f.1
-finished P Q N T n known now known' w w' es NoEvent (Ok u) p c m f = over P N T known now w w' es Stop p c m tt f.1
-finished P Q N T n known now known' w w' es (Broken e) (Ok u) p c m f = absurd (cc (f.0))
-finished P Q N T n known now known' w w' es LastNumber (Ok u) p c m f = absurd (cc (f.0))
-finished P Q N T n known now known' w w' es Clean (Err (Input x)) p c m f = absurd (cc (f.0))
-finished P Q N T n known now known' w w' es NoEvent (Err (Input x)) p c m f = absurd (cc (f.0))
-finished P Q N T n known now known' w w' es (Broken e) (Err (Input x)) p c m f = record {
-  es = es;
-  looked = m.0;
-  part = m.1.0;
-  read = Consumes-trans known now known' (joined es) m.1.0 c m.1.1;
-  cut = record { whole = refl; events = p; ends = m.1.2 };
-  written = f.1;
-}
-finished P Q N T n known now known' w w' es LastNumber (Err (Input x)) p c m f = absurd (cc (f.0))
-finished P Q N T n known now known' w w' es end (Err (Output x)) p c m f = record { es = es; begins = begins known now (joined es) c; events = p; written = front-stop w w' end (T es) f }
-finished P Q N T n known now known' w w' es end (Err Memory) p c m f = absurd f
-finished P Q N T n known now known' w w' es Clean (Err TooMany) p c m f = absurd (cc (f.0))
-finished P Q N T n known now known' w w' es NoEvent (Err TooMany) p c m f = absurd (cc (f.0))
-finished P Q N T n known now known' w w' es (Broken e) (Err TooMany) p c m f = absurd (cc (f.0))
-finished P Q N T n known now known' w w' es LastNumber (Err TooMany) p c m f = record { es = es; last = m.0; read = subst (λ (k : Option (List ℕ)). Consumes known k (joined es)) m.1 c; events = p; written = f.1 }
+module _ (P Q : List (List ℕ) → Type 0) (N : List (List ℕ) → List ℕ → Result ℕ InputEnd) (T : List (List ℕ) → List ℕ) (n : ℕ) (known now known' w w' : Option (List ℕ)) (es : List (List ℕ)) (events : P es) (read : Consumes known now (joined es)) where
+  broken : (e : RunError) → CameTo Q N n now known' es (Err e) → Appends w w' (T es ++ ending (Err NoEvent)) → Told P Q N T n known known' w w' (Err e)
+  broken (Input e) m a = record {
+    es = es;
+    looked = m.0;
+    part = m.1.0;
+    read = Consumes-trans known now known' (joined es) m.1.0 read m.1.1;
+    cut = record { whole = refl; events = events; ends = m.1.2 };
+    written = a;
+  }
+  broken (Output e) m a = absurd m
+  broken Memory m a = absurd m
+  broken TooMany m a = record { es = es; last = m.0; read = subst (λ (k : Option (List ℕ)). Consumes known k (joined es)) m.1 read; events = events; written = a }
+
+  same-end : (end : Result InputEnd RunError) (e : RunError) → CameTo Q N n now known' es end → (end ≡ Err e) × Appends w w' (T es ++ last_text end) → Told P Q N T n known known' w w' (Err e)
+  same-end end e m f = broken e (subst (CameTo Q N n now known' es) f.0 m) (subst (λ (x : Result InputEnd RunError). Appends w w' (T es ++ last_text x)) f.0 f.1)
+
+  pub finished : (end : Result InputEnd RunError) (r : Result Unit RunError) → CameTo Q N n now known' es end → Finished end w w' (T es) r → Told P Q N T n known known' w w' r
+  finished (Ok end) (Ok u) m f = over P N T known now w w' es (Err end) events read m tt f.1
+  finished (Err e) (Ok u) m f = absurd (false≢true f.0)
+  finished end (Err (Input x)) m f = same-end end (Input x) m f
+  finished end (Err (Output x)) m f = record { es = es; begins = begins known now (joined es) read; events = events; written = front-stop w w' end (T es) f }
+  finished end (Err Memory) m f = same-end end Memory m f
+  finished end (Err TooMany) m f = same-end end TooMany m f
+
+-- all could be written
+written-broken : (w w' : Option (List ℕ)) (lines : List ℕ) (e : RunError) → Appends w w' (lines ++ ending (Err NoEvent)) → Finished (Err e) w w' lines (Err e)
+written-broken w w' lines (Input x) a = (refl, a)
+written-broken w w' lines (Output x) a = front-of w w' _ [] _ (sym (append-nil (lines ++ ending (Err NoEvent)))) a
+written-broken w w' lines Memory a = (refl, a)
+written-broken w w' lines TooMany a = (refl, a)
+
+pub written : (end : Result InputEnd RunError) (w w' : Option (List ℕ)) (lines : List ℕ) (F : InputEnd → Type 0) (r : Result Unit RunError)
+    → MatchResult end F (λ e. r ≡ Err e) → is_ok r ≡ is_ok end → Appends w w' (lines ++ last_text end) → Finished end w w' lines r
+written (Ok i) w w' lines F (Ok u) h v a = (refl, a)
+written (Ok i) w w' lines F (Err e) h v a = absurd (false≢true v)
+written (Err e) w w' lines F r h v a = subst (Finished (Err e) w w' lines) (sym h) (written-broken w w' lines e a)
 
 -- a write failed
-pub unfinished : (end : RunEnd) (w w' : Option (List ℕ)) (lines : List ℕ) (F : Type 0) (r : Result Unit RunError) → IsErr r → IfErr r (λ e. IsOutput e × F) → (F → AppendsFront w w' (lines ++ last_text end)) → Finished end w w' lines r
+pub unfinished : (end : Result InputEnd RunError) (w w' : Option (List ℕ)) (lines : List ℕ) (F : Type 0) (r : Result Unit RunError) → IsErr r → IfErr r (λ e. IsOutput e × F) → (F → AppendsFront w w' (lines ++ last_text end)) → Finished end w w' lines r
 unfinished end w w' lines F (Ok u) i f h = absurd (false≢true i)
 unfinished end w w' lines F (Err (Input x)) i f h = absurd f.0
 unfinished end w w' lines F (Err (Output x)) i f h = h f.1
@@ -156,9 +169,9 @@ unfinished end w w' lines F (Err Memory) i f h = absurd f.0
 unfinished end w w' lines F (Err TooMany) i f h = absurd f.0
 
 -- of the lines some were written before
-pub finished-behind : (a w w' : Option (List ℕ)) (done lines text : List ℕ) (end : RunEnd) (r : Result Unit RunError) → text ≡ done ++ lines → Appends a w done → Finished end w w' lines r → Finished end a w' text r
+pub finished-behind : (a w w' : Option (List ℕ)) (done lines text : List ℕ) (end : Result InputEnd RunError) (r : Result Unit RunError) → text ≡ done ++ lines → Appends a w done → Finished end w w' lines r → Finished end a w' text r
 finished-behind a w w' done lines text end (Ok u) e p f = (f.0, all-last a w w' done lines text (last_text end) e p f.1)
 finished-behind a w w' done lines text end (Err (Input x)) e p f = (f.0, all-last a w w' done lines text (last_text end) e p f.1)
 finished-behind a w w' done lines text end (Err (Output x)) e p f = front-last a w w' done lines text (last_text end) e p f
-finished-behind a w w' done lines text end (Err Memory) e p f = f
+finished-behind a w w' done lines text end (Err Memory) e p f = (f.0, all-last a w w' done lines text (last_text end) e p f.1)
 finished-behind a w w' done lines text end (Err TooMany) e p f = (f.0, all-last a w w' done lines text (last_text end) e p f.1)

@@ -1,9 +1,9 @@
 -- The whole run, from the run behind the settings. Assumes nothing.
-use Rattle.std.proofs.Common.{◌≡◌, ℕ, suc, ◌*◌, Bool, true, false, List, [], ◌∷◌, ◌++◌, Option, Some, None, IfSome, Result, Ok, Err, subst, sym, refl, ap, ◌∙◌, append-nil, append_assoc, true≢false}
+use Rattle.std.proofs.Common.{◌≡◌, ℕ, suc, Bool, true, false, List, [], ◌∷◌, ◌++◌, Option, Some, None, IfSome, Result, Ok, Err, OnOk, OnErr, subst, sym, refl, ap, ◌∙◌, append-nil, append_assoc, true≢false}
 use Rattle.std.specs.Io.KnownBytes.{Appends, Consumes}
 use Rattle.std.proofs.KnownBytes.{Consumes-trans, Consumes-nil, Appends-nil}
-use Rattle.event_kinds.specs.declared.kinds.Next.{Next}
-use Rattle.event_kinds.specs.declared.kinds.Next.TheVariants.{Stop, End}
+use Rattle.event_kinds.specs.declared.kinds.InputEnd.{InputEnd}
+use Rattle.event_kinds.specs.declared.kinds.InputEnd.TheVariants.{Clean, NoEvent}
 use Rattle.event_kinds.specs.Kinds.{next_of}
 use lib.Dec.{eqb}
 use Rattle.events.specs.Start.{start_by, start_of}
@@ -12,13 +12,14 @@ use Rattle.device.specs.declared.state.Device.{Device}
 use Rattle.event_program.specs.Lines.{line_of}
 use Rattle.event_program.specs.Running.{kept}
 use Rattle.std.specs.Prelude.{replicate, ◌&&◌, leb, is_some, option_copied}
-use Rattle.std.proofs.Common.{length, take, length-take-le, ap₂, ◌≤◌, get_or, arith}
+use Rattle.std.proofs.Common.{length, take, length-take-le, ap₂, ◌<◌, ◌≤◌, get_or, arith}
 use borrow.Author.Tests.{leb-true}
 use Rattle.bits.proofs.Picks.{by-test, and_right}
 use denote.Ref.{Bor}
 use Rattle.std.specs.Result.{result_err, result_copied}
 use Rattle.refusals.specs.declared.reasons.Refusal.{Refusal}
 use Rattle.std.proofs.lemmas.List.{length-replicate}
+use Rattle.device_state.specs.State.{medium_size}
 use Rattle.device_state.specs.declared.shapes.Settings.{Settings}
 use Rattle.device.specs.Device.{freshDevice, powered, powerRefusal, powerOn}
 use Rattle.device.specs.Sealing.{poweredOf}
@@ -26,23 +27,20 @@ use Rattle.device.specs.declared.sealed.Sealed.{Sealed}
 use Rattle.event_kinds.specs.Kinds.{isEvent}
 use Rattle.event_kinds.specs.Settings.{asked_of, settingsOf, inLimit}
 use Rattle.bits.specs.Pick.{pick}
+use Rattle.frame_parts.specs.Cut.{joined}
 use Rattle.event_program.specs.declared.errors.RunError.{RunError}
 use Rattle.event_program.specs.declared.errors.RunError.TheVariants.{Input, Output, Memory, TooMany}
 use Rattle.event_program.specs.Reading.{Ends, IsEvent}
 use Rattle.streams.specs.Fronts.{AppendsFront}
 use Rattle.event_program.specs.Running.{Kept, AllEvents, lines_from, ending, refused, started, start_line, run_lines, Plays, ReadsOn, next_behind}
-use Rattle.event_program.specs.Runs.{joined, Ran, PlayedOn, lines_on, Loses}
-use Rattle.event_program.specs.declared.errors.RunEnd.TheVariants.{Clean}
+use Rattle.event_program.specs.Runs.{Ran, RunAloud, HasRun, PlayedOn, lines_on, Loses}
 use Rattle.event_program.specs.Ends.{Finished}
-use Rattle.event_program.proofs.Fronts.{front-of}
+use Rattle.event_program.proofs.Fronts.{front-of, front-all}
 use Rattle.event_program.proofs.Runs.{begins, finished}
-
-joined-first : (s : List ℕ) (es : List (List ℕ)) → joined (s ∷ es) ≡ s ++ joined es
-joined-first s es = refl
 
 -- nothing is known to be written yet, and no event is known to be read
 pub loses-all : (traced : Bool) (known w : Option (List ℕ)) → Loses Plays (run_lines traced) known w w
-unfolding Plays
+unfolding Plays joined
 loses-all traced known w = record { es = []; begins = begins known known [] (Consumes-nil known); events = tt; written = front-of w w [] _ _ refl (Appends-nil w) }
 
 lines-same : (traced : Bool) (s lines : List ℕ) (k : Kept) (es : List (List ℕ)) → lines ≡ start_line traced s → k ≡ started s → lines_on traced k lines es ≡ run_lines traced (s ∷ es)
@@ -64,11 +62,12 @@ begins-more (Some xs) (Some ys) s front c b = (b.0, c ∙ ap (λ (l : List ℕ).
 
 lost-from : (traced : Bool) (s lines : List ℕ) (k : Kept) (before known w w' : Option (List ℕ))
     → refused s ≡ false → IsEvent true s → Consumes before known s → lines ≡ start_line traced s → k ≡ started s → Loses AllEvents (lines_on traced k lines) known w w' → Loses Plays (run_lines traced) before w w'
+unfolding joined
 lost-from traced s lines k before known w w' h i c p q t = record {
   es = s ∷ t.es;
   begins = begins-more before known s (joined t.es) c t.begins;
   events = plays-more s t.es h i t.events;
-  written = subst (AppendsFront w w') (ap (λ (l : List ℕ). l ++ ending Stop) (lines-same traced s lines k t.es p q)) t.written;
+  written = subst (AppendsFront w w') (ap (λ (l : List ℕ). l ++ ending (Err NoEvent)) (lines-same traced s lines k t.es p q)) t.written;
 }
 
 reads-on : (s : List ℕ) (es : List (List ℕ)) → refused s ≡ false → ReadsOn (s ∷ es)
@@ -78,6 +77,7 @@ reads-on s es h = h
 -- the events behind the settings are those of the whole run
 pub from-start : (traced : Bool) (s lines : List ℕ) (k : Kept) (before known known' w w' : Option (List ℕ)) (r : Result Unit RunError)
     → refused s ≡ false → IsEvent true s → Consumes before known s → lines ≡ start_line traced s → k ≡ started s → PlayedOn traced k lines known known' w w' r → Ran traced before known' w w' r
+unfolding joined
 from-start traced s lines k None known known' w w' (Ok u) h i c p q t = tt
 from-start traced s lines k (Some xs) None known' w w' (Ok u) h i c p q t = absurd c
 from-start traced s lines k (Some xs) (Some ys) known' w w' (Ok u) h i c p q t = record {
@@ -88,7 +88,7 @@ from-start traced s lines k (Some xs) (Some ys) known' w w' (Ok u) h i c p q t =
     events = plays-more s t.es h i t.cut.events;
     ends = subst Ends (next-same s t.es t.rest h) t.cut.ends;
   };
-  written = subst (Appends w w') (ap (λ (l : List ℕ). l ++ ending (next_of false t.rest)) (lines-same traced s lines k t.es p q) ∙ ap (λ (n : Next). run_lines traced (s ∷ t.es) ++ ending n) (next-same s t.es t.rest h)) t.written;
+  written = subst (Appends w w') (ap (λ (l : List ℕ). l ++ ending (next_of false t.rest)) (lines-same traced s lines k t.es p q) ∙ ap (λ (n : Result ℕ InputEnd). run_lines traced (s ∷ t.es) ++ ending n) (next-same s t.es t.rest h)) t.written;
 }
 from-start traced s lines k before known known' w w' (Err (Input e)) h i c p q t = record {
   es = s ∷ t.es;
@@ -96,7 +96,7 @@ from-start traced s lines k before known known' w w' (Err (Input e)) h i c p q t
   part = t.part;
   read = subst (Consumes before known') (sym (append_assoc s (joined t.es) t.part)) (Consumes-trans before known known' s _ c t.read);
   cut = record { whole = refl; events = plays-more s t.es h i t.cut.events; ends = subst Ends (next-same s t.es t.part h) t.cut.ends };
-  written = subst (Appends w w') (ap (λ (l : List ℕ). l ++ ending Stop) (lines-same traced s lines k t.es p q)) t.written;
+  written = subst (Appends w w') (ap (λ (l : List ℕ). l ++ ending (Err NoEvent)) (lines-same traced s lines k t.es p q)) t.written;
 }
 from-start traced s lines k before known known' w w' (Err (Output e)) h i c p q t = lost-from traced s lines k before known w w' h i c p q t
 from-start traced s lines k before known known' w w' (Err Memory) h i c p q t = lost-from traced s lines k before known w w' h i c p q t
@@ -105,11 +105,11 @@ from-start traced s lines k before known known' w w' (Err TooMany) h i c p q t =
   last = ap suc t.last;
   read = Consumes-trans before known known' s (joined t.es) c t.read;
   events = plays-more s t.es h i t.events;
-  written = subst (Appends w w') (ap (λ (l : List ℕ). l ++ ending Stop) (lines-same traced s lines k t.es p q)) t.written;
+  written = subst (Appends w w') (ap (λ (l : List ℕ). l ++ ending (Err NoEvent)) (lines-same traced s lines k t.es p q)) t.written;
 }
 
 -- refused settings end a run
-next-refused : (s : List ℕ) (rest : List ℕ) → refused s ≡ true → next_behind (s ∷ []) rest ≡ End
+next-refused : (s : List ℕ) (rest : List ℕ) → refused s ≡ true → next_behind (s ∷ []) rest ≡ Err Clean
 unfolding next_behind pick
 next-refused s rest h = rw h refl
 
@@ -126,12 +126,14 @@ all-known None f = tt
 all-known (Some l) f = f l
 
 pub stays-refused : (traced : Bool) (s lines : List ℕ) (before known known' w w' : Option (List ℕ)) (r : Result Unit RunError) → refused s ≡ true → IsEvent true s → Consumes before known s → lines ≡ start_line traced s
-    → Finished Clean w w' lines r → Ran traced before known' w w' r
+    → Finished (Ok Clean) w w' lines r → Ran traced before known' w w' r
+unfolding joined
 stays-refused traced s lines before known known' w w' r h i c p f =
-    finished Plays ReadsOn next_behind (run_lines traced) _ before known known' w w' (s ∷ []) Clean r (plays-refused s i)
+    finished Plays ReadsOn next_behind (run_lines traced) _ before known known' w w' (s ∷ []) (plays-refused s i)
     (subst (Consumes before known) (sym (append-nil s)) c)
+    (Ok Clean) r
     (all-known known (λ rest. next-refused s rest h))
-    (subst (λ (l : List ℕ). Finished Clean w w' l r) (p ∙ sym (line-refused traced s)) f)
+    (subst (λ (l : List ℕ). Finished (Ok Clean) w w' l r) (p ∙ sym (line-refused traced s)) f)
 
 -- a start leaves nothing outstanding
 none-out : (o : Option Refusal) (s : Settings) → (powered o s).status.outstanding ≡ 0
@@ -179,9 +181,9 @@ line-is : (traced : Bool) (s : List ℕ) (begun : Result Sealed Refusal) (given 
 line-is traced s begun given none lines e n k q =
     q ∙ ap (λ (l : List ℕ). l ++ line_of traced 0 given 0 []) k ∙ ap₂ (λ (r : Option Refusal) (t : ℕ). line_of traced 0 r t []) (n ∙ ap (λ (x : Outcome). x.refusal) e) (sym (none-outstanding s))
 
-pub first-line : (traced : Bool) (s : List ℕ) (begun : Result Sealed Refusal) (r : Result (Bor Sealed) (Bor Refusal)) (o : Option (Bor Refusal)) (given : Option Refusal) (none lines : List ℕ)
+pub first-line : (traced : Bool) (s : List ℕ) {begun : Result Sealed Refusal} (r : Result (Bor Sealed) (Bor Refusal)) {o : Option (Bor Refusal)} {given : Option Refusal} {none lines : List ℕ}
     → poweredOf begun ≡ start_of s → result_copied r ≡ begun → o ≡ result_err r → given ≡ option_copied o → none ≡ [] → lines ≡ none ++ line_of traced 0 given 0 [] → lines ≡ start_line traced s
-first-line traced s begun r o given none lines e p q t k l = line-is traced s begun given none lines e (refusal-copied begun r o given p q t) k l
+first-line traced s r e p q t k l = line-is traced s _ _ _ _ e (refusal-copied _ r _ _ p q t) k l
 
 -- the medium of a run has room in the program's array
 and_assoc : (a b c : Bool) → (a && b && c) ≡ ((a && b) && c)
@@ -213,13 +215,20 @@ started-in-limit : (e : List ℕ) → (start_of e).state.settings.capacity ≤ 6
 unfolding start_of
 started-in-limit e = by-in-limit (asked_of e) (in-limit e)
 
-pub medium-fits : (s : List ℕ) (r : Result Sealed Refusal) (d : Sealed) → poweredOf r ≡ start_of s → r ≡ Ok d → d.device.settings.capacity ≤ 64
+pub medium-fits : (s : List ℕ) {r : Result Sealed Refusal} {d : Sealed} → poweredOf r ≡ start_of s → r ≡ Ok d → d.device.settings.capacity ≤ 64
 unfolding poweredOf
-medium-fits s r d e o = subst (λ (n : ℕ). n ≤ 64) (sym (ap (λ (x : Outcome). x.state.settings.capacity) (sym (ap poweredOf o) ∙ e))) (started-in-limit s)
+medium-fits s e o = subst (λ (n : ℕ). n ≤ 64) (sym (ap (λ (x : Outcome). x.state.settings.capacity) (sym (ap poweredOf o) ∙ e))) (started-in-limit s)
 
-pub room-is : (s : List ℕ) (r : Result Sealed Refusal) (d : Sealed) → poweredOf r ≡ start_of s → r ≡ Ok d → (room : List ℕ) → room ≡ replicate 32768 0 → 512 * d.device.settings.capacity ≡ length (take (512 * d.device.settings.capacity) room)
-room-is s r d e o room q = let f = medium-fits s r d e o in sym (length-take-le (512 * d.device.settings.capacity) room (rw q (omega (arith, f, length-replicate {A = ℕ} 32768 0))))
+pub room-is : (s : List ℕ) (r : Result Sealed Refusal) (d : Sealed) → poweredOf r ≡ start_of s → r ≡ Ok d → (n : ℕ) → n ≡ medium_size d.device.settings.capacity → (room : List ℕ) → room ≡ replicate 32768 0 → n ≡ length (take n room)
+room-is s r d e o n size room q = let f = medium-fits s e o in sym (length-take-le n room (rw q (omega (arith, f, size, length-replicate {A = ℕ} 32768 0))))
 
-pub started-is : (s : List ℕ) (d : Sealed) (m b : List ℕ) → poweredOf (Ok d) ≡ start_of s → m ≡ replicate (512 * d.device.settings.capacity) 0 → b ≡ replicate 8196 0 → kept d.device m b ≡ started s
+pub started-is : (s : List ℕ) (d : Sealed) (m b : List ℕ) → poweredOf (Ok d) ≡ start_of s → (n : ℕ) → n ≡ medium_size d.device.settings.capacity → m ≡ replicate n 0 → b ≡ replicate 8196 0 → kept d.device m b ≡ started s
 unfolding started poweredOf
-started-is s d m b e p q = same-kept (ap (λ (x : Outcome). x.state) e) (p ∙ ap (λ (x : Outcome). replicate (512 * x.state.settings.capacity) 0) e) q
+started-is s d m b e n size p q =
+    same-kept (ap (λ (x : Outcome). x.state) e) (p ∙ ap (λ (k : ℕ). replicate k 0) (size ∙ ap (λ (x : Outcome). medium_size x.state.settings.capacity) e)) q
+
+-- whether all could be said of a run or not, what was said of it is a front
+pub run-said : {A E : Type 0} (r : Result A E) (piece : ℕ) (traced : Bool) (known w w' v v' : Option (List ℕ)) → OnOk r (0 < piece → RunAloud traced known w w' v v') → OnErr r (0 < piece → HasRun traced known w w' v v')
+    → 0 < piece → HasRun traced known w w' v v'
+run-said (Ok a) piece traced known w w' v v' told front some = let t = told some in (t.0, t.1, t.2, front-all v v' _ t.3)
+run-said (Err e) piece traced known w w' v v' told front some = front some

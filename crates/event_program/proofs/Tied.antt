@@ -25,5 +25,5 @@ tied-a-run-has-one-text = by (say (λ κs a. tt) (λ κs a r ws p. (p.0, p.1))) 
 
 pub tied-run-in-pieces : (R W E : RattleType) (l : Laws R) (m : Laws W) (n : Laws E) (g : Reader.Ghosts R.Denot) (d : Dict) (f : Dict) (h : Writer.Ghosts W.Denot) (e : Dict) (i : Writer.Ghosts E.Denot) (j : Dict)
     → SaysOver (pieces-said.run_in_pieces.ended R W E g d h e i j f) (λ κs a. ((x : ℕ) → Mem x R.lives → Mem x κs.1.1.0) × (((x : ℕ) → Mem x W.lives → Mem x κs.1.1.1.0) × ((x : ℕ) → Mem x E.lives → Mem x κs.1.1.1.1.0))) (pieces.run_in_pieces.Reads.Asked R W E l m n g d h e i j f) (pieces.run_in_pieces.Reads.Post R W E l m n g d h e i j f)
-    (λ κs a r ws. 0 < a.1.1.0 → HasRun a.1.0 (g.remaining a.1.1.1.0) (h.contents a.1.1.1.1.0.now) (h.contents ws.1.1.1.1.0))
+    (λ κs a r ws. 0 < a.1.1.0 → HasRun a.1.0 (g.remaining a.1.1.1.0) (h.contents a.1.1.1.1.0.now) (h.contents ws.1.1.1.1.0) (i.contents a.1.1.1.1.1.0.now) (i.contents ws.1.1.1.1.1.0))
 tied-run-in-pieces R W E l m n g d f h e i j = record { free = λ κs a x. x; says = λ κs a r ws p. p }

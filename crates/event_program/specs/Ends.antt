@@ -1,32 +1,20 @@
 -- What a run writes last, and its result. Assumes nothing.
-use Rattle.std.specs.Prelude.{◌≡◌, List, ◌++◌, ℕ, Option, Result, Ok, Err}
+use Rattle.std.specs.Prelude.{◌≡◌, List, ◌++◌, ℕ, Option, Result, Ok, Err, IsOk}
 use Rattle.std.specs.Io.KnownBytes.{Appends}
 use Rattle.streams.specs.Fronts.{AppendsFront}
-use Rattle.event_kinds.specs.declared.kinds.Next.TheVariants.{Stop, End}
+use Rattle.event_kinds.specs.declared.kinds.InputEnd.{InputEnd}
+use Rattle.event_kinds.specs.declared.kinds.InputEnd.TheVariants.{NoEvent}
 use Rattle.event_program.specs.Running.{ending}
 use Rattle.event_program.specs.declared.errors.RunError.{RunError}
-use Rattle.event_program.specs.declared.errors.RunError.TheVariants.{Input, Output, Memory, TooMany}
-use Rattle.event_program.specs.declared.errors.RunEnd.{RunEnd}
-use Rattle.event_program.specs.declared.errors.RunEnd.TheVariants.{Clean, NoEvent, Broken, LastNumber}
+use Rattle.event_program.specs.declared.errors.RunError.TheVariants.{Output}
 
 -- nothing behind a clean end, and else `stop`
-abbrev pub last_text : RunEnd → List ℕ
-last_text Clean = ending End
-last_text NoEvent = ending Stop
-last_text (Broken e) = ending Stop
-last_text LastNumber = ending Stop
+abbrev pub last_text : Result InputEnd RunError → List ℕ
+last_text (Ok end) = ending (Err end)
+last_text (Err e) = ending (Err NoEvent)
 
--- an end of the input is no error
-abbrev pub result_of : RunEnd → Result Unit RunError
-result_of Clean = Ok tt
-result_of NoEvent = Ok tt
-result_of (Broken e) = Err (Input e)
-result_of LastNumber = Err TooMany
-
--- the lines that were left and the last text are written, and the result is that of the end; or a write failed, and a front of them is
-abbrev pub Finished : RunEnd → Option (List ℕ) → Option (List ℕ) → List ℕ → Result Unit RunError → Type 0
-Finished end old new lines (Ok u) = (Ok u ≡ result_of end) × Appends old new (lines ++ last_text end)
-Finished end old new lines (Err (Input e)) = (Err (Input e) ≡ result_of end) × Appends old new (lines ++ last_text end)
+-- the lines that were left and the last text are written, and an end of the input is no error; or a write failed, and a front of them is
+abbrev pub Finished : Result InputEnd RunError → Option (List ℕ) → Option (List ℕ) → List ℕ → Result Unit RunError → Type 0
+Finished end old new lines (Ok u) = IsOk end × Appends old new (lines ++ last_text end)
 Finished end old new lines (Err (Output e)) = AppendsFront old new (lines ++ last_text end)
-Finished end old new lines (Err Memory) = ⊥
-Finished end old new lines (Err TooMany) = (Err TooMany ≡ result_of end) × Appends old new (lines ++ last_text end)
+Finished end old new lines (Err e) = (end ≡ Err e) × Appends old new (lines ++ last_text end)

@@ -1,13 +1,14 @@
 -- What is written for the events of a run. Assumes nothing.
-use Rattle.std.specs.Prelude.{◌≡◌, Bool, true, false, List, [], ◌∷◌, ◌++◌, ℕ, ◌+◌, ◌*◌, replicate, is_some}
+use Rattle.std.specs.Prelude.{◌≡◌, Bool, true, false, List, [], ◌∷◌, ◌++◌, ℕ, ◌+◌, replicate, is_some, codes, Result, Ok, Err}
 use Rattle.bits.specs.Pick.{pick}
 use Rattle.bits.specs.Laid.{laid}
+use Rattle.device_state.specs.State.{medium_size}
 use Rattle.device.specs.Step.{Step, bytes_of}
 use Rattle.device.specs.declared.state.Device.{Device}
 use Rattle.events.specs.Played.{eventStep}
 use Rattle.events.specs.Start.{start_of}
-use Rattle.event_kinds.specs.declared.kinds.Next.{Next}
-use Rattle.event_kinds.specs.declared.kinds.Next.TheVariants.{Whole, Stop, End}
+use Rattle.event_kinds.specs.declared.kinds.InputEnd.{InputEnd}
+use Rattle.event_kinds.specs.declared.kinds.InputEnd.TheVariants.{Clean, NoEvent}
 use Rattle.event_kinds.specs.Kinds.{next_of}
 use Rattle.event_program.specs.Reading.{IsEvent}
 use Rattle.event_program.specs.Lines.{line_of}
@@ -50,10 +51,10 @@ AllEvents [] = Unit
 AllEvents (e ∷ es) = IsEvent false e × AllEvents es
 
 -- what is written at the end
-unfoldable pub ending : Next → List ℕ
-ending (Whole n) = []
-ending Stop = 115 ∷ 116 ∷ 111 ∷ 112 ∷ 10 ∷ []
-ending End = []
+unfoldable pub ending : Result ℕ InputEnd → List ℕ
+ending (Ok n) = []
+ending (Err NoEvent) = codes "stop\n"
+ending (Err Clean) = []
 
 -- the settings record is refused
 abbrev pub refused : List ℕ → Bool
@@ -61,7 +62,7 @@ refused s = is_some (start_of s).refusal
 
 -- what a run begins with: a medium of zeros, and a reply buffer of zeros
 unfoldable pub started : List ℕ → Kept
-started s = kept (start_of s).state (replicate (512 * (start_of s).state.settings.capacity) 0) (replicate 8196 0)
+started s = kept (start_of s).state (replicate (medium_size (start_of s).state.settings.capacity) 0) (replicate 8196 0)
 
 -- the line of the settings record, the first: there is no reply
 abbrev pub start_line : Bool → List ℕ → List ℕ
@@ -83,6 +84,6 @@ ReadsOn [] = Unit
 ReadsOn (s ∷ es) = refused s ≡ false
 
 -- what follows the events: behind refused settings nothing is looked at
-unfoldable pub next_behind : List (List ℕ) → List ℕ → Next
+unfoldable pub next_behind : List (List ℕ) → List ℕ → Result ℕ InputEnd
 next_behind [] rest = next_of true rest
-next_behind (s ∷ es) rest = pick (refused s) End (next_of false rest)
+next_behind (s ∷ es) rest = pick (refused s) (Err Clean) (next_of false rest)

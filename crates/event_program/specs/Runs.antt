@@ -1,47 +1,45 @@
 -- What a run writes for what it reads, for each way in which it may end. Assumes nothing.
-use Rattle.std.specs.Prelude.{◌≡◌, Bool, true, false, List, ◌++◌, ℕ, ◌-◌, ◌^◌, length, flat_map, Option, Some, Result, Ok, Err, IfSome}
+use Rattle.std.specs.Prelude.{◌≡◌, Bool, true, false, List, [], ◌++◌, ℕ, ◌-◌, ◌^◌, length, Option, Some, Result, Ok, Err, IfSome}
 use Rattle.std.specs.Io.KnownBytes.{Appends, Consumes}
-use Rattle.event_kinds.specs.declared.kinds.Next.{Next}
-use Rattle.event_kinds.specs.declared.kinds.Next.TheVariants.{Stop}
+use Rattle.frame_parts.specs.Cut.{joined}
+use Rattle.event_kinds.specs.declared.kinds.InputEnd.{InputEnd}
+use Rattle.event_kinds.specs.declared.kinds.InputEnd.TheVariants.{NoEvent}
 use Rattle.event_kinds.specs.Kinds.{next_of}
 use Rattle.event_program.specs.declared.errors.RunError.{RunError}
 use Rattle.event_program.specs.declared.errors.RunError.TheVariants.{Input, Output, Memory, TooMany}
 use Rattle.event_program.specs.Reading.{Ends, IsEvent}
 use Rattle.streams.specs.Fronts.{AppendsFront}
+use Rattle.streams.specs.Lost.{complaint}
 use Rattle.event_program.specs.Running.{Kept, lines_from, AllEvents, ending, run_lines, Plays, ReadsOn, next_behind}
 
--- events behind one another
-abbrev pub joined : List (List ℕ) → List ℕ
-joined es = flat_map (λ e. e) es
-
 -- an input is events and a rest that begins with none; of events it is said which may be (P), and what follows them (N)
-pub record IsCut (P : List (List ℕ) → Type 0) (N : List (List ℕ) → List ℕ → Next) (input : List ℕ) (es : List (List ℕ)) (rest : List ℕ) : Type 0 where
+pub record IsCut (P : List (List ℕ) → Type 0) (N : List (List ℕ) → List ℕ → Result ℕ InputEnd) (input : List ℕ) (es : List (List ℕ)) (rest : List ℕ) : Type 0 where
   pub whole : input ≡ joined es ++ rest
   pub events : P es
   pub ends : Ends (N es rest)
 
 -- the input ended: the lines (T) of its events are written, and `stop` where the rest is no clean end
-pub record RunsOut (P : List (List ℕ) → Type 0) (N : List (List ℕ) → List ℕ → Next) (T : List (List ℕ) → List ℕ) (old new : Option (List ℕ)) (input : List ℕ) : Type 0 where
+pub record RunsOut (P : List (List ℕ) → Type 0) (N : List (List ℕ) → List ℕ → Result ℕ InputEnd) (T : List (List ℕ) → List ℕ) (old new : Option (List ℕ)) (input : List ℕ) : Type 0 where
   pub es : List (List ℕ)
   pub rest : List ℕ
   pub cut : IsCut P N input es rest
   pub written : Appends old new (T es ++ ending (N es rest))
 
 -- a read failed: what was read is whole events, behind which a run reads on (Q), and a part that is none; their lines are written, and `stop`
-pub record BreaksOff (P Q : List (List ℕ) → Type 0) (N : List (List ℕ) → List ℕ → Next) (T : List (List ℕ) → List ℕ) (known known' old new : Option (List ℕ)) : Type 0 where
+pub record BreaksOff (P Q : List (List ℕ) → Type 0) (N : List (List ℕ) → List ℕ → Result ℕ InputEnd) (T : List (List ℕ) → List ℕ) (known known' old new : Option (List ℕ)) : Type 0 where
   pub es : List (List ℕ)
   pub looked : Q es
   pub part : List ℕ
   pub read : Consumes known known' (joined es ++ part)
   pub cut : IsCut P N (joined es ++ part) es part
-  pub written : Appends old new (T es ++ ending Stop)
+  pub written : Appends old new (T es ++ ending (Err NoEvent))
 
 -- lines are lost: the input begins with events, and of their lines, and of `stop`, a front is written
 pub record Loses (P : List (List ℕ) → Type 0) (T : List (List ℕ) → List ℕ) (known old new : Option (List ℕ)) : Type 0 where
   pub es : List (List ℕ)
   pub begins : IfSome known (λ input. (rest : List ℕ) × (input ≡ joined es ++ rest))
   pub events : P es
-  pub written : AppendsFront old new (T es ++ ending Stop)
+  pub written : AppendsFront old new (T es ++ ending (Err NoEvent))
 
 -- the last of n events is played: the lines are written, and `stop`
 pub record Tires (P : List (List ℕ) → Type 0) (T : List (List ℕ) → List ℕ) (n : ℕ) (known known' old new : Option (List ℕ)) : Type 0 where
@@ -49,10 +47,10 @@ pub record Tires (P : List (List ℕ) → Type 0) (T : List (List ℕ) → List 
   pub last : length es ≡ n
   pub read : Consumes known known' (joined es)
   pub events : P es
-  pub written : Appends old new (T es ++ ending Stop)
+  pub written : Appends old new (T es ++ ending (Err NoEvent))
 
 -- what is told of a run by its result: it ran to the input's end; a read failed; a write failed; no memory for a line; n events are played, and that is the last number
-abbrev pub Told : (P Q : List (List ℕ) → Type 0) (N : List (List ℕ) → List ℕ → Next) (T : List (List ℕ) → List ℕ) (n : ℕ) (known known' old new : Option (List ℕ)) → Result Unit RunError → Type 0
+abbrev pub Told : (P Q : List (List ℕ) → Type 0) (N : List (List ℕ) → List ℕ → Result ℕ InputEnd) (T : List (List ℕ) → List ℕ) (n : ℕ) (known known' old new : Option (List ℕ)) → Result Unit RunError → Type 0
 Told P Q N T n known known' old new (Ok u) = IfSome known (RunsOut P N T old new)
 Told P Q N T n known known' old new (Err (Input e)) = BreaksOff P Q N T known known' old new
 Told P Q N T n known known' old new (Err (Output e)) = Loses P T known old new
@@ -63,16 +61,30 @@ Told P Q N T n known known' old new (Err TooMany) = Tires P T n known known' old
 abbrev pub Ran : Bool → (known known' old new : Option (List ℕ)) → Result Unit RunError → Type 0
 Ran traced known known' old new result = Told Plays ReadsOn next_behind (run_lines traced) (2 ^ 64 - 1) known known' old new result
 
--- a run of this input: whatever was left of it, and however it ended
-abbrev pub HasRun : Bool → (known old new : Option (List ℕ)) → Type 0
-HasRun traced known old new = (left : Option (List ℕ)) × (result : Result Unit RunError) × Ran traced known left old new result
+-- what is said aloud of a run by its result: that lines are missing
+abbrev pub said_of : Result Unit RunError → List ℕ
+said_of (Ok u) = []
+said_of (Err (Input e)) = []
+said_of (Err (Output e)) = complaint
+said_of (Err Memory) = complaint
+said_of (Err TooMany) = []
+
+-- a run of this input, whatever was left of it and however it ended, and what is said of it stands on `errors`
+abbrev pub RunAloud : Bool → (known old new errors errors' : Option (List ℕ)) → Type 0
+RunAloud traced known old new errors errors' =
+    (left : Option (List ℕ)) × (result : Result Unit RunError) × Ran traced known left old new result × Appends errors errors' (said_of result)
+
+-- or a front of it, where that could not be written
+abbrev pub HasRun : Bool → (known old new errors errors' : Option (List ℕ)) → Type 0
+HasRun traced known old new errors errors' =
+    (left : Option (List ℕ)) × (result : Result Unit RunError) × Ran traced known left old new result × AppendsFront errors errors' (said_of result)
 
 -- behind the settings a run reads on, whatever came
 abbrev pub always : List (List ℕ) → Type 0
 always es = Unit
 
 -- and what follows is what the rest begins with
-abbrev pub later : List (List ℕ) → List ℕ → Next
+abbrev pub later : List (List ℕ) → List ℕ → Result ℕ InputEnd
 later es rest = next_of false rest
 
 -- the lines of events behind those that are not yet written

@@ -6,10 +6,9 @@ ghost use Rattle.event_program.specs.declared.errors.RunError.TheVariants.{Memor
 ghost use Rattle.event_program.specs.Running.{Kept, kept, stepIn, told, after};
 
 use crate::errors::RunError;
-use crate::lines::Line;
+use crate::lines::{Format, Line};
 use device::Sealed;
 use refusals::Refusal;
-use std::alloc::Global;
 use std::marker::Model;
 
 /// The device of a run, its medium, and the buffer of its replies. A contract sees these three as what a run keeps.
@@ -60,14 +59,13 @@ impl<'a> Bench<'a> {
     /// One event played, and its line behind the lines that are gathered.
     pub(crate) fn play_and_tell(
         &mut self,
-        alloc: Global,
+        format: Format,
         lines: &mut Vec<u8>,
-        traced: bool,
         number: u64,
         event: &[u8],
     ) -> Result<(), RunError>
         ensures kept { self.new ≡ after self.old event.now }
-        ensures line { OnOk result (lines.new.items ≡ lines.old.items ++ told traced number self.old event.now) }
+        ensures line { OnOk result (lines.new.items ≡ lines.old.items ++ told format.traced number self.old event.now) }
         ensures err { IfErr result (λ e. e ≡ Memory) }
     {
         let answer = self.play(event);
@@ -77,7 +75,8 @@ impl<'a> Bench<'a> {
             outstanding: self.outstanding(),
             replies: self.replies(answer.unwrap_or(0)),
         };
-        line.write(alloc, lines, traced)
+        format
+            .write_line(lines, &line)
             .map_err(|_| RunError::Memory)
     }
 }

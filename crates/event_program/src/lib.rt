@@ -3,6 +3,7 @@
 
 mod bench;
 mod errors;
+mod event;
 mod lines;
 mod output;
 mod pieces;

@@ -17,7 +17,7 @@ const UPPER: [u8; 16] = *b"0123456789ABCDEF";
 fn upper(byte: u8) -> [u8; 2]
     ensures { result ≡ encode_upper (byte ∷ []) }
 {
-    [UPPER[(byte / 16) as usize], UPPER[(byte % 16) as usize]]
+    [UPPER[usize::from(byte / 16)], UPPER[usize::from(byte % 16)]]
 }
 
 #[tactic(auto, unfolding(hex::specs::Hex::encode_with))]
@@ -26,40 +26,6 @@ fn write_upper8<W: Write>(out: &mut W, n: u32) -> io::Result<()>
 {
     for byte in n.to_be_bytes() {
         out.write_all(&upper(byte))?;
-    }
-    Ok(())
-}
-
-fn write_trace<W: Write>(alloc: Global, out: &mut W, reply: &[u8]) -> io::Result<()>
-    ensures { OnOk result (Appends (W.contents out.old) (W.contents out.new) (trace_of reply.now)) }
-{
-    out.write_all(b"=")?;
-    out.write_all(hex::encode(alloc, reply)?.as_bytes())
-}
-
-fn write_field<W: Write>(alloc: Global, out: &mut W, traced: bool, reply: &[u8]) -> io::Result<()>
-    ensures { OnOk result (Appends (W.contents out.old) (W.contents out.new) (field_of traced reply.now)) }
-{
-    out.write_all(b" ")?;
-    out.write_all(&upper(frame_parts::byte_of(reply, 0)))?;
-    out.write_all(b":")?;
-    out.write_all(itoa::Buffer::new().format(reply.len()).as_bytes())?;
-    if traced {
-        return write_trace(alloc, out, reply);
-    }
-    Ok(())
-}
-
-fn write_fields<W: Write>(
-    alloc: Global,
-    out: &mut W,
-    traced: bool,
-    replies: &[u8],
-) -> io::Result<()>
-    ensures { OnOk result (Appends (W.contents out.old) (W.contents out.new) (fields_of traced (cut replies.now))) }
-{
-    for reply in frame_parts::frames_of(replies) {
-        write_field(alloc, out, traced, reply)?;
     }
     Ok(())
 }
@@ -84,14 +50,51 @@ impl<'a> Line<'a> {
         out.write_all(b" ")?;
         write_upper8(out, self.outstanding)
     }
+}
 
-    /// The line, with the bytes of each reply where it is traced.
-    pub(crate) fn write<W: Write>(&self, alloc: Global, out: &mut W, traced: bool) -> io::Result<()>
-        ensures { OnOk result (Appends (W.contents out.old) (W.contents out.new) (line_of traced self.now.number self.now.refusal self.now.outstanding self.now.replies.now)) }
+/// How lines are written: by an allocator for the digits of a reply, with the bytes of each reply where the run is traced.
+#[derive(Clone, Copy)]
+pub(crate) struct Format {
+    pub(crate) alloc: Global,
+    pub(crate) traced: bool,
+}
+
+impl Format {
+    fn write_trace<W: Write>(self, out: &mut W, reply: &[u8]) -> io::Result<()>
+        ensures { OnOk result (Appends (W.contents out.old) (W.contents out.new) (trace_of reply.now)) }
     {
-        let replies = self.replies;
-        self.write_head(out)?;
-        write_fields(alloc, out, traced, replies)?;
+        out.write_all(b"=")?;
+        out.write_all(hex::encode(self.alloc, reply)?.as_bytes())
+    }
+
+    fn write_field<W: Write>(self, out: &mut W, reply: &[u8]) -> io::Result<()>
+        ensures { OnOk result (Appends (W.contents out.old) (W.contents out.new) (field_of self.traced reply.now)) }
+    {
+        out.write_all(b" ")?;
+        out.write_all(&upper(frame_parts::byte_of(reply, 0)))?;
+        out.write_all(b":")?;
+        out.write_all(itoa::Buffer::new().format(reply.len()).as_bytes())?;
+        if self.traced {
+            return self.write_trace(out, reply);
+        }
+        Ok(())
+    }
+
+    fn write_fields<W: Write>(self, out: &mut W, replies: &[u8]) -> io::Result<()>
+        ensures { OnOk result (Appends (W.contents out.old) (W.contents out.new) (fields_of self.traced (cut replies.now))) }
+    {
+        for reply in frame_parts::frames_of(replies) {
+            self.write_field(out, reply)?;
+        }
+        Ok(())
+    }
+
+    pub(crate) fn write_line<W: Write>(self, out: &mut W, line: &Line) -> io::Result<()>
+        ensures { OnOk result (Appends (W.contents out.old) (W.contents out.new) (line_of self.traced line.now.number line.now.refusal line.now.outstanding line.now.replies.now)) }
+    {
+        let replies = line.replies;
+        line.write_head(out)?;
+        self.write_fields(out, replies)?;
         out.write_all(b"\n")
     }
 }

@@ -4,7 +4,8 @@ ghost use Rattle.streams.specs.Fronts.{AppendsFront};
 ghost use Rattle.event_program.specs.Ends.{Finished};
 ghost use Rattle.event_program.specs.Output.{IsOutput, PassedOn};
 
-use crate::errors::{RunEnd, RunError};
+use crate::errors::{RunError, last_text};
+use event_kinds::InputEnd;
 use std::io::Write;
 use streams::put;
 
@@ -25,10 +26,14 @@ pub(crate) fn pass_on<W: Write>(out: &mut W, lines: &mut Vec<u8>) -> Result<(), 
 }
 
 /// The lines that are left, and the last text; and then the run has the result of its end.
-pub(crate) fn finish<W: Write>(out: &mut W, left: &[u8], end: RunEnd) -> Result<(), RunError>
+pub(crate) fn finish<W: Write>(
+    out: &mut W,
+    left: &[u8],
+    end: Result<InputEnd, RunError>,
+) -> Result<(), RunError>
     ensures { Finished end (W.contents out.old) (W.contents out.new) left.now result }
 {
     put(out, left).map_err(RunError::Output)?;
-    put(out, end.last_text()).map_err(RunError::Output)?;
-    end.into_result()
+    put(out, last_text(&end)).map_err(RunError::Output)?;
+    end.map(|_| ())
 }

@@ -2,72 +2,69 @@
 ghost use Rattle.event_program.specs.Runs.{Ran, PlayedOn, StartedWith, OneText, OneBroken};
 
 use crate::bench::Bench;
-use crate::errors::{RunEnd, RunError};
-use crate::lines::Line;
+use crate::errors::RunError;
+use crate::lines::{Format, Line};
 use crate::output::{finish, pass_on};
 use crate::reading::read_event;
 use device::Device;
-use event_kinds::{CAPACITY_LIMIT, EVENT_LIMIT, Next};
+use event_kinds::{InputEnd, RUN_CAPACITY_LIMIT};
 use std::alloc::Global;
 use std::io::{Read, Write};
 
 // The bytes of the longest medium, as the settings record is limited.
-const MEDIUM_LIMIT: usize = (CAPACITY_LIMIT as usize) * Device::SECTOR_SIZE;
+const MEDIUM_LIMIT: usize = (RUN_CAPACITY_LIMIT as usize) * Device::SECTOR_SIZE;
 
 // The events behind the settings record, whose line stands in `lines`.
 fn play_on<R: Read, W: Write>(
-    alloc: Global,
-    traced: bool,
+    format: Format,
     reader: &mut R,
     out: &mut W,
     lines: &mut Vec<u8>,
     bench: &mut Bench,
 ) -> Result<(), RunError>
-    ensures { PlayedOn traced bench.old lines.old.items (R.remaining reader.old) (R.remaining reader.new) (W.contents out.old) (W.contents out.new) result }
+    ensures { PlayedOn format.traced bench.old lines.old.items (R.remaining reader.old) (R.remaining reader.new) (W.contents out.old) (W.contents out.new) result }
 {
-    let mut event = [0u8; EVENT_LIMIT];
     for number in 1..u64::MAX {
-        match read_event(reader, false, &mut event) {
-            Ok(Next::Whole(n)) => {
-                bench.play_and_tell(alloc, lines, traced, number, &event[..n])?;
+        match read_event(reader, false) {
+            Ok(Ok(event)) => {
+                bench.play_and_tell(format, lines, number, event.as_slice())?;
                 pass_on(out, lines)?;
             }
-            Ok(Next::Stop) => return finish(out, lines, RunEnd::NoEvent),
-            Ok(Next::End) => return finish(out, lines, RunEnd::Clean),
-            Err(failed) => return finish(out, lines, RunEnd::Broken(failed)),
+            Ok(Err(end)) => return finish(out, lines, Ok(end)),
+            Err(failed) => return finish(out, lines, Err(RunError::Input(failed))),
         }
     }
-    finish(out, lines, RunEnd::LastNumber)
+    finish(out, lines, Err(RunError::TooMany))
 }
 
 // The settings record, and what follows it.
 fn start_with<R: Read, W: Write>(
-    alloc: Global,
-    traced: bool,
+    format: Format,
     reader: &mut R,
     out: &mut W,
     settings: &[u8],
 ) -> Result<(), RunError>
-    ensures { StartedWith traced settings.now (R.remaining reader.old) (R.remaining reader.new) (W.contents out.old) (W.contents out.new) result }
+    ensures { StartedWith format.traced settings.now (R.remaining reader.old) (R.remaining reader.new) (W.contents out.old) (W.contents out.new) result }
 {
     let begun = events::start(settings);
-    let mut lines = Vec::new(alloc);
+    let mut lines = Vec::new(format.alloc);
     let line = Line {
         number: 0,
         refusal: begun.as_ref().err().copied(),
         outstanding: 0,
         replies: &[],
     };
-    line.write(alloc, &mut lines, traced)
+    format
+        .write_line(&mut lines, &line)
         .map_err(|_| RunError::Memory)?;
     let Ok(sealed) = begun else {
-        return finish(out, &lines, RunEnd::Clean);
+        return finish(out, &lines, Ok(InputEnd::Clean));
     };
     let mut medium = [0u8; MEDIUM_LIMIT];
-    let size = Device::SECTOR_SIZE * (sealed.device.settings.capacity as usize);
+    let size = sealed.device.settings.medium_size();
     let mut reply = [0u8; Device::REPLY_SIZE];
     let mut bench = Bench::new(sealed, &mut medium[..size], &mut reply);
-    play_on(alloc, traced, reader, out, &mut lines, &mut bench)
+    play_on(format, reader, out, &mut lines, &mut bench)
 }
 
 /// Runs an event file: a line for each event, and `stop` where the input ends in no event.
@@ -79,12 +76,10 @@ pub fn run<R: Read, W: Write>(
 ) -> Result<(), RunError>
     ensures { Ran traced (R.remaining reader.old) (R.remaining reader.new) (W.contents out.old) (W.contents out.new) result }
 {
-    let mut event = [0u8; EVENT_LIMIT];
-    match read_event(reader, true, &mut event) {
-        Ok(Next::Whole(n)) => start_with(alloc, traced, reader, out, &event[..n]),
-        // an input that holds no event stops, also an empty one
-        Ok(Next::Stop | Next::End) => finish(out, &[], RunEnd::NoEvent),
-        Err(failed) => finish(out, &[], RunEnd::Broken(failed)),
+    match read_event(reader, true) {
+        Ok(Ok(event)) => { start_with(Format { alloc, traced }, reader, out, event.as_slice()) }
+        Ok(Err(end)) => finish(out, &[], Ok(end)),
+        Err(failed) => finish(out, &[], Err(RunError::Input(failed))),
     }
 }
 

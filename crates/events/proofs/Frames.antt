@@ -1,9 +1,11 @@
 -- The frame of host data. Assumes nothing.
 use mathlib.Core.Path.{◌≡◌, refl, ap, subst, ◌∙◌}
 use mathlib.Core.List.{List, ◌∷◌}
-use Prim.Native.Nat.{ℕ, zero, suc, ◌+◌, ◌-◌, ◌≤◌}
+use Prim.Native.Nat.{ℕ, zero, suc, ◌+◌, ◌≤◌}
 use native.Mathlib.Omega.{arith}
+use lib.Dec.{lit≤}
 use lib.ListN.{take, replicate}
+use Rattle.std.proofs.Common.{Option, unwrap_or}
 use Rattle.rules.specs.Call.{hostFrame}
 use Rattle.device.specs.Lent.{Gave, lent}
 use Rattle.device.specs.DataDue.{dataDue}
@@ -25,15 +27,14 @@ take-data n m b h = ap (λ (l : List ℕ). 0x46 ∷ 0 ∷ 0 ∷ 0 ∷ l) (take-r
 pub front-due : (n m b : ℕ) → n ≤ m → take (4 + n) (dataFrame m b) ≡ dataFrame n b
 front-due n m b h = let e : 4 + n ≡ suc (suc (suc (suc n))) = omega arith in ap (λ (k : ℕ). take k (dataFrame m b)) e ∙ take-data n m b h
 
--- what is due fits in the longest frame
-pub due-within : (d : Device) (due : ℕ) → due ≡ dataDue d → due ≤ 8192
-due-within d due e = rw e (due-most d)
+-- what is due, or 4 if nothing is, fits in the longest frame
+pub due_within : (d : Device) → unwrap_or (dataDue d) 4 ≤ 8192
+due_within d = due-most d 4 (lit≤ tt)
 
 -- the front of the longest frame is what the host sends
-pub hosted-front : (d : Device) (byte due : ℕ) (frame m b : List ℕ) (g : Gave) → due ≡ dataDue d → frame ≡ dataFrame 8192 byte
-    → Given d (lent (hostFrame (take (4 + due - 0) frame)) m b) g → Given d (lent (hostFrame (hostData d byte)) m b) g
-hosted-front d byte due frame m b g u e h =
-    let k : 4 + due - 0 ≡ 4 + due = omega arith in
-    let same : take (4 + due - 0) frame ≡ hostData d byte =
-    ap (λ (n : ℕ). take n frame) k ∙ ap (λ (f : List ℕ). take (4 + due) f) e ∙ front-due due 8192 byte (due-within d due u) ∙ ap (λ (n : ℕ). dataFrame n byte) u in
+pub hosted-front : (d : Device) (byte due : ℕ) (o : Option ℕ) (frame m b : List ℕ) (g : Gave) → o ≡ dataDue d → due ≡ unwrap_or o 4 → frame ≡ dataFrame 8192 byte
+    → Given d (lent (hostFrame (take (4 + due) frame)) m b) g → Given d (lent (hostFrame (hostData d byte)) m b) g
+hosted-front d byte due o frame m b g q u e h =
+    let same : take (4 + due) frame ≡ hostData d byte =
+    ap (take (4 + due)) e ∙ front-due due 8192 byte (rw (u, q) (due_within d)) ∙ ap (λ (n : ℕ). dataFrame n byte) (u ∙ ap (λ (x : Option ℕ). unwrap_or x 4) q) in
     subst (λ (f : List ℕ). Given d (lent (hostFrame f) m b) g) same h

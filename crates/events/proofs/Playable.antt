@@ -4,13 +4,12 @@ use mathlib.Core.Bool.{false}
 use mathlib.Core.List.{List}
 use Prim.Native.Nat.{ℕ}
 use lib.ListN.{take}
-use Rattle.std.specs.Prelude.{Option, Some, None, is_none, option_map}
+use Rattle.std.specs.Prelude.{Option, Some, None, is_none, option_map, Ok}
 use Rattle.rules.specs.Call.{Call}
 use Rattle.device.specs.declared.state.Device.{Device}
 use Rattle.event_kinds.specs.Kinds.{next_of}
 use Rattle.event_kinds.specs.Stops.{noCall}
 use Rattle.event_kinds.specs.declared.asked.Request.{Request}
-use Rattle.event_kinds.specs.declared.kinds.Next.TheVariants.{Whole}
 use Rattle.event_kinds.specs.Requests.{requestOf}
 use Rattle.event_kinds.proofs.Asking.{nothing-exactly, next-asks}
 use Rattle.events.specs.Calls.{call_of, callFor}
@@ -25,5 +24,5 @@ pub no-call-exactly : (d : Device) (e : List ℕ) → is_none (callFor d e) ≡ 
 no-call-exactly d e = as-asked (call_of d e) (requestOf e) ∙ nothing-exactly e
 
 -- a run plays what it comes to: 24 is never given there
-pub run-plays : (d : Device) (l : List ℕ) (n : ℕ) → next_of false l ≡ Whole n → is_none (callFor d (take n l)) ≡ false
+pub run-plays : (d : Device) (l : List ℕ) (n : ℕ) → next_of false l ≡ Ok n → is_none (callFor d (take n l)) ≡ false
 run-plays d l n e = as-asked (call_of d (take n l)) (requestOf (take n l)) ∙ next-asks l n e

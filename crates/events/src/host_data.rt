@@ -6,7 +6,7 @@ ghost use Rattle.device.specs.Step.{Given};
 ghost use Rattle.events.specs.HostData.{dataFrame, hostData};
 
 use device::Sealed;
-use frame_parts::DATA_FRAME_LIMIT;
+use frame_parts::{DATA_FRAME_LIMIT, DATA_HEAD_SIZE, FrameKind};
 use refusals::Refusal;
 
 // The longest data frame, its payload all of one byte: a front of it is the frame that is due.
@@ -15,7 +15,7 @@ fn longest(byte: u8) -> [u8; DATA_FRAME_LIMIT]
     ensures { result ≡ dataFrame 8192 byte }
 {
     let mut frame = [byte; DATA_FRAME_LIMIT];
-    frame[0] = 0x46;
+    frame[0] = FrameKind::Data as u8;
     frame[1] = 0;
     frame[2] = 0;
     frame[3] = 0;
@@ -23,15 +23,18 @@ fn longest(byte: u8) -> [u8; DATA_FRAME_LIMIT]
 }
 
 /// Host data of the length due, all of the one byte given.
+#[tactic(auto, using(crate::proofs::Frames::due_within))]
 pub fn host_data(
-    d: &mut Sealed,
+    sealed: &mut Sealed,
     byte: u8,
     medium: &mut [u8],
     reply: &mut [u8],
 ) -> Result<usize, Refusal>
-    ensures { Given d.old.device (lent (hostFrame (hostData d.old.device byte)) medium.old reply.old) (gave (answered d.new.device result) medium.new reply.new) }
+    ensures { Given sealed.old.device (lent (hostFrame (hostData sealed.old.device byte)) medium.old reply.old) (gave (answered sealed.new.device result) medium.new reply.new) }
 {
-    let end = 4 + d.device.data_due();
+    // with no write phase the event carries 4 payload bytes, which the device refuses: with 2 or 3 where the medium
+    // or the reply buffer lent to it is no good, and else with 5
+    let end = DATA_HEAD_SIZE + sealed.device.data_due().unwrap_or(4);
     let frame = longest(byte);
-    d.host_frame(&frame[0..end], medium, reply)
+    sealed.host_frame(&frame[..end], medium, reply)
 }

@@ -12,36 +12,36 @@ use refusals::Refusal;
 
 // A frame is handed on as it came, its kind being its first byte.
 fn make_call(
-    d: &mut Sealed,
+    sealed: &mut Sealed,
     request: Request,
     event: &[u8],
     medium: &mut [u8],
     reply: &mut [u8],
 ) -> Result<usize, Refusal>
-    ensures { Gives (stepFor d.old.device medium.old reply.old (Some (call_of d.old.device event.now request))) reply.old (gave (answered d.new.device result) medium.new reply.new) }
+    ensures { Gives (stepFor sealed.old.device medium.old reply.old (Some (call_of sealed.old.device event.now request))) reply.old (gave (answered sealed.new.device result) medium.new reply.new) }
 {
     match request {
-        Request::OpenPhase(tag) => d.open(tag, reply),
-        Request::SendData => d.send(medium, reply),
-        Request::FinishTags(set) => d.finish(set, reply),
-        Request::MediaError { tag, error, sector } => d.media_error(tag, error, sector, reply),
-        Request::LinkEvent(row) => d.link_event(row),
-        Request::ComReset => d.comreset(reply),
-        Request::HostData(byte) => host_data(d, byte, medium, reply),
-        Request::HostFrame => d.host_frame(event, medium, reply),
+        Request::OpenPhase(tag) => sealed.open(tag, reply),
+        Request::SendData => sealed.send(medium, reply),
+        Request::FinishTags(set) => sealed.finish(set, reply),
+        Request::MediaError { tag, error, sector } => sealed.media_error(tag, error, sector, reply),
+        Request::LinkEvent(row) => sealed.link_event(row),
+        Request::ComReset => sealed.comreset(reply),
+        Request::HostData(byte) => host_data(sealed, byte, medium, reply),
+        Request::HostFrame => sealed.host_frame(event, medium, reply),
     }
 }
 
 /// One event to its call: the event is its kind and body; medium and reply buffer are those of the device's calls. What is no event is refused with 24, and changes nothing.
 #[tactic(auto, unfolding(crate::specs::Played::stepFor, replies::specs::Replies::sentAll, frame_parts::specs::Cut::joined))]
 pub fn play(
-    d: &mut Sealed,
+    sealed: &mut Sealed,
     event: &[u8],
     medium: &mut [u8],
     reply: &mut [u8],
 ) -> Result<usize, Refusal>
-    ensures { Gives (eventStep d.old.device event.now medium.old reply.old) reply.old (gave (answered d.new.device result) medium.new reply.new) }
+    ensures { Gives (eventStep sealed.old.device event.now medium.old reply.old) reply.old (gave (answered sealed.new.device result) medium.new reply.new) }
 {
     let request = request_of(event).ok_or(Refusal::NoFrame)?;
-    make_call(d, request, event, medium, reply)
+    make_call(sealed, request, event, medium, reply)
 }

@@ -8,25 +8,22 @@ use native.Mathlib.Omega.{arith}
 use lib.Dec.{eqb}
 use lib.ListN.{length, get_or, take, drop, length-drop, take-append-drop}
 use borrow.Author.Tests.{eqb-true, eqb-false, ne_eqb, eq-eqb}
-use Rattle.bits.proofs.Picks.{by-test, pick_yes, pick_no, tested}
+use Rattle.bits.proofs.Picks.{pick_yes, pick_no, tested}
 use Rattle.std.specs.Prelude.{Option, Some, None, unwrap_or}
-use Rattle.frame_parts.specs.Size.{fixedSize}
+use Rattle.std.specs.Option.{option_and_then}
+use Rattle.frame_parts.specs.Size.{fixedSize, kindNamed, sizeOf}
+use Rattle.frame_parts.specs.declared.kinds.FrameKind.{FrameKind}
+use Rattle.frame_parts.proofs.SizeLaws.{size-some}
 use Rattle.frame_parts.specs.Cut.{firstLength, cut_to, cut, joined}
 
--- no kind fixes a length of nothing
-some-length : (k d : ℕ) → 0 < d → 0 < unwrap_or (fixedSize k) d
+-- no byte fixes a length of nothing
+some-length : (byte d : ℕ) → 0 < d → 0 < unwrap_or (fixedSize byte) d
 unfolding fixedSize
-some-length k d h =
-    by-test Some-length (eqb k 0x27) _ _ (λ _. omega arith) (λ _.
-    by-test Some-length (eqb k 0x34) _ _ (λ _. omega arith) (λ _.
-    by-test Some-length (eqb k 0x5F) _ _ (λ _. omega arith) (λ _.
-    by-test Some-length (eqb k 0xA1) _ _ (λ _. omega arith) (λ _.
-    by-test Some-length (eqb k 0x41) _ _ (λ _. omega arith) (λ _.
-    by-test Some-length (eqb k 0x39) _ _ (λ _. omega arith) (λ _.
-    by-test Some-length (eqb k 0x58) _ _ (λ _. omega arith) (λ _. h)))))))
+some-length byte d h = of-kind (kindNamed byte)
   where
-    Some-length : Option ℕ → Type 0
-    Some-length o = 0 < unwrap_or o d
+    of-kind : (kind : Option FrameKind) → 0 < unwrap_or (option_and_then sizeOf kind) d
+    of-kind (Some kind) = size-some kind d h
+    of-kind None = h
 
 -- a piece of what is not empty has a byte, and is not longer than what is there
 pub first-length-some : (l : List ℕ) → 0 < length l → (0 < firstLength l) × (firstLength l ≤ length l)

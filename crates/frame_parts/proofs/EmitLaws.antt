@@ -4,7 +4,7 @@ use mathlib.Core.Logic.{⊎_elim}
 use borrow.Author.Tests.{lt-ltb, le-ltb}
 use Rattle.bits.specs.Pick.{pick}
 use Rattle.bits.specs.Laid.{laid}
-use Rattle.bits.proofs.Masks.{lt-or-le}
+use Rattle.std.proofs.lemmas.Bool.{cases_lt}
 use Rattle.bits.proofs.Tying.{same}
 use Rattle.refusals.specs.First.{first_of}
 use Rattle.refusals.specs.declared.reasons.Refusal.{Refusal}
@@ -51,7 +51,7 @@ module _ (fit : Bool) (s d : List ℕ) where
 pub done-fits : (fit : Bool) (n room : ℕ) → write_refusal fit n room ≡ None → (fit ≡ true) × (n ≤ room)
 done-fits false n room e = absurd (let q = write_refusal-unfit n room in cc)
 done-fits true n room e =
-    ⊎_elim (λ (h : room < n). absurd (let q = write_refusal-short n room h in cc)) (λ (h : n ≤ room). (refl, h)) (lt-or-le room n)
+    ⊎_elim (λ (h : room < n). absurd (let q = write_refusal-short n room h in cc)) (λ (h : n ≤ room). (refl, h)) (cases_lt room n)
 
 -- and then all is written, and nothing else changed
 pub wrote-all : (fit : Bool) (s d : List ℕ) (k : ℕ) (d' : List ℕ) → WriteGiven fit s d (Ok k) d'

@@ -1,6 +1,7 @@
 pub mod SharedLaws
 pub mod SizeLaws
 pub mod TaskLaws
+pub mod Defaults
 pub mod QueuedLaws
 pub mod EmitLaws
 pub mod Cuts

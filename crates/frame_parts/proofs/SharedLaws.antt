@@ -1,6 +1,6 @@
 -- Laws of the pieces that frames share. Assumes nothing.
 use mathlib.Core.Path.{◌≡◌, refl, sym, ◌∙◌}
-use mathlib.Core.Bool.{Bool, true, false}
+use mathlib.Core.Bool.{Bool, true, false, ◌&&◌}
 use mathlib.Core.Logic.{⊎_elim}
 use Prim.Native.Nat.{ℕ, ◌*◌, ◌/◌, ◌%◌, ◌^◌, ◌≤◌, ◌<◌}
 use native.Mathlib.Nat.{div-eq_of_lt, div-lt_iff_lt-mul}
@@ -10,7 +10,9 @@ use lib.Dec.{eqb, ltb}
 use lib.Pow.{pow_pos}
 use mir.Val.{bool_byte}
 use borrow.Author.Tests.{eq-eqb, ne_eqb, lt-ltb, le-ltb}
-use Rattle.bits.proofs.Masks.{lt-or-le}
+use Rattle.std.proofs.lemmas.Nat.Bits.{bit_at_above}
+use Rattle.bits.specs.Bit.{bitIn}
+use Rattle.std.proofs.lemmas.Bool.{cases_lt}
 use Rattle.frame_parts.specs.Shared.{flags_of}
 
 -- three flags, each at its place
@@ -34,4 +36,14 @@ not-zero k x h e =
 pub high_zero : (k x : ℕ) → eqb (x / 2 ^ k) 0 ≡ ltb x (2 ^ k)
 high_zero k x =
     ⊎_elim (λ (h : x < 2 ^ k). eq-eqb (x / 2 ^ k) 0 (div-eq_of_lt h) ∙ sym (lt-ltb x (2 ^ k) h))
-    (λ (h : 2 ^ k ≤ x). ne_eqb (x / 2 ^ k) 0 (not-zero k x h) ∙ sym (le-ltb x (2 ^ k) h)) (lt-or-le x (2 ^ k))
+    (λ (h : 2 ^ k ≤ x). ne_eqb (x / 2 ^ k) 0 (not-zero k x h) ∙ sym (le-ltb x (2 ^ k) h)) (cases_lt x (2 ^ k))
+
+-- a byte has no bit from 8 on
+pub bit_of_byte : (b k : ℕ) → b < 256 → bitIn 32 b k ≡ bitIn 8 b k
+bit_of_byte b k h =
+    ⊎_elim (λ (l : k < 8). rw (lt-ltb k 8 l, lt-ltb k 32 (omega arith)) refl)
+    (λ (l : 8 ≤ k). rw (le-ltb k 8 l, bit_at_above b 8 k h l) (none (ltb k 32))) (cases_lt k 8)
+  where
+    none : (t : Bool) → t && false ≡ false
+    none true = refl
+    none false = refl

@@ -13,6 +13,7 @@ use Rattle.bits.proofs.Picks.{and_left, and_right}
 use Rattle.bits.proofs.Littles.{le-leBytes, le-bytesFrom, le-lt}
 use Rattle.frame_parts.specs.Shared.{lbaOf, task_of, registerBytes, below, taskFits}
 use Rattle.frame_parts.specs.declared.shared.Task.{Task}
+use Rattle.frame_parts.specs.declared.shared.Registers.{Registers}
 
 pub small : (k x : ℕ) → below k x ≡ true → x < 2 ^ k
 small k x e = ltb-true x (2 ^ k) e
@@ -27,9 +28,10 @@ pub same-task : {l l' d d' n n' : ℕ} → l ≡ l' → d ≡ d' → n ≡ n' �
 same-task p q r = cc
 
 -- the command's bytes come back out of 27h, 34h and 5Fh
-pub task-all : (k g s d : ℕ) (t : Task) (e f n : ℕ) → taskFits t ≡ true → task_of (registerBytes k g s d t e f n) ≡ t
+pub task-all : (r : Registers) → taskFits r.task ≡ true → task_of (registerBytes r) ≡ r.task
 unfolding registerBytes
-task-all k g s d t e f n h =
+task-all r h =
+    let t = r.task in
     same-task (lba-all (small 48 t.lba (and_right (below 8 t.device && below 16 t.count) (below 48 t.lba) h))) refl
     (le-leBytes 2 (small 16 t.count (and_right (below 8 t.device) (below 16 t.count) (and_left (below 8 t.device && below 16 t.count) (below 48 t.lba) h))))
 

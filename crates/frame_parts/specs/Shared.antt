@@ -4,6 +4,7 @@ use Rattle.bits.specs.Pick.{pick}
 use Rattle.bits.specs.Bit.{bitIn, bitByte}
 use Rattle.bits.specs.Little.{leAt, le_bytes, bytesFrom}
 use Rattle.frame_parts.specs.declared.shared.Task.{Task}
+use Rattle.frame_parts.specs.declared.shared.Registers.{Registers}
 
 -- byte 1, bits 7, 6 and 5: A or C, I, D
 abbrev pub flags_of : Bool → Bool → Bool → ℕ
@@ -34,10 +35,11 @@ abbrev pub sectorsOf : ℕ → ℕ → ℕ
 sectorsOf features high = pick (eqb (high * 256 + features) 0) 65536 (high * 256 + features)
 
 -- the twenty bytes of 27h, 34h and 5Fh; unnamed bytes are written 0
-unfoldable pub registerBytes : ℕ → ℕ → ℕ → ℕ → Task → ℕ → ℕ → ℕ → List ℕ
-registerBytes kind flags second third t eleven fifteen bytes =
-    kind ∷ flags ∷ second ∷ third
-    ∷ bytesFrom 0 3 t.lba ++ t.device ∷ bytesFrom 3 3 t.lba ++ eleven ∷ le_bytes 2 t.count ++ 0 ∷ fifteen ∷ le_bytes 2 bytes ++ 0 ∷ 0 ∷ []
+unfoldable pub registerBytes : Registers → List ℕ
+registerBytes r =
+    r.kind ∷ r.flags ∷ r.second ∷ r.third
+    ∷ bytesFrom 0 3 r.task.lba ++ r.task.device ∷ bytesFrom 3 3 r.task.lba ++ r.eleven
+    ∷ le_bytes 2 r.task.count ++ 0 ∷ r.fifteen ∷ le_bytes 2 r.bytes ++ 0 ∷ 0 ∷ []
 
 -- x is not too large for k bits
 abbrev pub below : ℕ → ℕ → Bool

@@ -8,10 +8,11 @@ use crate::sizes::fixed_size;
 use std::marker::Model;
 
 #[tactic(auto, unfolding(crate::specs::Cut::firstLength))]
-fn first_length(s: &[u8]) -> usize
-    ensures { result ≡ firstLength s.now }
+fn first_length(bytes: &[u8]) -> usize
+    ensures { result ≡ firstLength bytes.now }
 {
-    fixed_size(byte_of(s, 0)).unwrap_or(s.len()).min(s.len())
+    let size = fixed_size(byte_of(bytes, 0));
+    size.unwrap_or(bytes.len()).min(bytes.len())
 }
 
 /// The frames of a buffer, each as its bytes, seen as the list of those that are left.

@@ -3,15 +3,14 @@
 
 mod cutting;
 mod emitting;
+mod kinds;
 mod log_pages;
 mod shared;
 mod sizes;
 
 pub use cutting::{Frames, frames_of};
 pub use emitting::emit;
+pub use kinds::FrameKind;
 pub use log_pages::LogPage;
-pub use shared::{
-    Registers, Task, byte_of, flag, flags, halves, register_bytes, sectors_of, srst, tag_of,
-    task_fits, task_of,
-};
-pub use sizes::{DATA_FRAME_LIMIT, PAYLOAD_LIMIT, fixed_size, is_readable, payload_size};
+pub use shared::{Registers, Task, byte_of, flag, flags, halves, sectors_of, srst, tag_of};
+pub use sizes::{DATA_FRAME_LIMIT, DATA_HEAD_SIZE, PAYLOAD_LIMIT, fixed_size, is_payload_size};

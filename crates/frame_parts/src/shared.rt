@@ -14,18 +14,39 @@ pub struct Task {
     pub count: u16,
 }
 
-/// Byte k of a frame; past the end, 0.
-pub fn byte_of(s: &[u8], k: usize) -> u8
-    ensures { result ≡ get_or s.now k 0 }
-{
-    s.get(k).copied().unwrap_or(0)
+impl Task {
+    /// Bytes 4-10 and 12-13 of a frame; past its end stand zeros, so that who asks has seen to the length.
+    pub fn from_frame(frame: &[u8]) -> Task
+        ensures { result ≡ task_of frame.now }
+    {
+        Task {
+            lba: lba_of(frame),
+            device: byte_of(frame, 7),
+            count: bits::le16(frame, 12),
+        }
+    }
+
+    /// Of the values that a frame repeats from a command only the LBA can be too large for its bits.
+    pub fn fits(self) -> bool
+        ensures { result ≡ taskFits self }
+    {
+        self.lba >> 48 == 0
+    }
 }
 
-/// Bit k of a byte; from 8 on there is none, and it is off.
-pub fn flag(b: u8, k: u32) -> bool
-    ensures { result ≡ bitIn 8 b k }
+/// The byte at a place of a frame; past the end, 0.
+pub fn byte_of(bytes: &[u8], at: usize) -> u8
+    ensures { result ≡ get_or bytes.now at 0 }
 {
-    k < 8 && bits::bit(u32::from(b), k)
+    bytes.get(at).copied().unwrap_or(0)
+}
+
+/// A bit of a byte; from 8 on there is none, and it is off.
+#[tactic(auto, using(crate::proofs::SharedLaws::bit_of_byte))]
+pub fn flag(byte: u8, index: u32) -> bool
+    ensures { result ≡ bitIn 8 byte index }
+{
+    bits::bit(u32::from(byte), index)
 }
 
 /// Bit 2 of the control byte is SRST.
@@ -43,33 +64,22 @@ pub fn flags(seven: bool, six: bool, five: bool) -> u8
 }
 
 /// Bits 6:4 and 2:0.
-pub fn halves(b: u8) -> u8
-    ensures { result ≡ halvesOf b }
+pub fn halves(status: u8) -> u8
+    ensures { result ≡ halvesOf status }
 {
-    b & 0x77
+    status & 0x77
 }
 
-fn lba_of(s: &[u8]) -> u64
-    ensures { LbaGiven s.now result }
+fn lba_of(bytes: &[u8]) -> u64
+    ensures { LbaGiven bytes.now result }
 {
-    (bits::le(s, 8, 3) << 24) | bits::le(s, 4, 3)
+    (bits::le(bytes, 8, 3) << 24) | bits::le(bytes, 4, 3)
 }
 
-/// Bytes 4-10 and 12-13; past the end stand zeros, so that who asks has seen to the length.
-pub fn task_of(s: &[u8]) -> Task
-    ensures { result ≡ task_of s.now }
+fn low5(number: u16) -> u8
+    ensures { result ≡ number % 32 }
 {
-    Task {
-        lba: lba_of(s),
-        device: byte_of(s, 7),
-        count: bits::le16(s, 12),
-    }
-}
-
-fn low5(x: u16) -> u8
-    ensures { result ≡ x % 32 }
-{
-    (x & 31) as u8
+    (number & 31) as u8
 }
 
 /// Bits 7:3 of byte 12, the low byte of the count, hold the tag.
@@ -92,45 +102,48 @@ pub fn sectors_of(features: u8, high: u8) -> u32
 /// byte count at 16-17. The rest is 0.
 #[derive(Clone, Copy, Debug, Default, PartialEq, Eq)]
 pub struct Registers {
+    /// byte 0
     pub kind: u8,
+    /// byte 1
     pub flags: u8,
+    /// byte 2
     pub second: u8,
+    /// byte 3
     pub third: u8,
+    /// bytes 4-10 and 12-13
     pub task: Task,
+    /// byte 11
     pub eleven: u8,
+    /// byte 15
     pub fifteen: u8,
+    /// bytes 16-17
     pub bytes: u16,
 }
 
-/// The bytes of that layout. It refuses nothing: of an LBA the 48 bits that have a place are laid, and the writers
-/// above, which ask `task_fits`, turn a larger one down.
-#[tactic(auto, unfolding(crate::specs::Shared::registerBytes))]
-pub fn register_bytes(r: Registers) -> [u8; 20]
-    ensures { result ≡ registerBytes r.kind r.flags r.second r.third r.task r.eleven r.fifteen r.bytes }
-{
-    let Registers {
-        kind,
-        flags,
-        second,
-        third,
-        task,
-        eleven,
-        fifteen,
-        bytes,
-    } = r;
-    let [l0, l1, l2, l3, l4, l5, _, _] = task.lba.to_le_bytes();
-    let device = task.device;
-    let [c0, c1] = task.count.to_le_bytes();
-    let [n0, n1] = bytes.to_le_bytes();
-    [
-        kind, flags, second, third, l0, l1, l2, device, l3, l4, l5, eleven, c0, c1, 0, fifteen, n0,
-        n1, 0, 0,
-    ]
-}
-
-/// Of the values that a frame repeats from a command only the LBA can be too large for its bits.
-pub fn task_fits(t: Task) -> bool
-    ensures { result ≡ taskFits t }
-{
-    t.lba >> 48 == 0
+impl Registers {
+    /// The bytes of the layout. It refuses nothing: of an LBA the 48 bits that have a place are laid, and the writers
+    /// above, which ask `Task::fits`, turn a larger one down.
+    #[tactic(auto, unfolding(crate::specs::Shared::registerBytes))]
+    pub fn to_bytes(self) -> [u8; 20]
+        ensures { result ≡ registerBytes self }
+    {
+        let Registers {
+            kind,
+            flags,
+            second,
+            third,
+            task,
+            eleven,
+            fifteen,
+            bytes,
+        } = self;
+        let [l0, l1, l2, l3, l4, l5, _, _] = task.lba.to_le_bytes();
+        let device = task.device;
+        let [c0, c1] = task.count.to_le_bytes();
+        let [n0, n1] = bytes.to_le_bytes();
+        [
+            kind, flags, second, third, l0, l1, l2, device, l3, l4, l5, eleven, c0, c1, 0, fifteen,
+            n0, n1, 0, 0,
+        ]
+    }
 }

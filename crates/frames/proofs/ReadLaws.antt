@@ -1,46 +1,62 @@
--- Laws of the frame reader. Assumes nothing.
-use Rattle.std.proofs.Common.{◌≡◌, refl, true, false, List, ℕ, ◌-◌, length, get_or, Result, Ok, Err}
-use lib.Dec.{eqb}
-use borrow.Author.Tests.{eqb-true}
+-- Laws of the reader. Assumes nothing.
+use mathlib.Core.Path.{◌≡◌, refl}
+use mathlib.Core.Bool.{true, false}
+use mathlib.Core.List.{List}
+use Prim.Native.Nat.{ℕ, ◌-◌}
+use lib.ListN.{length, get_or}
+use Rattle.std.specs.Prelude.{Option, Some, None, Result, Ok, Err}
+use Rattle.std.specs.Option.{option_map_or}
 use Rattle.bits.specs.Pick.{pick}
-use Rattle.bits.proofs.Picks.{by-test, pick_yes, pick_no}
-use Rattle.frame_parts.specs.Size.{payloadSize, readable}
-use Rattle.frames.specs.Read.{frameByKind, readFrame, hostOf, deviceOf, bits_of, setupOf, pioOf}
+use Rattle.bits.proofs.Picks.{by-test}
+use Rattle.frame_parts.specs.Size.{kindNamed, allows, payloadSize, readable}
+use Rattle.frame_parts.specs.declared.kinds.FrameKind.{FrameKind}
+use Rattle.frame_parts.specs.declared.kinds.FrameKind.TheVariants as kinds
+use Rattle.frame_parts.proofs.SizeLaws.{named-byte}
+use Rattle.frames.specs.Read.{frameOf, frameByKind, readFrame}
 use Rattle.frames.specs.declared.shapes.Frame.{Frame}
-use Rattle.frames.specs.declared.shapes.Frame.TheVariants.{Host, Device, Bits, Setup, Activate, Data, Bist, Pio}
+use Rattle.frames.specs.declared.shapes.Frame.TheVariants.{Data}
 use Rattle.refusals.specs.declared.reasons.Refusal.{Refusal}
 use Rattle.refusals.specs.declared.reasons.Refusal.TheVariants.{NoFrame}
 
--- where its kind allows the length, the frame goes by its kind
-pub read_by : (l : List ℕ) (k : ℕ) → k ≡ get_or l 0 0 → readable k (length l) ≡ true → readFrame l ≡ frameByKind k l
-unfolding readFrame
-read_by l k e r = rw (← e) (pick_yes (readable k (length l)) (frameByKind k l) (Err NoFrame) r)
+-- bytes of a kind and a length that it allows are its frame
+pub read-some : (l : List ℕ) (kind : FrameKind) → kindNamed (get_or l 0 0) ≡ Some kind → allows kind (length l) ≡ true → readFrame l ≡ Ok (frameOf kind l)
+unfolding readFrame readable frameByKind pick
+read-some l kind e a = rw (e, a)
 
--- and else it is refused
-pub read-not : (l : List ℕ) (k : ℕ) → k ≡ get_or l 0 0 → readable k (length l) ≡ false → readFrame l ≡ Err NoFrame
-unfolding readFrame
-read-not l k e r = rw (← e) (pick_no (readable k (length l)) (frameByKind k l) (Err NoFrame) r)
+-- and all other bytes are refused
+pub read-other : (l : List ℕ) (kind : FrameKind) → kindNamed (get_or l 0 0) ≡ Some kind → allows kind (length l) ≡ false → readFrame l ≡ Err NoFrame
+unfolding readFrame readable frameByKind pick
+read-other l kind e a = rw (e, a)
+
+pub read-none : (l : List ℕ) → kindNamed (get_or l 0 0) ≡ None → readFrame l ≡ Err NoFrame
+unfolding readFrame readable frameByKind pick
+read-none l e = rw e
+
+-- so what holds of the refusal, and of the frame of each kind that allows the length, holds of what is read
+pub by-kind : (P : Result Frame Refusal → Type 0) (l : List ℕ) → P (Err NoFrame)
+    → ((kind : FrameKind) → kindNamed (get_or l 0 0) ≡ Some kind → allows kind (length l) ≡ true → P (Ok (frameOf kind l))) → P (readFrame l)
+unfolding readFrame readable frameByKind
+by-kind P l none some = go (kindNamed (get_or l 0 0)) refl
+  where
+    go : (o : Option FrameKind) → kindNamed (get_or l 0 0) ≡ o
+        → P (pick (option_map_or (λ kind. allows kind (length l)) o false) (option_map_or (λ kind. Ok (frameOf kind l)) o (Err NoFrame)) (Err NoFrame))
+    go (Some kind) e = by-test P (allows kind (length l)) _ _ (λ a. some kind e a) (λ _. none)
+    go None e = by-test P false _ _ (λ _. none) (λ _. none)
 
 -- what is read as data is a 46h, with all of the payload, whose size is one that a payload can have
 abbrev pub DataRead : ℕ → List ℕ → Result Frame Refusal → Type 0
 DataRead k l (Ok (Data n)) = (k ≡ 0x46) × ((n ≡ length l - 4) × (payloadSize n ≡ true))
 DataRead k l _ = Unit
 
--- by its kind
-by-data : (k : ℕ) (l : List ℕ) → readable k (length l) ≡ true → DataRead k l (frameByKind k l)
-unfolding frameByKind readable pick
-by-data k l r =
-    let P : Result Frame Refusal → Type 0 = DataRead k l in
-    by-test P (eqb k 0x27) (Ok (Host (hostOf l))) _ (λ _. tt)
-    (λ _. by-test P (eqb k 0x34) (Ok (Device (deviceOf l))) _ (λ _. tt)
-    (λ _. by-test P (eqb k 0xA1) (Ok (Bits (bits_of l))) _ (λ _. tt)
-    (λ _. by-test P (eqb k 0x41) (Ok (Setup (setupOf l))) _ (λ _. tt)
-    (λ _. by-test P (eqb k 0x39) (Ok Activate) _ (λ _. tt)
-    (λ _. by-test P (eqb k 0x58) (Ok Bist) _ (λ _. tt)
-    (λ _. by-test P (eqb k 0x5F) (Ok (Pio (pioOf l))) _ (λ _. tt)
-    (λ _. by-test P (eqb k 0x46) (Ok (Data (length l - 4))) (Err NoFrame) (λ e. (eqb-true k 0x46 e, (refl, rw e at r))) (λ _. tt))))))))
-
--- as the reader sees it
 pub read-data : (l : List ℕ) → DataRead (get_or l 0 0) l (readFrame l)
-unfolding readFrame
-read-data l = by-test (DataRead (get_or l 0 0) l) (readable (get_or l 0 0) (length l)) (frameByKind (get_or l 0 0) l) (Err NoFrame) (λ r. by-data (get_or l 0 0) l r) (λ _. tt)
+read-data l = by-kind (DataRead (get_or l 0 0) l) l tt of-kind
+  where
+    of-kind : (kind : FrameKind) → kindNamed (get_or l 0 0) ≡ Some kind → allows kind (length l) ≡ true → DataRead (get_or l 0 0) l (Ok (frameOf kind l))
+    of-kind kinds.HostRegister e a = tt
+    of-kind kinds.DeviceRegister e a = tt
+    of-kind kinds.SetDeviceBits e a = tt
+    of-kind kinds.DmaSetup e a = tt
+    of-kind kinds.DmaActivate e a = tt
+    of-kind kinds.BistActivate e a = tt
+    of-kind kinds.PioSetup e a = tt
+    of-kind kinds.Data e a = (named-byte (get_or l 0 0) kinds.Data e, (refl, a))

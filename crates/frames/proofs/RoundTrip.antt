@@ -2,7 +2,7 @@
 use mathlib.Core.Path.{◌≡◌, refl, sym, ap, ◌∙◌}
 use mathlib.Core.Bool.{Bool, true, false, not, ◌&&◌, ◌||◌}
 use mathlib.Core.List.{List}
-use Prim.Native.Nat.{ℕ, ◌+◌, ◌-◌, ◌<◌}
+use Prim.Native.Nat.{ℕ, ◌-◌, ◌<◌}
 use native.Mathlib.Omega.{arith}
 use lib.Dec.{eqb, eqb→eq}
 use lib.ListN.{length, take, drop}
@@ -12,12 +12,13 @@ use Rattle.bits.specs.Bit.{bitIn}
 use Rattle.bits.proofs.Tables.{below_all}
 use Rattle.bits.proofs.Littles.{le-leBytes}
 use Rattle.frame_parts.specs.Shared.{flags_of, halvesOf, registerBytes, below, taskFits}
-use Rattle.frame_parts.specs.Size.{fixedSize, payloadSize, readable}
+use Rattle.frame_parts.specs.Size.{readable}
 use Rattle.frames.specs.Read.{frameByKind, readFrame}
-use Rattle.frames.specs.Write.{FrameValue, host, device, setBits, setup, activate, payload, bist, pio, bitsBytes, setupBytes, encode, fits, FrameWriteGiven}
+use Rattle.frames.specs.Write.{FrameValue, host, device, setBits, setup, activate, payload, bist, pio, bitsBytes, setupBytes, hostRegisters, deviceRegisters, pioRegisters, encode, fits, FrameWriteGiven}
 use Rattle.frames.specs.RoundTrip.{readBack}
 use Rattle.bits.proofs.Picks.{and_left, and_right}
-use Rattle.frames.proofs.ReadLaws.{read_by}
+use Rattle.frame_parts.specs.declared.kinds.FrameKind.TheVariants as kinds
+use Rattle.frames.proofs.ReadLaws.{read-some}
 use Rattle.frames.proofs.WriteLaws.{length-payload}
 use Rattle.frame_parts.proofs.EmitLaws.{wrote-all}
 use Rattle.frame_parts.proofs.TaskLaws.{small, task-all}
@@ -102,30 +103,30 @@ same-pio p q r s t u v = cc
 -- ---- each kind
 
 read-host : (f : HostReg) → fits (host f) ≡ true → readFrame (encode (host f)) ≡ Ok (Host f)
-unfolding readFrame frameByKind readable fixedSize pick encode fits registerBytes
+unfolding readFrame frameByKind readable pick encode fits registerBytes
 read-host f h =
     ap (λ x. Ok (Host x)) (same-host (flag-7 f.command_bit false false) refl refl
-    (task-all 0x27 (flags_of f.command_bit false false) f.command f.features f.task f.features_high f.control 0
+    (task-all (hostRegisters f)
     (and_right (below 8 f.command && below 8 f.features && below 8 f.features_high && below 8 f.control) (taskFits f.task) h)) refl refl)
 
 read-device : (f : DevReg) → fits (device f) ≡ true → readFrame (encode (device f)) ≡ Ok (Device f)
-unfolding readFrame frameByKind readable fixedSize pick encode fits registerBytes
+unfolding readFrame frameByKind readable pick encode fits registerBytes
 read-device f h =
     ap (λ x. Ok (Device x)) (same-device (flag-6 false f.interrupt false)
-    (task-all 0x34 (flags_of false f.interrupt false) f.status f.error f.task 0 0 0
+    (task-all (deviceRegisters f)
     (and_right (below 8 f.status && below 8 f.error) (taskFits f.task) h)) refl refl)
 
 read-pio : (f : PioSetup) → fits (pio f) ≡ true → readFrame (encode (pio f)) ≡ Ok (Pio f)
-unfolding readFrame frameByKind readable fixedSize pick encode fits registerBytes
+unfolding readFrame frameByKind readable pick encode fits registerBytes
 read-pio f h =
     let front = below 8 f.status && below 8 f.error && below 8 f.ending in
     ap (λ x. Ok (Pio x)) (same-pio (flag-6 false f.interrupt f.to_host) (flag-5 false f.interrupt f.to_host)
-    (task-all 0x5F (flags_of false f.interrupt f.to_host) f.status f.error f.task 0 f.ending f.bytes
+    (task-all (pioRegisters f)
     (and_right (front && below 16 f.bytes) (taskFits f.task) h)) refl refl refl
     (le-leBytes 2 (small 16 f.bytes (and_right front (below 16 f.bytes) (and_left (front && below 16 f.bytes) (taskFits f.task) h)))))
 
 read-bits : (f : SetBits) → fits (setBits f) ≡ true → readFrame (encode (setBits f)) ≡ Ok (Bits f)
-unfolding readFrame frameByKind readable fixedSize pick encode fits bitsBytes
+unfolding readFrame frameByKind readable pick encode fits bitsBytes
 read-bits f h =
     let n7 = not (bitIn 8 f.status 7) in
     let n3 = not (bitIn 8 f.status 3) in
@@ -138,7 +139,7 @@ read-bits f h =
     (le-leBytes 4 (small 32 f.active (and_right two (below 32 f.active) three))))
 
 read-setup : (f : DmaSetup) → fits (setup f) ≡ true → readFrame (encode (setup f)) ≡ Ok (Setup f)
-unfolding readFrame frameByKind readable fixedSize pick encode fits setupBytes
+unfolding readFrame frameByKind readable pick encode fits setupBytes
 read-setup f h =
     let two = and_left (below 32 f.tag && below 32 f.offset) (below 32 f.count) h in
     ap (λ x. Ok (Setup x)) (same-setup (flag-7 f.auto f.interrupt f.to_host) (flag-6 f.auto f.interrupt f.to_host) (flag-5 f.auto f.interrupt f.to_host)
@@ -147,21 +148,16 @@ read-setup f h =
     (le-leBytes 4 (small 32 f.count (and_right (below 32 f.tag && below 32 f.offset) (below 32 f.count) h))))
 
 -- a payload behind four bytes
-readable-payload : (n m : ℕ) → n ≡ 4 + m → payloadSize m ≡ true → readable 0x46 n ≡ true
-unfolding readable pick
-readable-payload n m e h =
-    let k : n - 4 ≡ m = omega arith in
-    rw k h
-
 read-payload : (p : List ℕ) → fits (payload p) ≡ true → readFrame (encode (payload p)) ≡ Ok (Data (length p))
-unfolding frameByKind pick encode fits
+unfolding pick encode fits
 read-payload p h =
     let l = length-payload p in
-    read_by (encode (payload p)) 0x46 refl (readable-payload (length (encode (payload p))) (length p) l h) ∙ ap (λ n. Ok (Data n)) (omega arith)
+    let k : length (encode (payload p)) - 4 ≡ length p = omega arith in
+    read-some (encode (payload p)) kinds.Data refl (rw k h) ∙ ap (λ n. Ok (Data n)) k
 
 -- what was encoded is read as what was sent
 pub read-encoded : (f : FrameValue) → fits f ≡ true → readFrame (encode f) ≡ Ok (readBack f)
-unfolding readFrame frameByKind readable fixedSize pick encode
+unfolding readFrame frameByKind readable pick encode
 read-encoded (host f) h = read-host f h
 read-encoded (device f) h = read-device f h
 read-encoded (setBits f) h = read-bits f h

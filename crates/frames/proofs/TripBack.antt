@@ -13,17 +13,19 @@ use borrow.Author.Tests.{eqb-true, lt-ltb}
 use Rattle.bits.specs.Pick.{pick}
 use Rattle.bits.specs.Bit.{bitIn}
 use Rattle.bits.specs.Little.{leAt, byte_of, Bytes}
-use Rattle.bits.proofs.Picks.{by-test}
 use Rattle.bits.proofs.Tables.{below_all}
 use Rattle.bits.proofs.Littles.{le-lt, byte_le}
 use Rattle.frame_parts.specs.Shared.{flags_of, halvesOf, lbaOf, task_of, registerBytes}
-use Rattle.frame_parts.specs.Size.{fixedSize, payloadSize, readable}
-use Rattle.frames.specs.Read.{flagAt, hostOf, deviceOf, bits_of, setupOf, pioOf, frameByKind, readFrame}
+use Rattle.frame_parts.specs.Size.{kindNamed, allows, payloadSize}
+use Rattle.frame_parts.specs.declared.kinds.FrameKind.{FrameKind}
+use Rattle.frame_parts.specs.declared.kinds.FrameKind.TheVariants as kinds
+use Rattle.frames.specs.Read.{flagAt, hostOf, deviceOf, bits_of, setupOf, pioOf, frameOf, readFrame}
 use Rattle.frames.specs.Write.{FrameValue, host, device, setBits, setup, activate, payload, bist, pio, bitsBytes, setupBytes, encode, fits, FrameWriteGiven}
 use Rattle.frames.specs.RoundTrip.{again, namedBits, zeroed}
 use Rattle.frame_parts.specs.Emit.{WriteGiven}
-use Rattle.frame_parts.proofs.SizeLaws.{payload-4}
+use Rattle.frame_parts.proofs.SizeLaws.{payload-4, named-byte}
 use Rattle.frame_parts.proofs.TaskLaws.{task-fits}
+use Rattle.frames.proofs.ReadLaws.{by-kind}
 use Rattle.frames.proofs.WriteLaws.{length-payload}
 use Rattle.std.proofs.Common.{Result, Ok, Err, Some}
 use Rattle.refusals.specs.declared.reasons.Refusal.{Refusal}
@@ -105,7 +107,8 @@ module _ (l : List ℕ) (bytes : Bytes l) where
   keep i = keeps (get_or l i 0) (bytes i)
 
   -- the layout of 27h, 34h and 5Fh, over what was read
-  register-again : (k g e f n : ℕ) → registerBytes k g (get_or l 2 0) (get_or l 3 0) (task_of l) e f n
+  register-again : (k g e f n : ℕ)
+      → registerBytes (record { kind = k; flags = g; second = get_or l 2 0; third = get_or l 3 0; task = task_of l; eleven = e; fifteen = f; bytes = n })
       ≡ k ∷ g ∷ get_or l 2 0 ∷ get_or l 3 0 ∷ get_or l 4 0 ∷ get_or l 5 0 ∷ get_or l 6 0 ∷ get_or l 7 0 ∷ get_or l 8 0 ∷ get_or l 9 0 ∷ get_or l 10 0
       ∷ e ∷ get_or l 12 0 ∷ get_or l 13 0 ∷ 0 ∷ f ∷ byte_of n 0 ∷ byte_of n 1 ∷ 0 ∷ 0 ∷ []
   unfolding registerBytes
@@ -197,36 +200,23 @@ module _ (l : List ℕ) (bytes : Bytes l) where
       let four = payload-4 (length l) h in
       whole (payload (drop 4 l)) (length l) (omega (arith, length-payload (drop 4 l), length-drop 4 l)) refl (rw (length-drop 4 l) h) (sym (rw e (simp (keep, drops, e))))
 
-  -- the length that a kind's test lets through
-  exact : (k n : ℕ) → readable k (length l) ≡ true → (eqb k 0x46 ≡ false) → fixedSize k ≡ Some n → length l ≡ n
-  unfolding readable pick
-  exact k n r d f = sym (eqb-true n (length l) (rw (d, f) at r))
-
-  sized : readable 0x46 (length l) ≡ true → payloadSize (length l - 4) ≡ true
-  unfolding readable pick
-  sized r = r
-
   -- what a reader's answer has to give: of a frame, that it can be written
   abbrev Goes : Result Frame Refusal → Type 0
   Goes (Ok f) = Back (again l f)
   Goes (Err r) = Unit
 
-  -- of a kind that is known by its test
-  by_kind : (k : ℕ) → k ≡ get_or l 0 0 → readable k (length l) ≡ true → Goes (frameByKind k l)
-  unfolding frameByKind fixedSize pick
-  by_kind k e r =
-      by-test Goes (eqb k 0x27) _ _ (λ t. let q = eqb-true k 0x27 t in host-again (sym e ∙ q) (exact 0x27 20 (rw q at r) refl refl)) (λ _.
-      by-test Goes (eqb k 0x34) _ _ (λ t. let q = eqb-true k 0x34 t in device-again (sym e ∙ q) (exact 0x34 20 (rw q at r) refl refl)) (λ _.
-      by-test Goes (eqb k 0xA1) _ _ (λ t. let q = eqb-true k 0xA1 t in bits-again (sym e ∙ q) (exact 0xA1 8 (rw q at r) refl refl)) (λ _.
-      by-test Goes (eqb k 0x41) _ _ (λ t. let q = eqb-true k 0x41 t in setup-again (sym e ∙ q) (exact 0x41 28 (rw q at r) refl refl)) (λ _.
-      by-test Goes (eqb k 0x39) _ _ (λ t. let q = eqb-true k 0x39 t in activate-again (sym e ∙ q) (exact 0x39 4 (rw q at r) refl refl)) (λ _.
-      by-test Goes (eqb k 0x58) _ _ (λ t. let q = eqb-true k 0x58 t in bist-again (sym e ∙ q) (exact 0x58 12 (rw q at r) refl refl)) (λ _.
-      by-test Goes (eqb k 0x5F) _ _ (λ t. let q = eqb-true k 0x5F t in pio-again (sym e ∙ q) (exact 0x5F 20 (rw q at r) refl refl)) (λ _.
-      by-test Goes (eqb k 0x46) _ _ (λ t. let q = eqb-true k 0x46 t in payload-again (sym e ∙ q) (sized (rw q at r))) (λ _. tt))))))))
-
   goes : Goes (readFrame l)
-  unfolding readFrame
-  goes = by-test Goes (readable (get_or l 0 0) (length l)) _ _ (λ r. by_kind (get_or l 0 0) refl r) (λ _. tt)
+  goes = by-kind Goes l tt of-kind
+    where
+      of-kind : (kind : FrameKind) → kindNamed (get_or l 0 0) ≡ Some kind → allows kind (length l) ≡ true → Goes (Ok (frameOf kind l))
+      of-kind kinds.HostRegister e a = host-again (named-byte _ _ e) (sym (eqb-true 20 (length l) a))
+      of-kind kinds.DeviceRegister e a = device-again (named-byte _ _ e) (sym (eqb-true 20 (length l) a))
+      of-kind kinds.SetDeviceBits e a = bits-again (named-byte _ _ e) (sym (eqb-true 8 (length l) a))
+      of-kind kinds.DmaSetup e a = setup-again (named-byte _ _ e) (sym (eqb-true 28 (length l) a))
+      of-kind kinds.DmaActivate e a = activate-again (named-byte _ _ e) (sym (eqb-true 4 (length l) a))
+      of-kind kinds.BistActivate e a = bist-again (named-byte _ _ e) (sym (eqb-true 12 (length l) a))
+      of-kind kinds.PioSetup e a = pio-again (named-byte _ _ e) (sym (eqb-true 20 (length l) a))
+      of-kind kinds.Data e a = payload-again (named-byte _ _ e) a
 
   -- what was read can be written, and its bytes are the frame with its dropped bits zeroed
   pub encoded-again : (f : Frame) → readFrame l ≡ Ok f → Back (again l f)

@@ -1,5 +1,6 @@
 -- The frames as they are read: unnamed bits and bytes are dropped. Assumes nothing.
-use Rattle.std.specs.Prelude.{Bool, not, ◌≡◌, List, [], ◌∷◌, ◌++◌, ℕ, ◌-◌, length, get_or, eqb, Result, Ok, Err}
+use Rattle.std.specs.Prelude.{Bool, not, ◌≡◌, List, [], ◌∷◌, ◌++◌, ℕ, ◌-◌, length, get_or, Result, Ok, Err}
+use Rattle.std.specs.Option.{option_map_or}
 use Rattle.bits.specs.Pick.{pick}
 use Rattle.bits.specs.Bit.{bitIn}
 use Rattle.bits.specs.Answer.{Answer, bitNumber}
@@ -9,7 +10,9 @@ use Rattle.refusals.specs.First.{Rung, rung, first_of, refusal_in}
 use Rattle.refusals.specs.declared.reasons.Refusal.{Refusal}
 use Rattle.refusals.specs.declared.reasons.Refusal.TheVariants.{NoFrame}
 use Rattle.frame_parts.specs.Shared.{halvesOf, task_of}
-use Rattle.frame_parts.specs.Size.{readable}
+use Rattle.frame_parts.specs.Size.{kindNamed, readable}
+use Rattle.frame_parts.specs.declared.kinds.FrameKind.{FrameKind}
+use Rattle.frame_parts.specs.declared.kinds.FrameKind.TheVariants as kinds
 use Rattle.frame_parts.specs.declared.shared.Task.{Task}
 use Rattle.frames.specs.declared.shapes.HostReg.{HostReg}
 use Rattle.frames.specs.declared.shapes.DevReg.{DevReg}
@@ -65,17 +68,20 @@ pioOf l = record {
   bytes = leAt l 16 2;
 }
 
--- a frame by its kind, or 24 for an unknown one; 46h leaves its payload where it is
+-- the frame that bytes of a kind are; a data frame leaves its payload where it is
+abbrev pub frameOf : FrameKind → List ℕ → Frame
+frameOf kinds.HostRegister l = Host (hostOf l)
+frameOf kinds.DeviceRegister l = Device (deviceOf l)
+frameOf kinds.SetDeviceBits l = Bits (bits_of l)
+frameOf kinds.DmaSetup l = Setup (setupOf l)
+frameOf kinds.DmaActivate l = Activate
+frameOf kinds.BistActivate l = Bist
+frameOf kinds.PioSetup l = Pio (pioOf l)
+frameOf kinds.Data l = Data (length l - 4)
+
+-- a frame by the byte of its kind, or 24 for an unknown one
 unfoldable pub frameByKind : ℕ → List ℕ → Result Frame Refusal
-frameByKind k l =
-    pick (eqb k 0x27) (Ok (Host (hostOf l)))
-    (pick (eqb k 0x34) (Ok (Device (deviceOf l)))
-    (pick (eqb k 0xA1) (Ok (Bits (bits_of l)))
-    (pick (eqb k 0x41) (Ok (Setup (setupOf l)))
-    (pick (eqb k 0x39) (Ok Activate)
-    (pick (eqb k 0x58) (Ok Bist)
-    (pick (eqb k 0x5F) (Ok (Pio (pioOf l)))
-    (pick (eqb k 0x46) (Ok (Data (length l - 4))) (Err NoFrame))))))))
+frameByKind byte l = option_map_or (λ kind. Ok (frameOf kind l)) (kindNamed byte) (Err NoFrame)
 
 -- 24: kind unknown or length wrong
 abbrev pub ladder24 : List ℕ → List Rung

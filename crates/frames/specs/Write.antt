@@ -4,6 +4,7 @@ use Rattle.bits.specs.Bit.{bitIn}
 use Rattle.bits.specs.Little.{le_bytes}
 use Rattle.frame_parts.specs.Shared.{flags_of, halvesOf, registerBytes, below, taskFits}
 use Rattle.frame_parts.specs.Size.{payloadSize}
+use Rattle.frame_parts.specs.declared.shared.Registers.{Registers}
 use Rattle.frame_parts.specs.Emit.{WriteGiven}
 use Rattle.frames.specs.declared.shapes.HostReg.{HostReg}
 use Rattle.frames.specs.declared.shapes.DevReg.{DevReg}
@@ -33,16 +34,55 @@ setupBytes f =
     0x41 ∷ flags_of f.auto f.interrupt f.to_host ∷ 0 ∷ 0
     ∷ le_bytes 4 f.tag ++ 0 ∷ 0 ∷ 0 ∷ 0 ∷ 0 ∷ 0 ∷ 0 ∷ 0 ∷ le_bytes 4 f.offset ++ le_bytes 4 f.count ++ 0 ∷ 0 ∷ 0 ∷ 0 ∷ []
 
+-- 27h in the layout that it shares with 34h and 5Fh
+abbrev pub hostRegisters : HostReg → Registers
+hostRegisters f = record {
+  kind = 0x27;
+  flags = flags_of f.command_bit false false;
+  second = f.command;
+  third = f.features;
+  task = f.task;
+  eleven = f.features_high;
+  fifteen = f.control;
+  bytes = 0;
+}
+
+-- 34h in that layout
+abbrev pub deviceRegisters : DevReg → Registers
+deviceRegisters f = record {
+  kind = 0x34;
+  flags = flags_of false f.interrupt false;
+  second = f.status;
+  third = f.error;
+  task = f.task;
+  eleven = 0;
+  fifteen = 0;
+  bytes = 0;
+}
+
+-- 5Fh in that layout
+abbrev pub pioRegisters : PioSetup → Registers
+pioRegisters f = record {
+  kind = 0x5F;
+  flags = flags_of false f.interrupt f.to_host;
+  second = f.status;
+  third = f.error;
+  task = f.task;
+  eleven = 0;
+  fifteen = f.ending;
+  bytes = f.bytes;
+}
+
 -- the bytes of a frame
 unfoldable pub encode : FrameValue → List ℕ
-encode (host f) = registerBytes 0x27 (flags_of f.command_bit false false) f.command f.features f.task f.features_high f.control 0
-encode (device f) = registerBytes 0x34 (flags_of false f.interrupt false) f.status f.error f.task 0 0 0
+encode (host f) = registerBytes (hostRegisters f)
+encode (device f) = registerBytes (deviceRegisters f)
 encode (setBits f) = bitsBytes f
 encode (setup f) = setupBytes f
 encode activate = 0x39 ∷ 0 ∷ 0 ∷ 0 ∷ []
 encode (payload p) = 0x46 ∷ 0 ∷ 0 ∷ 0 ∷ p
 encode bist = 0x58 ∷ 0 ∷ 0 ∷ 0 ∷ 0 ∷ 0 ∷ 0 ∷ 0 ∷ 0 ∷ 0 ∷ 0 ∷ 0 ∷ []
-encode (pio f) = registerBytes 0x5F (flags_of false f.interrupt f.to_host) f.status f.error f.task 0 f.ending f.bytes
+encode (pio f) = registerBytes (pioRegisters f)
 
 -- no value is too large for its bits, status bits 7 and 3 of A1h are not set, the payload is 4 to 8,192 bytes in steps of 4
 unfoldable pub fits : FrameValue → Bool

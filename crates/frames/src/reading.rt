@@ -1,91 +1,95 @@
 // The frame reader: an enum by value, or a refusal.
 ghost use Rattle.std.specs.Prelude.{◌≡◌};
-ghost use Rattle.frames.specs.Read.{hostOf, deviceOf, bits_of, setupOf, pioOf, FrameGiven};
+ghost use Rattle.frames.specs.Read.{hostOf, deviceOf, bits_of, setupOf, pioOf, frameOf, FrameGiven};
 
 use crate::shapes::{DevReg, DmaSetup, Frame, HostReg, PioSetup, SetBits};
-use frame_parts::{byte_of, flag, halves, is_readable, task_of};
+use frame_parts::{DATA_HEAD_SIZE, FrameKind, Task, byte_of, flag, halves};
 use refusals::Refusal;
 
-fn read_host(s: &[u8]) -> HostReg
-    ensures { result ≡ hostOf s.now }
+fn read_host(bytes: &[u8]) -> HostReg
+    ensures { result ≡ hostOf bytes.now }
 {
     HostReg {
-        command_bit: flag(byte_of(s, 1), 7),
-        command: byte_of(s, 2),
-        features: byte_of(s, 3),
-        task: task_of(s),
-        features_high: byte_of(s, 11),
-        control: byte_of(s, 15),
+        command_bit: flag(byte_of(bytes, 1), 7),
+        command: byte_of(bytes, 2),
+        features: byte_of(bytes, 3),
+        task: Task::from_frame(bytes),
+        features_high: byte_of(bytes, 11),
+        control: byte_of(bytes, 15),
     }
 }
 
-fn read_device(s: &[u8]) -> DevReg
-    ensures { result ≡ deviceOf s.now }
+fn read_device(bytes: &[u8]) -> DevReg
+    ensures { result ≡ deviceOf bytes.now }
 {
     DevReg {
-        interrupt: flag(byte_of(s, 1), 6),
-        status: byte_of(s, 2),
-        error: byte_of(s, 3),
-        task: task_of(s),
+        interrupt: flag(byte_of(bytes, 1), 6),
+        status: byte_of(bytes, 2),
+        error: byte_of(bytes, 3),
+        task: Task::from_frame(bytes),
     }
 }
 
-fn read_bits(s: &[u8]) -> SetBits
-    ensures { result ≡ bits_of s.now }
+fn read_bits(bytes: &[u8]) -> SetBits
+    ensures { result ≡ bits_of bytes.now }
 {
     SetBits {
-        interrupt: flag(byte_of(s, 1), 6),
-        status: halves(byte_of(s, 2)),
-        error: byte_of(s, 3),
-        active: bits::le32(s, 4),
+        interrupt: flag(byte_of(bytes, 1), 6),
+        status: halves(byte_of(bytes, 2)),
+        error: byte_of(bytes, 3),
+        active: bits::le32(bytes, 4),
     }
 }
 
-fn read_setup(s: &[u8]) -> DmaSetup
-    ensures { result ≡ setupOf s.now }
+fn read_setup(bytes: &[u8]) -> DmaSetup
+    ensures { result ≡ setupOf bytes.now }
 {
     DmaSetup {
-        auto: flag(byte_of(s, 1), 7),
-        interrupt: flag(byte_of(s, 1), 6),
-        to_host: flag(byte_of(s, 1), 5),
-        tag: bits::le32(s, 4),
-        offset: bits::le32(s, 16),
-        count: bits::le32(s, 20),
+        auto: flag(byte_of(bytes, 1), 7),
+        interrupt: flag(byte_of(bytes, 1), 6),
+        to_host: flag(byte_of(bytes, 1), 5),
+        tag: bits::le32(bytes, 4),
+        offset: bits::le32(bytes, 16),
+        count: bits::le32(bytes, 20),
     }
 }
 
-fn read_pio(s: &[u8]) -> PioSetup
-    ensures { result ≡ pioOf s.now }
+fn read_pio(bytes: &[u8]) -> PioSetup
+    ensures { result ≡ pioOf bytes.now }
 {
     PioSetup {
-        interrupt: flag(byte_of(s, 1), 6),
-        to_host: flag(byte_of(s, 1), 5),
-        status: byte_of(s, 2),
-        error: byte_of(s, 3),
-        task: task_of(s),
-        ending: byte_of(s, 15),
-        bytes: bits::le16(s, 16),
+        interrupt: flag(byte_of(bytes, 1), 6),
+        to_host: flag(byte_of(bytes, 1), 5),
+        status: byte_of(bytes, 2),
+        error: byte_of(bytes, 3),
+        task: Task::from_frame(bytes),
+        ending: byte_of(bytes, 15),
+        bytes: bits::le16(bytes, 16),
     }
 }
 
-/// The frame that the bytes are, or 24: kind unknown or length wrong.
-pub fn read_frame(s: &[u8]) -> Result<Frame, Refusal>
-    ensures { FrameGiven s.now result }
+// A data frame leaves its payload in the slice, behind its head.
+fn frame_of(kind: FrameKind, bytes: &[u8]) -> Frame
+    ensures { result ≡ frameOf kind bytes.now }
 {
-    let n = s.len();
-    let kind = byte_of(s, 0);
-    if !is_readable(kind, n) {
-        return Err(Refusal::NoFrame);
-    }
     match kind {
-        0x27 => Ok(Frame::Host(read_host(s))),
-        0x34 => Ok(Frame::Device(read_device(s))),
-        0xA1 => Ok(Frame::Bits(read_bits(s))),
-        0x41 => Ok(Frame::Setup(read_setup(s))),
-        0x39 => Ok(Frame::Activate),
-        0x58 => Ok(Frame::Bist),
-        0x5F => Ok(Frame::Pio(read_pio(s))),
-        0x46 => Ok(Frame::Data(n - 4)),
+        FrameKind::HostRegister => Frame::Host(read_host(bytes)),
+        FrameKind::DeviceRegister => Frame::Device(read_device(bytes)),
+        FrameKind::SetDeviceBits => Frame::Bits(read_bits(bytes)),
+        FrameKind::DmaSetup => Frame::Setup(read_setup(bytes)),
+        FrameKind::DmaActivate => Frame::Activate,
+        FrameKind::BistActivate => Frame::Bist,
+        FrameKind::PioSetup => Frame::Pio(read_pio(bytes)),
+        FrameKind::Data => Frame::Data(bytes.len().saturating_sub(DATA_HEAD_SIZE)),
+    }
+}
+
+/// The frame that the bytes are; `NoFrame` where byte 0 names no kind, or its kind does not allow the length.
+pub fn read_frame(bytes: &[u8]) -> Result<Frame, Refusal>
+    ensures { FrameGiven bytes.now result }
+{
+    match FrameKind::from_byte(byte_of(bytes, 0)) {
+        Some(kind) if kind.allows(bytes.len()) => Ok(frame_of(kind, bytes)),
         _ => Err(Refusal::NoFrame),
     }
 }

@@ -6,12 +6,15 @@ use frame_parts::Task;
 pub struct HostReg {
     /// C, bit 7 of byte 1.
     pub command_bit: bool,
+    /// Byte 2.
     pub command: u8,
-    /// The low byte; the high one is `features_high`.
+    /// Byte 3: the low byte; the high one is `features_high`.
     pub features: u8,
+    /// Bytes 4-10 and 12-13.
     pub task: Task,
+    /// Byte 11.
     pub features_high: u8,
-    /// Bit 2 is SRST.
+    /// Byte 15; bit 2 is SRST.
     pub control: u8,
 }
 
@@ -20,8 +23,11 @@ pub struct HostReg {
 pub struct DevReg {
     /// I, bit 6 of byte 1.
     pub interrupt: bool,
+    /// Byte 2.
     pub status: u8,
+    /// Byte 3.
     pub error: u8,
+    /// Bytes 4-10 and 12-13.
     pub task: Task,
 }
 
@@ -30,10 +36,11 @@ pub struct DevReg {
 pub struct SetBits {
     /// I, bit 6 of byte 1.
     pub interrupt: bool,
-    /// Bits 6:4 and 2:0 alone have a place in the frame.
+    /// Byte 2, in which bits 6:4 and 2:0 alone have a place.
     pub status: u8,
+    /// Byte 3.
     pub error: u8,
-    /// SActive: bit t is the tag t.
+    /// SActive, bytes 4-7: bit t is the tag t.
     pub active: u32,
 }
 
@@ -46,10 +53,11 @@ pub struct DmaSetup {
     pub interrupt: bool,
     /// D, bit 5 of byte 1: the data go to the host.
     pub to_host: bool,
+    /// Bytes 4-7.
     pub tag: u32,
-    /// In bytes.
+    /// Bytes 16-19: where in the command's data it goes on, in bytes.
     pub offset: u32,
-    /// In bytes.
+    /// Bytes 20-23: how many bytes follow.
     pub count: u32,
 }
 
@@ -60,27 +68,36 @@ pub struct PioSetup {
     pub interrupt: bool,
     /// D, bit 5 of byte 1: the data go to the host.
     pub to_host: bool,
+    /// Byte 2.
     pub status: u8,
+    /// Byte 3.
     pub error: u8,
+    /// Bytes 4-10 and 12-13.
     pub task: Task,
-    /// The status once the data have moved.
+    /// Byte 15: the status once the data have moved.
     pub ending: u8,
-    /// How many bytes move.
+    /// Bytes 16-17: how many bytes move.
     pub bytes: u16,
 }
 
 /// A frame that was read.
 #[derive(Clone, Copy, Debug, PartialEq, Eq)]
 pub enum Frame {
+    /// 27h, a register frame of the host.
     Host(HostReg),
+    /// 34h, a register frame of the device.
     Device(DevReg),
+    /// A1h, Set Device Bits.
     Bits(SetBits),
+    /// 41h, DMA Setup.
     Setup(DmaSetup),
     /// 39h, DMA Activate.
     Activate,
-    /// 46h, data: the length of its payload, 4 to 8,192 bytes in steps of 4, which stays in the caller's slice behind 4 bytes.
+    /// 46h, data: the length of its payload, 4 to 8,192 bytes in steps of 4, which stays in the caller's slice behind
+    /// 4 bytes.
     Data(usize),
     /// 58h, BIST Activate.
     Bist,
+    /// 5Fh, PIO Setup.
     Pio(PioSetup),
 }

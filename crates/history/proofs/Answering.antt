@@ -29,7 +29,7 @@ use Rattle.refusals.proofs.FirstLaws.{unless-ok}
 use Rattle.rules.specs.Tests.{tests}
 use Rattle.rules.specs.Act.{does, act}
 use Rattle.rules.specs.Positions.{left_of, move_of}
-use Rattle.rules.specs.Medium.{touch_of, span_of, part_of}
+use Rattle.rules.specs.Medium.{touch_of, part_of}
 use Rattle.rules.specs.declared.facts.Facts.{Facts}
 use Rattle.rules.specs.declared.acts.Act.{Act}
 use Rattle.rules.specs.declared.acts.Act.TheVariants.{Store, Open}
@@ -44,7 +44,7 @@ use Rattle.device.specs.Step.{Step, shown, stepBy, actOf, step}
 use Rattle.device.specs.declared.state.Device.{Device}
 use Rattle.device.proofs.Sized.{SizedRecord}
 use Rattle.device.proofs.Busy.{whole_is}
-use Rattle.device.proofs.Doing.{heard-unsent}
+use Rattle.rules.proofs.Ruled.{heard-unsent}
 use Rattle.device.proofs.Fitting.{ReadFits, read_fits, record-fits}
 use Rattle.device.proofs.Keeping.{both-kept}
 use Rattle.device.proofs.Rooms.{move-within}
@@ -223,7 +223,7 @@ module _ (d : Device) (h : List Event) (k : Stands d h) where
       ∙ sym (found t (commands (map seen h)) (k.known.out t ∙ o) k.tracked.commands)
 
   -- by the event
-  own-answers : (m b : List ℕ) {c : Call} {a : Act} → by.Own (facts_of d (lent c m b)) c a → Reads d (part_of (span_of a) m) a ≡ By d h c
+  own-answers : (m b : List ℕ) {c : Call} {a : Act} → by.Own (facts_of d (lent c m b)) c a → Reads d (part_of a m) a ≡ By d h c
   unfolding repliesOf repliesBy touch_of move_of
   own-answers m b (by.opened t g s o p e) = open-answers t g o
   own-answers m b (by.sent g w s p r) =
@@ -236,7 +236,7 @@ module _ (d : Device) (h : List Event) (k : Stands d h) where
   own-answers m b (by.renewed g s) = refl
 
   -- a call that is taken
-  ruled-answers : (m b : List ℕ) {c : Call} {a : Act} → Typed c → by.Ruled (facts_of d (lent c m b)) c (Ok a) → a ≡ does (facts_of d (lent c m b)) c → Reads d (part_of (span_of a) m) a ≡ By d h c
+  ruled-answers : (m b : List ℕ) {c : Call} {a : Act} → Typed c → by.Ruled (facts_of d (lent c m b)) c (Ok a) → a ≡ does (facts_of d (lent c m b)) c → Reads d (part_of a m) a ≡ By d h c
   unfolding does repliesBy
   ruled-answers m b {c} {a} t (by.host f _ g w s y) i =
       subst (λ (p : List ℕ). Reads d p a ≡ ByHost d h (readFrame f)) (heard-unsent (facts_of d (lent (hostFrame f) m b)) m y) (heard-answers f m b g (read_fits f t.0) y i)

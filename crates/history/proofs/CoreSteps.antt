@@ -14,7 +14,7 @@ use lib.Pow.{shr_lt}
 use borrow.Author.Tests.{eqb-true, eqb-false, lt-ltb}
 use Rattle.bits.specs.Pick.{pick}
 use Rattle.bits.specs.Bit.{bitIn}
-use Rattle.bits.proofs.Masks.{bit-lt, bit-suc}
+use Rattle.std.proofs.lemmas.Nat.Bits.{bit_at-lt, bit_at-suc}
 use Rattle.bits.proofs.Picks.{tested}
 use Rattle.history.specs.Replied.{some}
 use Rattle.history.specs.Seen.{Seen}
@@ -68,7 +68,7 @@ bit-digit : (m t : ℕ) → t < 32 → one (bitIn 32 m t) ≡ m / 2 ^ t % 2
 bit-digit m t l = rw (lt-ltb t 32 l)
     (⊎_elim
     (λ (x : eqb (m / 2 ^ t % 2) 1 ≡ true). rw x (sym (eqb-true (m / 2 ^ t % 2) 1 x)))
-    (λ (x : eqb (m / 2 ^ t % 2) 1 ≡ false). let n = eqb-false (m / 2 ^ t % 2) 1 x in let b = bit-lt m t in rw x (omega arith))
+    (λ (x : eqb (m / 2 ^ t % 2) 1 ≡ false). let n = eqb-false (m / 2 ^ t % 2) 1 x in let b = bit_at-lt m t in rw x (omega arith))
     (tested (eqb (m / 2 ^ t % 2) 1)))
 
 -- the ones of a number are the sum of its digits
@@ -78,7 +78,7 @@ ones-sum zero m h = ap ones (lt-one h)
 ones-sum (suc k) m h =
     ones_step m
     ∙ ap₂ (λ (a b : ℕ). a + b) (ap (λ (n : ℕ). n % 2) (sym (div-one m)))
-    (ones-sum k (m / 2) (shr_lt k 1 (rw add-one h)) ∙ sum-ext (λ t. m / 2 / 2 ^ t % 2) (λ t. m / 2 ^ suc t % 2) k (λ t _. bit-suc m t))
+    (ones-sum k (m / 2) (shr_lt k 1 (rw add-one h)) ∙ sum-ext (λ t. m / 2 / 2 ^ t % 2) (λ t. m / 2 ^ suc t % 2) k (λ t _. sym (bit_at-suc m t)))
 
 -- a number without ones is 0
 ones_none : (n : ℕ) → ones n ≡ 0 → n ≡ 0

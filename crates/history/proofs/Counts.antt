@@ -10,7 +10,7 @@ use Rattle.std.proofs.Common.{Ok, Err}
 use Rattle.bits.specs.Pick.{pick}
 use Rattle.bits.specs.Laid.{laid}
 use Rattle.rules.specs.Call.{Call}
-use Rattle.rules.specs.Medium.{span_of, part_of}
+use Rattle.rules.specs.Medium.{part_of}
 use Rattle.rules.specs.declared.acts.Act.{Act}
 use Rattle.rules.proofs.Ruled as by
 use Rattle.replies.specs.Replies.{repliesOf}
@@ -43,7 +43,7 @@ abbrev pub Replies : Device → Lent → Type 0
 Replies d l = Read (eventOf d l) (step d l).frames
 
 -- a taken call
-ruled-reckons : (d : Device) (m b : List ℕ) {c : Call} {a : Act} → by.Ruled (facts_of d (lent c m b)) c (Ok a) → Reckons d c (pioIn (repliesOf (shown d) (part_of (span_of a) m) a)) a
+ruled-reckons : (d : Device) (m b : List ℕ) {c : Call} {a : Act} → by.Ruled (facts_of d (lent c m b)) c (Ok a) → Reckons d c (pioIn (repliesOf (shown d) (part_of a m) a)) a
 ruled-reckons d m b (by.host f a g w s h) = (host-goes d f m b g h).heard.values
 ruled-reckons d m b (by.own o) = (own-goes d m b o).reckons
 

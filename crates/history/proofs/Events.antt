@@ -6,7 +6,7 @@ use Prim.Native.Nat.{ℕ, ◌+◌, ◌*◌, ◌^◌, ◌≤◌, ◌<◌, min}
 use native.Mathlib.Omega.{arith}
 use native.Mathlib.Nat.{zero-add}
 use lib.Dec.{eqb, lit<}
-use lib.ListN.{length, length-take, length-drop}
+use lib.ListN.{length, take, drop, length-take, length-drop}
 use borrow.Author.Tests.{eqb-true, eqb-false, not-false}
 use Rattle.bits.specs.Pick.{pick}
 use Rattle.bits.specs.Bit.{bitIn}
@@ -18,7 +18,7 @@ use Rattle.device_state.specs.declared.shapes.Entry.{Entry}
 use Rattle.device_state.proofs.TableLaws.{some-absent}
 use Rattle.rules.specs.Positions.{left_of, move_of}
 use Rattle.rules.specs.Tests.{someUnready, unreadyAt, allMoved}
-use Rattle.rules.specs.Medium.{touch_of, span_of, part_of}
+use Rattle.rules.specs.Medium.{touch_of, part_of}
 use Rattle.rules.specs.declared.acts.Fault.{Fault}
 use Rattle.rules.specs.declared.acts.Act.{Act}
 use Rattle.rules.specs.declared.acts.Act.TheVariants.{Open, Send, Finish, Media, Count, Renew}
@@ -38,7 +38,7 @@ use Rattle.history.proofs.Sets.{no-busy, no_bits}
 use Rattle.history.proofs.Views.{view, is-silent, is-finish, is-failed, is-reset, is-setup, setup-begins, is-sent, silent-unbegun, answer-unbegun, bits-unbegun, sent-unbegun}
 use Rattle.history.proofs.Changes.{halted-empty, carried-by, unmoved, cleared-other}
 use Rattle.device.proofs.Phases.{open-entry}
-use Rattle.std.proofs.Common.{Some, None, is_none, unwrap_or}
+use Rattle.std.proofs.Common.{None, is_none, unwrap_or}
 
 -- an act's part of the medium, and what is seen of it
 abbrev pub Happens : Device → List ℕ → Act → Type 0
@@ -75,25 +75,25 @@ sent-comes d part g p w l =
     carries t (min 8192 (left_of e)) (rw (w, ← l) (is-sent part)) (sent-unbegun quiet part) (carried-by d g p 8192 (lit< tt))
 
 -- the part of the medium that is sent is as long as it should be
-pub part-long : (m : List ℕ) (at size : ℕ) → at + size ≤ length m → length (part_of (Some (record { at = at; size = size })) m) ≡ size
+pub part-long : (m : List ℕ) (at size : ℕ) → at + size ≤ length m → length (take size (drop at m)) ≡ size
 part-long m at size h = simp (length-take, length-drop) (omega arith)
 
 -- the entry of the open phase is that of its tag
 at_tag : (d : Device) (m : List ℕ) → contradictoryDevice d ≡ false → (p : is_none d.status.phase ≡ false)
     → let x : Entry → Act = λ e. Send (move_of d.status e 8192) in
     let e : Entry = phaseEntry d in
-    e.write ≡ false → length (part_of (span_of (x e)) m) ≡ (move_of d.status e 8192).size → Happens d (part_of (span_of (x e)) m) (x e)
+    e.write ≡ false → length (part_of (x e) m) ≡ (move_of d.status e 8192).size → Happens d (part_of (x e) m) (x e)
 unfolding move_of touch_of
 at_tag d m g p =
     let own : Entry = entry_of d.entries (unwrap_or d.status.phase 0) in
     subst
-    (λ (e : Entry). e.write ≡ false → length (part_of (span_of (Send (move_of d.status e 8192))) m) ≡ (move_of d.status e 8192).size → Happens d (part_of (span_of (Send (move_of d.status e 8192))) m) (Send (move_of d.status e 8192)))
+    (λ (e : Entry). e.write ≡ false → length (part_of (Send (move_of d.status e 8192)) m) ≡ (move_of d.status e 8192).size → Happens d (part_of (Send (move_of d.status e 8192)) m) (Send (move_of d.status e 8192)))
     (sym (open-entry d.entries d.status.phase p))
-    (λ w l. sent-comes d (part_of (span_of (Send (move_of d.status own 8192))) m) g p w l)
+    (λ w l. sent-comes d (part_of (Send (move_of d.status own 8192)) m) g p w l)
 
 -- send
 pub send-comes : (d : Device) (m : List ℕ) → contradictoryDevice d ≡ false → mediumWrong d.settings.capacity (length m) ≡ false → is_none d.status.phase ≡ false
-    → let e : Entry = phaseEntry d in e.write ≡ false → Happens d (part_of (span_of (Send (move_of d.status e 8192))) m) (Send (move_of d.status e 8192))
+    → let e : Entry = phaseEntry d in e.write ≡ false → Happens d (part_of (Send (move_of d.status e 8192)) m) (Send (move_of d.status e 8192))
 unfolding touch_of
 send-comes d m g w p r =
     let e : Entry = phaseEntry d in

@@ -18,9 +18,8 @@ use Rattle.frames.specs.declared.shapes.Frame.TheVariants as fs
 use Rattle.rules.specs.Call.{hostFrame}
 use Rattle.rules.specs.Decide.{bad, fault, tagAsked}
 use Rattle.rules.specs.Positions.{move_of}
-use Rattle.rules.specs.Medium.{leaves, touch_of, span_of, part_of}
+use Rattle.rules.specs.Medium.{leaves, touch_of, part_of}
 use Rattle.rules.specs.declared.acts.Act.{Act}
-use Rattle.rules.specs.declared.medium.Span.{Span}
 use Rattle.rules.proofs.Ruled as by
 use Rattle.replies.specs.Replies.{repliesOf, page10Of}
 use Rattle.device.specs.Device.{contradictoryDevice}
@@ -130,6 +129,6 @@ module _ (d : Device) (g : contradictoryDevice d ≡ false) where
   }
 
 -- of a frame as its bytes; it is given no part of the medium
-pub host-goes : (d : Device) (f m b : List ℕ) {a : Act} → contradictoryDevice d ≡ false → by.Heard (facts_of d (lent (hostFrame f) m b)) (readFrame f) a → HostGoes d (part_of (span_of a) m) (readFrame f) a
+pub host-goes : (d : Device) (f m b : List ℕ) {a : Act} → contradictoryDevice d ≡ false → by.Heard (facts_of d (lent (hostFrame f) m b)) (readFrame f) a → HostGoes d (part_of a m) (readFrame f) a
 host-goes d f m b {a} g h =
-    subst (λ (s : Option Span). HostGoes d (part_of s m) (readFrame f) a) (sym (by.heard-unsent (facts_of d (lent (hostFrame f) m b)) h)) (heard-goes d g f m b (read-data f) h)
+    subst (λ (p : List ℕ). HostGoes d p (readFrame f) a) (by.heard-unsent (facts_of d (lent (hostFrame f) m b)) m h) (heard-goes d g f m b (read-data f) h)

@@ -11,7 +11,7 @@ use Rattle.frames.proofs.ReadLaws.{DataRead, read-data}
 use Rattle.refusals.specs.declared.reasons.Refusal.{Refusal}
 use Rattle.rules.specs.Call.{Call, hostFrame}
 use Rattle.rules.specs.Positions.{place_of, move_of}
-use Rattle.rules.specs.Medium.{span_of, part_of, mediumAfter}
+use Rattle.rules.specs.Medium.{part_of, mediumAfter}
 use Rattle.rules.specs.declared.acts.Act.{Act}
 use Rattle.rules.proofs.Ruled as by
 use Rattle.replies.specs.Replies.{repliesOf}
@@ -73,7 +73,7 @@ call_lies d l =
 -- ---- what it sends of the medium
 
 -- a taken call, by the rule that holds: what it sends stood at the next byte of the open phase's command
-ruled-sent : (d : Device) (m b : List ℕ) {c : Call} {a : Act} → by.Ruled (facts_of d (lent c m b)) c (Ok a) → SentFrom (place_of (phaseEntry d)) m (sentIn (repliesOf (shown d) (part_of (span_of a) m) a))
+ruled-sent : (d : Device) (m b : List ℕ) {c : Call} {a : Act} → by.Ruled (facts_of d (lent c m b)) c (Ok a) → SentFrom (place_of (phaseEntry d)) m (sentIn (repliesOf (shown d) (part_of a m) a))
 ruled-sent d m b (by.host f a g w s h) = sent-none (place_of (phaseEntry d)) m _ (host-goes d f m b g h).unsent
 ruled-sent d m b (by.own o) = (own-goes d m b o).sends
 

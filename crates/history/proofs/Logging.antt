@@ -23,7 +23,7 @@ use Rattle.device_state.specs.declared.shapes.Settings.{Settings}
 use Rattle.device_state.proofs.EchoLaws.{echo-task, echo-lba}
 use Rattle.rules.specs.Call.{Call, hostFrame}
 use Rattle.rules.specs.Act.{failing}
-use Rattle.rules.specs.Medium.{span_of, part_of}
+use Rattle.rules.specs.Medium.{part_of}
 use Rattle.rules.specs.Positions.{move_of}
 use Rattle.rules.specs.Tests.{outside}
 use Rattle.rules.specs.declared.acts.Queued.{Queued}
@@ -37,7 +37,7 @@ use Rattle.device.specs.FactsOf.{facts_of}
 use Rattle.device.specs.Step.{Step, shown, stepBy, step}
 use Rattle.device.specs.declared.state.Device.{Device}
 use Rattle.device.proofs.Busy.{range-within}
-use Rattle.device.proofs.Doing.{heard-unsent}
+use Rattle.rules.proofs.Ruled.{heard-unsent}
 use Rattle.device.proofs.Entering.{capacity-most}
 use Rattle.device.proofs.Fitting.{ReadFits, read_fits}
 use Rattle.device.proofs.Keeping.{settings-good}
@@ -135,7 +135,7 @@ module _ (d : Device) (h : List Event) (w : waits (map seen h) ≡ d.status.halt
 
   -- a device event that is taken
   own-logged : (m b : List ℕ) {c : Call} {a : Act} → by.Own (facts_of d (lent c m b)) c a
-      → Next (callAsks c) (repliesOf (shown d) (part_of (span_of a) m) a) (callLog (errorOf (repliesOf (shown d) (part_of (span_of a) m) a)) h c) ≡ logOf (after_of d a).errors
+      → Next (callAsks c) (repliesOf (shown d) (part_of a m) a) (callLog (errorOf (repliesOf (shown d) (part_of a m) a)) h c) ≡ logOf (after_of d a).errors
   unfolding view some collect pick repliesOf after_of openedFor movedBy finishedBy failedBy haltWith renewed released resetHeld withValue move_of
   own-logged m b (by.opened t g s o p e) = setup-logged (record { tag = t; entry = entry_of d.entries t }) _
   own-logged m b (by.sent g v s p r) = k
@@ -146,7 +146,7 @@ module _ (d : Device) (h : List Event) (w : waits (map seen h) ≡ d.status.halt
 
   -- a call that is taken
   ruled-logged : (m b : List ℕ) {c : Call} {a : Act} → Typed c → by.Ruled (facts_of d (lent c m b)) c (Ok a)
-      → Next (callAsks c) (repliesOf (shown d) (part_of (span_of a) m) a) (callLog (errorOf (repliesOf (shown d) (part_of (span_of a) m) a)) h c) ≡ logOf (after_of d a).errors
+      → Next (callAsks c) (repliesOf (shown d) (part_of a m) a) (callLog (errorOf (repliesOf (shown d) (part_of a m) a)) h c) ≡ logOf (after_of d a).errors
   ruled-logged m b {c} {a} t (by.host f _ g v s y) =
       subst (λ (p : List ℕ). Next (callAsks c) (repliesOf (shown d) p a) (callLog (errorOf (repliesOf (shown d) p a)) h c) ≡ logOf (after_of d a).errors)
       (heard-unsent (facts_of d (lent (hostFrame f) m b)) m y) (heard-logged f m b g (read_fits f t.0) y)

@@ -20,7 +20,7 @@ use Rattle.device_state.specs.declared.shapes.Settings.{Settings}
 use Rattle.device_state.proofs.EchoLaws.{echo-task}
 use Rattle.rules.specs.Call.{Call, hostFrame}
 use Rattle.rules.specs.Decide.{tagAsked, entryFor}
-use Rattle.rules.specs.Medium.{span_of, part_of}
+use Rattle.rules.specs.Medium.{part_of}
 use Rattle.rules.specs.Positions.{move_of, advancedBy}
 use Rattle.rules.specs.declared.acts.Queued.{Queued}
 use Rattle.rules.specs.declared.acts.Act.{Act}
@@ -33,7 +33,7 @@ use Rattle.device.specs.DataDue.{phaseEntry}
 use Rattle.device.specs.FactsOf.{facts_of}
 use Rattle.device.specs.Step.{Step, shown, stepBy, step}
 use Rattle.device.specs.declared.state.Device.{Device}
-use Rattle.device.proofs.Doing.{heard-unsent}
+use Rattle.rules.proofs.Ruled.{heard-unsent}
 use Rattle.device.proofs.Entering.{tag_small}
 use Rattle.device.proofs.Fitting.{ReadFits, read_fits}
 use Rattle.device.proofs.Never.{and-never}
@@ -175,17 +175,17 @@ module _ (d : Device) (h : List Event) (n : Named d h) where
   heard-named x m b {y} {a} t (by.bist z) = by-act (frameAsks y) [] (frameTask y) a refl same
 
   -- a device event that is taken
-  own-named : (m b : List ℕ) {c : Call} {a : Act} → Typed c → by.Own (facts_of d (lent c m b)) c a → Names (callAsks c) (repliesOf (shown d) (part_of (span_of a) m) a) (callTask c) (after_of d a)
+  own-named : (m b : List ℕ) {c : Call} {a : Act} → Typed c → by.Own (facts_of d (lent c m b)) c a → Names (callAsks c) (repliesOf (shown d) (part_of a m) a) (callTask c) (after_of d a)
   unfolding view some collect pick repliesOf after_of openedFor failedBy haltWith renewed released resetHeld withValue
   own-named m b {c} {a} y (by.opened t g s o p e) = setup-named (record { tag = t; entry = entry_of d.entries t }) (callTask c) (after_of d a) same
-  own-named m b {c} {a} y (by.sent g v s p r) = by-act (callAsks c) (part_of (span_of a) m) (callTask c) a refl (moved-stay d 8192 p)
-  own-named m b {c} {a} y (by.finished set g s p e r) = by-act (callAsks c) (part_of (span_of a) m) (callTask c) a refl (finished-stay d set y.1)
-  own-named m b {c} {a} y (by.failed t e x g s o p v) = by-act (callAsks c) (part_of (span_of a) m) (callTask c) a refl (empty-stay d (after_of d a) refl)
+  own-named m b {c} {a} y (by.sent g v s p r) = by-act (callAsks c) (part_of a m) (callTask c) a refl (moved-stay d 8192 p)
+  own-named m b {c} {a} y (by.finished set g s p e r) = by-act (callAsks c) (part_of a m) (callTask c) a refl (finished-stay d set y.1)
+  own-named m b {c} {a} y (by.failed t e x g s o p v) = by-act (callAsks c) (part_of a m) (callTask c) a refl (empty-stay d (after_of d a) refl)
   own-named m b y (by.linked r g x) = λ u o. n u o
-  own-named m b {c} {a} y (by.renewed g s) = by-act (callAsks c) (part_of (span_of a) m) (callTask c) a refl (empty-stay d (after_of d a) refl)
+  own-named m b {c} {a} y (by.renewed g s) = by-act (callAsks c) (part_of a m) (callTask c) a refl (empty-stay d (after_of d a) refl)
 
   -- a call that is taken
-  ruled-named : (m b : List ℕ) {c : Call} {a : Act} → Typed c → by.Ruled (facts_of d (lent c m b)) c (Ok a) → Names (callAsks c) (repliesOf (shown d) (part_of (span_of a) m) a) (callTask c) (after_of d a)
+  ruled-named : (m b : List ℕ) {c : Call} {a : Act} → Typed c → by.Ruled (facts_of d (lent c m b)) c (Ok a) → Names (callAsks c) (repliesOf (shown d) (part_of a m) a) (callTask c) (after_of d a)
   ruled-named m b {c} {a} t (by.host f _ g v s y) =
       subst (λ (p : List ℕ). Names (callAsks c) (repliesOf (shown d) p a) (callTask c) (after_of d a)) (heard-unsent (facts_of d (lent (hostFrame f) m b)) m y) (heard-named f m b (read_fits f t.0) y)
   ruled-named m b t (by.own o) = own-named m b t o

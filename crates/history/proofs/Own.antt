@@ -11,7 +11,7 @@ use Rattle.device_state.specs.Table.{entry_of}
 use Rattle.rules.specs.Call.{Call, openPhase}
 use Rattle.rules.specs.Positions.{place_of, move_of}
 use Rattle.rules.specs.Act.{failing}
-use Rattle.rules.specs.Medium.{touch_of, span_of, part_of, mediumAfter}
+use Rattle.rules.specs.Medium.{touch_of, part_of, mediumAfter}
 use Rattle.rules.specs.declared.acts.Queued.{Queued}
 use Rattle.rules.specs.declared.acts.Act.{Act}
 use Rattle.rules.proofs.Ruled as by
@@ -47,11 +47,11 @@ pub record OwnReplies (c : Call) (rs : List FrameValue) : Type 0 where
 -- an event with its act: it brings nothing and leaves the medium; what of it is sent stands at the next byte of the open phase's command; its replies; what it counts; a halt keeps its record; the kind to which it comes
 pub record OwnGoes (d : Device) (m : List ℕ) (c : Call) (a : Act) : Type 0 where
   pub lies : DataStands (place_of (phaseEntry d)) m (mediumAfter a (frameIn c) m) (callBrings c)
-  pub sends : SentFrom (place_of (phaseEntry d)) m (sentIn (repliesOf (shown d) (part_of (span_of a) m) a))
-  pub replies : OwnReplies c (repliesOf (shown d) (part_of (span_of a) m) a)
-  pub reckons : Reckons d c (pioIn (repliesOf (shown d) (part_of (span_of a) m) a)) a
+  pub sends : SentFrom (place_of (phaseEntry d)) m (sentIn (repliesOf (shown d) (part_of a m) a))
+  pub replies : OwnReplies c (repliesOf (shown d) (part_of a m) a)
+  pub reckons : Reckons d c (pioIn (repliesOf (shown d) (part_of a m) a)) a
   pub marked : Marked d → Marked (after_of d a)
-  pub comes : Typed c → Comes d (part_of (span_of a) m) (callAsks c) a
+  pub comes : Typed c → Comes d (part_of a m) (callAsks c) a
 
 -- ---- replies
 

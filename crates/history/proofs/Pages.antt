@@ -21,7 +21,7 @@ use Rattle.refusals.specs.declared.reasons.Refusal.{Refusal}
 use Rattle.page_rows.specs.Made11.{page11}
 use Rattle.page_rows.proofs.RowLaws.{row-found, row-only, row-missing}
 use Rattle.page_11h.proofs.Trip11.{unkept-absent, kept-reads}
-use Rattle.rules.specs.Medium.{span_of, part_of}
+use Rattle.rules.specs.Medium.{part_of}
 use Rattle.rules.specs.declared.acts.Act.{Act}
 use Rattle.rules.proofs.Ruled as by
 use Rattle.replies.specs.Replies.{pioReply, page11Of, logReplies, repliesOf}
@@ -130,7 +130,7 @@ shown-page d e part h a g i w r number n =
     ∙ page-tells mask d.values h i number n
 
 -- a taken call that reads page 11h and is answered with a page: its act is such a read
-ruled-logs : (d : Device) (m b : List ℕ) {c : Call} {a : Act} → by.Ruled (facts_of d (lent c m b)) c (Ok a) → pioIn (repliesOf (shown d) (part_of (span_of a) m) a) ≡ true → callReads 0x11 c ≡ true
+ruled-logs : (d : Device) (m b : List ℕ) {c : Call} {a : Act} → by.Ruled (facts_of d (lent c m b)) c (Ok a) → pioIn (repliesOf (shown d) (part_of a m) a) ≡ true → callReads 0x11 c ≡ true
     → (contradictoryDevice d ≡ false) × Logs a
 ruled-logs d m b (by.host f a g w s h) p q = (g, (host-goes d f m b g h).heard.shown p q)
 ruled-logs d m b (by.own o) p q = absurd (false≢true (sym (own-goes d m b o).replies.pageless ∙ p))
@@ -144,4 +144,4 @@ counters-step mask d l h k i =
     let e : Event = eventBy l t in
     let w = ruled-logs d l.medium l.buffer y
     (sym (ap (some isPio) (read-frames e t.frames r)) ∙ and_left (paged e) (callReads 0x11 l.call) s) (and_right (paged e) (callReads 0x11 l.call) s) in
-    shown-page d e (part_of (span_of a) l.medium) h a w.0 i w.1 r number n ∙ ap (λ (x : ℕ). counterRead (toldFor x h number)) (k (settings-good d w.0)))
+    shown-page d e (part_of a l.medium) h a w.0 i w.1 r number n ∙ ap (λ (x : ℕ). counterRead (toldFor x h number)) (k (settings-good d w.0)))

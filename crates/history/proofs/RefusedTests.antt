@@ -24,7 +24,8 @@ use Rattle.rules.specs.Positions.{left_of}
 use Rattle.rules.specs.Tests.{wrongKind, wrongTime, wrongSize, allMoved, unreadyAt, someUnready, outside}
 use Rattle.device.specs.Device.{contradictoryDevice, powerOn}
 use Rattle.device.specs.DataDue.{phaseEntry}
-use Rattle.device.specs.FactsOf.{linkBusy, facts_of}
+use Rattle.device_state.specs.UnderWay.{linkBusy}
+use Rattle.device.specs.FactsOf.{facts_of}
 use Rattle.device.specs.Lent.{lent}
 use Rattle.device.specs.declared.state.Device.{Device}
 use Rattle.device.proofs.Busy.{whole_is, moves-on}
@@ -108,7 +109,7 @@ module _ (d : Device) where
       rw (open-entry d.entries d.status.phase n) (transfer-open d t (some-open d.status.phase n))
 
   -- 5 and 8 of a phase
-  pub open-same : isOpen (transferOf d) ≡ linkBusy d
+  pub open-same : isOpen (transferOf d) ≡ linkBusy d.status
   open-same =
       ⊎_elim (λ (x : is_none d.status.phase ≡ true). rw (not-true (is_some d.status.phase) x, transfer-shut d (none-open d.status.phase (not-true (is_some d.status.phase) x))))
       (λ (x : is_none d.status.phase ≡ false). rw (not-false (is_some d.status.phase) x, phase-at x)) (tested (is_none d.status.phase))

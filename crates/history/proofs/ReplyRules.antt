@@ -10,7 +10,7 @@ use Rattle.frames.specs.Write.{FrameValue}
 use Rattle.refusals.specs.declared.reasons.Refusal.{Refusal}
 use Rattle.page_10h.specs.Page10.{read_log}
 use Rattle.rules.specs.Call.{Call}
-use Rattle.rules.specs.Medium.{span_of, part_of}
+use Rattle.rules.specs.Medium.{part_of}
 use Rattle.rules.specs.declared.acts.Act.{Act}
 use Rattle.rules.proofs.Ruled as by
 use Rattle.replies.specs.Replies.{repliesOf, sentAll}
@@ -45,13 +45,13 @@ use Rattle.history.proofs.Own.{own-goes}
 -- ---- the replies of a call that is taken
 
 -- are of a shape that they may have
-pub ruled-shaped : (d : Device) (m b : List ℕ) {c : Call} {a : Act} → by.Ruled (facts_of d (lent c m b)) c (Ok a) → CallShaped c (repliesOf (shown d) (part_of (span_of a) m) a)
+pub ruled-shaped : (d : Device) (m b : List ℕ) {c : Call} {a : Act} → by.Ruled (facts_of d (lent c m b)) c (Ok a) → CallShaped c (repliesOf (shown d) (part_of a m) a)
 ruled-shaped d m b (by.host f a g w s h) = (host-goes d f m b g h).shaped
 ruled-shaped d m b (by.own o) = (own-goes d m b o).replies.shaped
 
 -- say no more than they may, if page 10h tells an error while the device is halted
 ruled-utters : (d : Device) (m b : List ℕ) → (contradictoryDevice d ≡ false → d.status.halted ≡ true → Telling (shown d)) → {c : Call} {a : Act} → by.Ruled (facts_of d (lent c m b)) c (Ok a)
-    → Utters c (repliesOf (shown d) (part_of (span_of a) m) a)
+    → Utters c (repliesOf (shown d) (part_of a m) a)
 ruled-utters d m b k (by.host f a g w s h) = host-utters f _ ((host-goes d f m b g h).said (k g))
 ruled-utters d m b k (by.own o) = (own-goes d m b o).replies.utters
 
@@ -71,7 +71,7 @@ module _ (d : Device) (l : Lent) where
 
   -- the replies of an act
   abbrev sends : Act → List FrameValue
-  sends a = repliesOf (shown d) (part_of (span_of a) l.medium) a
+  sends a = repliesOf (shown d) (part_of a l.medium) a
 
   -- what a refused call says: nothing
   turned-spoken : (r : Refusal) → Read (turned r) [] → (s : Speech) → Spoken (turned r) s

@@ -8,7 +8,7 @@ use native.Mathlib.Omega.{arith}
 use lib.Dec.{eqb, ltb, lit<}
 use borrow.Author.Tests.{eqb-false, lt-ltb}
 use Rattle.bits.specs.Bit.{bitIn}
-use Rattle.bits.proofs.Masks.{bit-lt, bits-ext}
+use Rattle.std.proofs.lemmas.Nat.Bits.{bit_at-lt, same_from_bits_below}
 
 -- no bit of 0 is on
 pub no-bit : (t : ℕ) → bitIn 32 0 t ≡ false
@@ -21,10 +21,10 @@ no-busy m t z e = true≢false (sym e ∙ ap (λ (x : ℕ). bitIn 32 x t) z ∙ 
 -- a number of 32 bits none of which is on
 pub no_bits : (m : ℕ) → m < 2 ^ 32 → ((t : ℕ) → t < 32 → bitIn 32 m t ≡ false) → m ≡ 0
 no_bits m l h =
-    bits-ext 32 m 0 l (lit< tt)
+    same_from_bits_below 32 m 0 l (lit< tt)
     (λ t u.
     let e : eqb (m / 2 ^ t % 2) 1 ≡ false = rw (lt-ltb t 32 u) at (h t u) in
-    omega (arith, eqb-false (m / 2 ^ t % 2) 1 e, bit-lt m t, ap (λ (n : ℕ). n % 2) (zero-div (2 ^ t))))
+    omega (arith, eqb-false (m / 2 ^ t % 2) 1 e, bit_at-lt m t, ap (λ (n : ℕ). n % 2) (zero-div (2 ^ t))))
 
 -- ---- nothing is there, or something
 

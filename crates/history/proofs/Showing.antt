@@ -21,7 +21,7 @@ use Rattle.page_10h.specs.declared.page10.ErrorLog.{ErrorLog}
 use Rattle.page_10h.proofs.Trip10.{read-write}
 use Rattle.rules.specs.Call.{Call, hostFrame}
 use Rattle.rules.specs.Decide.{pageAsked}
-use Rattle.rules.specs.Medium.{span_of, part_of}
+use Rattle.rules.specs.Medium.{part_of}
 use Rattle.rules.specs.declared.acts.Act.{Act}
 use Rattle.rules.proofs.Ruled as by
 use Rattle.replies.specs.Replies.{logOf, logReplies, activateIf, page10Of, repliesOf}
@@ -30,7 +30,7 @@ use Rattle.device.specs.Lent.{Lent, lent, Typed}
 use Rattle.device.specs.FactsOf.{facts_of}
 use Rattle.device.specs.Step.{Step, shown, stepBy}
 use Rattle.device.specs.declared.state.Device.{Device}
-use Rattle.device.proofs.Doing.{heard-unsent}
+use Rattle.rules.proofs.Ruled.{heard-unsent}
 use Rattle.device.proofs.Fitting.{record-fits}
 use Rattle.device.proofs.Sized.{SizedRecord}
 use Rattle.verdicts.specs.Other.{asksCounters}
@@ -96,8 +96,8 @@ module _ (d : Device) where
   heard-page x m b (by.bist y) p q = absurd (false≢true p)
 
   -- a taken call that reads page 10h and is answered with a page
-  ruled-page : (m b : List ℕ) {c : Call} {a : Act} → by.Ruled (facts_of d (lent c m b)) c (Ok a) → pioIn (repliesOf (shown d) (part_of (span_of a) m) a) ≡ true → callReads 0x10 c ≡ true
-      → (contradictoryDevice d ≡ false) × (pageIn (repliesOf (shown d) (part_of (span_of a) m) a) ≡ page10Of d.errors)
+  ruled-page : (m b : List ℕ) {c : Call} {a : Act} → by.Ruled (facts_of d (lent c m b)) c (Ok a) → pioIn (repliesOf (shown d) (part_of a m) a) ≡ true → callReads 0x10 c ≡ true
+      → (contradictoryDevice d ≡ false) × (pageIn (repliesOf (shown d) (part_of a m) a) ≡ page10Of d.errors)
   ruled-page m b {c} {a} (by.host f _ g v s y) p q = (
     g,
     subst (λ (l : List ℕ). pioIn (repliesOf (shown d) l a) ≡ true → pageIn (repliesOf (shown d) l a) ≡ page10Of d.errors) (heard-unsent (facts_of d (lent (hostFrame f) m b)) m y) (λ o. heard-page f m b y o q) p,

@@ -8,7 +8,7 @@ use Rattle.std.proofs.Common.{None, Ok, is_none}
 use Rattle.bits.specs.Pick.{pick}
 use Rattle.bits.proofs.Picks.{tested}
 use Rattle.rules.specs.Call.{Call}
-use Rattle.rules.specs.Medium.{span_of, part_of}
+use Rattle.rules.specs.Medium.{part_of}
 use Rattle.rules.specs.declared.acts.Act.{Act}
 use Rattle.rules.proofs.Ruled as by
 use Rattle.device.specs.Lent.{Lent, lent, Typed}
@@ -66,7 +66,7 @@ module _ (d : Device) (l : Lent) (t : Typed l.call) (s : SizedRecord d) where
       (tested (is_none (step d l).refusal))
 
 -- a taken call, by the rule that holds
-ruled-comes : (d : Device) (m b : List ℕ) {c : Call} {a : Act} → Typed c → by.Ruled (facts_of d (lent c m b)) c (Ok a) → Comes d (part_of (span_of a) m) (callAsks c) a
+ruled-comes : (d : Device) (m b : List ℕ) {c : Call} {a : Act} → Typed c → by.Ruled (facts_of d (lent c m b)) c (Ok a) → Comes d (part_of a m) (callAsks c) a
 ruled-comes d m b t (by.host f a g w s h) = (host-goes d f m b g h).comes
 ruled-comes d m b t (by.own o) = (own-goes d m b o).comes t
 

@@ -1,6 +1,5 @@
 -- Of the whole of a command's bytes: what is left, and what moves next. Assumes nothing.
 use Rattle.std.specs.Prelude.{Bool, ℕ, ◌+◌, ◌-◌, min, leb, eqb}
-use Rattle.bits.specs.Pick.{pick}
 use Rattle.moves.specs.declared.amounts.Progress.{Progress}
 
 -- what is left of the whole, once some have moved
@@ -19,9 +18,9 @@ lastIn whole moved n = leb (leftIn whole moved) n
 abbrev pub wholly : ℕ → ℕ → Bool
 wholly moved whole = eqb moved whole
 
--- the host data due: min(8,192, what is left) in a write phase; 4 payload bytes if none is open
-abbrev pub dueIn : Bool → ℕ → ℕ
-dueIn writing left = pick writing (min 8192 left) 4
+-- the host data due in a write phase: min(8,192, what is left)
+abbrev pub dueIn : Progress → ℕ
+dueIn p = partIn p.whole p.moved 8192
 
 -- what has moved once n bytes more have
 abbrev pub movedOn : ℕ → ℕ → ℕ

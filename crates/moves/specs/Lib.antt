@@ -1,2 +1,3 @@
 pub mod Amounts
 pub mod Stored
+pub mod Range

@@ -21,18 +21,18 @@ impl Progress {
         self.whole.saturating_sub(self.moved)
     }
 
-    /// At most `n` bytes, of what is left.
-    pub fn part(self, n: usize) -> u32
-        ensures { result ≡ partIn self.whole self.moved n }
+    /// At most `size` bytes, of what is left.
+    pub fn part(self, size: usize) -> u32
+        ensures { result ≡ partIn self.whole self.moved size }
     {
-        n.min(self.left() as usize) as u32
+        size.min(self.left() as usize) as u32
     }
 
-    /// Nothing is left once `n` bytes more have moved.
-    pub fn is_last(self, n: usize) -> bool
-        ensures { result ≡ lastIn self.whole self.moved n }
+    /// Nothing is left once `size` bytes more have moved.
+    pub fn is_last(self, size: usize) -> bool
+        ensures { result ≡ lastIn self.whole self.moved size }
     {
-        self.left() as usize <= n
+        self.left() as usize <= size
     }
 
     /// All of them have moved.
@@ -42,25 +42,20 @@ impl Progress {
         self.moved == self.whole
     }
 
-    /// How far it is once `n` bytes more have moved, or what is left.
-    pub fn after(self, n: usize) -> Progress
-        ensures { result ≡ afterIn self n }
+    /// How far it is once `size` bytes more have moved, or what is left.
+    pub fn after(self, size: usize) -> Progress
+        ensures { result ≡ afterIn self size }
     {
         Progress {
-            moved: self.moved + self.part(n),
+            moved: self.moved + self.part(size),
             ..self
         }
     }
-}
 
-/// The length of the host data that is due, or 4 if no write phase is open.
-#[tactic(auto, unfolding(bits::specs::Pick::pick))]
-pub fn due(writing: bool, left: u32) -> usize
-    ensures { result ≡ dueIn writing left }
-{
-    if writing {
-        PAYLOAD_LIMIT.min(left as usize)
-    } else {
-        4
+    /// The host data that are due in a write phase, in bytes: what one frame carries, or what is left.
+    pub fn due(self) -> usize
+        ensures { result ≡ dueIn self }
+    {
+        self.part(PAYLOAD_LIMIT) as usize
     }
 }

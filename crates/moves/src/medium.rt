@@ -2,6 +2,8 @@
 ghost use Rattle.std.specs.Prelude.{◌≡◌};
 ghost use Rattle.moves.specs.Stored.{place_in, stored};
 
+use frame_parts::DATA_HEAD_SIZE;
+
 /// Bytes of a sector.
 pub const SECTOR_SIZE: usize = 512;
 
@@ -12,16 +14,15 @@ pub fn place(first: u32, moved: u32) -> usize
     SECTOR_SIZE * (first as usize) + (moved as usize)
 }
 
-/// The payload behind a frame's header goes to its place in the medium; a frame shorter than its header has none.
-// What is written through `medium.get_mut(at..)` no contract of the library tells, so that the place is tested and then indexed.
+/// The payload behind a frame's head goes to its place in the medium; a frame shorter than its head has none.
+#[tactic(auto, unfolding(crate::specs::Stored::stored, bits::specs::Pick::pick))]
 pub fn store(medium: &mut [u8], at: usize, frame: &[u8])
     ensures { medium.new ≡ stored at frame.now medium.old }
 {
-    let Some(payload) = frame.get(4..) else {
+    let Some(payload) = frame.get(DATA_HEAD_SIZE..) else {
         return;
     };
-    if medium.len() < at {
-        return;
+    if let Some((_before, place)) = medium.split_at_mut_checked(at) {
+        bits::lay(place, payload);
     }
-    bits::lay(&mut medium[at..], payload);
 }

@@ -1,5 +1,5 @@
 -- Each public function's own contract: what it says, and that two answers which it allows are equal. Assumes nothing.
-use Rattle.page_10h.specs.Page10.{LogGiven, fits10, page10}
+use Rattle.page_10h.specs.Page10.{LogGiven, fits10, page10, logPage}
 use Rattle.frame_parts.specs.Emit.{WriteGiven}
 use mathlib.Core.Path.{◌≡◌, refl}
 use Rattle.bits.specs.Contract.{Tied}
@@ -15,6 +15,9 @@ tied-fits = named (say (λ κs a. tt) (λ κs a r ws p. p)) (λ κs a ws ws'. re
 
 pub tied-page10-bytes : Tied page10-said.page10_bytes.ended page10.page10_bytes.Reads.Asked page10.page10_bytes.Reads.Post (λ κs a r ws. r ≡ page10 a.0)
 tied-page10-bytes = named (say (λ κs a. tt) (λ κs a r ws p. p)) (λ κs a ws ws'. refl)
+
+pub tied-page : Tied page10-said.ErrorLog.page.ended page10.ErrorLog.page.Reads.Asked page10.ErrorLog.page.Reads.Post (λ κs a r ws. r ≡ logPage a.0)
+tied-page = named (say (λ κs a. tt) (λ κs a r ws p. p)) (λ κs a ws ws'. refl)
 
 pub tied-read-log : Tied page10-said.read_log.ended page10.read_log.Reads.Asked page10.read_log.Reads.Post (λ κs a r ws. LogGiven a.0.now r)
 tied-read-log = by (say (λ κs a. tt) (λ κs a r ws p. p)) (λ κs a r r' ws ws' p q. (same p.answer q.answer, refl))

@@ -19,7 +19,7 @@ use Rattle.bits.proofs.Picks.{and_left, and_right}
 use Rattle.frame_parts.proofs.EmitLaws.{wrote-all}
 use Rattle.frame_parts.proofs.TaskLaws.{task-all}
 use Rattle.page_sum.specs.Sum.{sum256, sealed}
-use Rattle.page_10h.specs.Page10.{firstByte, page10, fits10, tagShown, fields10, read_log}
+use Rattle.page_10h.specs.Page10.{firstByte, logRegisters, page10, fits10, tagShown, fields10, read_log}
 use Rattle.page_10h.specs.declared.page10.ErrorLog.{ErrorLog}
 use Rattle.page_sum.proofs.Sealed.{sum-sealed}
 
@@ -71,7 +71,7 @@ module _ (f : ErrorLog) where
     unfolding page10 sealed registerBytes
     fields_back =
         same_log (nq-back f.nq f.tag) (ap (tagShown (firstByte f.nq f.tag)) (nq-back f.nq f.tag) ∙ tag_back f.nq f.tag tag-ok nq-ok) refl refl
-        (task-all (firstByte f.nq f.tag) 0 f.status f.error f.task 0 0 0 task-ok)
+        (task-all (logRegisters f) task-ok)
 
     read-page : read_log (page10 f) ≡ Ok f
     unfolding read_log first_of pick

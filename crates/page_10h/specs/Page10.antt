@@ -4,10 +4,11 @@ use Rattle.bits.specs.Pick.{pick}
 use Rattle.bits.specs.Bit.{bitIn, bitByte}
 use Rattle.bits.specs.Answer.{Answer, bitNumber}
 use Rattle.frame_parts.specs.Shared.{task_of, registerBytes, below, taskFits}
+use Rattle.frame_parts.specs.declared.shared.Registers.{Registers}
 use Rattle.refusals.specs.First.{Rung, first_of, rung, unless, refusal_in}
 use Rattle.refusals.specs.Number.{number}
 use Rattle.refusals.specs.declared.reasons.Refusal.{Refusal}
-use Rattle.refusals.specs.declared.reasons.Refusal.TheVariants.{PageLength, PageSum}
+use Rattle.refusals.specs.declared.reasons.Refusal.TheVariants.{PageLength, PageSum, Unfit}
 use Rattle.page_sum.specs.Sum.{sum256, sealed}
 use Rattle.page_10h.specs.declared.page10.ErrorLog.{ErrorLog}
 
@@ -15,13 +16,30 @@ use Rattle.page_10h.specs.declared.page10.ErrorLog.{ErrorLog}
 abbrev pub firstByte : Bool → ℕ → ℕ
 firstByte nq tag = bitByte nq 7 + tag % 32
 
--- 2 status, 3 error, 4-10 and 12-13 the command's bytes, which stand as in a register frame; the rest is 0, and byte 511 makes the sum
+-- 2 status, 3 error, 4-10 and 12-13 the command's bytes, which stand as in a register frame
+abbrev pub logRegisters : ErrorLog → Registers
+logRegisters f = record {
+  kind = firstByte f.nq f.tag;
+  flags = 0;
+  second = f.status;
+  third = f.error;
+  task = f.task;
+  eleven = 0;
+  fifteen = 0;
+  bytes = 0;
+}
+
+-- the rest is 0, and byte 511 makes the sum
 unfoldable pub page10 : ErrorLog → List ℕ
-page10 f = sealed (registerBytes (firstByte f.nq f.tag) 0 f.status f.error f.task 0 0 0 ++ replicate 492 0)
+page10 f = sealed (registerBytes (logRegisters f) ++ replicate 492 0)
 
 -- 25: a value too large for its bits, or a tag that is not 0 under NQ
 unfoldable pub fits10 : ErrorLog → Bool
 fits10 f = below 8 f.status && below 8 f.error && taskFits f.task && below 5 f.tag && (not f.nq || eqb f.tag 0)
+
+-- the page by value, or 25
+abbrev pub logPage : ErrorLog → Result (List ℕ) Refusal
+logPage f = pick (fits10 f) (Ok (page10 f)) (Err Unfit)
 
 -- the tag as 0 under NQ
 abbrev pub tagShown : ℕ → Bool → ℕ

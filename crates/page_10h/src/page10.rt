@@ -2,12 +2,12 @@
 ghost use Rattle.std.specs.Prelude.{◌≡◌};
 ghost use Rattle.page_10h.specs.Page10.{firstByte, tagShown, fits10, page10, fields10, LogGiven};
 
-use frame_parts::{Registers, Task, register_bytes};
+use frame_parts::{Registers, Task};
 use page_sum::{PAGE_SIZE, byte_sum, seal};
 use refusals::Refusal;
 
-/// The named fields of page 10h.
-#[derive(Clone, Copy, Debug, PartialEq, Eq)]
+/// The named fields of page 10h; by default all zeros.
+#[derive(Clone, Copy, Debug, Default, PartialEq, Eq)]
 pub struct ErrorLog {
     pub nq: bool,
     /// 0 to 31, and 0 under NQ
@@ -24,7 +24,7 @@ impl ErrorLog {
     pub fn fits(self) -> bool
         ensures { result ≡ fits10 self }
     {
-        frame_parts::task_fits(self.task) && self.tag >> 5 == 0 && (!self.nq || self.tag == 0)
+        self.task.fits() && self.tag >> 5 == 0 && (!self.nq || self.tag == 0)
     }
 }
 
@@ -35,19 +35,19 @@ fn first_byte(nq: bool, tag: u8) -> u8
     (u8::from(nq) << 7) | (tag & 31)
 }
 
-/// The page of a record. Private to the crate: a writer that refuses stands over it.
-pub fn page10_bytes(log: ErrorLog) -> [u8; PAGE_SIZE]
+// The page of a record, for the writer that refuses.
+pub(crate) fn page10_bytes(log: ErrorLog) -> [u8; PAGE_SIZE]
     ensures { result ≡ page10 log }
 {
-    let head = register_bytes(Registers {
+    let registers = Registers {
         kind: first_byte(log.nq, log.tag),
         second: log.status,
         third: log.error,
         task: log.task,
         ..Registers::default()
-    });
+    };
     let mut page = [0u8; PAGE_SIZE];
-    bits::lay(&mut page, &head);
+    bits::lay(&mut page, &registers.to_bytes());
     seal(&mut page);
     page
 }
@@ -70,7 +70,7 @@ fn read_fields(page: &[u8]) -> ErrorLog
         tag: tag_shown(first, nq),
         status: frame_parts::byte_of(page, 2),
         error: frame_parts::byte_of(page, 3),
-        task: frame_parts::task_of(page),
+        task: Task::from_frame(page),
     }
 }
 

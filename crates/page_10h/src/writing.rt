@@ -1,9 +1,24 @@
-// The writer of page 10h: the page in front of the buffer, or 25, or 26, and then no byte is changed.
+// Page 10h by value, and its writer: the page in front of the buffer, or 25, or 26, and then no byte is changed.
+ghost use Rattle.std.specs.Prelude.{◌≡◌};
 ghost use Rattle.frame_parts.specs.Emit.{WriteGiven};
-ghost use Rattle.page_10h.specs.Page10.{fits10, page10};
+ghost use Rattle.page_10h.specs.Page10.{fits10, page10, logPage};
 
 use crate::page10::{ErrorLog, page10_bytes};
+use page_sum::PAGE_SIZE;
 use refusals::Refusal;
+
+impl ErrorLog {
+    /// The page of a record; `Unfit` where a value is too large for its bits or a tag stands under NQ.
+    #[tactic(auto, unfolding(bits::specs::Pick::pick))]
+    pub fn page(self) -> Result<[u8; PAGE_SIZE], Refusal>
+        ensures { result ≡ logPage self }
+    {
+        if !self.fits() {
+            return Err(Refusal::Unfit);
+        }
+        Ok(page10_bytes(self))
+    }
+}
 
 /// Writes the page of a record to the front of `buf`: 512, the bytes written; `Unfit` where a value is too large for its
 /// bits or a tag stands under NQ, `BufferShort` where `buf` has no room, and then no byte is changed.

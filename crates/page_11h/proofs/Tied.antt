@@ -7,6 +7,8 @@ use mathlib.Core.Bool.{not}
 use mathlib.Core.Path.{◌≡◌, refl}
 use Rattle.bits.specs.Contract.{Tied}
 use Rattle.bits.proofs.Tying.{same, say, by, named}
+use Rattle.page_11h.proofs.identifier
+use Rattle.page_11h.specs.contracts.identifier as identifier-said
 use Rattle.page_11h.proofs.number
 use Rattle.page_11h.specs.contracts.number as number-said
 use Rattle.page_11h.proofs.page11
@@ -25,7 +27,7 @@ tied-read-counter = by (say (λ κs a. tt) (λ κs a r ws p. p)) (λ κs a r r' 
 pub tied-is-top : Tied value-said.CounterValue.is_top.ended value.CounterValue.is_top.Reads.Asked value.CounterValue.is_top.Reads.Post (λ κs a r ws. r ≡ atTop a.0)
 tied-is-top = named (say (λ κs a. tt) (λ κs a r ws p. p)) (λ κs a ws ws'. refl)
 
-pub tied-is-asked : Tied walk-said.WalkEntry.is_asked.ended walk.WalkEntry.is_asked.Reads.Asked walk.WalkEntry.is_asked.Reads.Post (λ κs a r ws. r ≡ idAsked a.1.0 a.0.id)
+pub tied-is-asked : Tied identifier-said.Identifier.is_asked.ended identifier.Identifier.is_asked.Reads.Asked identifier.Identifier.is_asked.Reads.Post (λ κs a r ws. r ≡ idAsked a.1.0 a.0.0)
 tied-is-asked = named (say (λ κs a. tt) (λ κs a r ws p. p)) (λ κs a ws ws'. refl)
 
 pub tied-entry-at : Tied walk-said.entry_at.ended walk.entry_at.Reads.Asked walk.entry_at.Reads.Post (λ κs a r ws. r ≡ stepAt a.0.now a.1.0)

@@ -159,7 +159,7 @@ after_hit page number e (Some v) = Err PageDamaged
 abbrev pub after_step : List ℕ → ℕ → Option CounterValue → Option (Result WalkEntry Refusal) → Result (Option CounterValue) Refusal
 after_step page number found None = Ok found
 after_step page number found (Some (Err r)) = Err r
-after_step page number found (Some (Ok e)) = pick (idAsked number e.id) (after_hit page number e found) (fromHere page number (e.start + e.bytes) found)
+after_step page number found (Some (Ok e)) = pick (idAsked number e.id.0) (after_hit page number e found) (fromHere page number (e.start + e.bytes) found)
 
 module _ (page : List ℕ) (number at : ℕ) where
   -- an entry, and those behind it
@@ -243,12 +243,12 @@ module _ {page : List ℕ} {number : ℕ} {w w' : Walk} {r : Option (Result Walk
     next-at = t.at ∙ rw q
 
     -- one that is not asked for is passed by
-    pub miss-ahead : idAsked number e.id ≡ false → Ahead page number w' found
+    pub miss-ahead : idAsked number e.id.0 ≡ false → Ahead page number w' found
     unfolding pick
     miss-ahead m = record { same = step-same; rest = step-rest ∙ rw (next-at, q, m) }
 
     -- the first that is asked for is found
-    pub hit-ahead : (v : ℕ) → idAsked number e.id ≡ true → is_some found ≡ false → NumberGiven page e.start (min e.bytes 8) v
+    pub hit-ahead : (v : ℕ) → idAsked number e.id.0 ≡ true → is_some found ≡ false → NumberGiven page e.start (min e.bytes 8) v
         → Ahead page number w' (Some (record { value = v; bytes = e.bytes }))
     unfolding pick
     hit-ahead v h o n =
@@ -260,7 +260,7 @@ module _ {page : List ℕ} {number : ℕ} {w w' : Walk} {r : Option (Result Walk
         first (Some x) o = absurd (let z : true ≡ false = o in cc)
 
     -- and a second is a fault
-    pub hit-twice : idAsked number e.id ≡ true → is_some found ≡ true → asked_of page number ≡ Err PageDamaged
+    pub hit-twice : idAsked number e.id.0 ≡ true → is_some found ≡ true → asked_of page number ≡ Err PageDamaged
     unfolding pick
     hit-twice h o = step-rest ∙ rw (q, h) (second found o)
       where

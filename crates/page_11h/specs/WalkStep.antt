@@ -13,7 +13,7 @@ faulty e = (wrongWidth e || pastEnd e) || nameless e
 
 -- an entry as the walk finds it: its identifier, where its value starts, and the value's bytes
 abbrev pub walkEntry : ℕ → ℕ → ℕ → WalkEntry
-walkEntry id start bytes = record { id = id; start = start; bytes = bytes }
+walkEntry id start bytes = record { id = record { 0 = id }; start = start; bytes = bytes }
 
 -- what stands at a place: nothing more at 508 or at 0000h, a fault, or an entry
 unfoldable pub stepAt : List ℕ → ℕ → Option (Result WalkEntry Refusal)

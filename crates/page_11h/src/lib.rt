@@ -1,6 +1,7 @@
 // Log page 11h as it is read: a counter's value, or absent, or a refusal. Every public function is total and has no `requires`.
 #![tactic(auto)]
 
+mod identifier;
 mod number;
 mod page11;
 mod value;
@@ -9,3 +10,9 @@ mod walk;
 pub use number::is_counter_number;
 pub use page11::read_counter;
 pub use value::CounterValue;
+
+// Where the entries begin: the four bytes before them are reserved.
+pub(crate) const ENTRIES_START: usize = 4;
+
+// Where the entries end: behind them stand three reserved bytes and the sum byte.
+pub(crate) const ENTRIES_END: usize = page_sum::PAGE_SIZE - 4;

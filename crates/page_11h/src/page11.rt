@@ -4,6 +4,7 @@ ghost use Rattle.bits.specs.Pick.{pick};
 ghost use Rattle.page_11h.specs.Entries.{entries};
 ghost use Rattle.page_11h.specs.Page11.{damaged, valueIn, PageCounterGiven};
 
+use crate::ENTRIES_START;
 use crate::number::is_counter_number;
 use crate::value::CounterValue;
 use crate::walk::Walk;
@@ -15,9 +16,9 @@ fn find_counter(page: &[u8], number: u16) -> Result<Option<CounterValue>, Refusa
     ensures { result ≡ pick (damaged number (entries page.now)) (Err Refusal.PageDamaged) (Ok (valueIn page.now number (entries page.now))) }
 {
     let mut found = None;
-    for entry in Walk::new(page, 4) {
+    for entry in Walk::new(page, ENTRIES_START) {
         let entry = entry?;
-        if entry.is_asked(number) {
+        if entry.id.is_asked(number) {
             if found.is_some() {
                 return Err(Refusal::PageDamaged);
             }

@@ -5,13 +5,14 @@ ghost use Rattle.page_11h.specs.Top.{topOf, atTop};
 /// A counter's value as a page has it.
 #[derive(Clone, Copy, Debug, PartialEq, Eq)]
 pub struct CounterValue {
+    /// how many events it has counted
     pub value: u64,
     /// how many bytes it has on the page: 2, 4, 6 or 8
     pub bytes: usize,
 }
 
 // The largest value of so many bytes, of which a value has at most 8.
-#[tactic(auto, unfolding(crate::specs::Top::topOf), using(bits::proofs::Masks::one_shl))]
+#[tactic(auto, unfolding(crate::specs::Top::topOf), using(std::proofs::lemmas::Nat::one_shl))]
 fn top_of(bytes: usize) -> u64
     ensures { result ≡ topOf bytes }
 {

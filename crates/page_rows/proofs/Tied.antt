@@ -1,5 +1,5 @@
 -- Each public function's own contract: what it says, and that two answers which it allows are equal. Assumes nothing.
-use Rattle.page_rows.specs.Made11.{page11, onRow}
+use Rattle.page_rows.specs.Made11.{page11, countersPage, onRow}
 use Rattle.page_rows.specs.Rows.{ids, keepsBoth, kept, row_of}
 use Rattle.frame_parts.specs.Emit.{WriteGiven}
 use mathlib.Core.Path.{◌≡◌, refl}
@@ -32,6 +32,9 @@ tied-keeps-both = named (say (λ κs a. tt) (λ κs a r ws p. p)) (λ κs a ws w
 
 pub tied-shown-at : Tied shown-said.shown_at.ended shown.shown_at.Reads.Asked shown.shown_at.Reads.Post (λ κs a r ws. r ≡ onRow a.0 a.1.0.now a.1.1.0)
 tied-shown-at = named (say (λ κs a. tt) (λ κs a r ws p. p)) (λ κs a ws ws'. refl)
+
+pub tied-counters-page : Tied writing-said.counters_page.ended writing.counters_page.Reads.Asked writing.counters_page.Reads.Post (λ κs a r ws. r ≡ countersPage a.0 a.1.0.now)
+tied-counters-page = named (say (λ κs a. tt) (λ κs a r ws p. p)) (λ κs a ws ws'. refl)
 
 pub tied-write-counters : Tied writing-said.write_counters.ended writing.write_counters.Reads.Asked writing.write_counters.Reads.Post (λ κs a r ws. WriteGiven (keepsBoth a.1.0) (page11 a.1.0 a.1.1.0.now) a.0.now r ws.0)
 tied-write-counters = by (say (λ κs a. tt) (λ κs a r ws p. p)) (λ κs a r r' ws ws' p q. let e = emitted-once _ _ _ r r' ws.0 ws'.0 p q in (e.0, λ i. (e.1 i, (tt, (tt, tt)))))

@@ -1,8 +1,10 @@
 -- Log page 11h as it is made. Assumes nothing.
-use Rattle.std.specs.Prelude.{ℕ, zero, suc, ◌+◌, ◌-◌, List, [], ◌++◌, length, get_or, replicate, Option, Some, None}
+use Rattle.std.specs.Prelude.{ℕ, zero, suc, ◌+◌, ◌-◌, List, [], ◌++◌, length, get_or, replicate, Option, Some, None, Result, Ok, Err}
 use Rattle.bits.specs.Pick.{pick}
 use Rattle.bits.specs.Little.{le_bytes}
-use Rattle.page_rows.specs.Rows.{id_of, kept, row_of}
+use Rattle.page_rows.specs.Rows.{id_of, kept, keepsBoth, row_of}
+use Rattle.refusals.specs.declared.reasons.Refusal.{Refusal}
+use Rattle.refusals.specs.declared.reasons.Refusal.TheVariants.{Unfit}
 use Rattle.page_sum.specs.Sum.{sealed}
 
 -- a row: 2000h + identifier, which says 4 value bytes, then the value
@@ -21,6 +23,10 @@ openTo mask values n = (replicate 4 0 ++ rows_to mask values n) ++ replicate (50
 -- the page of all sixteen rows, with its sum byte
 unfoldable pub page11 : ℕ → List ℕ → List ℕ
 page11 mask values = sealed (openTo mask values 16)
+
+-- the page by value, or 25 for a mask that does not keep rows 0 and 9
+abbrev pub countersPage : ℕ → List ℕ → Result (List ℕ) Refusal
+countersPage mask values = pick (keepsBoth mask) (Ok (page11 mask values)) (Err Unfit)
 
 -- what the page shows of a row: its value if it is kept; and of no row, nothing
 unfoldable pub onRow : ℕ → List ℕ → Option ℕ → Option ℕ

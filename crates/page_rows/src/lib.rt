@@ -8,6 +8,8 @@ mod rows;
 mod shown;
 mod writing;
 
-pub use rows::{Counters, ROWS, identifiers, is_kept, keeps_both, row_of};
+pub use rows::{
+    COMRESET_ROW, Counters, INTERFACE_CRC_ROW, ROWS, identifiers, is_kept, keeps_both, row_of,
+};
 pub use shown::shown_at;
-pub use writing::write_counters;
+pub use writing::{counters_page, write_counters};

@@ -1,4 +1,4 @@
-// Log page 11h made by value. Private to the crate: a writer that refuses stands over it.
+// Log page 11h made by value, for the writer that refuses.
 ghost use Rattle.std.specs.Prelude.{◌≡◌, ◌<◌};
 ghost use Rattle.page_rows.specs.Made11.{rowBytes, page11};
 
@@ -16,8 +16,8 @@ fn row_bytes(id: u16, value: u32) -> [u8; 6]
     [i0, i1, v0, v1, v2, v3]
 }
 
-/// The kept rows stand one behind the other from byte 4 on, and the sum byte comes last.
-pub fn page11_bytes(mask: u16, values: &Counters) -> [u8; PAGE_SIZE]
+// The kept rows stand one behind the other from byte 4 on, and the sum byte comes last.
+pub(crate) fn page11_bytes(mask: u16, values: &Counters) -> [u8; PAGE_SIZE]
     ensures { result ≡ page11 mask values.now }
 {
     let mut page = [0u8; PAGE_SIZE];

@@ -1,9 +1,16 @@
-// The sixteen rows of page 11h: which identifier each has, and which are kept.
+// The sixteen rows of page 11h: which identifier each has, and which are kept. A row is a `usize` where it is a place among the
+// sixteen, and a `u8` where it is what an event names, which may be no row.
 ghost use Rattle.std.specs.Prelude.{◌≡◌};
 ghost use Rattle.page_rows.specs.Rows.{ids, row_of, kept, keepsBoth};
 
 /// How many rows there are: a counter each.
 pub const ROWS: usize = 16;
+
+/// The row of counter 001h: commands that failed with an interface CRC error.
+pub const INTERFACE_CRC_ROW: u8 = 0;
+
+/// The row of counter 00Ah: signatures sent because of COMRESET.
+pub const COMRESET_ROW: u8 = 9;
 
 /// The values of the counters, in the order of the rows.
 pub type Counters = [u32; ROWS];
@@ -41,5 +48,5 @@ pub fn is_kept(mask: u16, row: usize) -> bool
 pub fn keeps_both(mask: u16) -> bool
     ensures { result ≡ keepsBoth mask }
 {
-    is_kept(mask, 0) && is_kept(mask, 9)
+    is_kept(mask, usize::from(INTERFACE_CRC_ROW)) && is_kept(mask, usize::from(COMRESET_ROW))
 }

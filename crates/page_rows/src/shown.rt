@@ -10,9 +10,5 @@ pub fn shown_at(mask: u16, values: &Counters, row: Option<usize>) -> Option<u64>
     ensures { result ≡ onRow mask values.now row }
 {
     let row = row?;
-    if is_kept(mask, row) {
-        Some(values[row] as u64)
-    } else {
-        None
-    }
+    is_kept(mask, row).then(|| u64::from(values[row]))
 }

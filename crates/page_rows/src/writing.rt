@@ -1,11 +1,25 @@
-// The writer of page 11h: the page in front of the buffer, or 25, or 26, and then no byte is changed.
+// Page 11h by value, and its writer: the page in front of the buffer, or 25, or 26, and then no byte is changed.
+ghost use Rattle.std.specs.Prelude.{◌≡◌};
 ghost use Rattle.frame_parts.specs.Emit.{WriteGiven};
 ghost use Rattle.page_rows.specs.Rows.{keepsBoth};
-ghost use Rattle.page_rows.specs.Made11.{page11};
+ghost use Rattle.page_rows.specs.Made11.{page11, countersPage};
 
 use crate::made11::page11_bytes;
 use crate::rows::{Counters, keeps_both};
+use page_sum::PAGE_SIZE;
 use refusals::Refusal;
+
+/// Page 11h of the counters; `Unfit` where the mask does not keep rows 0 and 9. Values of rows that the mask does not
+/// keep do not stand in it.
+#[tactic(auto, unfolding(bits::specs::Pick::pick))]
+pub fn counters_page(mask: u16, values: &Counters) -> Result<[u8; PAGE_SIZE], Refusal>
+    ensures { result ≡ countersPage mask values.now }
+{
+    if !keeps_both(mask) {
+        return Err(Refusal::Unfit);
+    }
+    Ok(page11_bytes(mask, values))
+}
 
 /// Writes page 11h of the counters to the front of `buf`: 512, the bytes written; `Unfit` where the mask does not keep
 /// rows 0 and 9, `BufferShort` where `buf` has no room, and then no byte is changed. Values of rows that the mask does

@@ -1,4 +1,4 @@
-// The counters of page 11h, in the order of figure 24.
+// The sixteen counters of page 11h, the SATA PHY event counters, in the order of their numbers.
 ghost use Rattle.std.specs.Prelude.{◌≡◌, OnOk, Some};
 ghost use Rattle.std.specs.Io.KnownBytes.{Appends};
 ghost use Rattle.page_rows.specs.Rows.{ids};
@@ -13,9 +13,9 @@ use std::{fmt, io};
 
 // What a page says of a counter that it was asked for.
 #[derive(Clone, Copy, Debug, PartialEq, Eq)]
-struct Shown(Option<CounterValue>);
+struct CounterText(Option<CounterValue>);
 
-impl fmt::Display for Shown {
+impl fmt::Display for CounterText {
     ghost output = { λ s. Some (shown_text s.0) };
 
     // A value that stands at the top of its width may have had more events.
@@ -43,7 +43,7 @@ fn write_lines<W: Write>(out: &mut W, counters: &[(u16, Option<CounterValue>)]) 
     ensures { OnOk result (Appends (W.contents out.old) (W.contents out.new) (lines_text counters.now)) }
 {
     for (number, counter) in counters {
-        writeln!(out, "{number:03X}h {}", Shown(*counter))?;
+        writeln!(out, "{number:03X}h {}", CounterText(*counter))?;
     }
     Ok(())
 }

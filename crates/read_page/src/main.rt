@@ -1,4 +1,5 @@
-// Reads a log page, 512 bytes on standard input: page 10h's fields by name, or of page 11h each counter of figure 24 with its value or `absent`.
+// Reads a log page, 512 bytes on standard input: page 10h's fields by name, or of page 11h each of the sixteen counters, by
+// number, with its value or `absent`.
 // The argument says which page: 10 or 11. A read that fails prints `stop`, and a page that is refused its refusal, and nothing else.
 // All is written at once, and a write that fails is told on standard error.
 #![tactic(auto)]
@@ -9,11 +10,15 @@ ghost use Rattle.streams.specs.Fronts.{AppendsFront};
 ghost use Rattle.read_page.specs.Told.{text_of, page_named, Writes, WritesFront, Ran};
 
 use frame_parts::LogPage;
+use page_sum::PAGE_SIZE;
 use std::alloc::Global;
 use std::io;
 use std::io::{Read, Write};
 use std::rt::Env;
 use streams::{complain, put};
+
+// One byte more than a page has: one that is longer shows.
+const READ_LIMIT: u64 = PAGE_SIZE as u64 + 1;
 
 // What was written: a page's text, that a read failed, or the question which page; or not all of it, and that was told.
 #[derive(Clone, Copy, Debug, PartialEq, Eq)]
@@ -44,8 +49,8 @@ fn show_page<W: Write>(alloc: Global, out: &mut W, which: LogPage, page: &[u8]) 
     put(out, &text)
 }
 
-// One byte more than 512 shows that a page is too long. A read that fails is told from an end:
-// what it keeps from us may be the rest of the page.
+// A read that fails is told from an end, for what it keeps from us may be the rest of the page. No memory for the page prints
+// `stop` too.
 fn answer_page<R: Read, W: Write>(
     alloc: Global,
     reader: &mut R,
@@ -56,7 +61,7 @@ fn answer_page<R: Read, W: Write>(
     ensures err { OnErr result (WritesFront (Some which) (R.remaining reader.old) (W.contents out.old) (W.contents out.new)) }
 {
     let mut page = Vec::new(alloc);
-    if reader.take(513).read_to_end(&mut page).is_err() {
+    if reader.take(READ_LIMIT).read_to_end(&mut page).is_err() {
         put(out, b"stop\n")?;
         return Ok(Told::Stopped);
     }
@@ -74,7 +79,8 @@ fn page_named(word: &[u8]) -> Option<LogPage>
     }
 }
 
-// The word is looked at before anything is read: without a page's name nobody waits for one. The one error is of a write.
+// The word is looked at before anything is read: without a page's name nobody waits for one. An error is of a write,
+// or that there is no memory for the text.
 fn answer<R: Read, W: Write>(
     alloc: Global,
     reader: &mut R,

@@ -61,10 +61,7 @@ impl Refusal {
     pub fn number_told(refusal: Option<Refusal>) -> u8
         ensures { result ≡ number_told refusal }
     {
-        match refusal {
-            Some(refusal) => refusal.number(),
-            None => 0,
-        }
+        refusal.map_or(0, Refusal::number)
     }
 }
 

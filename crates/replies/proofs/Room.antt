@@ -10,7 +10,7 @@ use native.Mathlib.Omega.{arith}
 use lib.ListN.{length}
 use Rattle.bits.specs.Pick.{pick}
 use Rattle.bits.proofs.Picks.{by-test}
-use Rattle.bits.proofs.Masks.{lt-or-le}
+use Rattle.std.proofs.lemmas.Bool.{cases_lt}
 use Rattle.frame_parts.specs.Cut.{joined}
 use Rattle.frame_parts.specs.Shared.{registerBytes}
 use Rattle.frame_parts.specs.Size.{payloadSize}
@@ -60,7 +60,7 @@ one-room (setup f) = omega (arith, within (setup f) 28 refl)
 one-room activate = omega (arith, within activate 4 refl)
 one-room (payload p) =
     ⊎_elim (λ (h : 8192 < length p). rw (sent-one (payload p), long-unsent p h) (omega arith))
-    (λ (h : length p ≤ 8192). omega (arith, h, within (payload p) (4 + length p) (length-payload p))) (lt-or-le 8192 (length p))
+    (λ (h : length p ≤ 8192). omega (arith, h, within (payload p) (4 + length p) (length-payload p))) (cases_lt 8192 (length p))
 one-room bist = omega (arith, within bist 12 refl)
 one-room (pio f) = omega (arith, within (pio f) 20 refl)
 

@@ -1,19 +1,18 @@
 -- Laws of frames sent one behind the other. Assumes nothing.
 use mathlib.Core.Path.{◌≡◌, refl, sym, ap, ap₂, ◌∙◌}
-use mathlib.Core.Bool.{Bool, true, false, true≢false}
+use mathlib.Core.Bool.{Bool, true, false}
 use mathlib.Core.List.{List, [], ◌∷◌, ◌++◌, append-nil, append_assoc}
 use Prim.Native.Nat.{ℕ, ◌+◌, ◌-◌, ◌≤◌}
 use native.Mathlib.Omega.{arith}
 use borrow.Rule.Slice.PartMut.{mid_of, put_mid}
-use lib.ListN.{length, take, drop, length-append, length-drop, drop_of_length-le}
+use lib.ListN.{length, take, drop, length-append, length-drop}
 use lib.Seq.{length-take-le}
-use Rattle.std.specs.Prelude.{Result, Ok, Err, IsErr}
+use Rattle.std.specs.Prelude.{Result, Ok, Err}
 use Rattle.std.specs.Result.{result_unwrap_or}
 use Rattle.refusals.specs.declared.reasons.Refusal.{Refusal}
 use Rattle.refusals.specs.declared.reasons.Refusal.TheVariants.{Unfit}
 use Rattle.bits.specs.Pick.{pick}
 use Rattle.bits.specs.Laid.{laid}
-use Rattle.bits.proofs.Picks.{pick_yes, by-test}
 use Rattle.bits.proofs.Fronts.{laid_next, rest_part, rest_put}
 use Rattle.frame_parts.specs.Cut.{joined}
 use Rattle.frame_parts.specs.Emit.{WriteGiven}
@@ -21,6 +20,7 @@ use Rattle.frame_parts.proofs.EmitLaws.{write_refusal-unfit, wrote-all, wrote-ro
 use Rattle.frames.specs.Write.{FrameValue, encode, fits, FrameWriteGiven}
 use Rattle.replies.specs.Replies.{sentBytes, sentAll, RepliesGiven}
 use Rattle.replies.specs.Sends.{Sends}
+use Rattle.replies.specs.declared.emitting.Sent.{Sent}
 
 -- nothing sent
 pub sends_none : (d : List ℕ) → RepliesGiven [] d 0 d
@@ -83,31 +83,30 @@ room-after fs d xs n g h =
     omega (arith, l, length-drop (length (sentAll fs)) d, g.len, room-left n xs)
 
 -- no frame
-pub sends-nothing : (n : ℕ) (d : List ℕ) → Sends [] n d n d
-sends-nothing n d = record { behind = λ before empty h g. rw (append-nil before) g }
+pub sends-nothing : (s : Sent) → Sends [] s s
+sends-nothing s = record { same_buffer = refl; behind = λ before empty h g. rw (append-nil before) g }
 
 -- a frame that is sent on a condition: where it holds, and where it does not
-pub sends-if : {on : Bool} {f : FrameValue} {n n' : ℕ} {d d' : List ℕ} → on ≡ true → Sends (f ∷ []) n d n' d' → Sends (pick on (f ∷ []) []) n d n' d'
+pub sends-if : {on : Bool} {f : FrameValue} {s s' : Sent} → on ≡ true → Sends (f ∷ []) s s' → Sends (pick on (f ∷ []) []) s s'
 unfolding pick
-sends-if e s = rw e s
+sends-if e w = rw e w
 
-pub sends-unless : {on : Bool} {n : ℕ} {d : List ℕ} (f : FrameValue) → on ≡ false → Sends (pick on (f ∷ []) []) n d n d
+pub sends-unless : {on : Bool} {s : Sent} (f : FrameValue) → on ≡ false → Sends (pick on (f ∷ []) []) s s
 unfolding pick
-sends-unless {n = n} {d = d} f e = rw e (sends-nothing n d)
+sends-unless {s = s} f e = rw e (sends-nothing s)
 
 -- one frame, written into the room that is left
 module _ (f : FrameValue) (n : ℕ) (xs : List ℕ) (r : Result ℕ Refusal) (m : ℕ) (ys : List ℕ) where
   abbrev room : List ℕ
   room = mid_of n (length xs - n) xs
 
-  pub sends-put : FrameWriteGiven f room r ys → m ≡ sent r → Sends (f ∷ []) n xs (n + m) (put_mid n (length xs - n) xs ys)
-  sends-put w e = record {
-    behind = λ before empty h g.
-        let l = length-sent before (f ∷ []) in
-        let one : length (sentAll (f ∷ [])) ≡ length (sentBytes f) = ap length (sent-one f) in
-        let left = room-after before empty xs n g (omega (arith, l)) in
-        sends-next before (f ∷ []) empty xs ys n m g (sends-one f room r m ys w e (omega (arith, l, one, left, g.len)));
-  }
+  pub put-behind : FrameWriteGiven f room r ys → m ≡ sent r → (before : List FrameValue) (empty : List ℕ) → length (sentAll (before ++ f ∷ [])) ≤ length empty
+      → RepliesGiven before empty n xs → RepliesGiven (before ++ f ∷ []) empty (n + m) (put_mid n (length xs - n) xs ys)
+  put-behind w e before empty h g =
+      let l = length-sent before (f ∷ []) in
+      let one : length (sentAll (f ∷ [])) ≡ length (sentBytes f) = ap length (sent-one f) in
+      let left = room-after before empty xs n g (omega (arith, l)) in
+      sends-next before (f ∷ []) empty xs ys n m g (sends-one f room r m ys w e (omega (arith, l, one, left, g.len)))
 
   -- it ends where the buffer does, at the most
   pub put-within : FrameWriteGiven f room r ys → m ≡ sent r → n ≤ length xs → n + m ≤ length xs
@@ -119,30 +118,22 @@ module _ (f : FrameValue) (n : ℕ) (xs : List ℕ) (r : Result ℕ Refusal) (m 
       rw (ap length (rest_put n xs ys), length-append (take n xs) ys) (omega (arith, put-within w e h, length-take-le n xs h, k, room-left n xs))
 
 -- one list of frames, and then another
-pub sends-then : {fs gs : List FrameValue} {n n' n'' : ℕ} {d d' d'' : List ℕ} → Sends fs n d n' d' → Sends gs n' d' n'' d'' → Sends (fs ++ gs) n d n'' d''
+pub sends-then : {fs gs : List FrameValue} {s s' s'' : Sent} → Sends fs s s' → Sends gs s' s'' → Sends (fs ++ gs) s s''
 sends-then {fs} {gs} a b = record {
+  same_buffer = b.same_buffer ∙ a.same_buffer;
   behind = λ before empty h g.
       let e = append_assoc before fs gs in
       let all : length (sentAll ((before ++ fs) ++ gs)) ≤ length empty = rw e h in
       rw e at (b.behind (before ++ fs) empty all (a.behind before empty (omega (arith, all, length-sent (before ++ fs) gs)) g));
 }
 
--- what was sent into a buffer that nothing was sent into before
-pub sends-all : (fs : List FrameValue) (d : List ℕ) (n : ℕ) (d' : List ℕ) → Sends fs 0 d n d' → length (sentAll fs) ≤ length d → RepliesGiven fs d n d'
-sends-all fs d n d' s h = s.behind [] d h (sends_none d)
+-- what was sent into a buffer that nothing was sent into before, once the loan of the buffer ends
+pub sends-all : {fs : List FrameValue} {s s' : Sent} {d : List ℕ} → s.len ≡ 0 → Sends fs s s' → (s.buffer.ghost_name ≡ s'.buffer.ghost_name → d ≡ s'.buffer.now)
+    → length (sentAll fs) ≤ length s.buffer.now → RepliesGiven fs s.buffer.now s'.len d
+sends-all {s = s} e w last h = rw (last (sym w.same_buffer)) (w.behind [] s.buffer.now h (rw e (sends_none s.buffer.now)))
 
--- what was turned down has no bytes
-pub refused-empty : (r : Result (List ℕ) Refusal) → IsErr r → result_unwrap_or r [] ≡ []
-refused-empty (Ok p) h = absurd (true≢false (sym h))
-refused-empty (Err e) h = refl
-
--- a page that its writer wrote over all of the room, and one that it turned down
-module _ (b : Bool) (s d : List ℕ) (d' : List ℕ) (h : length s ≡ length d) where
-  pub page-written : (k : ℕ) → WriteGiven b s d (Ok k) d' → d' ≡ pick b s []
-  page-written k w =
-      let a = wrote-all b s d k d' w in
-      a.3 ∙ ap (λ (x : List ℕ). s ++ x) (drop_of_length-le d (omega arith)) ∙ append-nil s ∙ sym (pick_yes b s [] a.0)
-
-  pub page-refused : (e : Refusal) → WriteGiven b s d (Err e) d' → [] ≡ pick b s []
-  page-refused e w =
-      by-test (λ (x : List ℕ). [] ≡ x) b s [] (λ (t : b ≡ true). absurd (let a = (wrote-room b s d (Err e) d' w t (omega arith)).0 in cc)) (λ _. refl)
+-- the bytes of a page by value, and none of one that is turned down
+pub page_bytes-pick : (fits : Bool) (page : List ℕ) (r : Refusal) → result_unwrap_or (pick fits (Ok page) (Err r)) [] ≡ pick fits page []
+unfolding pick
+page_bytes-pick true page r = refl
+page_bytes-pick false page r = refl

@@ -15,5 +15,5 @@ use Rattle.replies.specs.contracts.shown as shown-said
 pub tied-emit : Tied emitting-said.emit.ended emitting.emit.Reads.Asked emitting.emit.Reads.Post (λ κs a r ws. RepliesGiven (pick (leb 8196 (length a.0.now)) (repliesOf a.1.1.0.now a.1.1.1.0.now a.1.0.now) []) a.0.now r ws.0)
 tied-emit = by (say (λ κs a. tt) (λ κs a r ws p. p)) (λ κs a r r' ws ws' p q. (same p.len q.len, λ i. (same p.bytes q.bytes i, (tt, (tt, (tt, tt))))))
 
-pub tied-log-of : Tied shown-said.log_of.ended shown.log_of.Reads.Asked shown.log_of.Reads.Post (λ κs a r ws. r ≡ logOf a.0)
+pub tied-log-of : Tied shown-said.log_of.ended shown.log_of.Reads.Asked shown.log_of.Reads.Post (λ κs a r ws. r ≡ logOf a.0.now)
 tied-log-of = named (say (λ κs a. tt) (λ κs a r ws p. p)) (λ κs a ws ws'. refl)

@@ -1,2 +1,4 @@
+pub mod StateShown
 pub mod Replies
+pub mod Framed
 pub mod Sends

@@ -2,7 +2,7 @@
 ghost use Rattle.std.specs.Prelude.{◌≡◌};
 ghost use Rattle.frames.specs.Write.{setBits, FrameWriteGiven};
 ghost use Rattle.replies.specs.Replies.{register, good, badReply, signature, sweep, pioReply, setupReply, finishReply, mediaReply};
-ghost use Rattle.replies.specs.Sends.{framed};
+ghost use Rattle.replies.specs.Framed.{framed};
 
 use crate::status::{READY, READY_DATA, READY_ERROR};
 use frame_parts::Task;
@@ -99,16 +99,16 @@ impl<'a> Reply<'a> {
         })
     }
 
-    pub(crate) fn setup(q: &Queued) -> Reply<'a>
-        ensures { framed result ≡ setupReply q.now }
+    pub(crate) fn setup(queued: &Queued) -> Reply<'a>
+        ensures { framed result ≡ setupReply queued.now }
     {
         Reply::Setup(DmaSetup {
             auto: false,
             interrupt: false,
-            to_host: !q.entry.write,
-            tag: q.tag as u32,
+            to_host: !queued.entry.write,
+            tag: u32::from(queued.tag),
             offset: 0,
-            count: q.entry.whole(),
+            count: queued.entry.whole(),
         })
     }
 
@@ -117,12 +117,12 @@ impl<'a> Reply<'a> {
         ensures { FrameWriteGiven (framed self.now) room.old result room.new }
     {
         match self {
-            Reply::Register(f) => frames::write_device(room, *f),
-            Reply::Bits(f) => frames::write_bits(room, *f),
-            Reply::Setup(f) => frames::write_setup(room, *f),
+            Reply::Register(fields) => frames::write_device(room, *fields),
+            Reply::Bits(fields) => frames::write_bits(room, *fields),
+            Reply::Setup(fields) => frames::write_setup(room, *fields),
             Reply::Activate => frames::write_activate(room),
-            Reply::Pio(f) => frames::write_pio(room, *f),
-            Reply::Data(p) => frames::write_data(room, p),
+            Reply::Pio(fields) => frames::write_pio(room, *fields),
+            Reply::Data(payload) => frames::write_data(room, payload),
         }
     }
 }

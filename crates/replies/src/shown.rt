@@ -7,35 +7,45 @@ use device_state::{ErrorRecord, Settings};
 use frame_parts::Task;
 use page_10h::ErrorLog;
 use page_rows::Counters;
+use std::marker::Model;
 
-/// What replies show of the state.
-#[derive(Clone, Copy, Debug, PartialEq, Eq)]
-pub struct Shown {
+/// What replies show of the state. A contract sees the record and the counters themselves.
+#[derive(Drop)]
+pub struct Shown<'a> {
+    /// whether the sweep goes before page 10h
     pub halted: bool,
+    /// which rows page 11h keeps
     pub settings: Settings,
-    pub errors: ErrorRecord,
-    pub values: Counters,
+    /// what page 10h shows
+    pub errors: &'a ErrorRecord,
+    /// what page 11h shows, by its rows
+    pub values: &'a Counters,
 }
 
-/// The record as page 10h shows it.
+impl<'a> Model for Shown<'a> {
+    ghost use Rattle.replies.specs.StateShown.{StateShown};
+
+    ghost Value = { StateShown };
+
+    ghost view = { λ s. record { halted = s.halted; settings = s.settings; errors = s.errors.now; values = s.values.now } };
+}
+
+// The record as page 10h shows it.
 #[tactic(auto, unfolding(bits::specs::Pick::pick))]
-pub fn log_of(r: ErrorRecord) -> ErrorLog
-    ensures { result ≡ logOf r }
+pub(crate) fn log_of(errors: &ErrorRecord) -> ErrorLog
+    ensures { result ≡ logOf errors.now }
 {
-    if r.set {
+    if !errors.set {
         return ErrorLog {
-            nq: r.nq,
-            tag: r.tag,
-            status: READY_ERROR,
-            error: r.error,
-            task: Task::from(r.echo),
+            nq: true,
+            ..ErrorLog::default()
         };
     }
     ErrorLog {
-        nq: true,
-        tag: 0,
-        status: 0,
-        error: 0,
-        task: Task::default(),
+        nq: errors.nq,
+        tag: errors.tag,
+        status: READY_ERROR,
+        error: errors.error,
+        task: Task::from(errors.echo),
     }
 }

@@ -1,4 +1,5 @@
 pub mod TestLaws
 pub mod Ruled
+pub mod Failing
 pub mod Numbers
 pub mod Tied

@@ -1,7 +1,7 @@
 -- How a call is decided: the rule that holds, with what it found. A proof about calls goes by these cases. Assumes nothing.
 use mathlib.Core.Path.{◌≡◌, refl}
 use mathlib.Core.Bool.{Bool, true, false, not, ◌&&◌, ◌||◌, true≢false, false≢true}
-use mathlib.Core.List.{List}
+use mathlib.Core.List.{List, []}
 use Rattle.std.proofs.Common.{Some, None, is_none, Result, Ok, Err}
 use Prim.Native.Nat.{ℕ, ◌+◌}
 use lib.Dec.{eqb, ltb, leb, lit<}
@@ -18,11 +18,12 @@ use Rattle.frames.specs.Read.{readFrame}
 use Rattle.frames.specs.declared.shapes.HostReg.{HostReg}
 use Rattle.frames.specs.declared.shapes.Frame.{Frame}
 use Rattle.frames.specs.declared.shapes.Frame.TheVariants.{Host, Data, Bist}
-use Rattle.verdicts.specs.Range.{tooFar}
+use Rattle.moves.specs.Range.{tooFar}
 use Rattle.verdicts.specs.Queued.{tagRefused}
 use Rattle.verdicts.specs.Other.{asksErrors, asksCounters}
 use Rattle.verdicts.specs.declared.commands.Bad as verdict
 use Rattle.verdicts.proofs.Rules.{by-page}
+use Rattle.device_state.specs.UnderWay.{linkBusy}
 use Rattle.contradictions.specs.Clauses.{rowRefused}
 use Rattle.rules.specs.Call.{Call, hostFrame, openPhase, sendData, finishTags, mediaError, linkEvent, comReset}
 use Rattle.rules.specs.Handed.{handed}
@@ -30,7 +31,7 @@ use Rattle.rules.specs.Positions.{left_of, move_of}
 use Rattle.rules.specs.Tests.{wrongKind, wrongTime, wrongSize, allMoved, outside, tests}
 use Rattle.rules.specs.Decide.{bad, fault, tagAsked, countAsked, entryFor, pageAsked, isQueued, queuedDoes, queuedAct, otherDoes, otherAct, controlAct, registerAct, frameAct}
 use Rattle.rules.specs.Act.{failing, does, act}
-use Rattle.rules.specs.Medium.{leaves, touch_of, span_of}
+use Rattle.rules.specs.Medium.{leaves, touch_of, part_of}
 use Rattle.rules.specs.declared.facts.Facts.{Facts}
 use Rattle.rules.specs.declared.acts.Act.{Act}
 use Rattle.rules.specs.declared.acts.Act.TheVariants.{Nothing, Accept, Log10, Log11, Reset, Release, ZeroCounters, Store, Open, Send, Finish, Media, Count, Renew}
@@ -39,7 +40,7 @@ use Rattle.rules.specs.declared.acts.Act.TheVariants.{Nothing, Accept, Log10, Lo
 pub record TimelyCommand (v : Facts) (h : HostReg) (queued : Bool) : Type 0 where
   pub command : h.command_bit ≡ true
   pub free : v.status.held ≡ false
-  pub calm : v.link_busy ≡ false
+  pub calm : linkBusy v.status ≡ false
   pub kind : isQueued h ≡ queued
 
 -- a host frame that is not turned down, as it was read
@@ -65,14 +66,14 @@ pub data Heard (v : Facts) : Result Frame Refusal → Act → Type 0 where
   other-bad : (h : HostReg) → TimelyCommand v h false → v.status.halted ≡ false → eqb v.status.outstanding 0 ≡ true → Heard v (Ok (Host h)) (bad h 0x04)
   -- host data, BIST
   due : (n : ℕ) → is_none v.status.phase ≡ false → v.entry.write ≡ true → ltb (left_of v.entry) n ≡ false → Heard v (Ok (Data n)) (Store (move_of v.status v.entry n))
-  bist : v.link_busy ≡ false → Heard v (Ok Bist) ZeroCounters
+  bist : linkBusy v.status ≡ false → Heard v (Ok Bist) ZeroCounters
 
 -- a device event that is taken
 pub data Own (v : Facts) : Call → Act → Type 0 where
-  opened : (t : ℕ) → v.contradicts ≡ false → v.reply_short ≡ false → bitIn 32 v.status.outstanding t ≡ true → v.link_busy ≡ false → allMoved v.entry ≡ false
+  opened : (t : ℕ) → v.contradicts ≡ false → v.reply_short ≡ false → bitIn 32 v.status.outstanding t ≡ true → linkBusy v.status ≡ false → allMoved v.entry ≡ false
       → Own v (openPhase t) (Open (record { tag = t; entry = v.entry }))
   sent : v.contradicts ≡ false → v.medium_wrong ≡ false → v.reply_short ≡ false → is_none v.status.phase ≡ false → v.entry.write ≡ false → Own v sendData (Send (move_of v.status v.entry 8192))
-  finished : (s : ℕ) → v.contradicts ≡ false → v.reply_short ≡ false → v.link_busy ≡ false → eqb s 0 ≡ false → v.unready ≡ false → Own v (finishTags s) (Finish s)
+  finished : (s : ℕ) → v.contradicts ≡ false → v.reply_short ≡ false → linkBusy v.status ≡ false → eqb s 0 ≡ false → v.unready ≡ false → Own v (finishTags s) (Finish s)
   failed : (t e s : ℕ) → v.contradicts ≡ false → v.reply_short ≡ false → bitIn 32 v.status.outstanding t ≡ true → eqb e 0 ≡ false → outside v.entry s ≡ false
       → Own v (mediaError t e s) (Media (record { tag = Some t; error = e; echo = failing v.entry.echo s }))
   linked : (r : ℕ) → v.contradicts ≡ false → rowRefused v.settings.mask r ≡ false → Own v (linkEvent r) (Count r)
@@ -85,22 +86,22 @@ pub data Ruled (v : Facts) : Call → Result Act Refusal → Type 0 where
   own : {c : Call} {a : Act} → Own v c a → Ruled v c (Ok a)
 
 -- what a host frame that is not turned down makes the device do sends nothing of the medium
-pub heard-unsent : (v : Facts) {f : Result Frame Refusal} {a : Act} → Heard v f a → span_of a ≡ None
+pub heard-unsent : (v : Facts) (m : List ℕ) {f : Result Frame Refusal} {a : Act} → Heard v f a → [] ≡ part_of a m
 unfolding touch_of
-heard-unsent v (srst h c s) = refl
-heard-unsent v (release h c s x) = refl
-heard-unsent v (nothing h c s x) = refl
-heard-unsent v (rule1 h c x) = refl
-heard-unsent v (rule2 h c x u) = refl
-heard-unsent v (rule3 h c x u y) = refl
-heard-unsent v (rule4 h c x u y) = refl
-heard-unsent v (other-halted h c x) = refl
-heard-unsent v (other-busy h c x) = refl
-heard-unsent v (page10 h c e p) = refl
-heard-unsent v (page11 h c x e p) = refl
-heard-unsent v (other-bad h c x e) = refl
-heard-unsent v (due n p w s) = refl
-heard-unsent v (bist b) = refl
+heard-unsent v m (srst h c s) = refl
+heard-unsent v m (release h c s x) = refl
+heard-unsent v m (nothing h c s x) = refl
+heard-unsent v m (rule1 h c x) = refl
+heard-unsent v m (rule2 h c x u) = refl
+heard-unsent v m (rule3 h c x u y) = refl
+heard-unsent v m (rule4 h c x u y) = refl
+heard-unsent v m (other-halted h c x) = refl
+heard-unsent v m (other-busy h c x) = refl
+heard-unsent v m (page10 h c e p) = refl
+heard-unsent v m (page11 h c x e p) = refl
+heard-unsent v m (other-bad h c x e) = refl
+heard-unsent v m (due n p w s) = refl
+heard-unsent v m (bist b) = refl
 
 -- what all device events share: the state does not contradict itself; where a reply buffer is lent it is not short; and where no medium is lent the act leaves it
 pub record OwnLaws (v : Facts) (c : Call) (a : Act) : Type 0 where
@@ -159,15 +160,15 @@ module _ (v : Facts) where
       let awake : asked ≡ false → v.status.halted ≡ false = and-other v.status.halted asked x in
       by-page R (pageAsked h) (page10 h c e) (λ n. page11 h c (awake n) e) (λ n. other-bad h c (awake n) e)))
 
-  register-heard : (h : HostReg) → h.command_bit && (v.status.held || v.link_busy) ≡ false → Heard v (Ok (Host h)) (registerAct v h)
+  register-heard : (h : HostReg) → h.command_bit && (v.status.held || linkBusy v.status) ≡ false → Heard v (Ok (Host h)) (registerAct v h)
   unfolding registerAct
   register-heard h t =
       let R : Act → Type 0 = Heard v (Ok (Host h)) in
       by-test R (not h.command_bit) (controlAct v h) (pick (isQueued h) (queuedAct v h) (otherAct v h)) (λ c. control-heard h (not-true h.command_bit c))
       (λ n.
       let c = not-false h.command_bit n in
-      let w : v.status.held || v.link_busy ≡ false = rw c at t in
-      let made : (q : Bool) → isQueued h ≡ q → TimelyCommand v h q = λ q e. record { command = c; free = or_left v.status.held v.link_busy w; calm = or_right v.status.held v.link_busy w; kind = e } in
+      let w : v.status.held || linkBusy v.status ≡ false = rw c at t in
+      let made : (q : Bool) → isQueued h ≡ q → TimelyCommand v h q = λ q e. record { command = c; free = or_left v.status.held (linkBusy v.status) w; calm = or_right v.status.held (linkBusy v.status) w; kind = e } in
       by-test R (isQueued h) (queuedAct v h) (otherAct v h) (λ q. queued-heard h (made true q)) (λ q. other-heard h (made false q)))
 
   -- a host frame that no test of 4, 5 and 6 turns down

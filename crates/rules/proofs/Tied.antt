@@ -2,8 +2,9 @@
 use Rattle.rules.specs.Call.{openPhase, sendData, finishTags, mediaError, linkEvent, comReset}
 use Rattle.rules.specs.Tests.{someUnready}
 use Rattle.rules.specs.Act.{act, heardAct}
-use Rattle.rules.specs.Positions.{left_of, move_of}
-use Rattle.rules.specs.Medium.{mediumAfter, span_of}
+use Rattle.rules.specs.Positions.{moveFor}
+use Rattle.rules.specs.Record.{recordOf}
+use Rattle.rules.specs.Medium.{mediumAfter}
 use mathlib.Core.Path.{◌≡◌, refl}
 use Rattle.bits.specs.Contract.{Tied}
 use Rattle.bits.proofs.Tying.{same, say, by, named}
@@ -15,8 +16,6 @@ use Rattle.rules.proofs.device_events
 use Rattle.rules.specs.contracts.device_events as device_events-said
 use Rattle.rules.proofs.facts
 use Rattle.rules.specs.contracts.facts as facts-said
-use Rattle.rules.proofs.medium
-use Rattle.rules.specs.contracts.medium as medium-said
 use Rattle.rules.proofs.phases
 use Rattle.rules.specs.contracts.phases as phases-said
 
@@ -41,17 +40,14 @@ tied-link-act = named (say (λ κs a. tt) (λ κs a r ws p. p)) (λ κs a ws ws'
 pub tied-comreset-act : Tied device_events-said.comreset_act.ended device_events.comreset_act.Reads.Asked device_events.comreset_act.Reads.Post (λ κs a r ws. r ≡ act a.0.now comReset)
 tied-comreset-act = named (say (λ κs a. tt) (λ κs a r ws p. p)) (λ κs a ws ws'. refl)
 
-pub tied-some-unready : Tied device_events-said.some_unready.ended device_events.some_unready.Reads.Asked device_events.some_unready.Reads.Post (λ κs a r ws. r ≡ someUnready a.0.now a.1.0 a.1.1.0)
+pub tied-some-unready : Tied device_events-said.some_unready.ended device_events.some_unready.Reads.Asked device_events.some_unready.Reads.Post (λ κs a r ws. r ≡ someUnready a.0.now a.1.0.outstanding a.1.1.0)
 tied-some-unready = named (say (λ κs a. tt) (λ κs a r ws p. p)) (λ κs a ws ws'. refl)
 
-pub tied-left-of : Tied facts-said.left_of.ended facts.left_of.Reads.Asked facts.left_of.Reads.Post (λ κs a r ws. r ≡ left_of a.0)
-tied-left-of = named (say (λ κs a. tt) (λ κs a r ws p. p)) (λ κs a ws ws'. refl)
-
-pub tied-next-move : Tied facts-said.next_move.ended facts.next_move.Reads.Asked facts.next_move.Reads.Post (λ κs a r ws. r ≡ move_of a.0 a.1.0 a.1.1.0)
+pub tied-next-move : Tied facts-said.next_move.ended facts.next_move.Reads.Asked facts.next_move.Reads.Post (λ κs a r ws. r ≡ moveFor a.0 a.1.0 a.1.1.0)
 tied-next-move = named (say (λ κs a. tt) (λ κs a r ws p. p)) (λ κs a ws ws'. refl)
 
-pub tied-span : Tied acts-said.Act.span.ended acts.Act.span.Reads.Asked acts.Act.span.Reads.Post (λ κs a r ws. r ≡ span_of a.0)
-tied-span = named (say (λ κs a. tt) (λ κs a r ws p. p)) (λ κs a ws ws'. refl)
+pub tied-record-of : Tied acts-said.ErrorRecordFromFault.from.ended acts.ErrorRecordFromFault.from.Reads.Asked acts.ErrorRecordFromFault.from.Reads.Post (λ κs a r ws. r ≡ recordOf a.0)
+tied-record-of = named (say (λ κs a. tt) (λ κs a r ws p. p)) (λ κs a ws ws'. refl)
 
-pub tied-store-data : Tied medium-said.store_data.ended medium.store_data.Reads.Asked medium.store_data.Reads.Post (λ κs a r ws. ws.0 ≡ mediumAfter a.1.0 a.1.1.0.now a.0.now)
-tied-store-data = by (say (λ κs a. tt) (λ κs a r ws p. p)) (λ κs a r r' ws ws' p q. (refl, λ i. (same p q i, (tt, (tt, tt)))))
+pub tied-store : Tied acts-said.Act.store.ended acts.Act.store.Reads.Asked acts.Act.store.Reads.Post (λ κs a r ws. ws.1.0 ≡ mediumAfter a.0 a.1.1.0.now a.1.0.now)
+tied-store = by (say (λ κs a. tt) (λ κs a r ws p. p)) (λ κs a r r' ws ws' p q. (refl, λ i. (tt, (same p q i, (tt, tt)))))

@@ -10,7 +10,7 @@ use Rattle.frames.specs.declared.shapes.HostReg.{HostReg}
 use Rattle.frames.specs.declared.shapes.Frame.{Frame}
 use Rattle.frames.specs.declared.shapes.Frame.TheVariants.{Host, Data, Bist}
 use Rattle.refusals.specs.declared.reasons.Refusal.{Refusal}
-use Rattle.verdicts.specs.Range.{tooFar}
+use Rattle.moves.specs.Range.{tooFar}
 use Rattle.verdicts.specs.Queued.{tagRefused, queuedRule}
 use Rattle.verdicts.specs.Other.{otherRule, logZeroes}
 use Rattle.verdicts.specs.declared.commands.Bad as verdict

@@ -5,3 +5,4 @@ pub mod Tests
 pub mod Decide
 pub mod Act
 pub mod Medium
+pub mod Record

@@ -2,20 +2,10 @@
 use Rattle.std.specs.Prelude.{ℕ, unwrap_or}
 use Rattle.moves.specs.Amounts.{leftIn, partIn, lastIn, movedOn}
 use Rattle.moves.specs.Stored.{place_in}
-use Rattle.moves.specs.declared.amounts.Progress.{Progress}
-use Rattle.verdicts.specs.declared.ranges.Sectors.{Sectors}
 use Rattle.device_state.specs.State.{whole_of}
 use Rattle.device_state.specs.declared.shapes.Entry.{Entry}
 use Rattle.device_state.specs.declared.shapes.Status.{Status}
 use Rattle.rules.specs.declared.acts.Move.{Move}
-
--- the whole of a command, and what has moved of it
-abbrev pub progress_of : Entry → Progress
-progress_of e = record { whole = whole_of e.count; moved = e.moved }
-
--- its sectors
-abbrev pub sectors_of : Entry → Sectors
-sectors_of e = record { first = e.first; count = e.count }
 
 -- what is left of a command, in bytes
 abbrev pub left_of : Entry → ℕ
@@ -33,12 +23,16 @@ place_of e = place_in e.first e.moved
 unfoldable pub advancedBy : Entry → ℕ → Entry
 advancedBy e n = record e { moved = movedOn e.moved n }
 
--- n bytes that move in the open phase, or what is left if that is less; at nothing left it is the last
-unfoldable pub move_of : Status → Entry → ℕ → Move
-move_of f e n = record {
-  tag = unwrap_or f.phase 0;
+-- n bytes that move of a tag's command, or what is left if that is less; at nothing left it is the last
+abbrev pub moveFor : ℕ → Entry → ℕ → Move
+moveFor tag e n = record {
+  tag = tag;
   at = place_of e;
   size = size_of e n;
   entry = advancedBy e (size_of e n);
   last = lastIn (whole_of e.count) e.moved n;
 }
+
+-- in the open phase; where none is open no call moves bytes, and any tag would do
+unfoldable pub move_of : Status → Entry → ℕ → Move
+move_of f e n = moveFor (unwrap_or f.phase 0) e n

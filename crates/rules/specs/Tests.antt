@@ -8,11 +8,12 @@ use Rattle.frames.specs.Read.{readFrame}
 use Rattle.frames.specs.declared.shapes.Frame.{Frame}
 use Rattle.frames.specs.declared.shapes.Frame.TheVariants.{Host, Data, Bist}
 use Rattle.refusals.specs.Ladders.{hostLadder, openLadder, sendLadder, finishLadder, mediaLadder, linkLadder, comresetLadder}
-use Rattle.verdicts.specs.Range.{outsideOf}
+use Rattle.moves.specs.Range.{outsideOf}
 use Rattle.moves.specs.Amounts.{wholly}
 use Rattle.verdicts.specs.Moved.{longer, notReady}
 use Rattle.device_state.specs.State.{whole_of}
 use Rattle.device_state.specs.Table.{someBelow, entry_of}
+use Rattle.device_state.specs.UnderWay.{linkBusy}
 use Rattle.contradictions.specs.Clauses.{rowRefused}
 use Rattle.device_state.specs.declared.shapes.Entry.{Entry}
 use Rattle.rules.specs.Call.{Call, hostFrame, openPhase, sendData, finishTags, mediaError, linkEvent, comReset}
@@ -28,9 +29,9 @@ wrongKind _ = true
 
 -- 5: command while reset is held or a phase is open; data with no write phase; BIST while a phase is open
 unfoldable pub wrongTime : Facts → Result Frame Refusal → Bool
-wrongTime v (Ok (Host h)) = h.command_bit && (v.status.held || v.link_busy)
+wrongTime v (Ok (Host h)) = h.command_bit && (v.status.held || linkBusy v.status)
 wrongTime v (Ok (Data n)) = is_none v.status.phase || not v.entry.write
-wrongTime v (Ok Bist) = v.link_busy
+wrongTime v (Ok Bist) = linkBusy v.status
 wrongTime v _ = false
 
 -- 6: the payload is longer than what is left of the command
@@ -77,9 +78,9 @@ outside e sector = outsideOf e.first e.count sector
 -- the refusal table: a call's tests, the lowest number first
 unfoldable pub tests : Facts → Call → List Rung
 tests v (hostFrame f) = frameTests v (readFrame f)
-tests v (openPhase t) = openLadder v.contradicts v.reply_short (idleTag v t) v.link_busy (allMoved v.entry)
+tests v (openPhase t) = openLadder v.contradicts v.reply_short (idleTag v t) (linkBusy v.status) (allMoved v.entry)
 tests v sendData = sendLadder v.contradicts v.medium_wrong v.reply_short (noReadPhase v)
-tests v (finishTags s) = finishLadder v.contradicts v.reply_short v.link_busy (eqb s 0 || v.unready)
+tests v (finishTags s) = finishLadder v.contradicts v.reply_short (linkBusy v.status) (eqb s 0 || v.unready)
 tests v (mediaError t e s) = mediaLadder v.contradicts v.reply_short (idleTag v t) (eqb e 0 || outside v.entry s)
 tests v (linkEvent r) = linkLadder v.contradicts (rowRefused v.settings.mask r)
 tests v comReset = comresetLadder v.contradicts v.reply_short

@@ -1,43 +1,75 @@
 // What a call makes the device do: what was asked for, and of the state the entry alone. Its replies, the medium and the new state are made from the act and the old state.
-use device_state::{Echo, Entry};
+ghost use Rattle.std.specs.Prelude.{◌≡◌};
+ghost use Rattle.rules.specs.Record.{recordOf};
+
+use device_state::{Echo, Entry, ErrorRecord};
 use frame_parts::Task;
 
 /// A device register reply with ERR.
 #[derive(Clone, Copy, Debug, PartialEq, Eq)]
 pub struct BadReply {
+    /// the error register
     pub error: u8,
+    /// the command's bytes, which the reply shows again
     pub task: Task,
 }
 
-/// An error that halts the device, and what its record will hold. `tag`: that of the queued command at fault; the record of any other command has NQ set, and tag 0.
+/// An error that halts the device, and what its record will hold.
 #[derive(Clone, Copy, Debug, PartialEq, Eq)]
 pub struct Fault {
+    /// that of the queued command at fault; `None` for any other command
     pub tag: Option<u8>,
+    /// the error register
     pub error: u8,
+    /// the command's bytes; after a media error with the failing sector in those of the LBA
     pub echo: Echo,
+}
+
+/// The record of a fault: with NQ, and then tag 0, for a command that was not queued.
+impl From<Fault> for ErrorRecord {
+    ghost from_gives = { λ fault errors. errors ≡ recordOf fault };
+
+    fn from(fault: Fault) -> ErrorRecord {
+        ErrorRecord {
+            set: true,
+            nq: fault.tag.is_none(),
+            tag: fault.tag.unwrap_or(0),
+            error: fault.error,
+            echo: fault.echo,
+        }
+    }
 }
 
 /// A queued command: accepted, or its phase to be opened.
 #[derive(Clone, Copy, Debug, PartialEq, Eq)]
 pub struct Queued {
+    /// 0 to 31
     pub tag: u8,
+    /// the command's, of which nothing has moved when it is accepted
     pub entry: Entry,
 }
 
-/// Page 11h to be sent; with `zero` the counters are zeroed after it is made.
+/// Page 11h to be sent.
 #[derive(Clone, Copy, Debug, PartialEq, Eq)]
 pub struct CountersRead {
+    /// the counters are zeroed once the page is made
     pub zero: bool,
+    /// the command's bytes, which the reply shows again
     pub task: Task,
 }
 
-/// Data that move: `size` bytes of the medium from `at` on, and the command's entry once they have moved. `last`: nothing is left then.
+/// Data that move in the open phase, from the medium or to it.
 #[derive(Clone, Copy, Debug, PartialEq, Eq)]
 pub struct Move {
+    /// that of the open phase, as wide as the state holds it
     pub tag: u32,
+    /// the first byte's place in the medium
     pub at: usize,
+    /// bytes
     pub size: usize,
+    /// the command's, once they have moved
     pub entry: Entry,
+    /// nothing is left then, and the phase closes
     pub last: bool,
 }
 

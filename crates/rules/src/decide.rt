@@ -2,15 +2,17 @@
 ghost use Rattle.std.specs.Prelude.{◌≡◌, Ok};
 ghost use Rattle.frames.specs.declared.shapes.Frame.TheVariants.{Host, Data, Bist};
 ghost use Rattle.rules.specs.Decide.{badDoes, queuedAct, logPage, otherAct, controlAct, registerAct};
+ghost use Rattle.device_state.specs.State.{echoOf};
 ghost use Rattle.rules.specs.Act.{kindAct, heardAct};
 
 use crate::acts::{Act, BadReply, CountersRead, Fault, Queued};
-use crate::facts::{Facts, left_of, next_move};
+use crate::facts::{Facts, next_move};
 use device_state::{Echo, Entry};
-use frame_parts::LogPage;
+use frame_parts::{LogPage, Task};
 use frames::{Frame, HostReg};
+use moves::Sectors;
 use refusals::{Refusal, check};
-use verdicts::{Bad, Sectors, TagNamed};
+use verdicts::{Bad, TagNamed};
 
 // The command that reads a log page.
 const READ_LOG_EXT: u8 = 0x2F;
@@ -22,55 +24,56 @@ const READ_FPDMA_QUEUED: u8 = 0x60;
 const WRITE_FPDMA_QUEUED: u8 = 0x61;
 
 // A bad command: answered, and if it halts, for its tag if it was queued.
-fn bad_act(h: HostReg, tag: Option<u8>, bad: Bad) -> Act
-    ensures { result ≡ badDoes h tag bad }
+fn bad_act(host: HostReg, tag: Option<u8>, bad: Bad) -> Act
+    ensures { result ≡ badDoes host tag bad }
 {
     match bad {
         Bad::Only(error) => Act::Bad(BadReply {
             error,
-            task: h.task,
+            task: host.task,
         }),
         Bad::Halts(error) => Act::BadAndHalt(Fault {
             tag,
             error,
-            echo: Echo::from(h.task),
+            echo: Echo::from(host.task),
         }),
     }
 }
 
 // Rules 1 to 4 of a queued command.
 #[tactic(auto, unfolding(crate::specs::Decide::queuedAct, bits::specs::Pick::pick))]
-fn queued_act(v: &Facts, h: HostReg) -> Act
-    ensures { result ≡ queuedAct v.now h }
+fn queued_act(facts: &Facts, host: HostReg) -> Act
+    ensures { result ≡ queuedAct facts.now host }
 {
-    let tag = frame_parts::tag_of(h.task.count);
-    let count = frame_parts::sectors_of(h.features, h.features_high);
+    let tag = frame_parts::tag_of(host.task.count);
+    let count = frame_parts::sectors_of(host.features, host.features_high);
     let named = TagNamed {
         tag,
-        busy: bits::bit(v.status.outstanding, tag as u32),
+        busy: facts.status.is_outstanding(u32::from(tag)),
     };
     let sectors = Sectors {
-        first: h.task.lba,
+        first: host.task.lba,
         count,
     };
     let rule = verdicts::queued_rule(
-        v.status.halted,
-        v.settings.depth,
+        facts.status.halted,
+        facts.settings.depth,
         named,
-        v.settings.capacity,
+        facts.settings.capacity,
         sectors,
     );
     match rule {
-        Err(bad) => bad_act(h, Some(tag), bad),
+        Err(bad) => bad_act(host, Some(tag), bad),
         Ok(()) => {
             let entry = Entry {
-                write: h.command == WRITE_FPDMA_QUEUED,
-                first: h.task.lba as u32,
+                write: host.command == WRITE_FPDMA_QUEUED,
+                // rule 3 did not hold: it is at most the capacity, a u32
+                first: host.task.lba as u32,
                 count,
                 moved: 0,
-                features: h.features,
-                features_high: h.features_high,
-                echo: Echo::from(h.task),
+                features: host.features,
+                features_high: host.features_high,
+                echo: Echo::from(host.task),
             };
             Act::Accept(Queued { tag, entry })
         }
@@ -78,41 +81,42 @@ fn queued_act(v: &Facts, h: HostReg) -> Act
 }
 
 // The page that a well-formed READ LOG EXT asks for; any other command asks for none.
-#[tactic(auto, unfolding(crate::specs::Decide::logPage, bits::specs::Pick::pick))]
-fn log_page(command: u8, e: Echo) -> Option<LogPage>
-    ensures { result ≡ logPage command e }
+#[tactic(auto, unfolding(crate::specs::Decide::logPage, device_state::specs::State::echoOf, bits::specs::Pick::pick))]
+fn log_page(command: u8, task: Task) -> Option<LogPage>
+    ensures { result ≡ logPage command (echoOf task) }
 {
-    if command == READ_LOG_EXT && (e.b5 == 0 && e.b9 == 0) && (e.b12 == 1 && e.b13 == 0) {
-        return LogPage::from_number(e.b4);
+    let [page, b5, _, _, b9, ..] = task.lba.to_le_bytes();
+    if command == READ_LOG_EXT && b5 == 0 && b9 == 0 && task.count == 1 {
+        return LogPage::from_number(page);
     }
     None
 }
 
 // Any other command.
 #[tactic(auto, unfolding(crate::specs::Decide::otherAct))]
-fn other_act(v: &Facts, h: HostReg) -> Act
-    ensures { result ≡ otherAct v.now h }
+fn other_act(facts: &Facts, host: HostReg) -> Act
+    ensures { result ≡ otherAct facts.now host }
 {
-    let page = log_page(h.command, Echo::from(h.task));
-    match verdicts::other_rule(v.status.halted, page, v.status.outstanding != 0) {
-        Err(bad) => bad_act(h, None, bad),
-        Ok(LogPage::Errors) => Act::Log10(h.task),
+    let page = log_page(host.command, host.task);
+    match verdicts::other_rule(facts.status.halted, page, facts.status.outstanding != 0) {
+        Err(bad) => bad_act(host, None, bad),
+        Ok(LogPage::Errors) => Act::Log10(host.task),
         Ok(LogPage::Counters) => Act::Log11(CountersRead {
-            zero: verdicts::log_zeroes(h.features),
-            task: h.task,
+            zero: verdicts::log_zeroes(host.features),
+            task: host.task,
         }),
     }
 }
 
 // A control frame.
 #[tactic(auto, unfolding(crate::specs::Decide::controlAct, bits::specs::Pick::pick))]
-fn control_act(v: &Facts, h: HostReg) -> Act
-    ensures { result ≡ controlAct v.now h }
+fn control_act(facts: &Facts, host: HostReg) -> Act
+    ensures { result ≡ controlAct facts.now host }
 {
-    if frame_parts::srst(h.control) {
+    if frame_parts::srst(host.control) {
         return Act::Reset;
     }
-    if v.status.held {
+    if facts.status.held {
         return Act::Release;
     }
     Act::Nothing
@@ -120,49 +124,52 @@ fn control_act(v: &Facts, h: HostReg) -> Act
 
 // A register frame at its time.
 #[tactic(auto, unfolding(crate::specs::Decide::registerAct, bits::specs::Pick::pick))]
-fn timely_act(v: &Facts, h: HostReg) -> Act
-    ensures { result ≡ registerAct v.now h }
+fn register_act(facts: &Facts, host: HostReg) -> Act
+    ensures { result ≡ registerAct facts.now host }
 {
-    if !h.command_bit {
-        return control_act(v, h);
+    if !host.command_bit {
+        return control_act(facts, host);
     }
-    if h.command == READ_FPDMA_QUEUED || h.command == WRITE_FPDMA_QUEUED {
-        return queued_act(v, h);
+    if host.command == READ_FPDMA_QUEUED || host.command == WRITE_FPDMA_QUEUED {
+        return queued_act(facts, host);
     }
-    other_act(v, h)
+    other_act(facts, host)
 }
 
 // 27h.
 #[tactic(auto, unfolding(crate::specs::Decide::frameAct, crate::specs::Tests::wrongKind, crate::specs::Tests::wrongTime, crate::specs::Tests::wrongSize, refusals::specs::First::first_of, bits::specs::Pick::pick))]
-fn register_act(v: &Facts, h: HostReg) -> Result<Act, Refusal>
-    ensures { result ≡ kindAct v.now (Ok (Host h)) }
+fn host_act(facts: &Facts, host: HostReg) -> Result<Act, Refusal>
+    ensures { result ≡ kindAct facts.now (Ok (Host host)) }
 {
-    if h.command_bit && (v.status.held || v.link_busy) {
+    if host.command_bit && (facts.status.held || facts.status.is_link_busy()) {
         return Err(Refusal::WrongTime);
     }
-    Ok(timely_act(v, h))
+    Ok(register_act(facts, host))
 }
 
 // 46h: host data in a write phase.
-#[tactic(auto, unfolding(crate::specs::Decide::frameAct, crate::specs::Tests::wrongKind, crate::specs::Tests::wrongTime, crate::specs::Tests::wrongSize, refusals::specs::First::first_of, bits::specs::Pick::pick))]
-fn data_act(v: &Facts, n: usize) -> Result<Act, Refusal>
-    ensures { result ≡ kindAct v.now (Ok (Data n)) }
+#[tactic(auto, unfolding(crate::specs::Decide::frameAct, crate::specs::Tests::wrongKind, crate::specs::Tests::wrongTime, crate::specs::Tests::wrongSize, crate::specs::Positions::move_of, refusals::specs::First::first_of, bits::specs::Pick::pick))]
+fn data_act(facts: &Facts, size: usize) -> Result<Act, Refusal>
+    ensures { result ≡ kindAct facts.now (Ok (Data size)) }
 {
-    if v.status.phase.is_none() || !v.entry.write {
+    let Some(tag) = facts.status.phase else {
+        return Err(Refusal::WrongTime);
+    };
+    if !facts.entry.write {
         return Err(Refusal::WrongTime);
     }
-    if verdicts::longer(left_of(v.entry), n) {
+    if verdicts::is_too_long(facts.entry.progress(), size) {
         return Err(Refusal::TooLong);
     }
-    Ok(Act::Store(next_move(v.status, v.entry, n)))
+    Ok(Act::Store(next_move(tag, facts.entry, size)))
 }
 
 // 58h.
 #[tactic(auto, unfolding(crate::specs::Decide::frameAct, crate::specs::Tests::wrongKind, crate::specs::Tests::wrongTime, crate::specs::Tests::wrongSize, refusals::specs::First::first_of, bits::specs::Pick::pick))]
-fn bist_act(v: &Facts) -> Result<Act, Refusal>
-    ensures { result ≡ kindAct v.now (Ok Bist) }
+fn bist_act(facts: &Facts) -> Result<Act, Refusal>
+    ensures { result ≡ kindAct facts.now (Ok Bist) }
 {
-    if v.link_busy {
+    if facts.status.is_link_busy() {
         return Err(Refusal::WrongTime);
     }
     Ok(Act::ZeroCounters)
@@ -170,26 +177,26 @@ fn bist_act(v: &Facts) -> Result<Act, Refusal>
 
 // A host frame for which what is lent is right.
 #[tactic(auto, unfolding(crate::specs::Tests::wrongKind, refusals::specs::First::first_of, bits::specs::Pick::pick))]
-fn kind_act(v: &Facts, frame: Result<Frame, Refusal>) -> Result<Act, Refusal>
-    ensures { result ≡ kindAct v.now frame }
+fn kind_act(facts: &Facts, frame: Result<Frame, Refusal>) -> Result<Act, Refusal>
+    ensures { result ≡ kindAct facts.now frame }
 {
     match frame {
-        Ok(Frame::Host(h)) => register_act(v, h),
-        Ok(Frame::Data(n)) => data_act(v, n),
-        Ok(Frame::Bist) => bist_act(v),
+        Ok(Frame::Host(host)) => host_act(facts, host),
+        Ok(Frame::Data(size)) => data_act(facts, size),
+        Ok(Frame::Bist) => bist_act(facts),
         _ => Err(Refusal::NoHostFrame),
     }
 }
 
 /// A host frame, as it was read. Refused with 1, 2, 3, 4 (the reader turned it down, or its kind is no host's), 5 or 6.
 #[tactic(auto, unfolding(refusals::specs::First::first_of, bits::specs::Pick::pick))]
-pub fn frame_act(v: &Facts, frame: Result<Frame, Refusal>) -> Result<Act, Refusal>
-    ensures { result ≡ heardAct v.now frame }
+pub fn frame_act(facts: &Facts, frame: Result<Frame, Refusal>) -> Result<Act, Refusal>
+    ensures { result ≡ heardAct facts.now frame }
 {
     check(&[
-        (v.contradicts, Refusal::Contradiction),
-        (v.medium_wrong, Refusal::MediumLength),
-        (v.reply_short, Refusal::ReplyShort),
+        (facts.contradicts, Refusal::Contradiction),
+        (facts.medium_wrong, Refusal::MediumLength),
+        (facts.reply_short, Refusal::ReplyShort),
     ])?;
-    kind_act(v, frame)
+    kind_act(facts, frame)
 }

@@ -1,66 +1,43 @@
 // What a decision looks at: lengths and control values, never medium or payload bytes.
 ghost use Rattle.std.specs.Prelude.{◌≡◌};
-ghost use Rattle.rules.specs.Positions.{progress_of, sectors_of, left_of, move_of};
+ghost use Rattle.rules.specs.Positions.{moveFor};
 
 use crate::acts::Move;
 use device_state::{Entry, Settings, Status};
-use moves::Progress;
-use verdicts::Sectors;
 
-/// The tests of refusals 1, 2 (of a host frame and of a send) and 3 (of a call that replies), and whether a phase is open on the link; settings and control values. `entry`: that of the tag asked for, or of the open phase; an idle one if there is none. `unready`: a tag of the set asked for is not outstanding or not wholly moved.
+/// The tests of refusals 1, 2, 3 and 11, settings and control values, and the one entry that the call is about.
 #[derive(Clone, Copy, Debug, PartialEq, Eq)]
 pub struct Facts {
+    /// 1: the state contradicts itself
     pub contradicts: bool,
+    /// 2, of a host frame and of a send: the medium is not 512 × capacity bytes
     pub medium_wrong: bool,
+    /// 3, of a call that replies: the reply buffer is under 8,196 bytes
     pub reply_short: bool,
-    pub link_busy: bool,
+    /// depth in tags, capacity in sectors, the rows that are kept
     pub settings: Settings,
+    /// the tags outstanding, the open phase, halted, held
     pub status: Status,
+    /// that of the tag asked for, or of the open phase; an idle one if there is none
     pub entry: Entry,
+    /// 11: a tag of the set asked for is not outstanding or not wholly moved; false of a call that names no set
     pub unready: bool,
 }
 
-// The whole of a command, and what has moved of it.
-pub(crate) fn progress(e: &Entry) -> Progress
-    ensures { result ≡ progress_of e.now }
+/// The next `size` bytes of a command of a tag, or what is left of it.
+#[tactic(auto, unfolding(crate::specs::Positions::advancedBy))]
+pub fn next_move(tag: u32, entry: Entry, size: usize) -> Move
+    ensures { result ≡ moveFor tag entry size }
 {
-    Progress {
-        whole: e.whole(),
-        moved: e.moved,
-    }
-}
-
-// The sectors of a command.
-pub(crate) fn sectors(e: &Entry) -> Sectors
-    ensures { result ≡ sectors_of e.now }
-{
-    Sectors {
-        first: e.first as u64,
-        count: e.count,
-    }
-}
-
-/// What is left of a command, in bytes.
-pub fn left_of(e: Entry) -> u32
-    ensures { result ≡ left_of e }
-{
-    progress(&e).left()
-}
-
-/// n bytes that move next in the open phase, or what is left.
-#[tactic(auto, unfolding(crate::specs::Positions::move_of, crate::specs::Positions::advancedBy))]
-pub fn next_move(status: Status, e: Entry, n: usize) -> Move
-    ensures { result ≡ move_of status e n }
-{
-    let progress = progress(&e);
+    let progress = entry.progress();
     Move {
-        tag: status.phase.unwrap_or(0),
-        at: moves::place(e.first, e.moved),
-        size: progress.part(n) as usize,
+        tag,
+        at: moves::place(entry.first, entry.moved),
+        size: progress.part(size) as usize,
         entry: Entry {
-            moved: progress.after(n).moved,
-            ..e
+            moved: progress.after(size).moved,
+            ..entry
         },
-        last: progress.is_last(n),
+        last: progress.is_last(size),
     }
 }

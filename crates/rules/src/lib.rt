@@ -11,6 +11,5 @@ mod phases;
 pub use acts::{Act, BadReply, CountersRead, Fault, Move, Queued};
 pub use decide::frame_act;
 pub use device_events::{comreset_act, finish_act, link_act, media_act, some_unready};
-pub use facts::{Facts, left_of};
-pub use medium::{Span, store_data};
+pub use facts::Facts;
 pub use phases::{open_act, send_act};

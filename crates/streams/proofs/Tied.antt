@@ -30,5 +30,5 @@ tied-fill R l g d = record { free = λ κs a h. h; says = λ κs a r ws p. (p.0,
 
 pub tied-complain : (W : RattleType) (l : Laws W) (g : Writer.Ghosts W.Denot) (d : Dict)
     → SaysOver (lost-said.complain.ended W g d) (λ κs a. (x : ℕ) → Mem x W.lives → Mem x κs.1.0) (lost.complain.Reads.Asked W l g d) (lost.complain.Reads.Post W l g d)
-    (λ κs a r ws. OnOk r (Appends (g.contents a.0.now) (g.contents ws.0) complaint))
-tied-complain W l g d = record { free = λ κs a h. h; says = λ κs a r ws p. p }
+    (λ κs a r ws. OnOk r (Appends (g.contents a.0.now) (g.contents ws.0) complaint) × OnErr r (AppendsFront (g.contents a.0.now) (g.contents ws.0) complaint))
+tied-complain W l g d = record { free = λ κs a h. h; says = λ κs a r ws p. (p.0, p.1) }

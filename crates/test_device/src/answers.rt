@@ -1,6 +1,6 @@
-// One record, taken apart by its op.
+// One case, taken apart by its op.
 use crate::calls::Call;
-use crate::{calls, fills, lines, parts};
+use crate::{fills, lines, parts};
 use bits::le16;
 use device::{Device, Outcome};
 use frame_parts::byte_of;
@@ -9,7 +9,10 @@ use std::io;
 use std::io::Write;
 use vector_io::Answers;
 
-// A part of the state that a record sets by hand, or the medium.
+/// The bytes of a case.
+pub const CASE: usize = 32;
+
+// A part of the state that a case sets by hand, or the medium.
 #[derive(Clone, Copy, Debug, PartialEq, Eq)]
 enum Part {
     State,
@@ -19,7 +22,7 @@ enum Part {
     Medium,
 }
 
-// What a record asks for.
+// What a case asks for.
 #[derive(Clone, Copy, Debug, PartialEq, Eq)]
 enum Op {
     Set(Part),
@@ -30,7 +33,7 @@ enum Op {
     Call(Call),
 }
 
-// The op of a record's first byte.
+// The op of a case's first byte.
 fn op_of(byte: u8) -> Option<Op> {
     match byte {
         0x4E => Some(Op::Set(Part::State)),
@@ -52,38 +55,39 @@ fn op_of(byte: u8) -> Option<Op> {
     }
 }
 
-/// The state and the medium that stay between the records.
+/// The state and the medium that stay between two cases.
 #[derive(Drop)]
-pub struct Bench<'a> {
+pub struct TestedDevice<'a> {
+    /// as the last call left it, or as a case set it
     pub state: Device,
+    /// all of it; a call is lent a front
     pub medium: &'a mut [u8],
 }
 
-impl<'a> Bench<'a> {
-    // The records that only set something up: they print nothing.
-    fn set(&mut self, what: Part, r: &[u8; 32]) {
+impl<'a> TestedDevice<'a> {
+    // The cases that only set something up: they print nothing.
+    fn set(&mut self, what: Part, case: &[u8; CASE]) {
         match what {
-            Part::State => self.state = parts::raw_state(r),
-            Part::Entry => parts::set_entry(&mut self.state, r),
-            Part::Record => self.state.errors = parts::errors(r),
-            Part::Counter => parts::set_counter(&mut self.state, r),
-            Part::Medium => fills::fill_medium(self.medium, r[1]),
+            Part::State => self.state = parts::raw_state(case),
+            Part::Entry => parts::set_entry(&mut self.state, case),
+            Part::Record => self.state.errors = parts::errors(case),
+            Part::Counter => parts::set_counter(&mut self.state, case),
+            Part::Medium => fills::fill_medium(self.medium, case[1]),
         }
     }
 
     // What a queued command comes to, for which no medium is lent.
-    fn say_queued<W: Write>(&self, out: &mut W, r: &[u8; 32]) -> io::Result<()> {
+    fn say_queued<W: Write>(&self, out: &mut W, case: &[u8; CASE]) -> io::Result<()> {
         let facts = Facts {
             contradicts: self.state.contradicts(),
             medium_wrong: false,
             reply_short: false,
-            link_busy: self.state.status.phase.is_some(),
             settings: self.state.settings,
             status: self.state.status,
             entry: device_state::Entry::default(),
             unready: false,
         };
-        let frame = frames::read_frame(&r[9..29]);
+        let frame = frames::read_frame(&case[9..29]);
         lines::say_ruling(out, rules::frame_act(&facts, frame))
     }
 
@@ -94,27 +98,27 @@ impl<'a> Bench<'a> {
     }
 }
 
-impl<'a> Answers<32> for Bench<'a> {
-    fn answer<W: Write>(&mut self, out: &mut W, r: &[u8; 32]) -> io::Result<()> {
-        match op_of(r[0]) {
+impl<'a> Answers<CASE> for TestedDevice<'a> {
+    fn answer<W: Write>(&mut self, out: &mut W, case: &[u8; CASE]) -> io::Result<()> {
+        match op_of(case[0]) {
             Some(Op::Set(part)) => {
-                self.set(part, r);
+                self.set(part, case);
                 Ok(())
             }
             Some(Op::Counter) => {
-                vector_io::counter(out, self.state.counter(le16(r, 1)))?;
+                vector_io::counter(out, self.state.counter(le16(case, 1)))?;
                 writeln!(out)
             }
-            Some(Op::Queued) => self.say_queued(out, r),
+            Some(Op::Queued) => self.say_queued(out, case),
             Some(Op::PowerOn) => {
-                let outcome = Device::power_on(parts::settings(r));
+                let outcome = Device::power_on(parts::settings(case));
                 self.say_short(out, outcome)
             }
             Some(Op::LinkEvent) => {
-                let outcome = self.state.link_event(byte_of(r, 1));
+                let outcome = self.state.link_event(byte_of(case, 1));
                 self.say_short(out, outcome)
             }
-            Some(Op::Call(call)) => calls::say_call(out, call, &mut self.state, r, self.medium),
+            Some(Op::Call(call)) => self.say_call(out, call, case),
             None => writeln!(out, "unknown"),
         }
     }

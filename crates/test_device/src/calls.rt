@@ -1,11 +1,13 @@
 // The calls that are lent a reply buffer, and two of them the medium.
+use crate::answers::{CASE, TestedDevice};
 use crate::{fills, lines};
 use bits::{le16, le32};
-use device::{Device, Outcome};
+use device::Outcome;
 use std::io;
 use std::io::Write;
 use vector_io::ROOM;
 
+/// A call that is lent a reply buffer.
 #[derive(Clone, Copy, Debug, PartialEq, Eq)]
 pub enum Call {
     HostFrame,
@@ -17,78 +19,65 @@ pub enum Call {
 }
 
 impl Call {
-    // Whether it is lent the medium.
+    /// Whether it is lent the medium.
     pub fn takes_medium(self) -> bool {
         match self {
             Call::HostFrame | Call::Send => true,
             Call::Open | Call::Finish | Call::MediaError | Call::Comreset => false,
         }
     }
-}
 
-// How many bytes of the medium a call is lent.
-fn medium_size(call: Call, r: &[u8; 32]) -> usize {
-    if call.takes_medium() {
-        le32(r, 3) as usize
-    } else {
-        0
+    // How many bytes of the medium it is lent.
+    fn medium_size(self, case: &[u8; CASE]) -> usize {
+        if self.takes_medium() {
+            le32(case, 3) as usize
+        } else {
+            0
+        }
+    }
+
+    // How many bytes the frame has that it is given.
+    fn frame_size(self, case: &[u8; CASE]) -> usize {
+        match self {
+            Call::HostFrame => usize::from(le16(case, 7)),
+            Call::Open | Call::Send | Call::Finish | Call::MediaError | Call::Comreset => 0,
+        }
     }
 }
 
-// How many bytes the frame has that it is given.
-fn frame_size(call: Call, r: &[u8; 32]) -> usize {
-    match call {
-        Call::HostFrame => le16(r, 7) as usize,
-        Call::Open | Call::Send | Call::Finish | Call::MediaError | Call::Comreset => 0,
+impl<'a> TestedDevice<'a> {
+    // What a call answers in parts of so many bytes of frame, medium and reply buffer; none where one has not so many.
+    fn outcome(&mut self, call: Call, case: &[u8; CASE], reply: &mut [u8]) -> Option<Outcome> {
+        let mut frame = [0u8; ROOM];
+        fills::fill_frame(&mut frame, case);
+        let frame = frame.get(..call.frame_size(case))?;
+        let medium = self.medium.get_mut(..call.medium_size(case))?;
+        let reply = reply.get_mut(..usize::from(le16(case, 1)))?;
+        let state = &self.state;
+        Some(match call {
+            Call::HostFrame => state.host_frame(frame, medium, reply),
+            Call::Open => state.open(case[3], reply),
+            Call::Send => state.send(medium, reply),
+            Call::Finish => state.finish(le32(case, 3), reply),
+            Call::MediaError => state.media_error(case[3], case[4], le32(case, 5), reply),
+            Call::Comreset => state.comreset(reply),
+        })
     }
-}
 
-fn outcome(
-    call: Call,
-    state: &Device,
-    r: &[u8; 32],
-    frame: &[u8],
-    medium: &mut [u8],
-    reply: &mut [u8],
-) -> Outcome {
-    match call {
-        Call::HostFrame => state.host_frame(frame, medium, reply),
-        Call::Open => state.open(r[3], reply),
-        Call::Send => state.send(medium, reply),
-        Call::Finish => state.finish(le32(r, 3), reply),
-        Call::MediaError => state.media_error(r[3], r[4], le32(r, 5), reply),
-        Call::Comreset => state.comreset(reply),
+    /// Makes a call with what the case lends it, keeps the state that it leaves, and writes its line; `too long` for more
+    /// than there is to lend.
+    pub fn say_call<W: Write>(
+        &mut self,
+        out: &mut W,
+        call: Call,
+        case: &[u8; CASE],
+    ) -> io::Result<()> {
+        // every byte is EEh, so that a byte that a call changed shows
+        let mut reply = [0xEEu8; ROOM];
+        let Some(outcome) = self.outcome(call, case, &mut reply) else {
+            return writeln!(out, "too long");
+        };
+        self.state = outcome.state;
+        lines::say_long(out, call, &outcome, self.medium, &reply)
     }
-}
-
-// What a call answers in parts of so many bytes of frame, medium and reply buffer; none where one has not so many.
-fn outcome_with(
-    call: Call,
-    state: &Device,
-    r: &[u8; 32],
-    medium: &mut [u8],
-    reply: &mut [u8],
-) -> Option<Outcome> {
-    let mut frame = [0u8; ROOM];
-    fills::fill_frame(&mut frame, r);
-    let reply = reply.get_mut(..le16(r, 1) as usize)?;
-    let medium = medium.get_mut(..medium_size(call, r))?;
-    let frame = frame.get(..frame_size(call, r))?;
-    Some(outcome(call, state, r, frame, medium, reply))
-}
-
-pub fn say_call<W: Write>(
-    out: &mut W,
-    call: Call,
-    state: &mut Device,
-    r: &[u8; 32],
-    medium: &mut [u8],
-) -> io::Result<()> {
-    // every byte is EEh, so that a byte that a call changed shows
-    let mut reply = [0xEEu8; ROOM];
-    let Some(outcome) = outcome_with(call, state, r, medium, &mut reply) else {
-        return writeln!(out, "too long");
-    };
-    *state = outcome.state;
-    lines::say_long(out, call, &outcome, medium, &reply)
 }

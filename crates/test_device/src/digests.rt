@@ -1,32 +1,37 @@
 // The digests of the entries, of the counters, and of plain bytes.
-use device_state::{Echo, Entry, Settings};
+use device_state::{Echo, Entries, Entry};
 
 /// On from a digest by some bytes.
-pub fn more(d: u64, s: &[u8]) -> u64 {
-    vector_io::digest(d, s, 257, 4294967291)
+pub fn more(from: u64, bytes: &[u8]) -> u64 {
+    vector_io::digest(from, bytes, 257, 4294967291)
 }
 
-fn with_number(d: u64, n: u32) -> u64 {
-    more(d, &n.to_le_bytes())
+fn with_number(from: u64, number: u32) -> u64 {
+    more(from, &number.to_le_bytes())
 }
 
-pub fn echo_bytes(e: &Echo) -> [u8; 9] {
-    [e.b4, e.b5, e.b6, e.b7, e.b8, e.b9, e.b10, e.b12, e.b13]
+/// The bytes that an entry or a record keeps of its command, in their order.
+pub fn echo_bytes(echo: &Echo) -> [u8; 9] {
+    [
+        echo.b4, echo.b5, echo.b6, echo.b7, echo.b8, echo.b9, echo.b10, echo.b12, echo.b13,
+    ]
 }
 
-fn with_entry(d: u64, e: &Entry) -> u64 {
-    let first = with_number(more(d, &[u8::from(e.write)]), e.first);
-    let moved = with_number(with_number(first, e.count), e.moved);
+fn with_entry(from: u64, entry: &Entry) -> u64 {
+    let first = with_number(more(from, &[u8::from(entry.write)]), entry.first);
+    let moved = with_number(with_number(first, entry.count), entry.moved);
     more(
-        more(moved, &[e.features, e.features_high]),
-        &echo_bytes(&e.echo),
+        more(moved, &[entry.features, entry.features_high]),
+        &echo_bytes(&entry.echo),
     )
 }
 
-pub fn of_entries(entries: &[Entry; Settings::ENTRIES]) -> u64 {
+/// The digest of the table's entries.
+pub fn of_entries(entries: &Entries) -> u64 {
     entries.iter().fold(0, with_entry)
 }
 
+/// The digest of the counters' values, each as four bytes.
 pub fn of_counters(values: &[u32]) -> u64 {
-    values.iter().fold(0, |d, &value| with_number(d, value))
+    values.iter().fold(0, |sum, &value| with_number(sum, value))
 }

@@ -11,7 +11,7 @@ use vector_io::{bytes, hex};
 
 // The open phase as its tag plus one, 0 while none is open.
 fn phase_told(phase: Option<u32>) -> u64 {
-    phase.map_or(0, |tag| tag as u64 + 1)
+    phase.map_or(0, |tag| u64::from(tag) + 1)
 }
 
 fn say_status<W: Write>(out: &mut W, status: &Status) -> io::Result<()> {
@@ -20,13 +20,18 @@ fn say_status<W: Write>(out: &mut W, status: &Status) -> io::Result<()> {
         " {:08X} {} {} {}",
         status.outstanding,
         phase_told(status.phase),
-        status.halted as u8,
-        status.held as u8
+        u8::from(status.halted),
+        u8::from(status.held)
     )
 }
 
 fn say_record<W: Write>(out: &mut W, errors: &ErrorRecord) -> io::Result<()> {
-    let head = [errors.set as u8, errors.nq as u8, errors.tag, errors.error];
+    let head = [
+        u8::from(errors.set),
+        u8::from(errors.nq),
+        errors.tag,
+        errors.error,
+    ];
     hex(out, &head, 4)?;
     bytes(out, &digests::echo_bytes(&errors.echo))
 }
@@ -60,8 +65,8 @@ pub fn say_ruling<W: Write>(out: &mut W, ruling: Result<Act, Refusal>) -> io::Re
     match ruling {
         Err(refusal) => writeln!(out, "{refusal}"),
         Ok(Act::Accept(_)) => writeln!(out, "0 good"),
-        Ok(Act::Bad(b)) => writeln!(out, "0 bad {}", b.error),
-        Ok(Act::BadAndHalt(f)) => writeln!(out, "0 halt {}", f.error),
+        Ok(Act::Bad(bad)) => writeln!(out, "0 bad {}", bad.error),
+        Ok(Act::BadAndHalt(bad)) => writeln!(out, "0 halt {}", bad.error),
         Ok(_) => writeln!(out, "other"),
     }
 }

@@ -1,76 +1,75 @@
-// What a record says of the state, and the states that are set by hand.
+// What a case says of the state, and the states that are set by hand.
+use crate::answers::CASE;
 use bits::{le16, le32};
 use device::Device;
 use device_state::{Echo, Entry, ErrorRecord, Settings, Status};
 
-pub fn settings(r: &[u8; 32]) -> Settings {
+/// The settings that a case names.
+pub fn settings(case: &[u8; CASE]) -> Settings {
     Settings {
-        depth: le32(r, 1),
-        capacity: le32(r, 5),
-        mask: le16(r, 9),
+        depth: le32(case, 1),
+        capacity: le32(case, 5),
+        mask: le16(case, 9),
     }
 }
 
-fn echo(b: &[u8; 9]) -> Echo {
+fn echo(bytes: &[u8; 9]) -> Echo {
+    let [b4, b5, b6, b7, b8, b9, b10, b12, b13] = *bytes;
     Echo {
-        b4: b[0],
-        b5: b[1],
-        b6: b[2],
-        b7: b[3],
-        b8: b[4],
-        b9: b[5],
-        b10: b[6],
-        b12: b[7],
-        b13: b[8],
+        b4,
+        b5,
+        b6,
+        b7,
+        b8,
+        b9,
+        b10,
+        b12,
+        b13,
     }
-}
-
-/// All zeros: what a power-on that is refused hands back.
-pub fn blank() -> Device {
-    Device::power_on(Settings::default()).state
 }
 
 /// A state that need not be one that the device reaches.
-pub fn raw_state(r: &[u8; 32]) -> Device {
+pub fn raw_state(case: &[u8; CASE]) -> Device {
     Device {
-        settings: settings(r),
+        settings: settings(case),
         status: Status {
-            outstanding: le32(r, 11),
-            phase: le32(r, 15).checked_sub(1),
-            halted: r[19] == 1,
-            held: r[20] == 1,
+            outstanding: le32(case, 11),
+            phase: le32(case, 15).checked_sub(1),
+            halted: case[19] == 1,
+            held: case[20] == 1,
         },
-        ..blank()
+        ..Device::default()
     }
 }
 
-pub fn set_entry(state: &mut Device, r: &[u8; 32]) {
+/// Sets the entry of a tag; of a tag past the table nothing.
+pub fn set_entry(state: &mut Device, case: &[u8; CASE]) {
     let entry = Entry {
-        write: r[2] == 1,
-        first: le32(r, 3),
-        count: le32(r, 7),
-        moved: le32(r, 11),
-        features: r[15],
-        features_high: r[16],
-        echo: echo(&[
-            r[17], r[18], r[19], r[20], r[21], r[22], r[23], r[24], r[25],
-        ]),
+        write: case[2] == 1,
+        first: le32(case, 3),
+        count: le32(case, 7),
+        moved: le32(case, 11),
+        features: case[15],
+        features_high: case[16],
+        echo: echo(case[17..].first_chunk().unwrap()),
     };
-    device_state::put_entry(&mut state.entries, u32::from(r[1]), entry);
+    device_state::put_entry(&mut state.entries, u32::from(case[1]), entry);
 }
 
-pub fn errors(r: &[u8; 32]) -> ErrorRecord {
+/// The error record that a case names.
+pub fn errors(case: &[u8; CASE]) -> ErrorRecord {
     ErrorRecord {
-        set: r[1] == 1,
-        nq: r[2] == 1,
-        tag: r[3],
-        error: r[4],
-        echo: echo(&[r[5], r[6], r[7], r[8], r[9], r[10], r[11], r[12], r[13]]),
+        set: case[1] == 1,
+        nq: case[2] == 1,
+        tag: case[3],
+        error: case[4],
+        echo: echo(case[5..].first_chunk().unwrap()),
     }
 }
 
-pub fn set_counter(state: &mut Device, r: &[u8; 32]) {
-    if let Some(value) = state.values.get_mut(usize::from(r[1])) {
-        *value = le32(r, 2);
+/// Sets the counter of a row; of a row past the last nothing.
+pub fn set_counter(state: &mut Device, case: &[u8; CASE]) {
+    if let Some(value) = state.values.get_mut(usize::from(case[1])) {
+        *value = le32(case, 2);
     }
 }

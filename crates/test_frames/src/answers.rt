@@ -1,5 +1,5 @@
 // One case, taken apart by its op.
-use crate::writes::Body;
+use crate::writes::{BODY, Body};
 use crate::{reads, writes};
 use bits::le16;
 use std::io;
@@ -48,6 +48,9 @@ fn op_of(byte: u8) -> Option<Op> {
     }
 }
 
+/// The bytes of a case: 16 of head, and the body.
+pub const CASE: usize = 16 + BODY;
+
 // A case behind its op. What its numbers mean is the op's to say.
 #[derive(Clone, Copy, Debug)]
 struct Case<'a> {
@@ -63,13 +66,13 @@ struct Case<'a> {
 }
 
 impl<'a> Case<'a> {
-    fn new(bytes: &'a [u8; 544]) -> Case<'a> {
+    fn new(bytes: &'a [u8; CASE]) -> Case<'a> {
         Case {
             mark: bytes[1],
-            size: le16(bytes, 2) as usize,
+            size: usize::from(le16(bytes, 2)),
             asked: le16(bytes, 4),
             first: bytes[6],
-            body: bytes.last_chunk::<528>().unwrap(),
+            body: bytes.last_chunk::<BODY>().unwrap(),
         }
     }
 
@@ -78,22 +81,22 @@ impl<'a> Case<'a> {
         let mut input = [self.mark; ROOM];
         let body = self.body;
         bits::lay(&mut input, body);
-        let Some(s) = input.get(..self.size) else {
+        let Some(input) = input.get(..self.size) else {
             return write!(out, "too long");
         };
         match what {
-            Reading::Frame => reads::say_frame(out, s),
-            Reading::Log => reads::say_log(out, s),
-            Reading::Counter => vector_io::counter(out, reads::counter(s, self.asked)),
-            Reading::Cut => reads::say_cut(out, s),
+            Reading::Frame => reads::say_frame(out, input),
+            Reading::Log => reads::say_log(out, input),
+            Reading::Counter => vector_io::counter(out, reads::counter(input, self.asked)),
+            Reading::Cut => reads::say_cut(out, input),
         }
     }
 
     // A frame of the kind that is named; its payload counts up.
     fn write_frame<W: Write>(&self, out: &mut W, buf: &mut [u8]) -> io::Result<()> {
         let mut payload = [0u8; ROOM];
-        vector_io::fill(&mut payload, self.first, 1, 0);
-        let Some(payload) = payload.get(..self.asked as usize) else {
+        vector_io::count_up(&mut payload, self.first, 1, 0);
+        let Some(payload) = payload.get(..usize::from(self.asked)) else {
             return write!(out, "too long");
         };
         writes::say_frame(out, buf, self.mark, self.body, payload)
@@ -139,10 +142,10 @@ impl<'a> Case<'a> {
 
 /// Frames and pages: nothing stays between two cases.
 #[derive(Clone, Copy, Debug)]
-pub struct Frames;
+pub struct CaseByCase;
 
-impl Answers<544> for Frames {
-    fn answer<W: Write>(&mut self, out: &mut W, case: &[u8; 544]) -> io::Result<()> {
+impl Answers<CASE> for CaseByCase {
+    fn answer<W: Write>(&mut self, out: &mut W, case: &[u8; CASE]) -> io::Result<()> {
         Case::new(case).answer(out, op_of(case[0]))?;
         writeln!(out)
     }

@@ -1,6 +1,6 @@
 // The writing ops: a frame of a kind, page 10h, page 11h, each into a buffer of EEh bytes.
 use bits::{le16, le32};
-use frame_parts::{Task, byte_of};
+use frame_parts::{FrameKind, Task, byte_of};
 use frames::{DevReg, DmaSetup, HostReg, PioSetup, SetBits};
 use page_10h::ErrorLog;
 use page_rows::ROWS;
@@ -9,8 +9,11 @@ use std::io;
 use std::io::Write;
 use vector_io::hex;
 
+/// The bytes of a case behind its head.
+pub const BODY: usize = 528;
+
 /// The fields of a case that writes.
-pub type Body = [u8; 528];
+pub type Body = [u8; BODY];
 
 // Refusal's number and length written, 0 for the one that there is not, a digest of the buffer and its first bytes.
 fn say_written<W: Write>(
@@ -26,128 +29,132 @@ fn say_written<W: Write>(
     hex(out, buf, 32)
 }
 
-fn flag(s: &Body, k: u32) -> bool {
-    frame_parts::flag(s[0], k)
+fn flag(fields: &Body, bit: u32) -> bool {
+    frame_parts::flag(fields[0], bit)
 }
 
-fn task(s: &[u8]) -> Task {
+fn task(fields: &[u8]) -> Task {
     Task {
-        lba: bits::le(s, 0, 8),
-        device: byte_of(s, 8),
-        count: le16(s, 9),
+        lba: bits::le(fields, 0, 8),
+        device: byte_of(fields, 8),
+        count: le16(fields, 9),
     }
 }
 
-fn write_host(buf: &mut [u8], s: &Body) -> Result<usize, Refusal> {
+fn write_host(buf: &mut [u8], fields: &Body) -> Result<usize, Refusal> {
     frames::write_host(
         buf,
         HostReg {
-            command_bit: flag(s, 7),
-            command: s[1],
-            features: s[2],
-            task: task(&s[3..]),
-            features_high: s[14],
-            control: s[15],
+            command_bit: flag(fields, 7),
+            command: fields[1],
+            features: fields[2],
+            task: task(&fields[3..]),
+            features_high: fields[14],
+            control: fields[15],
         },
     )
 }
 
-fn write_device(buf: &mut [u8], s: &Body) -> Result<usize, Refusal> {
+fn write_device(buf: &mut [u8], fields: &Body) -> Result<usize, Refusal> {
     frames::write_device(
         buf,
         DevReg {
-            interrupt: flag(s, 6),
-            status: s[1],
-            error: s[2],
-            task: task(&s[3..]),
+            interrupt: flag(fields, 6),
+            status: fields[1],
+            error: fields[2],
+            task: task(&fields[3..]),
         },
     )
 }
 
-fn write_bits(buf: &mut [u8], s: &Body) -> Result<usize, Refusal> {
+fn write_bits(buf: &mut [u8], fields: &Body) -> Result<usize, Refusal> {
     frames::write_bits(
         buf,
         SetBits {
-            interrupt: flag(s, 6),
-            status: s[1],
-            error: s[2],
-            active: le32(s, 18),
+            interrupt: flag(fields, 6),
+            status: fields[1],
+            error: fields[2],
+            active: le32(fields, 18),
         },
     )
 }
 
-fn write_setup(buf: &mut [u8], s: &Body) -> Result<usize, Refusal> {
+fn write_setup(buf: &mut [u8], fields: &Body) -> Result<usize, Refusal> {
     frames::write_setup(
         buf,
         DmaSetup {
-            auto: flag(s, 7),
-            interrupt: flag(s, 6),
-            to_host: flag(s, 5),
-            tag: le32(s, 18),
-            offset: le32(s, 22),
-            count: le32(s, 26),
+            auto: flag(fields, 7),
+            interrupt: flag(fields, 6),
+            to_host: flag(fields, 5),
+            tag: le32(fields, 18),
+            offset: le32(fields, 22),
+            count: le32(fields, 26),
         },
     )
 }
 
-fn write_pio(buf: &mut [u8], s: &Body) -> Result<usize, Refusal> {
+fn write_pio(buf: &mut [u8], fields: &Body) -> Result<usize, Refusal> {
     frames::write_pio(
         buf,
         PioSetup {
-            interrupt: flag(s, 6),
-            to_host: flag(s, 5),
-            status: s[1],
-            error: s[2],
-            task: task(&s[3..]),
-            ending: s[15],
-            bytes: le16(s, 16),
+            interrupt: flag(fields, 6),
+            to_host: flag(fields, 5),
+            status: fields[1],
+            error: fields[2],
+            task: task(&fields[3..]),
+            ending: fields[15],
+            bytes: le16(fields, 16),
         },
     )
 }
 
-fn write_kind(buf: &mut [u8], kind: u8, s: &Body, payload: &[u8]) -> Result<usize, Refusal> {
-    match kind {
-        0x27 => write_host(buf, s),
-        0x34 => write_device(buf, s),
-        0xA1 => write_bits(buf, s),
-        0x41 => write_setup(buf, s),
-        0x39 => frames::write_activate(buf),
-        0x58 => frames::write_bist(buf),
-        0x5F => write_pio(buf, s),
-        _ => frames::write_data(buf, payload),
+// A byte that names no kind is taken for that of data.
+fn write_kind(buf: &mut [u8], kind: u8, fields: &Body, payload: &[u8]) -> Result<usize, Refusal> {
+    match FrameKind::from_byte(kind) {
+        Some(FrameKind::HostRegister) => write_host(buf, fields),
+        Some(FrameKind::DeviceRegister) => write_device(buf, fields),
+        Some(FrameKind::SetDeviceBits) => write_bits(buf, fields),
+        Some(FrameKind::DmaSetup) => write_setup(buf, fields),
+        Some(FrameKind::DmaActivate) => frames::write_activate(buf),
+        Some(FrameKind::BistActivate) => frames::write_bist(buf),
+        Some(FrameKind::PioSetup) => write_pio(buf, fields),
+        Some(FrameKind::Data) | None => frames::write_data(buf, payload),
     }
 }
 
+/// Writes a frame of the kind that is named, and says what came of it.
 pub fn say_frame<W: Write>(
     out: &mut W,
     buf: &mut [u8],
     kind: u8,
-    s: &Body,
+    fields: &Body,
     payload: &[u8],
 ) -> io::Result<()> {
-    let written = write_kind(buf, kind, s, payload);
+    let written = write_kind(buf, kind, fields, payload);
     say_written(out, written, buf)
 }
 
-pub fn say_log<W: Write>(out: &mut W, buf: &mut [u8], s: &Body) -> io::Result<()> {
+/// Writes page 10h, and says what came of it.
+pub fn say_log<W: Write>(out: &mut W, buf: &mut [u8], fields: &Body) -> io::Result<()> {
     let written = page_10h::write_log(
         buf,
         ErrorLog {
-            nq: s[0] == 1,
-            tag: s[1],
-            status: s[2],
-            error: s[3],
-            task: task(&s[4..]),
+            nq: fields[0] == 1,
+            tag: fields[1],
+            status: fields[2],
+            error: fields[3],
+            task: task(&fields[4..]),
         },
     );
     say_written(out, written, buf)
 }
 
-pub fn say_counters<W: Write>(out: &mut W, buf: &mut [u8], s: &Body) -> io::Result<()> {
+/// Writes page 11h, and says what came of it.
+pub fn say_counters<W: Write>(out: &mut W, buf: &mut [u8], fields: &Body) -> io::Result<()> {
     let mut values = [0u32; ROWS];
     for (row, value) in values.iter_mut().enumerate() {
-        *value = le32(s, 2 + 4 * row);
+        *value = le32(fields, 2 + 4 * row);
     }
-    let written = page_rows::write_counters(buf, le16(s, 0), &values);
+    let written = page_rows::write_counters(buf, le16(fields, 0), &values);
     say_written(out, written, buf)
 }

@@ -3,14 +3,18 @@
 /// Room for the longest input, for the longest frame, and for every reply.
 pub const ROOM: usize = 8300;
 
-/// Fills `s` from `first` on. The byte behind b: a step on, and a jump more where a sector begins.
-pub fn fill(s: &mut [u8], first: u8, step: u8, jump: u8) {
+// Bytes of a sector. The vectors say so by themselves, and do not ask what they test.
+const SECTOR_SIZE: usize = 512;
+
+/// Fills a buffer with bytes that count up from `first`: each is a step on from the one before it, and a jump more where a
+/// sector begins.
+pub fn count_up(buffer: &mut [u8], first: u8, step: u8, jump: u8) {
     let mut next = first;
-    for (i, b) in s.iter_mut().enumerate() {
-        if 0 < i && i % 512 == 0 {
-            next = next.wrapping_add(jump);
+    for sector in buffer.chunks_mut(SECTOR_SIZE) {
+        for byte in sector {
+            *byte = next;
+            next = next.wrapping_add(step);
         }
-        *b = next;
-        next = next.wrapping_add(step);
+        next = next.wrapping_add(jump);
     }
 }

@@ -8,6 +8,6 @@ mod reading;
 mod running;
 
 pub use digests::digest;
-pub use filling::{ROOM, fill};
+pub use filling::{ROOM, count_up};
 pub use printed::{bytes, counter, hex};
 pub use running::{Answers, run};

@@ -13,18 +13,18 @@ pub fn counter<W: Write>(out: &mut W, answer: Result<Option<u64>, Refusal>) -> i
 }
 
 /// Bytes in lower-case hex.
-pub fn bytes<W: Write>(out: &mut W, s: &[u8]) -> io::Result<()> {
-    for b in s {
-        write!(out, "{b:02x}")?;
+pub fn bytes<W: Write>(out: &mut W, all: &[u8]) -> io::Result<()> {
+    for byte in all {
+        write!(out, "{byte:02x}")?;
     }
     Ok(())
 }
 
-/// The first bytes of s, at most `most`, in lower-case hex behind a blank; of no bytes, nothing at all.
-pub fn hex<W: Write>(out: &mut W, s: &[u8], most: usize) -> io::Result<()> {
-    if s.is_empty() {
+/// The first of some bytes, at most `most`, in lower-case hex behind a blank; of no bytes, nothing at all.
+pub fn hex<W: Write>(out: &mut W, all: &[u8], most: usize) -> io::Result<()> {
+    if all.is_empty() {
         return Ok(());
     }
     write!(out, " ")?;
-    bytes(out, &s[..most.min(s.len())])
+    bytes(out, &all[..most.min(all.len())])
 }

@@ -1,4 +1,4 @@
-// Cases of an input, and the numbers in them.
+// The next case of an input.
 use std::io;
 use std::io::{Read, Write};
 

@@ -1,5 +1,6 @@
 -- Each public function's own contract: what it says, and that two answers which it allows are equal. Assumes nothing.
-use Rattle.verdicts.specs.Range.{tooFar, outsideOf}
+use Rattle.moves.specs.Amounts.{leftIn}
+use Rattle.moves.specs.Range.{tooFar}
 use Rattle.verdicts.specs.Moved.{longer, notReady}
 use Rattle.verdicts.specs.Queued.{tagRefused, queuedRule}
 use Rattle.verdicts.specs.Other.{otherRule, logZeroes}
@@ -10,8 +11,6 @@ use Rattle.verdicts.proofs.commands
 use Rattle.verdicts.specs.contracts.commands as commands-said
 use Rattle.verdicts.proofs.moving
 use Rattle.verdicts.specs.contracts.moving as moving-said
-use Rattle.verdicts.proofs.ranges
-use Rattle.verdicts.specs.contracts.ranges as ranges-said
 
 pub tied-is-refused : Tied commands-said.TagNamed.is_refused.ended commands.TagNamed.is_refused.Reads.Asked commands.TagNamed.is_refused.Reads.Post (λ κs a r ws. r ≡ tagRefused a.1.0 a.0.tag a.0.busy)
 tied-is-refused = named (say (λ κs a. tt) (λ κs a r ws p. p)) (λ κs a ws ws'. refl)
@@ -26,14 +25,8 @@ tied-other-rule = named (say (λ κs a. tt) (λ κs a r ws p. p)) (λ κs a ws w
 pub tied-log-zeroes : Tied commands-said.log_zeroes.ended commands.log_zeroes.Reads.Asked commands.log_zeroes.Reads.Post (λ κs a r ws. r ≡ logZeroes a.0)
 tied-log-zeroes = named (say (λ κs a. tt) (λ κs a r ws p. p)) (λ κs a ws ws'. refl)
 
-pub tied-longer : Tied moving-said.longer.ended moving.longer.Reads.Asked moving.longer.Reads.Post (λ κs a r ws. r ≡ longer a.0 a.1.0)
-tied-longer = named (say (λ κs a. tt) (λ κs a r ws p. p)) (λ κs a ws ws'. refl)
+pub tied-is-too-long : Tied moving-said.is_too_long.ended moving.is_too_long.Reads.Asked moving.is_too_long.Reads.Post (λ κs a r ws. r ≡ longer (leftIn a.0.whole a.0.moved) a.1.0)
+tied-is-too-long = named (say (λ κs a. tt) (λ κs a r ws p. p)) (λ κs a ws ws'. refl)
 
-pub tied-not-ready : Tied moving-said.not_ready.ended moving.not_ready.Reads.Asked moving.not_ready.Reads.Post (λ κs a r ws. r ≡ notReady a.0 a.1.0 a.1.1.0.moved a.1.1.0.whole)
-tied-not-ready = named (say (λ κs a. tt) (λ κs a r ws p. p)) (λ κs a ws ws'. refl)
-
-pub tied-is-beyond : Tied ranges-said.Sectors.is_beyond.ended ranges.Sectors.is_beyond.Reads.Asked ranges.Sectors.is_beyond.Reads.Post (λ κs a r ws. r ≡ tooFar a.1.0 a.0.first a.0.count)
-tied-is-beyond = named (say (λ κs a. tt) (λ κs a r ws p. p)) (λ κs a ws ws'. refl)
-
-pub tied-leaves-out : Tied ranges-said.Sectors.leaves_out.ended ranges.Sectors.leaves_out.Reads.Asked ranges.Sectors.leaves_out.Reads.Post (λ κs a r ws. r ≡ outsideOf a.0.first a.0.count a.1.0)
-tied-leaves-out = named (say (λ κs a. tt) (λ κs a r ws p. p)) (λ κs a ws ws'. refl)
+pub tied-is-unready : Tied moving-said.is_unready.ended moving.is_unready.Reads.Asked moving.is_unready.Reads.Post (λ κs a r ws. r ≡ notReady a.0 a.1.0 a.1.1.0.moved a.1.1.0.whole)
+tied-is-unready = named (say (λ κs a. tt) (λ κs a r ws p. p)) (λ κs a ws ws'. refl)

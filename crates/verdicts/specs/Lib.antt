@@ -1,4 +1,3 @@
-pub mod Range
 pub mod Moved
 pub mod Queued
 pub mod Other

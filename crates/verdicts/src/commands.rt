@@ -1,11 +1,11 @@
 // Which rule holds for a command.
 ghost use Rattle.std.specs.Prelude.{◌≡◌};
-ghost use Rattle.verdicts.specs.Range.{tooFar};
+ghost use Rattle.moves.specs.Range.{tooFar};
 ghost use Rattle.verdicts.specs.Queued.{tagRefused, queuedRule};
 ghost use Rattle.verdicts.specs.Other.{otherRule, logZeroes};
 
-use crate::ranges::Sectors;
 use frame_parts::LogPage;
+use moves::Sectors;
 
 // The error of a command that was aborted.
 const ABORTED: u8 = 0x04;
@@ -22,19 +22,21 @@ pub enum Bad {
     Halts(u8),
 }
 
-/// The tag that a queued command names. `busy`: it is outstanding.
+/// The tag that a queued command names.
 #[derive(Clone, Copy, Debug, PartialEq, Eq)]
 pub struct TagNamed {
+    /// 0 to 31, as five bits of a frame name it; a larger one is above every depth
     pub tag: u8,
+    /// it is outstanding
     pub busy: bool,
 }
 
 impl TagNamed {
-    /// It is at or above the depth, or outstanding already.
+    /// True where it is at or above the depth, or outstanding already.
     pub fn is_refused(self, depth: u32) -> bool
         ensures { result ≡ tagRefused depth self.tag self.busy }
     {
-        depth <= self.tag as u32 || self.busy
+        depth <= u32::from(self.tag) || self.busy
     }
 }
 
@@ -75,9 +77,9 @@ pub fn other_rule(halted: bool, page: Option<LogPage>, busy: bool) -> Result<Log
     page.ok_or(Bad::Only(ABORTED))
 }
 
-/// Page 11h, by the features of the command that asks for it.
+/// True where page 11h zeroes the counters once it is made. `features`: the low byte of the command that asks for it.
 pub fn log_zeroes(features: u8) -> bool
     ensures { result ≡ logZeroes features }
 {
-    bits::bit(features as u32, 0)
+    bits::bit(u32::from(features), 0)
 }

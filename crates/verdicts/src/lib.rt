@@ -3,8 +3,6 @@
 
 mod commands;
 mod moving;
-mod ranges;
 
 pub use commands::{Bad, TagNamed, log_zeroes, other_rule, queued_rule};
-pub use moving::{longer, not_ready};
-pub use ranges::Sectors;
+pub use moving::{is_too_long, is_unready};

@@ -1,18 +1,19 @@
 // What of a data frame and of a set of tags is refused for what has moved.
 ghost use Rattle.std.specs.Prelude.{◌≡◌};
+ghost use Rattle.moves.specs.Amounts.{leftIn};
 ghost use Rattle.verdicts.specs.Moved.{longer, notReady};
 
 use moves::Progress;
 
-/// A payload of n bytes against what is left.
-pub fn longer(left: u32, n: usize) -> bool
-    ensures { result ≡ longer left n }
+/// True where a payload of `size` bytes is longer than what is left of its command.
+pub fn is_too_long(progress: Progress, size: usize) -> bool
+    ensures { result ≡ longer (leftIn progress.whole progress.moved) size }
 {
-    (left as usize) < n
+    (progress.left() as usize) < size
 }
 
-/// A tag, asked for or not, whose command is so far.
-pub fn not_ready(asked: bool, busy: bool, progress: Progress) -> bool
+/// True where a tag is asked for that is not outstanding, or whose command is not wholly moved. `busy`: it is outstanding.
+pub fn is_unready(asked: bool, busy: bool, progress: Progress) -> bool
     ensures { result ≡ notReady asked busy progress.moved progress.whole }
 {
     asked && (!busy || !progress.is_whole())

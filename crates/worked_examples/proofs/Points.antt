@@ -28,7 +28,7 @@ use Rattle.rules.specs.Tests.{wrongKind, wrongTime, wrongSize, someUnready, test
 use Rattle.rules.specs.Decide.{queuedAct, logPage, otherAct, controlAct, registerAct, frameAct}
 use Rattle.rules.specs.Act.{failing, does, act}
 use Rattle.rules.specs.Call.{hostFrame}
-use Rattle.rules.specs.Medium.{touch_of, span_of}
+use Rattle.rules.specs.Medium.{touch_of}
 use Rattle.rules.specs.declared.acts.Act.{Act}
 use Rattle.replies.specs.Replies.{repliesOf}
 use Rattle.device.specs.Device.{contradictoryDevice, freshDevice}
@@ -61,7 +61,7 @@ Same s s' = (s.state ≡ s'.state) × ((s.refusal ≡ s'.refusal) × (s.frames �
 -- what a host frame comes to leaves the same behind with no medium at all
 same-step : (d : Device) (f m : List ℕ) (x : Result Act Refusal) → x ≡ actOf d (lent (hostFrame f) m room) → Same (stepBy d (lent (hostFrame f) [] room) x) (stepBy d (lent (hostFrame f) m room) x)
 same-step d f m (Err r) e = (refl, (refl, refl))
-same-step d f m (Ok a) e = (refl, (refl, ap (λ (q : List ℕ). repliesOf (shown d) q a) (sym (part_none (span_of a)) ∙ host-unsent d f m room a e)))
+same-step d f m (Ok a) e = (refl, (refl, ap (λ (q : List ℕ). repliesOf (shown d) q a) (sym (part_none (touch_of a)) ∙ host-unsent d f m room a e)))
 
 -- a host frame of the examples is the machine's own step, whatever the medium of the right length holds
 pub reply-to-is : (d : Device) (f m : List ℕ) → length m ≡ 512 * d.settings.capacity → Same (replyTo d f) (step d (lent (hostFrame f) m room))

@@ -1,9 +1,9 @@
-use Rattle.std.proofs.Common.{rules, arith, ◌∙◌, ap, refl, ℕ, get_or}
+use Rattle.std.proofs.Common.{rules, ◌∙◌, refl, ℕ}
 use Rattle.std.proofs.lemmas.Iterator.{YieldsList-from_slice}
 use Rattle.std.proofs.lemmas.Iterator.Consumers.{YieldsList-from_enumerate}
 use Rattle.std.proofs.lemmas.Iterator.Search.{any_from_yields_List}
 use borrow.Author.Tests.{tests}
-use Rattle.device_state.proofs.Walk.{some-walked}
+use Rattle.device_state.proofs.Walk.{some-placed}
 use Rattle.contradictions.specs.Clauses.{rowBad, rowBadAt, rowsBad}
 use Rattle.contradictions.proofs.clauses.rows_bad.Goals as goal
 
@@ -14,5 +14,4 @@ returns c =
     let vs = a.values.now in
     let test = λ (x : ℕ × ℕ). rowBad a.mask x.0 x.1 in
     any_from_yields_List test _ _ _ c.any.ensures.ran (YieldsList-from_enumerate (YieldsList-from_slice vs cc) cc) (λ x b q k. search (rules, tests))
-    ∙ some-walked test (rowBadAt a.mask vs) 0 vs 0 (λ i l. ap (λ (j : ℕ). test (j, get_or vs i 0)) (omega arith))
-    ∙ rw (c.told-values) refl
+    ∙ some-placed test (rowBadAt a.mask vs) 0 vs c.told-values (λ i. refl)

@@ -1,8 +1,5 @@
-use Rattle.std.specs.Prelude.{Err}
-use Rattle.event_program.specs.declared.errors.RunError.TheVariants.{Memory}
-use Rattle.event_program.proofs.Starts.{loses-all}
+use Rattle.event_program.proofs.Starts.{run-said}
 use Rattle.event_program.proofs.pieces.run_in_pieces.Goals as goal
 
--- no memory for the pieces: nothing was read or written
-pub returns-in_default : goal.returns-in_default
-returns-in_default g c some = (g.R.Read.remaining c.args.reader, Err Memory, loses-all c.args.traced _ _)
+pub returns : goal.returns
+returns g c = run-said c.run_aloud.result _ _ _ _ _ _ _ c.run_aloud.ensures.ok c.run_aloud.ensures.err

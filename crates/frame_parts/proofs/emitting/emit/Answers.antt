@@ -24,6 +24,6 @@ returns c =
     let a = c.args in
     let h = length-append a.head.now a.rest.now in
     let first = c.lay.ensures.1 ∙ over_yes a.head.now a.buf.now (omega arith) in
-    let second = c.lay-2.ensures.1 ∙ over_yes a.rest.now (mid_of (length a.head.now) (length c.lay.new.d - length a.head.now) c.lay.new.d) (omega arith) in
+    let second = c.lay-2.ensures.1 ∙ over_yes a.rest.now (mid_of (length a.head.now) (length c.lay.new.buf - length a.head.now) c.lay.new.buf) (omega arith) in
     emitted-done a.fit (a.head.now ++ a.rest.now) a.buf.now _ _ (not-false a.fit c.if-not-fit.false-raw) (omega (arith, h)) (sym h)
-    (laid_next (length a.head.now) a.head.now a.rest.now a.buf.now c.lay.new.d c.lay-2.new.d refl first second)
+    (laid_next (length a.head.now) a.head.now a.rest.now a.buf.now c.lay.new.buf c.lay-2.new.buf refl first second)

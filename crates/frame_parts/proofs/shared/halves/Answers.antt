@@ -8,5 +8,5 @@ use Rattle.frame_parts.proofs.shared.halves.Goals as goal
 
 pub returns : goal.returns
 returns c =
-    let b = c.args.b in
+    let b = c.args.status in
     and-two b 4 7 7 (lit< tt) ∙ ap₂ (λ (x y : ℕ). x * 16 + y) (and_mask (b / 16) 3) (and_mask (b % 16) 3) ∙ omega arith

@@ -8,5 +8,5 @@ use Rattle.frames.proofs.writing.write_bits.Goals as goal
 pub returns : goal.returns
 unfolding encode
 returns c =
-    let fit = fits-bits c.args.f (search rules) (search rules) (search rules) ∙ sym c.bits_fit.ensures in
+    let fit = fits-bits c.args.frame (search rules) (search rules) (search rules) ∙ sym c.bits_fit.ensures in
     rw (append-nil, c.bits_bytes.ensures, ← fit) at c.emit.ensures

@@ -1,6 +1,7 @@
 use mathlib.Core.List.{append-nil}
 use borrow.Author.Rules.{rules}
 use Rattle.std.proofs.Common.{sym, ◌∙◌}
+use Rattle.frame_parts.proofs.Defaults.{default_zeros}
 use Rattle.frames.specs.Write.{encode}
 use Rattle.frames.proofs.WriteLaws.{fits-pio}
 use Rattle.frames.proofs.writing.write_pio.Goals as goal
@@ -8,6 +9,6 @@ use Rattle.frames.proofs.writing.write_pio.Goals as goal
 pub returns : goal.returns
 unfolding encode
 returns c =
-    let fit = fits-pio c.args.f (search rules) (search rules) (search rules) (search rules) ∙ sym c.task_fits.ensures in
-    let rest = c.default.ensures.1.1.1.1.1 in
-    rw (append-nil, c.register_bytes-b.ensures, c.flags.ensures, rest.0, ← fit) at c.emit.ensures
+    let fit = fits-pio c.args.frame (search rules) (search rules) (search rules) (search rules) ∙ sym c.fits.ensures in
+    let zeros = default_zeros c.default.result c.default.ensures in
+    rw (append-nil, c.to_bytes.ensures, c.flags.ensures, zeros, ← fit) at c.emit.ensures

@@ -7,5 +7,5 @@ use Rattle.frames.proofs.writing.write_setup.Goals as goal
 pub returns : goal.returns
 unfolding encode
 returns c =
-    let fit = fits-setup c.args.f (search rules) (search rules) (search rules) in
+    let fit = fits-setup c.args.frame (search rules) (search rules) (search rules) in
     rw (append-nil, c.setup_bytes.ensures, ← fit) at c.emit.ensures

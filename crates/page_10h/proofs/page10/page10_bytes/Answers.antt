@@ -4,6 +4,7 @@ use mathlib.Core.List.{List}
 use lib.ListN.{replicate}
 use Rattle.bits.specs.Laid.{over}
 use Rattle.frame_parts.specs.Shared.{registerBytes}
+use Rattle.frame_parts.proofs.Defaults.{default_zeros}
 use Rattle.page_10h.specs.Page10.{page10}
 use Rattle.page_10h.proofs.Laws10.{made}
 use Rattle.page_10h.proofs.page10.page10_bytes.Goals as goal
@@ -11,6 +12,6 @@ use Rattle.page_10h.proofs.page10.page10_bytes.Goals as goal
 pub returns : goal.returns
 unfolding page10 registerBytes
 returns c =
-    let rest = c.default.ensures.1.1.1.1.1 in
-    let h = rw (c.first_byte.ensures, c.default.ensures.1.0, rest.0, rest.1.0, rest.1.1) at c.register_bytes-head.ensures in
-    c.seal.ensures ∙ made _ c.lay.new.d refl (c.lay.ensures.1 ∙ ap (λ (x : List ℕ). over x (replicate 512 0)) h)
+    let zeros = default_zeros c.default.result c.default.ensures in
+    let h = rw (c.first_byte.ensures, zeros) at c.to_bytes.ensures in
+    c.seal.ensures ∙ made _ c.lay.new.buf refl (c.lay.ensures.1 ∙ ap (λ (x : List ℕ). over x (replicate 512 0)) h)

@@ -20,7 +20,7 @@ loop-place-preserved c =
     let l = c.loop-place in
     let t = YieldsList-turn (gives-kept _ c.args.mask c.args.values.now c.filter-kept.result (cc) (cc) c.filter-kept.ensures.closure (cc) (cc) (cc) (λ x b q k. search (rules, tests))) l.yielded _ l.yielded_by _ c.next.new.self _ c.in-Some.is c.next.ensures.steps in
     let p = placed c.args.mask c.args.values.now _ _ t in
-    rw (length_push l.yielded _) (lay-row c.args.mask c.args.values.now (search rules) (length l.yielded) p.kept _ p.place _ p.row l.page c.row_bytes.result c.lay.new.d l.invariant c.row_bytes.ensures c.lay.ensures.1)
+    rw (length_push l.yielded _) (lay-row c.args.mask c.args.values.now (search rules) (length l.yielded) p.kept _ p.place _ p.row l.page c.row_bytes.result c.lay.new.buf l.invariant c.row_bytes.ensures c.lay.ensures.1)
 
 pub returns : goal.returns
 unfolding ids

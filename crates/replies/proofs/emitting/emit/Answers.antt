@@ -1,3 +1,4 @@
+use mathlib.Core.Path.{refl}
 use native.Mathlib.Omega.{arith}
 use mathlib.Core.List.{[]}
 use lib.Dec.{leb}
@@ -13,6 +14,6 @@ pub returns : goal.returns
 returns c =
     let a = c.args in
     let d = a.reply.now in
-    let h = c.if-reply-lt-REPLY_SIZE.false in
+    let h = c.if-reply-lt-DATA_FRAME_LIMIT.false in
     rw (pick_yes (leb 8196 (length d)) (repliesOf a.shown.now a.part.now a.act.now) [] (le-leb 8196 (length d) h))
-    (sends-all _ d _ _ c.send.ensures (omega (arith, h, replies-room a.shown.now a.part.now a.act.now)))
+    (sends-all refl c.put_all.ensures (search) (omega (arith, h, replies-room a.shown.now a.part.now a.act.now)))

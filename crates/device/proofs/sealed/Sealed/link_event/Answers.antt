@@ -1,17 +1,14 @@
-use native.Mathlib.Omega.{arith}
 use mathlib.Core.Path.{refl}
 use Rattle.rules.specs.Call.{linkEvent}
 use Rattle.device.proofs.Doing.{plain_act}
 use Rattle.device.proofs.Lending.{given-silent}
-use Rattle.device.proofs.Sound.{sound-answered}
+use Rattle.device.proofs.Sound.{sound_plain}
 use Rattle.device.proofs.sealed.Sealed.link_event.Goals as goal
 
 pub returns : goal.returns
 returns c =
-    let given = c.answer.ensures (linkEvent c.args.row) refl (plain_act _ (linkEvent c.args.row) _ _ _ refl refl c.facts-facts.ensures c.link_act.ensures) in
-    given-silent _ _ _ _ refl given
+    let call = linkEvent c.args.row in
+    given-silent _ _ _ _ refl (c.answer.ensures call refl (plain_act _ call _ _ _ refl refl c.facts-facts.ensures c.link_act.ensures))
 
 pub invariant_of-self : goal.invariant_of-self
-invariant_of-self c =
-    let given = c.answer.ensures (linkEvent c.args.row) refl (plain_act _ (linkEvent c.args.row) _ _ _ refl refl c.facts-facts.ensures c.link_act.ensures) in
-    record { sound = sound-answered _ _ _ _ _ _ given (omega arith) c.args.self.now.sound }
+invariant_of-self c = record { sound = sound_plain _ (linkEvent _) _ _ _ _ _ _ refl refl c.facts-facts.ensures c.link_act.ensures c.answer.ensures c.args.self.now.sound }

@@ -1,20 +1,14 @@
 use native.Mathlib.Omega.{arith}
 use mathlib.Core.Path.{sym, ◌∙◌}
-use Rattle.device.proofs.Doing.{given-refused, given-sent, send-act}
+use Rattle.device.proofs.Doing.{given-refused, given-sent}
 use Rattle.device.proofs.NeverCalls.{sound-done}
 use Rattle.device.proofs.sealed.Sealed.send.Goals as goal
 
 pub returns-in_err-act : goal.returns-in_err-act
-returns-in_err-act c =
-    let e = send-act c.args.self.now.device c.args.medium.now c.args.reply.now _ _ c.facts_lent-facts.ensures c.send_act.ensures in
-    given-refused _ _ _ _ _ c.from_residual.ensures.1 c.in_err-act.was e
+returns-in_err-act c = given-refused _ _ _ _ _ c.from_residual.ensures.1 c.in_err-act.was c.send_act.ensures
 
 pub returns : goal.returns
-returns c =
-    let e = send-act c.args.self.now.device c.args.medium.now c.args.reply.now _ _ c.facts_lent-facts.ensures c.send_act.ensures in
-    given-sent _ _ _ _ _ _ _ _ (sym c.in_ok-act.was ∙ e) c.part_sent.ensures c.done.ensures.state c.done.ensures.reply
+returns c = given-sent _ _ _ _ _ _ _ _ (sym c.in_ok-act.was ∙ c.send_act.ensures) c.part_sent.ensures c.done.ensures.state c.done.ensures.reply
 
 pub invariant_of-self : goal.invariant_of-self
-invariant_of-self c =
-    let e = send-act c.args.self.now.device c.args.medium.now c.args.reply.now _ _ c.facts_lent-facts.ensures c.send_act.ensures in
-    record { sound = sound-done _ _ _ _ (omega arith) (sym c.in_ok-act.was ∙ e) c.done.ensures.state }
+invariant_of-self c = record { sound = sound-done _ _ _ _ (omega arith) (sym c.in_ok-act.was ∙ c.send_act.ensures) c.done.ensures.state }

@@ -1,13 +1,19 @@
-use mathlib.Core.Path.{ap}
-use mathlib.Core.Bool.{not}
-use Rattle.replies.specs.Replies.{repliesOf}
-use Rattle.replies.proofs.Sending.{sends-if, sends-unless}
+use mathlib.Core.Path.{ap, ◌∙◌}
+use Rattle.page_10h.specs.Page10.{fits10, page10, logPage}
+use Rattle.page_rows.specs.Made11.{page11}
+use Rattle.page_rows.specs.Rows.{keepsBoth}
+use Rattle.replies.specs.Replies.{logOf, repliesOf}
+use Rattle.replies.proofs.Sending.{page_bytes-pick}
 use Rattle.replies.proofs.emitting.Sent.put_all.Goals as goal
 
-pub returns-then-not-m-clause-sends : goal.returns-then-not-m-clause-sends
+pub returns-in-Log10 : goal.returns-in-Log10
 unfolding repliesOf
-returns-then-not-m-clause-sends c = rw c.in-Store.is (sends-if (ap not c.if-not-m.true) c.put-then-not-m.ensures.sends)
+returns-in-Log10 c =
+    let log = logOf c.shown.inside.errors.now in
+    rw (c.in-Log10.is, ← c.shown.view_is) (rw (c.page.ensures ∙ ap logPage c.log_of.ensures, page_bytes-pick (fits10 log) (page10 log) _) at c.put_log.ensures)
 
-pub returns-else-not-m-clause-sends : goal.returns-else-not-m-clause-sends
+pub returns-in-Log11 : goal.returns-in-Log11
 unfolding repliesOf
-returns-else-not-m-clause-sends c = rw c.in-Store.is (sends-unless _ (ap not c.if-not-m.false))
+returns-in-Log11 c =
+    let shown = c.shown.inside in
+    rw (c.in-Log11.is, ← c.shown.view_is) (rw (c.counters_page-page.ensures, page_bytes-pick (keepsBoth shown.settings.mask) (page11 shown.settings.mask shown.values.now) _) at c.put_log-in-Log11.ensures)

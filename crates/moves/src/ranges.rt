@@ -1,28 +1,30 @@
 // Sectors against a range.
 ghost use Rattle.std.specs.Prelude.{◌≡◌};
-ghost use Rattle.verdicts.specs.Range.{tooFar, outsideOf};
+ghost use Rattle.moves.specs.Range.{tooFar, outsideOf};
 
 /// The sectors of a command: `count` of them, from `first` on. No sum of the two is taken, so that none wraps.
 #[derive(Clone, Copy, Debug, PartialEq, Eq)]
 pub struct Sectors {
+    /// a sector; a frame names one of 48 bits
     pub first: u64,
+    /// sectors
     pub count: u32,
 }
 
 impl Sectors {
-    /// They do not end at or below capacity.
+    /// True where they end above `capacity`, in sectors.
     pub fn is_beyond(self, capacity: u32) -> bool
         ensures { result ≡ tooFar capacity self.first self.count }
     {
-        let capacity = capacity as u64;
-        capacity < self.first || capacity - self.first < self.count as u64
+        let capacity = u64::from(capacity);
+        capacity < self.first || capacity - self.first < u64::from(self.count)
     }
 
-    /// A sector is none of them.
+    /// True where `sector` is none of them.
     pub fn leaves_out(self, sector: u32) -> bool
         ensures { result ≡ outsideOf self.first self.count sector }
     {
-        let sector = sector as u64;
-        sector < self.first || self.count as u64 <= sector - self.first
+        let sector = u64::from(sector);
+        sector < self.first || u64::from(self.count) <= sector - self.first
     }
 }

@@ -1,0 +1,8 @@
+-- The record of a fault. Assumes nothing.
+use Rattle.std.specs.Prelude.{true, is_none, unwrap_or}
+use Rattle.device_state.specs.declared.shapes.ErrorRecord.{ErrorRecord}
+use Rattle.rules.specs.declared.acts.Fault.{Fault}
+
+-- set: with the tag of a queued command, or NQ and tag 0; its error and its bytes
+abbrev pub recordOf : Fault → ErrorRecord
+recordOf f = record { set = true; nq = is_none f.tag; tag = unwrap_or f.tag 0; error = f.error; echo = f.echo }
