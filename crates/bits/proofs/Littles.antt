@@ -1,40 +1,22 @@
 -- Laws of little-endian numbers, over the width. Assumes nothing.
 use mathlib.Core.Path.{◌≡◌, refl, sym, ap, ◌∙◌}
-use mathlib.Core.List.{List, [], ◌∷◌, reverse}
-use Prim.Native.Nat.{ℕ, zero, suc, ◌+◌, ◌*◌, ◌/◌, ◌%◌, ◌^◌, ◌≤◌, ◌<◌}
-use native.Mathlib.Nat.{lt_of_lt_of_le, mod-one, div-one, mod-eq_of_lt, not-suc-le-zero, le_of_suc-le-suc}
+use mathlib.Core.List.{List, [], ◌∷◌, ◌++◌}
+use Prim.Native.Nat.{ℕ, zero, suc, ◌+◌, ◌-◌, ◌*◌, ◌/◌, ◌%◌, ◌^◌, ◌≤◌, ◌<◌, min}
+use native.Mathlib.Nat.{mod-one, div-one, mod-eq_of_lt, not-suc-le-zero, le_of_suc-le-suc}
 use native.Mathlib.Omega.{arith}
 use lib.Arith.{digits_lt}
-use lib.Bits.{bit_or}
 use lib.Dec.{lit≤, lit<}
-use lib.Pow.{pow-add, pow_mono, shr-shr, mod-pow-add}
-use lib.ListN.{get_or, length, take, drop}
-use Rattle.std.specs.List.{fold}
-use Rattle.std.proofs.lemmas.List.{reverse-append, get_or-drop}
-use Rattle.std.proofs.lemmas.List.Sums.{fold_push}
-use Rattle.bits.proofs.Masks.{shl-or}
-use Rattle.bits.specs.Little.{leAt, byte_of, bytesFrom, le_bytes, Bytes}
-
--- one byte more, below: `(x << 8) | b`
-abbrev pub joined : ℕ → ℕ → ℕ
-joined x b = bit_or ((x * 2 ^ 8) % 2 ^ 64) b
+use lib.Pow.{pow-add, shr-shr, mod-pow-add}
+use lib.ListN.{get_or, length, length-take, take, drop, replicate}
+use Rattle.std.specs.Int.{w16, w32, w64, from_le_bytes}
+use Rattle.std.proofs.lemmas.List.{get_or-drop, drop-replicate, length-replicate}
+use Rattle.bits.specs.Laid.{over}
+use Rattle.bits.proofs.Fronts.{over_yes}
+use Rattle.bits.specs.Little.{leAt, byte_of, bytesFrom, le_bytes, Bytes, NumberGiven}
 
 leAt-tail : (b : ℕ) (l : List ℕ) (at n : ℕ) → leAt (b ∷ l) (suc at) n ≡ leAt l at n
 leAt-tail b l at zero = refl
 leAt-tail b l at (suc n) = ap (λ (x : ℕ). x * 256 + get_or l at 0) (leAt-tail b l (suc at) n)
-
--- at most eight bytes, the last first
-pub le-joined : (bs : List ℕ) → Bytes bs → length bs ≤ 8 → (fold joined 0 (reverse bs) ≡ leAt bs 0 (length bs)) × (fold joined 0 (reverse bs) < 2 ^ (8 * length bs))
-le-joined [] bytes h = (refl, lit< tt)
-le-joined (b ∷ bs) bytes h =
-    let k = length bs in
-    let x = fold joined 0 (reverse bs) in
-    let above = le-joined bs (λ i. bytes (suc i)) (omega arith) in
-    let e : joined x b ≡ x * 256 + b =
-    shl-or 56 8 64 (lit≤ tt) (lt_of_lt_of_le above.1 (pow_mono {i = 8 * k} {j = 56} (omega arith))) (bytes 0) in
-    let p : 2 ^ (8 * suc k) ≡ 2 ^ (8 * k) * 256 = ap (λ (n : ℕ). 2 ^ n) (omega arith) ∙ pow-add 2 (8 * k) 8 in
-    rw (reverse-append (b ∷ []) bs, fold_push joined 0 (reverse bs) b)
-    (e ∙ ap (λ (n : ℕ). n * 256 + b) (above.0 ∙ sym (leAt-tail b bs 0 k)), rw (e, p) (digits_lt above.1 (bytes 0)))
 
 -- what stands behind the end counts nothing
 leAt-none : (at n : ℕ) → leAt [] at n ≡ 0
@@ -91,6 +73,38 @@ le-lt l bytes at zero = lit< tt
 le-lt l bytes at (suc n) =
     let p : 2 ^ (8 * suc n) ≡ 2 ^ (8 * n) * 256 = ap (λ (m : ℕ). 2 ^ m) (omega arith) ∙ pow-add 2 (8 * n) 8 in
     rw p (digits_lt (le-lt l bytes (suc at) n) (bytes at))
+
+-- bytes in front of zeros are the same number, and that of a whole array of bytes is the language's
+leAt-zeros : (k : ℕ) → leAt (replicate k 0) 0 k ≡ 0
+leAt-zeros zero = refl
+leAt-zeros (suc k) = rw (leAt-tail 0 (replicate k 0) 0 k, leAt-zeros k)
+
+leAt-front : (s : List ℕ) (k : ℕ) → leAt (s ++ replicate k 0) 0 (length s + k) ≡ leAt s 0 (length s)
+leAt-front [] k = let e : 0 + k ≡ k = omega arith in rw e (leAt-zeros k)
+leAt-front (b ∷ s) k =
+    let e : suc (length s) + k ≡ suc (length s + k) = omega arith in
+    rw e
+    (ap (λ (x : ℕ). x * 256 + b) (leAt-tail b (s ++ replicate k 0) 0 (length s + k) ∙ leAt-front s k ∙ sym (leAt-tail b s 0 (length s))))
+
+-- what was read of l, as the first n of w bytes
+leAt-padded : (l s p : List ℕ) (at n w : ℕ) → n ≤ w → s ≡ take n (drop at l) → p ≡ over s (replicate w 0) → leAt p 0 w ≡ leAt l at n
+leAt-padded l s p at n w h e q =
+    let short : length s ≤ w = omega (arith, ap length e, length-take n (drop at l)) in
+    let all : length s + (w - length s) ≡ w = omega arith in
+    ap (λ (x : List ℕ). leAt x 0 w) (q ∙ over_yes s (replicate w 0) (omega (arith, length-replicate {A = ℕ} w 0)) ∙ ap (λ (z : List ℕ). s ++ z) (drop-replicate (length s) w 0))
+    ∙ ap (λ (k : ℕ). leAt (s ++ replicate (w - length s) 0) 0 k) (sym all) ∙ leAt-front s (w - length s)
+    ∙ ap (λ (x : List ℕ). leAt x 0 (length x)) e ∙ sym (leAt-there l at n)
+
+pub number_2 : (l s p : List ℕ) (at r : ℕ) → r ≡ from_le_bytes w16 p → p ≡ over s (replicate 2 0) → s ≡ take 2 (drop at l) → r ≡ leAt l at 2
+number_2 l s p at r h q e = h ∙ omega arith ∙ leAt-padded l s p at 2 2 (lit≤ tt) e q
+
+pub number_4 : (l s p : List ℕ) (at r : ℕ) → r ≡ from_le_bytes w32 p → p ≡ over s (replicate 4 0) → s ≡ take 4 (drop at l) → r ≡ leAt l at 4
+number_4 l s p at r h q e = h ∙ omega arith ∙ leAt-padded l s p at 4 4 (lit≤ tt) e q
+
+pub number_8 : (l s p : List ℕ) (at m n r : ℕ) → r ≡ from_le_bytes w64 p → p ≡ over s (replicate 8 0) → s ≡ take m (drop at l) → m ≡ min n 8 → Bytes l → NumberGiven l at (min n 8) r
+number_8 l s p at m n r h q e k bytes =
+    let value : r ≡ leAt l at m = h ∙ omega arith ∙ leAt-padded l s p at m 8 (omega arith) e q in
+    rw (← k) (record { value = value; bound = rw value (le-lt l bytes at m) })
 
 -- byte k of the number of n bytes is the byte that stands there
 pub byte_le : (l : List ℕ) → Bytes l → (at n k : ℕ) → k < n → byte_of (leAt l at n) k ≡ get_or l (at + k) 0

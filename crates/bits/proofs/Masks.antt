@@ -1,12 +1,15 @@
 -- Laws of single bits and masks, over the width and the index. Bit `t` of `m` is `m / 2 ^ t % 2`. Assumes nothing.
 use mathlib.Core.Path.{◌≡◌, sym, ap, ◌∙◌}
 use Prim.Native.Nat.{ℕ, zero, suc, ◌+◌, ◌-◌, ◌*◌, ◌/◌, ◌%◌, ◌^◌, ◌≤◌, ◌<◌, min}
-use native.Mathlib.Nat.{mod-lt, pow-suc, le_of_suc-le-suc}
+use mathlib.Core.Bool.{false, and-false}
+use native.Mathlib.Nat.{zero-div, mod-lt, pow-suc, le_of_suc-le-suc}
 use native.Mathlib.Numerals.{one-add}
 use native.Mathlib.Omega.{arith}
 use Rattle.std.proofs.lemmas.Nat.Bits.{bit_at_or, bit_at_and, bit_at-pow_same, bit_at-pow_other, bit_at-lt}
 use lib.Pow.{pow_pos, shr-shr, shl_exact, split}
 use lib.Bits.{bit_and, bit_or, and_block, or_shifted}
+use lib.Dec.{ltb}
+use Rattle.bits.specs.Bit.{bitIn}
 
 -- `(hi << k) | lo` at a width of w digits
 pub shl-or : (j k w : ℕ) {a b : ℕ} → j + k ≤ w → a < 2 ^ j → b < 2 ^ k → bit_or ((a * 2 ^ k) % 2 ^ w) b ≡ a * 2 ^ k + b
@@ -15,6 +18,10 @@ shl-or j k w {a} {b} h ha hb = rw (shl_exact j k w ha h) (or_shifted a k b hb)
 -- a mask of two runs: the digits from k on by a, those below by b
 pub and-two : (n k a b : ℕ) → b < 2 ^ k → bit_and n (a * 2 ^ k + b) ≡ bit_and (n / 2 ^ k) a * 2 ^ k + bit_and (n % 2 ^ k) b
 and-two n k a b h = ap (λ (x : ℕ). bit_and x (a * 2 ^ k + b)) (sym (split n k)) ∙ and_block k (n / 2 ^ k) a (n % 2 ^ k) b (mod-lt n (pow_pos k)) h
+
+-- no bit of 0 is on
+pub no-bit : (t : ℕ) → bitIn 32 0 t ≡ false
+no-bit t = rw (zero-div (2 ^ t)) (and-false (ltb t 32))
 
 -- ---- the bits of `!m`, below the width
 not-odd : (p m : ℕ) → m < p * 2 → ((p * 2 - 1) - m) / 1 % 2 ≡ 1 - m / 1 % 2

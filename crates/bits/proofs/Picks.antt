@@ -1,9 +1,11 @@
--- Laws of `pick`. Assumes nothing.
-use mathlib.Core.Path.{◌≡◌, refl}
-use mathlib.Core.Bool.{Bool, true, false, ◌&&◌, ◌||◌}
+-- Laws of `pick` and of tests. Assumes nothing.
+use mathlib.Core.Path.{◌≡◌, refl, sym}
+use mathlib.Core.Bool.{Bool, true, false, not, ◌&&◌, ◌||◌}
 use Prim.Native.Nat.{ℕ}
 use native.Mathlib.Omega.{arith}
-use mathlib.Core.Logic.{◌⊎◌, inl, inr}
+use mathlib.Core.Logic.{◌⊎◌, inl, inr, ⊎_elim}
+use lib.Dec.{ltb, leb}
+use borrow.Author.Tests.{lt-ltb, le-ltb, leb-true, leb-false}
 use Rattle.bits.specs.Pick.{pick}
 
 -- what holds of either of two, each under what the test then says, holds of the one that is picked
@@ -43,3 +45,7 @@ pub or_right : (a b : Bool) → a || b ≡ false → b ≡ false
 or_right true true e = e
 or_right true false e = refl
 or_right false b e = e
+
+-- less than is not at most, the other way round
+pub not-leb : (a b : ℕ) → not (leb a b) ≡ ltb b a
+not-leb a b = ⊎_elim (λ (t : leb a b ≡ true). rw t (sym (le-ltb b a (leb-true a b t)))) (λ (t : leb a b ≡ false). rw t (sym (lt-ltb b a (leb-false a b t)))) (tested (leb a b))

@@ -1,9 +1,8 @@
 -- Each public function's own contract: what it says, and that two answers which it allows are equal. Assumes nothing.
 use Prim.Native.Nat.{min}
-use Rattle.bits.specs.Bit.{bitIn, clearIn, withBitIn}
+use Rattle.bits.specs.Bit.{bitIn, withBitIn}
 use Rattle.bits.specs.Laid.{over}
 use Rattle.bits.specs.Little.{NumberGiven, leAt}
-use lib.Count.{ones}
 use lib.Dec.{leb}
 use lib.ListN.{length, take, drop}
 use mathlib.Core.Path.{◌≡◌, refl}
@@ -35,12 +34,6 @@ tied-bit = named (say (λ κs a. tt) (λ κs a r ws p. p)) (λ κs a ws ws'. ref
 
 pub tied-with-bit : Tied mask-said.with_bit.ended mask.with_bit.Reads.Asked mask.with_bit.Reads.Post (λ κs a r ws. r ≡ withBitIn 32 a.0 a.1.0)
 tied-with-bit = named (say (λ κs a. tt) (λ κs a r ws p. p)) (λ κs a ws ws'. refl)
-
-pub tied-without : Tied mask-said.without.ended mask.without.Reads.Asked mask.without.Reads.Post (λ κs a r ws. r ≡ clearIn 32 a.0 a.1.0)
-tied-without = named (say (λ κs a. tt) (λ κs a r ws p. p)) (λ κs a ws ws'. refl)
-
-pub tied-ones : Tied mask-said.ones.ended mask.ones.Reads.Asked mask.ones.Reads.Post (λ κs a r ws. r ≡ ones a.0)
-tied-ones = named (say (λ κs a. tt) (λ κs a r ws p. p)) (λ κs a ws ws'. refl)
 
 -- of two answers the bytes are equal, the references need not be
 pub tied-part : Says parts-said.part.ended parts.part.Reads.Asked parts.part.Reads.Post (λ κs a r ws. r.now ≡ take a.1.1.0 (drop a.1.0 a.0.now))

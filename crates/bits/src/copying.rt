@@ -1,4 +1,4 @@
-// The one place where bytes are copied.
+// Bytes laid over the front of others.
 ghost use Rattle.std.specs.Prelude.{◌≡◌, length, leb};
 ghost use Rattle.bits.specs.Laid.{over};
 

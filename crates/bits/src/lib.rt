@@ -8,5 +8,5 @@ mod parts;
 
 pub use copying::lay;
 pub use little::{le, le16, le32};
-pub use mask::{bit, ones, with_bit, without};
+pub use mask::{bit, with_bit};
 pub use parts::part;

@@ -1,29 +1,39 @@
 // Numbers in bytes, the lowest byte first.
-ghost use Rattle.std.specs.Prelude.{◌≡◌, min};
+ghost use Rattle.std.specs.Prelude.{◌≡◌, min, replicate};
+ghost use Rattle.bits.specs.Laid.{over};
 ghost use Rattle.bits.specs.Little.{leAt, NumberGiven};
 
+use crate::copying::lay;
 use crate::parts::part;
 
-/// The number of the `n` bytes (at most 8) from `at` on; past the end stand zeros.
-pub fn le(bytes: &[u8], at: usize, n: usize) -> u64
-    ensures { NumberGiven bytes.now at (min n 8) result }
+// The bytes in front of zeros, where the array has room for them; else zeros alone.
+fn padded<const N: usize>(bytes: &[u8]) -> [u8; N]
+    ensures { result ≡ over bytes.now (replicate N 0) }
 {
-    part(bytes, at, n.min(8))
-        .iter()
-        .rev()
-        .fold(0, |number, &byte| (number << 8) | u64::from(byte))
+    let mut array = [0; N];
+    lay(&mut array, bytes);
+    array
+}
+
+/// The number of the `count` bytes (at most 8) from `at` on; past the end stand zeros.
+pub fn le(bytes: &[u8], at: usize, count: usize) -> u64
+    ensures { NumberGiven bytes.now at (min count 8) result }
+{
+    u64::from_le_bytes(padded(part(bytes, at, count.min(8))))
 }
 
 /// The 16-bit number at a place.
+#[tactic(auto, using(crate::proofs::Littles::number_2))]
 pub fn le16(bytes: &[u8], at: usize) -> u16
     ensures { result ≡ leAt bytes.now at 2 }
 {
-    le(bytes, at, 2) as u16
+    u16::from_le_bytes(padded(part(bytes, at, 2)))
 }
 
 /// The 32-bit number at a place.
+#[tactic(auto, using(crate::proofs::Littles::number_4))]
 pub fn le32(bytes: &[u8], at: usize) -> u32
     ensures { result ≡ leAt bytes.now at 4 }
 {
-    le(bytes, at, 4) as u32
+    u32::from_le_bytes(padded(part(bytes, at, 4)))
 }

@@ -1,10 +1,10 @@
 // A part of a slice, as far as the slice goes.
 ghost use Rattle.std.specs.Prelude.{◌≡◌, take, drop};
 
-/// The bytes from `at` on, at most `n` of them: fewer where the slice ends before, and none past its end.
-pub fn part(bytes: &[u8], at: usize, n: usize) -> &[u8]
-    ensures { result.now ≡ take n (drop at bytes.now) }
+/// The bytes from `at` on, at most `count` of them: fewer where the slice ends before, and none past its end.
+pub fn part(bytes: &[u8], at: usize, count: usize) -> &[u8]
+    ensures { result.now ≡ take count (drop at bytes.now) }
 {
     let rest = bytes.get(at..).unwrap_or_default();
-    rest.get(..n).unwrap_or(rest)
+    rest.get(..count).unwrap_or(rest)
 }

@@ -58,7 +58,7 @@ tied-first-link = say (λ κs a. tt) (λ κs a r ws p. p)
 -- the event program's run, by any reader to any writer
 pub tied-run : (R W : RattleType) (l : Laws R) (m : Laws W) (g : Reader.Ghosts R.Denot) (d : Dict) (h : Writer.Ghosts W.Denot) (e : Dict)
     → SaysOver (running-said.run.ended R W g d h e) (λ κs a. ((x : ℕ) → Mem x R.lives → Mem x κs.1.1.0) × ((x : ℕ) → Mem x W.lives → Mem x κs.1.1.1.0)) (running.run.Reads.Asked R W l m g d h e) (running.run.Reads.Post R W l m g d h e)
-    (λ κs a r ws. IfSome (g.remaining a.1.1.0.now) (λ input. Bytes input → RunHistory a.1.0 input (h.contents a.1.1.1.0.now) (h.contents ws.1.1.1.0)))
+    (λ κs a r ws. IfSome (g.remaining a.1.0.now) (λ input. Bytes input → RunHistory a.0.traced input (h.contents a.1.1.0.now) (h.contents ws.1.1.0)))
 tied-run R W l m g d h e = record { free = λ κs a x. x; says = λ κs a r ws p. p }
 
 -- ---- of a kept device
@@ -94,6 +94,9 @@ tied-start = say (λ κs a. tt) (λ κs a r ws p. p)
 
 pub tied-play : Says playing-said.play.ended playing.play.Reads.Asked playing.play.Reads.Post (λ κs a r ws. PlayContinues a.0.now.device (played a.1.0.now a.1.1.0.now a.1.1.1.0.now (gave (answered ws.0.device r) ws.1.1.0 ws.1.1.1.0)))
 tied-play = say (λ κs a. tt) (λ κs a r ws p. p)
+
+pub tied-play-by-value : Says playing-said.play_by_value.ended playing.play_by_value.Reads.Asked playing.play_by_value.Reads.Post (λ κs a r ws. PlayContinues a.0 (played a.1.0.now a.1.1.0.now a.1.1.1.0.now (gave r ws.1.1.0 ws.1.1.1.0)))
+tied-play-by-value = say (λ κs a. tt) (λ κs a r ws p. p)
 
 pub tied-events-are-a-history : Says playing-said.events_are_a_history.ended playing.events_are_a_history.Reads.Asked playing.events_are_a_history.Reads.Post (λ κs a r ws. PlaysContinue × GivenPlaysHold)
 tied-events-are-a-history = say (λ κs a. tt) (λ κs a r ws p. (p.0, p.1))

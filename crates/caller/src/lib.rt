@@ -16,5 +16,5 @@ pub use keeping::{
     keep, kept_comreset, kept_finish, kept_host_frame, kept_link_event, kept_media_error,
     kept_open, kept_send,
 };
-pub use playing::{events_are_a_history, play, start};
+pub use playing::{events_are_a_history, play, play_by_value, start};
 pub use running::run;

@@ -3,7 +3,7 @@ ghost use Rattle.device.specs.Lent.{gave, answered};
 ghost use Rattle.event_kinds.specs.Settings.{asked_of};
 ghost use Rattle.caller.specs.Playing.{play as played, BeginsBy, PlayContinues, PlaysContinue, GivenPlaysHold};
 
-use device::Sealed;
+use device::{Device, Outcome, Sealed};
 use refusals::Refusal;
 
 /// Power-on by the settings record; where it asks for no settings, refusal 1.
@@ -23,6 +23,13 @@ pub fn play(
     ensures { PlayContinues sealed.old.device (played event.now medium.old reply.old (gave (answered sealed.new.device result) medium.new reply.new)) }
 {
     events::play(sealed, event, medium, reply)
+}
+
+/// One event of a device by value: the same.
+pub fn play_by_value(device: Device, event: &[u8], medium: &mut [u8], reply: &mut [u8]) -> Outcome
+    ensures { PlayContinues device (played event.now medium.old reply.old (gave result medium.new reply.new)) }
+{
+    events::play_by_value(device, event, medium, reply)
 }
 
 /// Events played one after the other are a history of which all that docs/DEMAND3.md promises holds: fates, data, SActive, replies, counters and refusals.

@@ -1,5 +1,7 @@
-// Refusal 1: settings out of bounds, or the state handed in contradicts itself.
+// What is refused with `Contradiction` (1): settings out of bounds, or a state that contradicts itself.
 ghost use Rattle.std.specs.Prelude.{◌≡◌};
+ghost use Rattle.bits.specs.Bit.{bitIn};
+ghost use Rattle.device_state.specs.UnderWay.{openFor};
 ghost use Rattle.contradictions.specs.Clauses.{settingsOut, movedBad, busyBad, idleBad, entryBad, tableBad, statusBad, recordBad, rowBad, rowsBad, contradictory, rowRefused};
 
 use device_state::{Entries, Entry, ErrorRecord, Settings, Status};
@@ -50,11 +52,11 @@ fn idle_bad(entry: &Entry) -> bool
 }
 
 #[tactic(auto, unfolding(crate::specs::Clauses::entryBad, bits::specs::Pick::pick))]
-fn entry_bad(settings: Settings, entry: &Entry, tag: u32, busy: bool, phase: bool) -> bool
-    ensures { result ≡ entryBad settings entry.now tag busy phase }
+fn entry_bad(settings: Settings, entry: &Entry, tag: u32, status: Status) -> bool
+    ensures { result ≡ entryBad settings entry.now tag (bitIn 32 status.outstanding tag) (openFor status.phase tag) }
 {
-    if busy {
-        busy_bad(settings, entry, tag, phase)
+    if status.is_outstanding(tag) {
+        busy_bad(settings, entry, tag, status.phase == Some(tag))
     } else {
         idle_bad(entry)
     }
@@ -64,11 +66,7 @@ fn entry_bad(settings: Settings, entry: &Entry, tag: u32, busy: bool, phase: boo
 fn table_bad(settings: Settings, entries: &Entries, status: Status) -> bool
     ensures { result ≡ tableBad settings entries.now status.outstanding status.phase }
 {
-    entries.iter().enumerate().any(|(tag, entry)| {
-        let tag = tag as u32;
-        let busy = status.is_outstanding(tag);
-        entry_bad(settings, entry, tag, busy, status.phase == Some(tag))
-    })
+    entries.iter().enumerate().any(|(tag, entry)| entry_bad(settings, entry, tag as u32, status))
 }
 
 #[tactic(auto, unfolding(crate::specs::Clauses::statusBad))]

@@ -34,7 +34,7 @@ use Rattle.device.specs.After.{after_of}
 use Rattle.device.specs.Step.{shown, stepBy, Gives, actOf, Given}
 use Rattle.device.specs.declared.state.Device.{Device}
 use Rattle.device.proofs.Turns.{act-ruled}
-use Rattle.device.proofs.Never.{no-bit}
+use Rattle.bits.proofs.Masks.{no-bit}
 use Rattle.device.proofs.Rooms.{roomy}
 use Rattle.device.proofs.Lending.{Unlent, act-leaves, ruled-silent}
 

@@ -1,23 +1,21 @@
 -- A kept device is known by its device, and an answer by the outcome that it stands for. Assumes nothing.
-use mathlib.Core.Path.{◌≡◌, refl, sym, ap, subst, ◌∙◌}
-use mathlib.Core.Bool.{Bool, true, false, Bool-set, true≢false}
+use mathlib.Core.Path.{◌≡◌, refl, sym, ap, ◌∙◌}
+use mathlib.Core.Bool.{true, false, Bool-set, true≢false}
 use mathlib.Core.HLevel.{is_prop→PathP}
 use Prim.Native.Nat.{ℕ}
 use Rattle.std.proofs.Common.{Option, Some, None, Result, Ok, Err}
 use Rattle.refusals.specs.declared.reasons.Refusal.{Refusal}
-use Rattle.bits.specs.Pick.{pick}
-use Rattle.refusals.specs.First.{first_of}
-use Rattle.refusals.specs.Ladders.{powerLadder}
 use Rattle.contradictions.specs.Clauses.{settingsOut}
 use Rattle.device_state.specs.declared.shapes.Settings.{Settings}
-use Rattle.device.specs.Device.{contradictoryDevice, zeroDevice, powered, powerOn}
+use Rattle.device.specs.Device.{contradictoryDevice, freshDevice, zeroDevice}
 use Rattle.device.specs.Lent.{answered}
 use Rattle.device.specs.Sealing.{Seals, poweredOf}
 use Rattle.device.specs.declared.state.Device.{Device}
 use Rattle.device.specs.declared.state.Outcome.{Outcome}
 use Rattle.device.specs.declared.sealed.Sealed.{Sealed}
+use Rattle.device.specs.contracts.state.DeviceDefault.TheImpl
+use Rattle.device.proofs.Defaults.{default_zeros}
 use Rattle.device.proofs.Never.{zeros-contradict, never-contradicts}
-use Rattle.device.proofs.Outcomes.{same_outcome}
 
 -- its other field is a fact
 pub kept-once : (k k' : Sealed) → k.device ≡ k'.device → k ≡ k'
@@ -77,15 +75,8 @@ powered-once (Ok k) (Err r) e = absurd (never-zeros k (ap (λ (o : Outcome). o.s
 powered-once (Err r) (Ok k) e = absurd (never-zeros k (sym (ap (λ (o : Outcome). o.state) e)))
 powered-once (Err r) (Err r') e = ap Err (same-refusal r r' (ap (λ (o : Outcome). o.refusal) e))
 
--- what power-on hands back, kept, is power-on of a kept device: refused it hands back all zeros, which contradict themselves
-by-bounds : (s : Settings) (out : Bool) (r : Result Sealed Refusal) → settingsOut s ≡ out → Seals (powered (first_of (powerLadder out)) s) r
-    → poweredOf r ≡ record { state = powered (first_of (powerLadder out)) s; refusal = first_of (powerLadder out); len = 0 }
-unfolding first_of pick poweredOf
-by-bounds s true (Ok k) e h = absurd (never-zeros k h)
-by-bounds s true (Err r) e h = same_outcome refl (ap Some h.0) refl
-by-bounds s false (Ok k) e h = same_outcome h refl refl
-by-bounds s false (Err r) e h = absurd (true≢false (sym h.1 ∙ never-contradicts s e))
-
-pub sealed_powered : (s : Settings) (o : Outcome) (r : Result Sealed Refusal) → o ≡ powerOn s → Seals o.state r → poweredOf r ≡ powerOn s
-unfolding powerOn
-sealed_powered s o r e h = by-bounds s (settingsOut s) r refl (subst (λ (x : Outcome). Seals x.state r) e h)
+-- a device by default, with settings that are not out of bounds, may be kept
+pub fresh_sound : (s : Settings) (d : Device) → TheImpl.ghosts.is_default d → settingsOut s ≡ false
+    → contradictoryDevice (record { settings = s; status = d.status; entries = d.entries; errors = d.errors; values = d.values }) ≡ false
+unfolding freshDevice
+fresh_sound s d made h = rw (default_zeros d made) (never-contradicts s h)

@@ -1,16 +1,15 @@
 -- What moves, in plain numbers: of a command 512 × count bytes less what has moved are left, and the next one stands at 512 × first and what has moved. Assumes nothing.
 use mathlib.Core.Path.{◌≡◌, refl, sym, ap, ◌∙◌}
-use mathlib.Core.Bool.{Bool, true, false, not}
+use mathlib.Core.Bool.{Bool, true, false}
 use mathlib.Core.List.{List, [], ◌∷◌, ◌++◌}
-use mathlib.Core.Logic.{⊎_elim}
 use Rattle.std.proofs.Common.{Option, Some, None, Result, Ok, is_none, unwrap_or}
 use Prim.Native.Nat.{ℕ, ◌+◌, ◌-◌, ◌*◌, ◌%◌, ◌≤◌, min}
 use native.Mathlib.Omega.{arith}
-use lib.Dec.{ltb, leb}
+use lib.Dec.{ltb}
 use lib.ListN.{length, get_or, take, drop, length-drop}
-use borrow.Author.Tests.{le-leb, lt-ltb, le-ltb, leb-true, leb-false, eq-eqb}
+use borrow.Author.Tests.{le-leb, le-ltb, eq-eqb}
 use Rattle.bits.specs.Pick.{pick}
-use Rattle.bits.proofs.Picks.{tested}
+use Rattle.bits.proofs.Picks.{not-leb}
 use Rattle.frame_parts.specs.Size.{payloadSize}
 use Rattle.frames.specs.Write.{activate, payload}
 use Rattle.refusals.specs.declared.reasons.Refusal.{Refusal}
@@ -52,9 +51,6 @@ pub left_is : (d : Device) → contradictoryDevice d ≡ false → is_none d.sta
 left_is d h p =
     let whole = whole_is d (unwrap_or d.status.phase 0) h (phase-busy d.status d.errors.set (status-good d h) p) in
     rw (open-entry d.entries d.status.phase p) (omega arith)
-
-not-leb : (a b : ℕ) → not (leb a b) ≡ ltb b a
-not-leb a b = ⊎_elim (λ (t : leb a b ≡ true). rw t (sym (le-ltb b a (leb-true a b t)))) (λ (t : leb a b ≡ false). rw t (sym (lt-ltb b a (leb-false a b t)))) (tested (leb a b))
 
 -- a taken host data frame f: its payload, of any whole Dwords, is no longer than what is left; it stands whole at its place, and every other byte of the medium is as it was; an Activate follows exactly if more is left
 pub record Stored (d : Device) (f m b : List ℕ) : Type 0 where

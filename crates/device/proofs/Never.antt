@@ -1,13 +1,12 @@
 -- A state that power-on makes never contradicts itself. Assumes nothing.
 use mathlib.Core.Path.{◌≡◌, refl}
-use mathlib.Core.Bool.{Bool, true, false, not, ◌&&◌}
-use Prim.Native.Nat.{ℕ, ◌^◌}
+use mathlib.Core.Bool.{Bool, true, false, not, and-false}
+use Prim.Native.Nat.{ℕ}
 use Rattle.std.proofs.Common.{None}
-use native.Mathlib.Nat.{zero-div}
-use lib.Dec.{ltb, lit<}
+use lib.Dec.{lit<}
 use lib.ListN.{replicate, get_or-replicate}
 use Rattle.bits.specs.Pick.{pick}
-use Rattle.bits.specs.Bit.{bitIn}
+use Rattle.bits.proofs.Masks.{no-bit}
 use Rattle.page_rows.specs.Rows.{kept}
 use Rattle.device_state.specs.State.{zeroEntry}
 use Rattle.contradictions.specs.Clauses.{settingsOut, entryBad, idleBad, tagBad, tableBad, statusBad, recordBad, rowBadAt, rowsBad, contradictory}
@@ -16,14 +15,6 @@ use Rattle.device_state.proofs.TableLaws.{some-never}
 use Rattle.device.specs.Device.{freshDevice, zeroDevice, contradictoryDevice, powerOn}
 use Rattle.refusals.proofs.FirstLaws as firsts
 use Rattle.refusals.specs.Ladders.{powerLadder}
-
--- a test that nothing can hold beside
-pub and-never : (b : Bool) → b && false ≡ false
-and-never true = refl
-and-never false = refl
-
-pub no-bit : (t : ℕ) → bitIn 32 0 t ≡ false
-no-bit t = rw (zero-div (2 ^ t)) (and-never (ltb t 32))
 
 -- an idle tag with a zero entry
 pub idle-tag : (s : Settings) (t : ℕ) (b : Bool) → entryBad s zeroEntry t false b ≡ false
@@ -38,7 +29,7 @@ fresh-table s =
 
 pub fresh-rows : (mask : ℕ) → rowsBad mask (replicate 16 0) ≡ false
 unfolding rowsBad
-fresh-rows mask = some-never (rowBadAt mask (replicate 16 0)) 16 (λ row h. rw (get_or-replicate {A = ℕ} 16 row 0 0 h) (and-never (not (kept mask row))))
+fresh-rows mask = some-never (rowBadAt mask (replicate 16 0)) 16 (λ row h. rw (get_or-replicate {A = ℕ} 16 row 0 0 h) (and-false (not (kept mask row))))
 
 -- with settings within bounds
 pub never-contradicts : (s : Settings) → settingsOut s ≡ false → contradictoryDevice (freshDevice s) ≡ false

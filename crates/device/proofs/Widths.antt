@@ -1,7 +1,7 @@
 -- Bytes that stay bytes: the record and the table of commands. Assumes nothing.
 use mathlib.Core.Path.{◌≡◌, refl, subst⁻¹}
 use mathlib.Core.Bool.{true, false}
-use mathlib.Core.List.{List, [], ◌∷◌}
+use mathlib.Core.List.{List}
 use mathlib.Core.Logic.{⊎_elim}
 use Prim.Native.Nat.{ℕ, zero, suc, ◌≤◌, ◌<◌}
 use native.Mathlib.Omega.{arith}
@@ -9,7 +9,7 @@ use lib.Dec.{eqb, ltb}
 use lib.ListN.{length, get_or, replicate, get_or-eq_default}
 use borrow.Author.Tests.{ltb-true, ltb-false}
 use Rattle.bits.specs.Bit.{bitIn}
-use Rattle.bits.specs.Little.{byte_of, Bytes}
+use Rattle.bits.specs.Little.{Bytes}
 use Rattle.bits.proofs.Picks.{by-test, tested}
 use Rattle.device_state.specs.State.{placedBytes, zeroEcho, zeroEntry}
 use Rattle.device_state.specs.Table.{entry_of, placed, cleared}
@@ -18,6 +18,7 @@ use Rattle.device_state.specs.declared.shapes.Entry.{Entry}
 use Rattle.device_state.proofs.TableLaws.{length-tab, getD-placed, getD-cleared}
 use Rattle.rules.specs.Act.{failing}
 use Rattle.device.proofs.Sized.{SizedRecord}
+use Rattle.device.proofs.Fitting.{small_bytes, byte_small}
 use Rattle.device.specs.declared.state.Device.{Device}
 
 -- nine bytes of a command are bytes
@@ -33,22 +34,9 @@ pub record Wide (d : Device) : Type 0 where
   pub sized : SizedRecord d
   pub entries : SmallAll d.entries
 
--- each of a list is a byte
-abbrev Below : List ℕ → Type 0
-Below [] = Unit
-Below (x ∷ l) = (x < 256) × Below l
-
-below-bytes : (l : List ℕ) → Below l → Bytes l
-below-bytes [] h i = omega arith
-below-bytes (x ∷ l) h zero = h.0
-below-bytes (x ∷ l) h (suc k) = below-bytes l h.1 k
-
-byte_small : (x k : ℕ) → byte_of x k < 256
-byte_small x k = omega arith
-
 -- zeros are bytes
 pub zero-small : Small zeroEcho
-zero-small = let z : 0 < 256 = omega arith in below-bytes (placedBytes zeroEcho) (z, (z, (z, (z, (z, (z, (z, (z, (z, (z, (z, (z, (z, (z, tt))))))))))))))
+zero-small = let z : 0 < 256 = omega arith in small_bytes (placedBytes zeroEcho) (z, (z, (z, (z, (z, (z, (z, (z, (z, (z, (z, (z, (z, (z, tt))))))))))))))
 
 -- and so are the failing sector's bytes
 pub failing-small : (e : Echo) (sector : ℕ) → Small e → Small (failing e sector)
@@ -56,7 +44,7 @@ unfolding failing
 failing-small e sector h =
     let z : 0 < 256 = omega arith in
     let s = byte_small sector in
-    below-bytes (placedBytes (failing e sector)) (z, (z, (z, (z, (s 0, (s 1, (s 2, (h 7, (s 3, (s 4, (s 5, (z, (h 12, (h 13, tt))))))))))))))
+    small_bytes (placedBytes (failing e sector)) (z, (z, (z, (z, (s 0, (s 1, (s 2, (h 7, (s 3, (s 4, (s 5, (z, (h 12, (h 13, tt))))))))))))))
 
 -- past the end of a table stands an idle entry
 past_end : (es : List Entry) → length es ≡ 32 → (t : ℕ) → 32 ≤ t → entry_of es t ≡ zeroEntry

@@ -3,15 +3,17 @@ use Rattle.std.specs.Prelude.{◌≡◌, List, [], ℕ, length, Option, Some, No
 use Rattle.bits.specs.Laid.{laid}
 use Rattle.frames.specs.Write.{FrameValue}
 use Rattle.refusals.specs.declared.reasons.Refusal.{Refusal}
+use Rattle.rules.specs.Call.{Call}
 use Rattle.rules.specs.Act.{act}
 use Rattle.rules.specs.Medium.{part_of, mediumAfter}
 use Rattle.rules.specs.declared.acts.Act.{Act}
 use Rattle.replies.specs.Replies.{repliesOf, sentAll}
 use Rattle.replies.specs.declared.shown.Shown.{Shown}
-use Rattle.device.specs.Lent.{Lent, Gave, frameIn}
+use Rattle.device.specs.Lent.{Lent, lent, Gave, gave, frameIn}
 use Rattle.device.specs.FactsOf.{facts_of}
 use Rattle.device.specs.After.{after_of}
 use Rattle.device.specs.declared.state.Device.{Device}
+use Rattle.device.specs.declared.state.Outcome.{Outcome}
 
 -- the state, the refusal, the replies as frames, and the medium
 pub record Step : Type 0 where
@@ -22,7 +24,7 @@ pub record Step : Type 0 where
 
 -- what replies show of a device
 abbrev pub shown : Device → Shown
-shown d = record { halted = d.status.halted; settings = d.settings; errors = d.errors; values = d.values }
+shown d = record { halted = d.status.halted; mask = d.settings.mask; errors = d.errors; values = d.values }
 
 -- what is left behind, with what was lent: refused, all as it was and no reply; else by the act
 abbrev pub stepBy : Device → Lent → Result Act Refusal → Step
@@ -57,3 +59,11 @@ pub record Gives (s : Step) (b : List ℕ) (g : Gave) : Type 0 where
 -- the one contract of the calls
 abbrev pub Given : Device → Lent → Gave → Type 0
 Given d l g = Gives (step d l) l.buffer g
+
+-- of a call that is lent a reply buffer alone
+abbrev pub GivenReplying : Device → Call → List ℕ → Outcome → List ℕ → Type 0
+GivenReplying d c b r b' = Given d (lent c [] b) (gave r [] b')
+
+-- of a call that is lent nothing
+abbrev pub GivenAlone : Device → Call → Outcome → Type 0
+GivenAlone d c r = GivenReplying d c [] r []

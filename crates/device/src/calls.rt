@@ -1,11 +1,11 @@
 // The calls of a device by value, after power-on: the state goes in and is handed back. Each asks once whether it contradicts itself, and is then the call of a device that is kept (`sealed_calls.rt`).
 #![tactic(auto, using(crate::proofs::Contradicted::given_contradicted))]
 
-ghost use Rattle.std.specs.Prelude.{◌≡◌, []};
+ghost use Rattle.std.specs.Prelude.{◌≡◌};
 ghost use Rattle.rules.specs.Call.{hostFrame, openPhase, sendData, finishTags, mediaError, linkEvent, comReset};
 ghost use Rattle.device.specs.Lent.{lent, gave};
 ghost use Rattle.device.specs.DataDue.{dataDue};
-ghost use Rattle.device.specs.Step.{Given};
+ghost use Rattle.device.specs.Step.{Given, GivenReplying, GivenAlone};
 
 use crate::sealed::Sealed;
 use crate::state::{Device, Outcome};
@@ -16,7 +16,8 @@ macro_rules! kept {
         match Sealed::try_from($device) {
             Ok(mut sealed) => {
                 let answer = sealed.$call($($argument),*);
-                sealed.device.with(answer)
+                $device = sealed.device;
+                $device.with(answer)
             }
             Err(refusal) => $device.with(Err(refusal)),
         }
@@ -28,7 +29,7 @@ impl Device {
     ///
     /// Refused with the first that holds of `Contradiction` (1), `MediumLength` (2), `ReplyShort` (3), `NoHostFrame` (4),
     /// `WrongTime` (5), `TooLong` (6).
-    pub fn host_frame(self, frame: &[u8], medium: &mut [u8], reply: &mut [u8]) -> Outcome
+    pub fn host_frame(mut self, frame: &[u8], medium: &mut [u8], reply: &mut [u8]) -> Outcome
         ensures { Given self (lent (hostFrame frame.now) medium.old reply.old) (gave result medium.new reply.new) }
     {
         kept!(self.host_frame(frame, medium, reply))
@@ -38,8 +39,8 @@ impl Device {
     ///
     /// Refused with the first that holds of `Contradiction` (1), `ReplyShort` (3), `TagIdle` (7), `PhaseOpen` (8),
     /// `AllMoved` (9).
-    pub fn open(self, tag: u8, reply: &mut [u8]) -> Outcome
-        ensures { Given self (lent (openPhase tag) [] reply.old) (gave result [] reply.new) }
+    pub fn open(mut self, tag: u8, reply: &mut [u8]) -> Outcome
+        ensures { GivenReplying self (openPhase tag) reply.old result reply.new }
     {
         kept!(self.open(tag, reply))
     }
@@ -48,7 +49,7 @@ impl Device {
     ///
     /// Refused with the first that holds of `Contradiction` (1), `MediumLength` (2), `ReplyShort` (3),
     /// `NoReadPhase` (10).
-    pub fn send(self, medium: &[u8], reply: &mut [u8]) -> Outcome
+    pub fn send(mut self, medium: &[u8], reply: &mut [u8]) -> Outcome
         ensures { Given self (lent sendData medium.now reply.old) (gave result medium.now reply.new) }
     {
         kept!(self.send(medium, reply))
@@ -58,8 +59,8 @@ impl Device {
     ///
     /// Refused with the first that holds of `Contradiction` (1), `ReplyShort` (3), `PhaseOpen` (8),
     /// `SetUnready` (11).
-    pub fn finish(self, set: u32, reply: &mut [u8]) -> Outcome
-        ensures { Given self (lent (finishTags set) [] reply.old) (gave result [] reply.new) }
+    pub fn finish(mut self, set: u32, reply: &mut [u8]) -> Outcome
+        ensures { GivenReplying self (finishTags set) reply.old result reply.new }
     {
         kept!(self.finish(set, reply))
     }
@@ -69,8 +70,8 @@ impl Device {
     ///
     /// Refused with the first that holds of `Contradiction` (1), `ReplyShort` (3), `TagIdle` (7),
     /// `OutsideCommand` (12).
-    pub fn media_error(self, tag: u8, error: u8, sector: u32, reply: &mut [u8]) -> Outcome
-        ensures { Given self (lent (mediaError tag error sector) [] reply.old) (gave result [] reply.new) }
+    pub fn media_error(mut self, tag: u8, error: u8, sector: u32, reply: &mut [u8]) -> Outcome
+        ensures { GivenReplying self (mediaError tag error sector) reply.old result reply.new }
     {
         kept!(self.media_error(tag, error, sector, reply))
     }
@@ -78,8 +79,8 @@ impl Device {
     /// Link event: adds one to the counter of a kept row of page 11h, 1 to 15 but not 9. It replies nothing.
     ///
     /// Refused with the first that holds of `Contradiction` (1), `NoRow` (13).
-    pub fn link_event(self, row: u8) -> Outcome
-        ensures { Given self (lent (linkEvent row) [] []) (gave result [] []) }
+    pub fn link_event(mut self, row: u8) -> Outcome
+        ensures { GivenAlone self (linkEvent row) result }
     {
         kept!(self.link_event(row))
     }
@@ -87,8 +88,8 @@ impl Device {
     /// COMRESET: as SRST and release together, and one link reset more: the signature.
     ///
     /// Refused with the first that holds of `Contradiction` (1), `ReplyShort` (3).
-    pub fn comreset(self, reply: &mut [u8]) -> Outcome
-        ensures { Given self (lent comReset [] reply.old) (gave result [] reply.new) }
+    pub fn comreset(mut self, reply: &mut [u8]) -> Outcome
+        ensures { GivenReplying self comReset reply.old result reply.new }
     {
         kept!(self.comreset(reply))
     }

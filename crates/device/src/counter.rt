@@ -33,6 +33,6 @@ impl Device {
         if self.contradicts() {
             return Err(Refusal::Contradiction);
         }
-        Ok(bits::ones(self.status.outstanding))
+        Ok(self.status.outstanding.count_ones())
     }
 }

@@ -10,7 +10,7 @@ use refusals::Refusal;
 /// Each call goes in place. It answers the bytes of its replies, which stand in front of `reply`, one behind the other;
 /// refused, it leaves device, medium and reply buffer as they were. `medium` has 512 bytes for each sector of the
 /// capacity (`Settings::medium_size`), and `reply` at least 8,196 (`Device::REPLY_SIZE`).
-#[derive(Drop)]
+#[derive(Debug, Drop, PartialEq, Eq)]
 pub struct Sealed {
     /// its state
     pub device: Device,

@@ -5,13 +5,12 @@ ghost use Rattle.std.specs.Prelude.{◌≡◌, false, [], leb, length};
 ghost use Rattle.bits.specs.Pick.{pick};
 ghost use Rattle.rules.specs.Handed.{handed};
 ghost use Rattle.rules.specs.Call.{Call, hostFrame, openPhase, sendData, finishTags, mediaError, linkEvent, comReset};
-ghost use Rattle.rules.specs.Medium.{part_of};
 ghost use Rattle.replies.specs.Replies.{repliesOf, RepliesGiven};
 ghost use Rattle.device.specs.Device.{powerOn};
 ghost use Rattle.device.specs.Lent.{lent, gave, answered};
 ghost use Rattle.device.specs.FactsOf.{entryMeant, mediumWrong, factsWith};
 ghost use Rattle.device.specs.After.{after_of};
-ghost use Rattle.device.specs.Step.{shown, actOf, Given};
+ghost use Rattle.device.specs.Step.{shown, actOf, Given, GivenReplying, GivenAlone};
 ghost use Rattle.device.specs.Sealing.{poweredOf};
 
 use crate::sealed::Sealed;
@@ -21,27 +20,16 @@ use refusals::Refusal;
 use replies::Shown;
 use rules::{Act, Facts};
 
-// What an act sends of the medium, as far as the medium has it.
-#[tactic(auto, unfolding(rules::specs::Medium::touch_of))]
-fn part_sent(act: Act, medium: &[u8]) -> &[u8]
-    ensures { result.now ≡ part_of act medium.now }
-{
-    let Act::Send(moved) = act else {
-        return b"";
-    };
-    bits::part(medium, moved.at, moved.size)
-}
-
 impl Device {
     // The entry of the tag that is meant; where none is, an idle one.
-    pub(crate) fn entry_meant(&self, tag: Option<u32>) -> Entry
+    fn entry_meant(&self, tag: Option<u32>) -> Entry
         ensures { result ≡ entryMeant self.now.entries tag }
     {
         tag.map(|tag| device_state::entry_of(&self.entries, tag))
             .unwrap_or_default()
     }
 
-    // The medium's size cannot wrap at any capacity, so it may stand before the test of 1.
+    // The medium's size cannot wrap at any capacity, so it may be asked for before `Contradiction` (1) is tested.
     fn medium_wrong(&self, medium: &[u8]) -> bool
         ensures { result ≡ mediumWrong self.now.settings.capacity (length medium.now) }
     {
@@ -54,7 +42,7 @@ impl Device {
     {
         Shown {
             halted: self.status.halted,
-            settings: self.settings,
+            mask: self.settings.mask,
             errors: &self.errors,
             values: &self.values,
         }
@@ -72,7 +60,7 @@ impl Device {
 
     // A call that is lent no medium, as it was decided: the refusal, or its act done.
     fn answer(&mut self, decided: Result<Act, Refusal>, reply: &mut [u8]) -> Result<usize, Refusal>
-        ensures { (c : Call) → (handed c).medium ≡ false → decided ≡ actOf self.old (lent c [] reply.old) → Given self.old (lent c [] reply.old) (gave (answered self.new result) [] reply.new) }
+        ensures { (c : Call) → (handed c).medium ≡ false → decided ≡ actOf self.old (lent c [] reply.old) → GivenReplying self.old c reply.old (answered self.new result) reply.new }
     {
         let act = decided?;
         Ok(self.done(act, b"", reply))
@@ -112,7 +100,7 @@ impl Sealed {
         ensures { result ≡ actOf self.now.device (lent (hostFrame frame.now) medium.now reply.now) }
     {
         let facts = self.facts_lent(medium, reply);
-        rules::frame_act(&facts, frames::read_frame(frame))
+        facts.frame_act(frames::read_frame(frame))
     }
 
     // What a send comes to.
@@ -120,18 +108,25 @@ impl Sealed {
     fn send_act(&self, medium: &[u8], reply: &[u8]) -> Result<Act, Refusal>
         ensures { result ≡ actOf self.now.device (lent sendData medium.now reply.now) }
     {
-        rules::send_act(&self.facts_lent(medium, reply))
+        self.facts_lent(medium, reply).send_act()
     }
 
     /// Power-on: idle, record blank, counters 0.
     ///
     /// # Errors
     /// `Contradiction` (1) for settings out of bounds: depth 1 to 32, capacity 1 to 65,536 sectors, rows 0 and 9 kept.
-    #[tactic(auto, using(crate::proofs::Kept::sealed_powered))]
+    #[tactic(auto, unfolding(crate::specs::Sealing::poweredOf, crate::specs::Device::powerOn, crate::specs::Device::freshDevice, refusals::specs::First::first_of, bits::specs::Pick::pick), using(crate::proofs::Defaults::default_zeros, crate::proofs::Kept::fresh_sound))]
     pub fn power_on(settings: Settings) -> Result<Sealed, Refusal>
         ensures { poweredOf result ≡ powerOn settings }
     {
-        Sealed::try_from(Device::power_on(settings).state)
+        if contradictions::settings_out(settings) {
+            return Err(Refusal::Contradiction);
+        }
+        let device = Device {
+            settings,
+            ..Device::default()
+        };
+        Ok(Sealed { device })
     }
 
     /// Host frame: 27h of 20 bytes (a command, or control), 46h of 4 bytes and a payload (data), or 58h of 12 (BIST).
@@ -156,10 +151,10 @@ impl Sealed {
     /// # Errors
     /// The first that holds of `ReplyShort` (3), `TagIdle` (7), `PhaseOpen` (8), `AllMoved` (9).
     pub fn open(&mut self, tag: u8, reply: &mut [u8]) -> Result<usize, Refusal>
-        ensures { Given self.old.device (lent (openPhase tag) [] reply.old) (gave (answered self.new.device result) [] reply.new) }
+        ensures { GivenReplying self.old.device (openPhase tag) reply.old (answered self.new.device result) reply.new }
     {
         let facts = self.facts(Some(u32::from(tag)), reply);
-        self.device.answer(rules::open_act(&facts, tag), reply)
+        self.device.answer(facts.open_act(tag), reply)
     }
 
     /// Send, in a read phase: one data frame, of 8,192 bytes or what is left of the command.
@@ -170,7 +165,7 @@ impl Sealed {
         ensures { Given self.old.device (lent sendData medium.now reply.old) (gave (answered self.new.device result) medium.now reply.new) }
     {
         let act = self.send_act(medium, reply)?;
-        Ok(self.device.done(act, part_sent(act, medium), reply))
+        Ok(self.device.done(act, act.part(medium), reply))
     }
 
     /// Finish a set of tags, bit t for tag t, whose data have all moved: Set Device Bits.
@@ -178,14 +173,14 @@ impl Sealed {
     /// # Errors
     /// The first that holds of `ReplyShort` (3), `PhaseOpen` (8), `SetUnready` (11).
     pub fn finish(&mut self, set: u32, reply: &mut [u8]) -> Result<usize, Refusal>
-        ensures { Given self.old.device (lent (finishTags set) [] reply.old) (gave (answered self.new.device result) [] reply.new) }
+        ensures { GivenReplying self.old.device (finishTags set) reply.old (answered self.new.device result) reply.new }
     {
         let device = &self.device;
         let facts = Facts {
             unready: rules::some_unready(&device.entries, device.status, set),
             ..self.facts(None, reply)
         };
-        self.device.answer(rules::finish_act(&facts, set), reply)
+        self.device.answer(facts.finish_act(set), reply)
     }
 
     /// Media error at a sector of an outstanding tag's command, counted from the medium's first: Set Device Bits, and the
@@ -200,11 +195,11 @@ impl Sealed {
         sector: u32,
         reply: &mut [u8],
     ) -> Result<usize, Refusal>
-        ensures { Given self.old.device (lent (mediaError tag error sector) [] reply.old) (gave (answered self.new.device result) [] reply.new) }
+        ensures { GivenReplying self.old.device (mediaError tag error sector) reply.old (answered self.new.device result) reply.new }
     {
         let facts = self.facts(Some(u32::from(tag)), reply);
         self.device
-            .answer(rules::media_act(&facts, tag, error, sector), reply)
+            .answer(facts.media_act(tag, error, sector), reply)
     }
 
     /// Link event: adds one to the counter of a kept row of page 11h, 1 to 15 but not 9. It replies nothing: 0 bytes.
@@ -212,10 +207,10 @@ impl Sealed {
     /// # Errors
     /// `NoRow` (13).
     pub fn link_event(&mut self, row: u8) -> Result<usize, Refusal>
-        ensures { Given self.old.device (lent (linkEvent row) [] []) (gave (answered self.new.device result) [] []) }
+        ensures { GivenAlone self.old.device (linkEvent row) (answered self.new.device result) }
     {
         let facts = self.facts(None, &[]);
-        self.device.answer(rules::link_act(&facts, row), &mut [])
+        self.device.answer(facts.link_act(row), &mut [])
     }
 
     /// COMRESET: as SRST and release together, and one link reset more: the signature.
@@ -223,9 +218,9 @@ impl Sealed {
     /// # Errors
     /// `ReplyShort` (3).
     pub fn comreset(&mut self, reply: &mut [u8]) -> Result<usize, Refusal>
-        ensures { Given self.old.device (lent comReset [] reply.old) (gave (answered self.new.device result) [] reply.new) }
+        ensures { GivenReplying self.old.device comReset reply.old (answered self.new.device result) reply.new }
     {
         let facts = self.facts(None, reply);
-        self.device.answer(rules::comreset_act(&facts), reply)
+        self.device.answer(facts.comreset_act(), reply)
     }
 }

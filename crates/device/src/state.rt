@@ -3,6 +3,7 @@ ghost use Rattle.std.specs.Prelude.{◌≡◌};
 ghost use Rattle.device.specs.Device.{contradictoryDevice, powerOn};
 ghost use Rattle.device.specs.Lent.{answered};
 
+use crate::sealed::Sealed;
 use device_state::{Entries, ErrorRecord, Settings, Status};
 use page_rows::Counters;
 use refusals::Refusal;
@@ -53,22 +54,18 @@ impl Device {
     ///
     /// Refused with `Contradiction` (1) for settings out of bounds: depth 1 to 32, capacity 1 to 65,536 sectors, rows 0 and 9
     /// kept. It then hands back all zeros.
-    #[tactic(auto, unfolding(crate::specs::Device::powerOn, crate::specs::Device::freshDevice, refusals::specs::First::first_of, bits::specs::Pick::pick), using(crate::proofs::Defaults::default_zeros))]
+    #[tactic(auto, unfolding(crate::specs::Sealing::poweredOf), using(crate::proofs::Defaults::default_zeros))]
     pub fn power_on(settings: Settings) -> Outcome
         ensures { result ≡ powerOn settings }
     {
-        if contradictions::settings_out(settings) {
-            return Device::default().with(Err(Refusal::Contradiction));
+        match Sealed::power_on(settings) {
+            Ok(sealed) => sealed.device.with(Ok(0)),
+            Err(refusal) => Device::default().with(Err(refusal)),
         }
-        let fresh = Device {
-            settings,
-            ..Device::default()
-        };
-        fresh.with(Ok(0))
     }
 
-    // What a call on the lent state answered, with the state that it left.
-    pub(crate) fn with(self, answer: Result<usize, Refusal>) -> Outcome
+    /// The outcome of a call that left this state in place: what the call answered, and the state.
+    pub fn with(self, answer: Result<usize, Refusal>) -> Outcome
         ensures { result ≡ answered self answer }
     {
         Outcome {
@@ -78,7 +75,7 @@ impl Device {
         }
     }
 
-    /// Whether the state contradicts itself: every call on such a state is refused with 1.
+    /// Whether the state contradicts itself: every call on such a state is refused with `Contradiction` (1).
     #[tactic(auto, unfolding(crate::specs::Device::contradictoryDevice))]
     pub fn contradicts(&self) -> bool
         ensures { result ≡ contradictoryDevice self.now }

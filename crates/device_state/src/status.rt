@@ -62,7 +62,7 @@ impl Status {
         ensures { result ≡ withoutTags self set }
     {
         Status {
-            outstanding: bits::without(self.outstanding, set),
+            outstanding: self.outstanding & !set,
             ..self
         }
     }

@@ -41,7 +41,7 @@ pub enum Kind {
 
 impl Kind {
     /// The kind that a byte names, if it names one.
-    #[tactic(auto, unfolding(crate::specs::Kinds::kindNamed, bits::specs::Pick::pick))]
+    #[tactic(auto, unfolding(crate::specs::Kinds::kindNamed, frame_parts::specs::Size::kindNamed, bits::specs::Pick::pick))]
     pub fn from_byte(byte: u8) -> Option<Kind>
         ensures { result ≡ kindNamed byte }
     {
@@ -54,9 +54,13 @@ impl Kind {
             0x05 => Some(Kind::LinkEvent),
             0x06 => Some(Kind::ComReset),
             0x07 => Some(Kind::HostData),
-            0x27 => Some(Kind::HostFrame(FrameKind::HostRegister)),
-            0x58 => Some(Kind::HostFrame(FrameKind::BistActivate)),
-            _ => None,
+            // a data frame is no event: its length is what is due
+            _ => match FrameKind::from_byte(byte)? {
+                kind @ (FrameKind::HostRegister | FrameKind::BistActivate) => {
+                    Some(Kind::HostFrame(kind))
+                }
+                _ => None,
+            },
         }
     }
 

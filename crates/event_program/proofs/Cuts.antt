@@ -1,8 +1,8 @@
 -- An input is events and a rest in one way, and what a run writes for it is one text. Assumes nothing.
 use Rattle.std.proofs.Common.{◌≡◌, ℕ, ◌+◌, ◌≤◌, Bool, true, false, List, [], ◌∷◌, ◌++◌, length, take, drop, drop_at, Option, Some, None, length-append, refl, sym, ap, ap₂, subst, ◌∙◌, append_assoc, arith}
 use lib.Seq.{take-append_seam}
-use lib.Dec.{leb, eqb}
-use borrow.Author.Tests.{le-leb, leb-true, ne_eqb}
+use lib.Dec.{leb}
+use borrow.Author.Tests.{le-leb, leb-true}
 use Rattle.std.specs.Io.KnownBytes.{Appends}
 use Rattle.bits.specs.Pick.{pick}
 use Rattle.frame_parts.specs.Cut.{joined}
@@ -14,9 +14,7 @@ use Rattle.event_kinds.specs.declared.kinds.Kind.{Kind}
 use Rattle.event_program.specs.Reading.{IsEvent, Ends}
 use Rattle.event_program.specs.Running.{ReadsOn, AllEvents, Plays, refused, next_behind, run_lines, ending}
 use Rattle.event_program.specs.Runs.{IsCut, RunsOut, BreaksOff}
-
-some : (k : ℕ) (l : List ℕ) → eqb (length (k ∷ l)) 0 ≡ false
-some k l = ne_eqb (length (k ∷ l)) 0 (λ (e : length (k ∷ l) ≡ 0). omega arith)
+use Rattle.event_program.proofs.Nexts.{some}
 
 kind-next : (first : Bool) (k : ℕ) (l : List ℕ) → next_of first (k ∷ l) ≡ nextBy first (kindNamed k) (length (k ∷ l))
 unfolding next_of pick

@@ -2,17 +2,18 @@
 use Rattle.std.proofs.Common.{◌≡◌, ℕ, ◌+◌, ◌<◌, Bool, true, false, List, [], ◌∷◌, ◌++◌, length, Option, Some, None, IfSome, refl, ap, ◌∙◌, append-nil, arith, ◌≤◌}
 use Rattle.std.specs.Io.KnownBytes.{Consumes, IsAtEnd}
 use Rattle.event_kinds.specs.declared.kinds.InputEnd.{InputEnd}
-use Rattle.event_kinds.specs.declared.kinds.InputEnd.TheVariants.{Clean, NoEvent}
+use Rattle.event_kinds.specs.declared.kinds.InputEnd.TheVariants.{NoEvent}
 use Rattle.event_kinds.specs.Kinds.{kindNamed, bodyOf, misplaced, nextWhole, nextBy, next_of}
 use Rattle.event_kinds.specs.declared.kinds.Kind.{Kind}
 use Rattle.event_kinds.specs.declared.kinds.Kind.TheVariants.{Settings, OpenPhase, SendData, FinishTags, MediaError, LinkEvent, ComReset, HostData, HostFrame}
 use borrow.Author.Tests.{lt-leb, le-leb, ne_eqb}
 use lib.Dec.{eqb}
-use Rattle.std.specs.Prelude.{Result, Ok, Err}
+use Rattle.std.specs.Prelude.{Result, Ok, Err, not}
+use Rattle.std.specs.Bool.{then_some}
 use Rattle.bits.specs.Pick.{pick}
 use Rattle.bits.proofs.Picks.{by-test}
 use Rattle.frame_parts.specs.declared.kinds.FrameKind.TheVariants.{HostRegister, BistActivate}
-use Rattle.event_program.specs.Reading.{Ends}
+use Rattle.event_program.specs.Reading.{Ends, placedKind}
 
 -- what holds of all bytes that begin so holds of the known ones
 pub begun : (P : List ℕ → Type 0) (u v : Option (List ℕ)) (a : List ℕ) → Consumes u v a → ((more : List ℕ) → P (a ++ more)) → IfSome u P
@@ -26,19 +27,37 @@ ended P None v a x e p = tt
 ended P (Some xs) None a x e p = absurd x
 ended P (Some xs) (Some ys) a x e p = rw (x ∙ ap (λ (t : List ℕ). a ++ t) e ∙ append-nil a) p
 
-some : (k : ℕ) (l : List ℕ) → eqb (length (k ∷ l)) 0 ≡ false
+-- a list with a first element is not empty
+pub some : (k : ℕ) (l : List ℕ) → eqb (length (k ∷ l)) 0 ≡ false
 some k l = ne_eqb (length (k ∷ l)) 0 (λ (e : length (k ∷ l) ≡ 0). omega arith)
 
-pub stop-unknown : (first : Bool) (k : ℕ) (l : List ℕ) → kindNamed k ≡ None → next_of first (k ∷ l) ≡ Err NoEvent
-unfolding next_of nextBy pick
-stop-unknown first k l e = rw (some k l, e) refl
+-- where no kind is named, or one that may not stand here, the run stops
+pub stop-unplaced : (first : Bool) (k : ℕ) (l : List ℕ) → placedKind first (kindNamed k) ≡ None → next_of first (k ∷ l) ≡ Err NoEvent
+unfolding next_of nextBy pick placedKind
+stop-unplaced first k l h = rw (some k l) (stops (kindNamed k) h)
+  where
+    no-kind : (m : Bool) (kind : Kind) (r : Result ℕ InputEnd) → then_some (not m) kind ≡ None → pick m (Err NoEvent) r ≡ Err NoEvent
+    no-kind true kind r h = refl
+    no-kind false kind r h = absurd (cc h)
+
+    stops : (named : Option Kind) → placedKind first named ≡ None → nextBy first named (length (k ∷ l)) ≡ Err NoEvent
+    stops None h = refl
+    stops (Some kind) h = no-kind (misplaced first kind) kind _ h
+
+-- a kind that may stand here is the one that was named
+pub placed-named : (first : Bool) (named : Option Kind) (kind : Kind) → placedKind first named ≡ Some kind → (named ≡ Some kind) × (misplaced first kind ≡ false)
+unfolding placedKind
+placed-named first None kind h = absurd (cc h)
+placed-named first (Some other) kind h =
+    let p = same (misplaced first other) h in
+    (ap Some p.0, rw p.0 at p.1)
+  where
+    same : (m : Bool) → then_some (not m) other ≡ Some kind → (other ≡ kind) × (m ≡ false)
+    same true h = absurd (cc h)
+    same false h = (cc h, refl)
 
 -- behind a byte that names a kind
 module _ (first : Bool) (k : ℕ) (l : List ℕ) (kind : Kind) (named : kindNamed k ≡ Some kind) where
-  pub stop-misplaced : misplaced first kind ≡ true → next_of first (k ∷ l) ≡ Err NoEvent
-  unfolding next_of nextBy pick
-  stop-misplaced h = rw (some k l, named, h) refl
-
   pub stop-short : misplaced first kind ≡ false → length l < bodyOf kind → next_of first (k ∷ l) ≡ Err NoEvent
   unfolding next_of nextBy pick nextWhole
   stop-short h s = rw (some k l, named, h, lt-leb (bodyOf kind + 1) (length (k ∷ l)) (omega (arith, s))) refl
@@ -48,14 +67,6 @@ module _ (first : Bool) (k : ℕ) (l : List ℕ) (kind : Kind) (named : kindName
   one-whole h s =
       let m : bodyOf kind + 1 ≡ length (k ∷ l) = omega (arith, s) in
       rw (some k l, named, h, le-leb (bodyOf kind + 1) (length (k ∷ l)) (omega (arith, s))) (ap Ok m)
-
-pub empty-first : (first : Bool) → first ≡ true → next_of first [] ≡ Err NoEvent
-unfolding next_of pick
-empty-first first h = rw h refl
-
-pub empty-later : (first : Bool) → first ≡ false → next_of first [] ≡ Err Clean
-unfolding next_of pick
-empty-later first h = rw h refl
 
 -- no event begins in no bytes
 pub ends-empty : (first : Bool) → Ends (next_of first [])

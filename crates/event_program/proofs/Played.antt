@@ -1,15 +1,15 @@
 -- Where a run stands behind the events that it has played. Assumes nothing.
 use Rattle.std.proofs.Common.{◌≡◌, ℕ, ◌+◌, ◌-◌, ◌^◌, Bool, false, List, [], ◌∷◌, ◌++◌, length, length-append, append-nil, Option, Result, IsErr, IsErrAnd, refl, sym, subst, ◌∙◌, arith, Ok}
 use Rattle.std.proofs.KnownBytes.{Appends-nil, Appends-trans, Consumes-nil, Consumes-trans}
+use Rattle.std.specs.Borrow.{Bor}
 use Rattle.std.specs.Io.KnownBytes.{Appends, Consumes}
 use Rattle.streams.specs.Fronts.{AppendsFront}
 use Rattle.event_program.specs.declared.errors.RunError.{RunError}
 use Rattle.event_kinds.specs.declared.kinds.InputEnd.{InputEnd}
-use Rattle.event_program.specs.declared.event.Event.{Event}
 use Rattle.frame_parts.specs.Cut.{joined}
 use Rattle.event_program.specs.Ends.{Finished}
 use Rattle.event_program.specs.Output.{PassedOn}
-use Rattle.event_program.specs.Reading.{IsEvent, ReadEvent, event_bytes}
+use Rattle.event_program.specs.Reading.{IsEvent, ReadEvent}
 use Rattle.event_program.specs.Running.{Kept, told, after, lines_from, kept_after, AllEvents}
 use Rattle.event_program.specs.Runs.{lines_on, later, always, PlayedOn}
 use Rattle.event_program.proofs.Fronts.{front-first, front-then}
@@ -44,9 +44,9 @@ module _ {traced : Bool} {first : Kept} {l : List ℕ} {known old now new : Opti
     text = text-more traced first l p.es e p.done lines lines' p.text (rw (p.state, sym p.number) at t);
   }
 
-  pub one-more : {next : Result Event InputEnd} {event : Event} {now' : Option (List ℕ)} {k' : Kept} {e lines' : List ℕ} → next ≡ Ok event → ReadEvent false now next now' → e ≡ event_bytes event → k' ≡ after k e → lines' ≡ lines ++ told traced n k e
+  pub one-more : {next : Result (Bor (List ℕ)) InputEnd} {event : Bor (List ℕ)} {now' : Option (List ℕ)} {k' : Kept} {lines' : List ℕ} → next ≡ Ok event → ReadEvent false now next now' → k' ≡ after k event.now → lines' ≡ lines ++ told traced n k event.now
       → Played traced first l known old now' new k' lines' (n + 1)
-  one-more {e = e} w came s q t = let read = rw (w, sym s) at came in one-read e _ _ _ read.0 read.1 q t
+  one-more {event = event} w came q t = let read = rw w at came in one-read event.now _ _ _ read.0 read.1 q t
 
   -- some of the lines are written
   pub some-passed : (new' : Option (List ℕ)) (left : List ℕ) → PassedOn new new' lines left → Played traced first l known old now new' k left n

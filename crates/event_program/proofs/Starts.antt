@@ -8,11 +8,10 @@ use Rattle.event_kinds.specs.Kinds.{next_of}
 use lib.Dec.{eqb}
 use Rattle.events.specs.Start.{start_by, start_of}
 use Rattle.device.specs.declared.state.Outcome.{Outcome}
-use Rattle.device.specs.declared.state.Device.{Device}
 use Rattle.event_program.specs.Lines.{line_of}
 use Rattle.event_program.specs.Running.{kept}
 use Rattle.std.specs.Prelude.{replicate, ◌&&◌, leb, is_some, option_copied}
-use Rattle.std.proofs.Common.{length, take, length-take-le, ap₂, ◌<◌, ◌≤◌, get_or, arith}
+use Rattle.std.proofs.Common.{length, take, length-take-le, ap₂, ◌≤◌, get_or, arith}
 use borrow.Author.Tests.{leb-true}
 use Rattle.bits.proofs.Picks.{by-test, and_right}
 use denote.Ref.{Bor}
@@ -37,6 +36,7 @@ use Rattle.event_program.specs.Runs.{Ran, RunAloud, HasRun, PlayedOn, lines_on, 
 use Rattle.event_program.specs.Ends.{Finished}
 use Rattle.event_program.proofs.Fronts.{front-of, front-all}
 use Rattle.event_program.proofs.Runs.{begins, finished}
+use Rattle.event_program.proofs.Steps.{same-kept}
 
 -- nothing is known to be written yet, and no event is known to be read
 pub loses-all : (traced : Bool) (known w : Option (List ℕ)) → Loses Plays (run_lines traced) known w w
@@ -151,9 +151,6 @@ unfolding start_of
 none-outstanding e = by-none-outstanding (asked_of e)
 
 -- what power-on gave
-same-kept : {d d' : Device} {m m' b b' : List ℕ} → d ≡ d' → m ≡ m' → b ≡ b' → kept d m b ≡ kept d' m' b'
-same-kept p q r = cc
-
 pub refused-yes : (s : List ℕ) (r : Refusal) → poweredOf (Err r) ≡ start_of s → refused s ≡ true
 unfolding poweredOf
 refused-yes s r e = sym (ap (λ (x : Outcome). is_some x.refusal) e)
@@ -228,7 +225,6 @@ started-is s d m b e n size p q =
     same-kept (ap (λ (x : Outcome). x.state) e) (p ∙ ap (λ (k : ℕ). replicate k 0) (size ∙ ap (λ (x : Outcome). medium_size x.state.settings.capacity) e)) q
 
 -- whether all could be said of a run or not, what was said of it is a front
-pub run-said : {A E : Type 0} (r : Result A E) (piece : ℕ) (traced : Bool) (known w w' v v' : Option (List ℕ)) → OnOk r (0 < piece → RunAloud traced known w w' v v') → OnErr r (0 < piece → HasRun traced known w w' v v')
-    → 0 < piece → HasRun traced known w w' v v'
-run-said (Ok a) piece traced known w w' v v' told front some = let t = told some in (t.0, t.1, t.2, front-all v v' _ t.3)
-run-said (Err e) piece traced known w w' v v' told front some = front some
+pub run-said : {A E : Type 0} (r : Result A E) (traced : Bool) (known w w' v v' : Option (List ℕ)) → OnOk r (RunAloud traced known w w' v v') → OnErr r (HasRun traced known w w' v v') → HasRun traced known w w' v v'
+run-said (Ok a) traced known w w' v v' told front = (told.0, told.1, told.2, front-all v v' _ told.3)
+run-said (Err e) traced known w w' v v' told front = front

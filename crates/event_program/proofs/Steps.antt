@@ -10,7 +10,8 @@ use Rattle.device.proofs.Kept.{answered-state}
 use Rattle.event_program.specs.Lines.{line_of}
 use Rattle.event_program.specs.Running.{Kept, kept, stepIn, after, told}
 
-same-kept : {d d' : Device} {m m' b b' : List ℕ} → d ≡ d' → m ≡ m' → b ≡ b' → kept d m b ≡ kept d' m' b'
+-- the same device, medium and reply buffer are kept alike
+pub same-kept : {d d' : Device} {m m' b b' : List ℕ} → d ≡ d' → m ≡ m' → b ≡ b' → kept d m b ≡ kept d' m' b'
 same-kept p q r = cc
 
 pub kept-is : (k : Kept) (e : List ℕ) (d : Device) (r : Result ℕ Refusal) (m b : List ℕ) → Gives (stepIn k e) k.reply (gave (answered d r) m b) → kept d m b ≡ after k e

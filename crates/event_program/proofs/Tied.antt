@@ -1,7 +1,7 @@
 -- What each contract says, by any reader and any writer: a read or a write may go more than one way. That a run has one text is a law of its own. Assumes nothing.
 use mathlib.Core.List.{Mem}
 use mathlib.Core.Path.{refl}
-use Prim.Native.Nat.{ℕ, ◌<◌}
+use Prim.Native.Nat.{ℕ}
 use denote.RattleType.{RattleType}
 use denote.Param.Laws.{Laws}
 use mir.Syntax.{Dict}
@@ -17,7 +17,7 @@ use Rattle.event_program.specs.contracts.pieces as pieces-said
 
 pub tied-run : (R W : RattleType) (l : Laws R) (m : Laws W) (g : Reader.Ghosts R.Denot) (d : Dict) (h : Writer.Ghosts W.Denot) (e : Dict)
     → SaysOver (running-said.run.ended R W g d h e) (λ κs a. ((x : ℕ) → Mem x R.lives → Mem x κs.1.1.0) × ((x : ℕ) → Mem x W.lives → Mem x κs.1.1.1.0)) (running.run.Reads.Asked R W l m g d h e) (running.run.Reads.Post R W l m g d h e)
-    (λ κs a r ws. Ran a.1.0 (g.remaining a.1.1.0.now) (g.remaining ws.1.1.0) (h.contents a.1.1.1.0.now) (h.contents ws.1.1.1.0) r)
+    (λ κs a r ws. Ran a.0.traced (g.remaining a.1.0.now) (g.remaining ws.1.0) (h.contents a.1.1.0.now) (h.contents ws.1.1.0) r)
 tied-run R W l m g d h e = record { free = λ κs a x. x; says = λ κs a r ws p. p }
 
 pub tied-a-run-has-one-text : Tied running-said.a_run_has_one_text.ended running.a_run_has_one_text.Reads.Asked running.a_run_has_one_text.Reads.Post (λ κs a r ws. OneText × OneBroken)
@@ -25,5 +25,5 @@ tied-a-run-has-one-text = by (say (λ κs a. tt) (λ κs a r ws p. (p.0, p.1))) 
 
 pub tied-run-in-pieces : (R W E : RattleType) (l : Laws R) (m : Laws W) (n : Laws E) (g : Reader.Ghosts R.Denot) (d : Dict) (f : Dict) (h : Writer.Ghosts W.Denot) (e : Dict) (i : Writer.Ghosts E.Denot) (j : Dict)
     → SaysOver (pieces-said.run_in_pieces.ended R W E g d h e i j f) (λ κs a. ((x : ℕ) → Mem x R.lives → Mem x κs.1.1.0) × (((x : ℕ) → Mem x W.lives → Mem x κs.1.1.1.0) × ((x : ℕ) → Mem x E.lives → Mem x κs.1.1.1.1.0))) (pieces.run_in_pieces.Reads.Asked R W E l m n g d h e i j f) (pieces.run_in_pieces.Reads.Post R W E l m n g d h e i j f)
-    (λ κs a r ws. 0 < a.1.1.0 → HasRun a.1.0 (g.remaining a.1.1.1.0) (h.contents a.1.1.1.1.0.now) (h.contents ws.1.1.1.1.0) (i.contents a.1.1.1.1.1.0.now) (i.contents ws.1.1.1.1.1.0))
+    (λ κs a r ws. HasRun a.0.traced (g.remaining a.1.1.0) (h.contents a.1.1.1.0.now) (h.contents ws.1.1.1.0) (i.contents a.1.1.1.1.0.now) (i.contents ws.1.1.1.1.0))
 tied-run-in-pieces R W E l m n g d f h e i j = record { free = λ κs a x. x; says = λ κs a r ws p. p }

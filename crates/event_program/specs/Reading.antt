@@ -1,14 +1,21 @@
 -- What is told of the next event. Assumes nothing.
-use Rattle.std.specs.Prelude.{◌≡◌, Bool, List, [], ◌∷◌, ℕ, length, take, IfSome, Option, Some, None, Result, Ok, Err}
+use Rattle.std.specs.Prelude.{◌≡◌, Bool, not, List, [], ◌∷◌, ℕ, length, IfSome, Option, Some, None, Result, Ok, Err}
+use Rattle.std.specs.Bool.{then_some}
+use Rattle.std.specs.Borrow.{Bor}
 use Rattle.std.specs.Io.KnownBytes.{Consumes, IsAtEnd}
 use Rattle.event_kinds.specs.declared.kinds.InputEnd.{InputEnd}
-use Rattle.event_kinds.specs.Kinds.{next_of}
-use Rattle.event_program.specs.declared.event.Event.{Event}
+use Rattle.event_kinds.specs.declared.kinds.Kind.{Kind}
+use Rattle.event_kinds.specs.Kinds.{misplaced, next_of}
 
 -- one byte was read, or the input is at its end
 abbrev pub ReadKind : Option (List ℕ) → Option ℕ → Option (List ℕ) → Type 0
 ReadKind old (Some kind) new = Consumes old new (kind ∷ [])
 ReadKind old None new = Consumes old new [] × IsAtEnd new
+
+-- the kind that was named, if an event of that kind may stand here; `first` says that nothing was before it
+unfoldable pub placedKind : Bool → Option Kind → Option Kind
+placedKind first (Some kind) = then_some (not (misplaced first kind)) kind
+placedKind first None = None
 
 -- bytes that are one event, and no more
 abbrev pub IsEvent : Bool → List ℕ → Type 0
@@ -19,13 +26,9 @@ abbrev pub Ends : {T : Type 0} → Result T InputEnd → Type 0
 Ends (Ok event) = ⊥
 Ends (Err end) = Unit
 
--- the bytes of an event as it is read
-abbrev pub event_bytes : Event → List ℕ
-event_bytes event = take event.len event.bytes
-
 -- a whole event was read; or of the bytes that were left, whatever they are, it is known what they begin with
-abbrev pub ReadEvent : Bool → Option (List ℕ) → Result Event InputEnd → Option (List ℕ) → Type 0
-ReadEvent first old (Ok event) new = IsEvent first (event_bytes event) × Consumes old new (event_bytes event)
+abbrev pub ReadEvent : Bool → Option (List ℕ) → Result (Bor (List ℕ)) InputEnd → Option (List ℕ) → Type 0
+ReadEvent first old (Ok event) new = IsEvent first event.now × Consumes old new event.now
 ReadEvent first old (Err end) new = IfSome old (λ input. next_of first input ≡ Err end)
 
 -- a read failed: what came before it is no event, and begins with none

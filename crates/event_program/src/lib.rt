@@ -3,7 +3,6 @@
 
 mod bench;
 mod errors;
-mod event;
 mod lines;
 mod output;
 mod pieces;
@@ -11,5 +10,6 @@ mod reading;
 mod running;
 
 pub use errors::RunError;
+pub use lines::Format;
 pub use pieces::{PIECE, run_in_pieces};
 pub use running::{a_run_has_one_text, run};

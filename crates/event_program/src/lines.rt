@@ -21,10 +21,10 @@ fn upper(byte: u8) -> [u8; 2]
 }
 
 #[tactic(auto, unfolding(hex::specs::Hex::encode_with))]
-fn write_upper8<W: Write>(out: &mut W, n: u32) -> io::Result<()>
-    ensures { OnOk result (Appends (W.contents out.old) (W.contents out.new) (upper8 n)) }
+fn write_upper8<W: Write>(out: &mut W, number: u32) -> io::Result<()>
+    ensures { OnOk result (Appends (W.contents out.old) (W.contents out.new) (upper8 number)) }
 {
-    for byte in n.to_be_bytes() {
+    for byte in number.to_be_bytes() {
         out.write_all(&upper(byte))?;
     }
     Ok(())
@@ -52,11 +52,13 @@ impl<'a> Line<'a> {
     }
 }
 
-/// How lines are written: by an allocator for the digits of a reply, with the bytes of each reply where the run is traced.
-#[derive(Clone, Copy)]
-pub(crate) struct Format {
-    pub(crate) alloc: Global,
-    pub(crate) traced: bool,
+/// How a run writes its lines.
+#[derive(Clone, Copy, Debug)]
+pub struct Format {
+    /// where the lines are gathered, and the digits of a reply
+    pub alloc: Global,
+    /// whether the bytes of each reply stand in its line
+    pub traced: bool,
 }
 
 impl Format {

@@ -1,14 +1,26 @@
 // What is read of an input: the next event.
-ghost use Rattle.std.specs.Prelude.{◌≡◌, ◌<◌, [], IfOk, OnErr, length, drop, slice_get};
+ghost use Rattle.std.specs.Prelude.{◌≡◌, ◌<◌, [], Err, IfOk, OnErr, length, drop, slice_get};
 ghost use Rattle.std.specs.Io.KnownBytes.{Consumes};
+ghost use Rattle.event_kinds.specs.Kinds.{kindNamed, next_of};
 ghost use Rattle.streams.specs.Fronts.{Filled, StuckBefore};
-ghost use Rattle.event_program.specs.Reading.{ReadKind, ReadEvent, BreaksIn};
+ghost use Rattle.event_program.specs.Reading.{ReadKind, placedKind, ReadEvent, BreaksIn};
 
-use crate::event::Event;
 use event_kinds::{EVENT_LIMIT, InputEnd, Kind};
 use std::io;
 use std::io::Read;
 use streams::fill;
+
+// How an input ends that has no bytes left; `first` says that it had none at all.
+#[tactic(auto, unfolding(event_kinds::specs::Kinds::next_of, bits::specs::Pick::pick))]
+fn empty_end(first: bool) -> InputEnd
+    ensures { next_of first [] ≡ Err result }
+{
+    if first {
+        InputEnd::NoEvent
+    } else {
+        InputEnd::Clean
+    }
+}
 
 // The byte that the next event begins with; none at the input's end.
 fn read_byte<R: Read>(reader: &mut R) -> io::Result<Option<u8>>
@@ -22,6 +34,13 @@ fn read_byte<R: Read>(reader: &mut R) -> io::Result<Option<u8>>
     Ok(Some(byte[0]))
 }
 
+// The kind that a byte names, if an event of that kind may stand here; `first` says that nothing was before it.
+fn placed_kind(byte: u8, first: bool) -> Option<Kind>
+    ensures { result ≡ placedKind first (kindNamed byte) }
+{
+    Kind::from_byte(byte).filter(|kind| !kind.is_misplaced(first))
+}
+
 // The body of an event behind its first byte, as far as it could be read: so many bytes.
 fn read_body<R: Read>(reader: &mut R, event: &mut [u8]) -> io::Result<usize>
     requires { 0 < length event.old }
@@ -33,33 +52,26 @@ fn read_body<R: Read>(reader: &mut R, event: &mut [u8]) -> io::Result<usize>
     fill(reader, &mut event[1..])
 }
 
-/// The next event, or how the input ends; `first` says that nothing was before it.
-pub(crate) fn read_event<R: Read>(
+/// The next event, in the front of `room`, or how the input ends; `first` says that nothing was before it.
+pub(crate) fn read_event<'a, R: Read>(
     reader: &mut R,
+    room: &'a mut [u8; EVENT_LIMIT],
     first: bool,
-) -> io::Result<Result<Event, InputEnd>>
+) -> io::Result<Result<&'a [u8], InputEnd>>
     ensures ok { IfOk result (λ next. ReadEvent first (R.remaining reader.old) next (R.remaining reader.new)) }
     ensures err { OnErr result (BreaksIn first (R.remaining reader.old) (R.remaining reader.new)) }
 {
     let Some(byte) = read_byte(reader)? else {
-        return Ok(Err(if first {
-            InputEnd::NoEvent
-        } else {
-            InputEnd::Clean
-        }));
+        return Ok(Err(empty_end(first)));
     };
-    let Some(kind) = Kind::from_byte(byte) else {
+    let Some(kind) = placed_kind(byte, first) else {
         return Ok(Err(InputEnd::NoEvent));
     };
-    if kind.is_misplaced(first) {
-        return Ok(Err(InputEnd::NoEvent));
-    }
     let body = kind.body_length();
-    let len = body + 1;
-    let mut bytes = [0u8; EVENT_LIMIT];
-    bytes[0] = byte;
-    if read_body(reader, &mut bytes[..len])? < body {
+    let event = &mut room[..body + 1];
+    event[0] = byte;
+    if read_body(reader, event)? < body {
         return Ok(Err(InputEnd::NoEvent));
     }
-    Ok(Ok(Event { bytes, len }))
+    Ok(Ok(event))
 }

@@ -7,8 +7,7 @@ use crate::lines::{Format, Line};
 use crate::output::{finish, pass_on};
 use crate::reading::read_event;
 use device::Device;
-use event_kinds::{InputEnd, RUN_CAPACITY_LIMIT};
-use std::alloc::Global;
+use event_kinds::{EVENT_LIMIT, InputEnd, RUN_CAPACITY_LIMIT};
 use std::io::{Read, Write};
 
 // The bytes of the longest medium, as the settings record is limited.
@@ -24,10 +23,11 @@ fn play_on<R: Read, W: Write>(
 ) -> Result<(), RunError>
     ensures { PlayedOn format.traced bench.old lines.old.items (R.remaining reader.old) (R.remaining reader.new) (W.contents out.old) (W.contents out.new) result }
 {
+    let mut room = [0u8; EVENT_LIMIT];
     for number in 1..u64::MAX {
-        match read_event(reader, false) {
+        match read_event(reader, &mut room, false) {
             Ok(Ok(event)) => {
-                bench.play_and_tell(format, lines, number, event.as_slice())?;
+                bench.play_and_tell(format, lines, number, event)?;
                 pass_on(out, lines)?;
             }
             Ok(Err(end)) => return finish(out, lines, Ok(end)),
@@ -68,16 +68,12 @@ fn start_with<R: Read, W: Write>(
 }
 
 /// Runs an event file: a line for each event, and `stop` where the input ends in no event.
-pub fn run<R: Read, W: Write>(
-    alloc: Global,
-    traced: bool,
-    reader: &mut R,
-    out: &mut W,
-) -> Result<(), RunError>
-    ensures { Ran traced (R.remaining reader.old) (R.remaining reader.new) (W.contents out.old) (W.contents out.new) result }
+pub fn run<R: Read, W: Write>(format: Format, reader: &mut R, out: &mut W) -> Result<(), RunError>
+    ensures { Ran format.traced (R.remaining reader.old) (R.remaining reader.new) (W.contents out.old) (W.contents out.new) result }
 {
-    match read_event(reader, true) {
-        Ok(Ok(event)) => { start_with(Format { alloc, traced }, reader, out, event.as_slice()) }
+    let mut room = [0u8; EVENT_LIMIT];
+    match read_event(reader, &mut room, true) {
+        Ok(Ok(event)) => start_with(format, reader, out, event),
         Ok(Err(end)) => finish(out, &[], Ok(end)),
         Err(failed) => finish(out, &[], Err(RunError::Input(failed))),
     }

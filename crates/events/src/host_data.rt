@@ -6,19 +6,15 @@ ghost use Rattle.device.specs.Step.{Given};
 ghost use Rattle.events.specs.HostData.{dataFrame, hostData};
 
 use device::Sealed;
-use frame_parts::{DATA_FRAME_LIMIT, DATA_HEAD_SIZE, FrameKind};
+use frame_parts::{DATA_FRAME_LIMIT, DATA_HEAD, DATA_HEAD_SIZE};
 use refusals::Refusal;
 
 // The longest data frame, its payload all of one byte: a front of it is the frame that is due.
-#[tactic(auto, unfolding(crate::specs::HostData::dataFrame))]
 fn longest(byte: u8) -> [u8; DATA_FRAME_LIMIT]
     ensures { result ≡ dataFrame 8192 byte }
 {
     let mut frame = [byte; DATA_FRAME_LIMIT];
-    frame[0] = FrameKind::Data as u8;
-    frame[1] = 0;
-    frame[2] = 0;
-    frame[3] = 0;
+    frame[..DATA_HEAD_SIZE].copy_from_slice(&DATA_HEAD);
     frame
 }
 

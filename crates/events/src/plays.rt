@@ -11,7 +11,7 @@ use event_kinds::{Request, request_of};
 use refusals::Refusal;
 
 // A frame is handed on as it came, its kind being its first byte.
-fn make_call(
+pub(crate) fn make_call(
     sealed: &mut Sealed,
     request: Request,
     event: &[u8],

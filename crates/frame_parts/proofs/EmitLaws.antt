@@ -1,5 +1,6 @@
 -- Laws of every writer. Assumes nothing.
-use Rattle.std.proofs.Common.{◌≡◌, refl, ◌∙◌, Bool, true, false, List, ℕ, ◌≤◌, ◌<◌, length, Some, None, Result, Ok, Err}
+use Rattle.std.proofs.Common.{◌≡◌, refl, ◌∙◌, Bool, true, false, List, [], ◌++◌, ℕ, ◌≤◌, ◌<◌, length, Some, None, Result, Ok, Err}
+use mathlib.Core.List.{append-nil}
 use mathlib.Core.Logic.{⊎_elim}
 use borrow.Author.Tests.{lt-ltb, le-ltb}
 use Rattle.bits.specs.Pick.{pick}
@@ -73,3 +74,20 @@ wrote-room fit s d r d' w f h =
 -- a writer has one answer
 pub emitted-once : (fit : Bool) (s d : List ℕ) (r r' : Result ℕ Refusal) (b b' : List ℕ) → WriteGiven fit s d r b → WriteGiven fit s d r' b' → (r ≡ r') × (b ≡ b')
 emitted-once fit s d r r' b b' p q = (same p.answer q.answer, same p.bytes q.bytes)
+
+-- a writer of bytes that are made by value first: where there are none, the values do not fit, and nothing is written
+pub emitted-unmade : (fit : Bool) (s d : List ℕ) (x : Refusal) (r : Result ℕ Refusal) → pick fit (Ok s) (Err Unfit) ≡ Err x → r ≡ Err x → WriteGiven fit s d r d
+unfolding pick
+emitted-unmade true s d x r e q = absurd (cc)
+emitted-unmade false s d x r e q =
+    let z : Unfit ≡ x = cc in
+    let g = emitted-unfit false s d refl in
+    rw (q, ← z) g
+
+-- and where there are some, the values fit, and these are written
+pub emitted_made : (fit : Bool) (s p d : List ℕ) (r : Result ℕ Refusal) (d' : List ℕ) → pick fit (Ok s) (Err Unfit) ≡ Ok p → WriteGiven true (p ++ []) d r d' → WriteGiven fit s d r d'
+unfolding pick
+emitted_made true s p d r d' e w =
+    let q : s ≡ p = cc in
+    rw (append-nil p, ← q) at w
+emitted_made false s p d r d' e w = absurd (cc)

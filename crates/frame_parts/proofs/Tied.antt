@@ -5,7 +5,7 @@ use Rattle.frame_parts.specs.Emit.{WriteGiven}
 use Rattle.frame_parts.specs.Pages.{pageNamed}
 use Rattle.frame_parts.specs.Shared.{flags_of, halvesOf, registerBytes, sectorsOf, srstOf, tag_of, taskFits, task_of}
 use Rattle.frame_parts.specs.Size.{allows, fixedSize, kindNamed, payloadSize, sizeOf}
-use lib.ListN.{get_or}
+use lib.ListN.{drop, get_or}
 use mathlib.Core.List.{◌++◌}
 use mathlib.Core.Path.{◌≡◌, refl}
 use Rattle.bits.specs.Contract.{Says, Tied}
@@ -49,6 +49,10 @@ tied-from-number = named (say (λ κs a. tt) (λ κs a r ws p. p)) (λ κs a ws 
 
 pub tied-byte-of : Tied shared-said.byte_of.ended shared.byte_of.Reads.Asked shared.byte_of.Reads.Post (λ κs a r ws. r ≡ get_or a.0.now a.1.0 0)
 tied-byte-of = named (say (λ κs a. tt) (λ κs a r ws p. p)) (λ κs a ws ws'. refl)
+
+-- of two answers the bytes are equal, the references need not be
+pub tied-payload-of : Says shared-said.payload_of.ended shared.payload_of.Reads.Asked shared.payload_of.Reads.Post (λ κs a r ws. r.now ≡ drop 4 a.0.now)
+tied-payload-of = say (λ κs a. tt) (λ κs a r ws p. p)
 
 pub tied-flag : Tied shared-said.flag.ended shared.flag.Reads.Asked shared.flag.Reads.Post (λ κs a r ws. r ≡ bitIn 8 a.0 a.1.0)
 tied-flag = named (say (λ κs a. tt) (λ κs a r ws p. p)) (λ κs a ws ws'. refl)

@@ -16,7 +16,7 @@ fn first_length(bytes: &[u8]) -> usize
 }
 
 /// The frames of a buffer, each as its bytes, seen as the list of those that are left.
-#[derive(Drop)]
+#[derive(Debug, Drop)]
 pub struct Frames<'a> {
     rest: &'a [u8],
 }

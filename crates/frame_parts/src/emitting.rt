@@ -4,19 +4,24 @@ ghost use Rattle.frame_parts.specs.Emit.{WriteGiven};
 
 use refusals::Refusal;
 
-/// Writes `head` and `rest` behind it to the front of `buf`, if their values fit and `buf` has room: how many bytes were
-/// written, or `Unfit` or `BufferShort`.
+/// Writes `head` and `rest` behind it to the front of `buf`: how many bytes were written.
+///
+/// # Errors
+/// `Unfit` (25) where the values do not fit their places, which `fit` tells, and else `BufferShort` (26) where `buf` has
+/// no room for all of the bytes.
+#[tactic(auto, unfolding(crate::specs::Emit::write_refusal, refusals::specs::First::first_of, bits::specs::Pick::pick))]
 pub fn emit(buf: &mut [u8], fit: bool, head: &[u8], rest: &[u8]) -> Result<usize, Refusal>
     ensures { WriteGiven fit (head.now ++ rest.now) buf.old result buf.new }
 {
     if !fit {
         return Err(Refusal::Unfit);
     }
-    let n = head.len() + rest.len();
-    if buf.len() < n {
+    let size = head.len() + rest.len();
+    let Some((front, _behind)) = buf.split_at_mut_checked(size) else {
         return Err(Refusal::BufferShort);
-    }
-    bits::lay(buf, head);
-    bits::lay(&mut buf[head.len()..], rest);
-    Ok(n)
+    };
+    let (first, second) = front.split_at_mut(head.len());
+    first.copy_from_slice(head);
+    second.copy_from_slice(rest);
+    Ok(size)
 }

@@ -12,5 +12,9 @@ pub use cutting::{Frames, frames_of};
 pub use emitting::emit;
 pub use kinds::FrameKind;
 pub use log_pages::LogPage;
-pub use shared::{Registers, Task, byte_of, flag, flags, halves, sectors_of, srst, tag_of};
-pub use sizes::{DATA_FRAME_LIMIT, DATA_HEAD_SIZE, PAYLOAD_LIMIT, fixed_size, is_payload_size};
+pub use shared::{
+    Registers, Task, byte_of, flag, flags, halves, payload_of, sectors_of, srst, tag_of,
+};
+pub use sizes::{
+    DATA_FRAME_LIMIT, DATA_HEAD, DATA_HEAD_SIZE, PAYLOAD_LIMIT, fixed_size, is_payload_size,
+};

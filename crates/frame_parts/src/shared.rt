@@ -1,7 +1,9 @@
 // The parts that several frames share: single bytes, flags, the status halves of A1h, the command's bytes, and the layout of 27h, 34h and 5Fh.
-ghost use Rattle.std.specs.Prelude.{◌≡◌, ◌%◌, get_or};
+ghost use Rattle.std.specs.Prelude.{◌≡◌, ◌%◌, get_or, drop};
 ghost use Rattle.bits.specs.Bit.{bitIn};
 ghost use Rattle.frame_parts.specs.Shared.{flags_of, halvesOf, LbaGiven, task_of, srstOf, tag_of, sectorsOf, registerBytes, taskFits};
+
+use crate::sizes::DATA_HEAD_SIZE;
 
 /// Bytes 4-10 and 12-13 of the frames that repeat a command: LBA 0-23 at 4-6, device at 7, LBA 24-47 at 8-10, count at 12-13.
 #[derive(Clone, Copy, Debug, Default, PartialEq, Eq)]
@@ -41,6 +43,13 @@ pub fn byte_of(bytes: &[u8], at: usize) -> u8
     bytes.get(at).copied().unwrap_or(0)
 }
 
+/// The payload of a data frame: the bytes behind its head; none of a frame that ends with its head or before.
+pub fn payload_of(frame: &[u8]) -> &[u8]
+    ensures { result.now ≡ drop 4 frame.now }
+{
+    frame.get(DATA_HEAD_SIZE..).unwrap_or_default()
+}
+
 /// A bit of a byte; from 8 on there is none, and it is off.
 #[tactic(auto, using(crate::proofs::SharedLaws::bit_of_byte))]
 pub fn flag(byte: u8, index: u32) -> bool
@@ -73,7 +82,8 @@ pub fn halves(status: u8) -> u8
 fn lba_of(bytes: &[u8]) -> u64
     ensures { LbaGiven bytes.now result }
 {
-    (bits::le(bytes, 8, 3) << 24) | bits::le(bytes, 4, 3)
+    let [l0, l1, l2, l3, l4, l5] = [4, 5, 6, 8, 9, 10].map(|at| byte_of(bytes, at));
+    u64::from_le_bytes([l0, l1, l2, l3, l4, l5, 0, 0])
 }
 
 fn low5(number: u16) -> u8
@@ -94,8 +104,10 @@ pub fn tag_of(count: u16) -> u8
 pub fn sectors_of(features: u8, high: u8) -> u32
     ensures { result ≡ sectorsOf features high }
 {
-    let n = (u32::from(high) << 8) | u32::from(features);
-    if n == 0 { 65536 } else { n }
+    match u16::from_le_bytes([features, high]) {
+        0 => 65536,
+        count => u32::from(count),
+    }
 }
 
 /// What stands in the layout that 27h, 34h and 5Fh share: bytes 0 to 3, the command's bytes, bytes 11 and 15, and the

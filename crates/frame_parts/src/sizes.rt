@@ -7,8 +7,11 @@ use crate::kinds::FrameKind;
 /// The most bytes of a data frame's payload.
 pub const PAYLOAD_LIMIT: usize = 8192;
 
-/// The bytes of a data frame's head, which stands before its payload.
-pub const DATA_HEAD_SIZE: usize = 4;
+/// The head of a data frame, which stands before its payload: the byte of its kind, and three of 0.
+pub const DATA_HEAD: [u8; 4] = [FrameKind::Data as u8, 0, 0, 0];
+
+/// The bytes of a data frame's head.
+pub const DATA_HEAD_SIZE: usize = DATA_HEAD.len();
 
 /// The most bytes of a data frame: the payload behind its head.
 pub const DATA_FRAME_LIMIT: usize = DATA_HEAD_SIZE + PAYLOAD_LIMIT;

@@ -3,68 +3,78 @@ ghost use Rattle.std.specs.Prelude.{◌≡◌};
 ghost use Rattle.frames.specs.Read.{hostOf, deviceOf, bits_of, setupOf, pioOf, frameOf, FrameGiven};
 
 use crate::shapes::{DevReg, DmaSetup, Frame, HostReg, PioSetup, SetBits};
-use frame_parts::{DATA_HEAD_SIZE, FrameKind, Task, byte_of, flag, halves};
+use frame_parts::{FrameKind, Task, byte_of, flag, halves, payload_of};
 use refusals::Refusal;
 
-fn read_host(bytes: &[u8]) -> HostReg
-    ensures { result ≡ hostOf bytes.now }
-{
-    HostReg {
-        command_bit: flag(byte_of(bytes, 1), 7),
-        command: byte_of(bytes, 2),
-        features: byte_of(bytes, 3),
-        task: Task::from_frame(bytes),
-        features_high: byte_of(bytes, 11),
-        control: byte_of(bytes, 15),
+impl HostReg {
+    fn from_frame(bytes: &[u8]) -> HostReg
+        ensures { result ≡ hostOf bytes.now }
+    {
+        HostReg {
+            command_bit: flag(byte_of(bytes, 1), 7),
+            command: byte_of(bytes, 2),
+            features: byte_of(bytes, 3),
+            task: Task::from_frame(bytes),
+            features_high: byte_of(bytes, 11),
+            control: byte_of(bytes, 15),
+        }
     }
 }
 
-fn read_device(bytes: &[u8]) -> DevReg
-    ensures { result ≡ deviceOf bytes.now }
-{
-    DevReg {
-        interrupt: flag(byte_of(bytes, 1), 6),
-        status: byte_of(bytes, 2),
-        error: byte_of(bytes, 3),
-        task: Task::from_frame(bytes),
+impl DevReg {
+    fn from_frame(bytes: &[u8]) -> DevReg
+        ensures { result ≡ deviceOf bytes.now }
+    {
+        DevReg {
+            interrupt: flag(byte_of(bytes, 1), 6),
+            status: byte_of(bytes, 2),
+            error: byte_of(bytes, 3),
+            task: Task::from_frame(bytes),
+        }
     }
 }
 
-fn read_bits(bytes: &[u8]) -> SetBits
-    ensures { result ≡ bits_of bytes.now }
-{
-    SetBits {
-        interrupt: flag(byte_of(bytes, 1), 6),
-        status: halves(byte_of(bytes, 2)),
-        error: byte_of(bytes, 3),
-        active: bits::le32(bytes, 4),
+impl SetBits {
+    fn from_frame(bytes: &[u8]) -> SetBits
+        ensures { result ≡ bits_of bytes.now }
+    {
+        SetBits {
+            interrupt: flag(byte_of(bytes, 1), 6),
+            status: halves(byte_of(bytes, 2)),
+            error: byte_of(bytes, 3),
+            active: bits::le32(bytes, 4),
+        }
     }
 }
 
-fn read_setup(bytes: &[u8]) -> DmaSetup
-    ensures { result ≡ setupOf bytes.now }
-{
-    DmaSetup {
-        auto: flag(byte_of(bytes, 1), 7),
-        interrupt: flag(byte_of(bytes, 1), 6),
-        to_host: flag(byte_of(bytes, 1), 5),
-        tag: bits::le32(bytes, 4),
-        offset: bits::le32(bytes, 16),
-        count: bits::le32(bytes, 20),
+impl DmaSetup {
+    fn from_frame(bytes: &[u8]) -> DmaSetup
+        ensures { result ≡ setupOf bytes.now }
+    {
+        DmaSetup {
+            auto: flag(byte_of(bytes, 1), 7),
+            interrupt: flag(byte_of(bytes, 1), 6),
+            to_host: flag(byte_of(bytes, 1), 5),
+            tag: bits::le32(bytes, 4),
+            offset: bits::le32(bytes, 16),
+            count: bits::le32(bytes, 20),
+        }
     }
 }
 
-fn read_pio(bytes: &[u8]) -> PioSetup
-    ensures { result ≡ pioOf bytes.now }
-{
-    PioSetup {
-        interrupt: flag(byte_of(bytes, 1), 6),
-        to_host: flag(byte_of(bytes, 1), 5),
-        status: byte_of(bytes, 2),
-        error: byte_of(bytes, 3),
-        task: Task::from_frame(bytes),
-        ending: byte_of(bytes, 15),
-        bytes: bits::le16(bytes, 16),
+impl PioSetup {
+    fn from_frame(bytes: &[u8]) -> PioSetup
+        ensures { result ≡ pioOf bytes.now }
+    {
+        PioSetup {
+            interrupt: flag(byte_of(bytes, 1), 6),
+            to_host: flag(byte_of(bytes, 1), 5),
+            status: byte_of(bytes, 2),
+            error: byte_of(bytes, 3),
+            task: Task::from_frame(bytes),
+            ending: byte_of(bytes, 15),
+            bytes: bits::le16(bytes, 16),
+        }
     }
 }
 
@@ -73,18 +83,21 @@ fn frame_of(kind: FrameKind, bytes: &[u8]) -> Frame
     ensures { result ≡ frameOf kind bytes.now }
 {
     match kind {
-        FrameKind::HostRegister => Frame::Host(read_host(bytes)),
-        FrameKind::DeviceRegister => Frame::Device(read_device(bytes)),
-        FrameKind::SetDeviceBits => Frame::Bits(read_bits(bytes)),
-        FrameKind::DmaSetup => Frame::Setup(read_setup(bytes)),
+        FrameKind::HostRegister => Frame::Host(HostReg::from_frame(bytes)),
+        FrameKind::DeviceRegister => Frame::Device(DevReg::from_frame(bytes)),
+        FrameKind::SetDeviceBits => Frame::Bits(SetBits::from_frame(bytes)),
+        FrameKind::DmaSetup => Frame::Setup(DmaSetup::from_frame(bytes)),
         FrameKind::DmaActivate => Frame::Activate,
         FrameKind::BistActivate => Frame::Bist,
-        FrameKind::PioSetup => Frame::Pio(read_pio(bytes)),
-        FrameKind::Data => Frame::Data(bytes.len().saturating_sub(DATA_HEAD_SIZE)),
+        FrameKind::PioSetup => Frame::Pio(PioSetup::from_frame(bytes)),
+        FrameKind::Data => Frame::Data(payload_of(bytes).len()),
     }
 }
 
-/// The frame that the bytes are; `NoFrame` where byte 0 names no kind, or its kind does not allow the length.
+/// The frame that the bytes are.
+///
+/// # Errors
+/// `NoFrame` (24) where byte 0 names no kind, or its kind does not allow the length.
 pub fn read_frame(bytes: &[u8]) -> Result<Frame, Refusal>
     ensures { FrameGiven bytes.now result }
 {

@@ -6,11 +6,11 @@ use mathlib.Core.Logic.{⊎_elim}
 use Prim.Native.Nat.{ℕ, ◌-◌, ◌*◌, min}
 use lib.Dec.{eqb, ltb, leb}
 use lib.ListN.{length}
-use borrow.Author.Tests.{eqb-true, lt-ltb, le-ltb, leb-true, leb-false}
+use borrow.Author.Tests.{eqb-true}
 use Rattle.std.proofs.Common.{is_none, Ok, Err, Some, unwrap_or}
 use Rattle.bits.specs.Pick.{pick}
 use Rattle.bits.specs.Bit.{bitIn}
-use Rattle.bits.proofs.Picks.{tested, pick_yes, pick_no, and_left, and_right}
+use Rattle.bits.proofs.Picks.{tested, not-leb, pick_yes, pick_no, and_left, and_right}
 use Rattle.frame_parts.specs.Shared.{taskFits}
 use Rattle.frames.specs.Read.{readFrame}
 use Rattle.frames.specs.RoundTrip as trip
@@ -104,11 +104,6 @@ activates : (b : Bool) → map trip.readBack (activateIf b) ≡ pick b (fs.Activ
 unfolding pick
 activates true = refl
 activates false = refl
-
--- less than is not at most, the other way round
-not-leb : (l n : ℕ) → not (leb l n) ≡ ltb n l
-not-leb l n =
-    ⊎_elim (λ (y : leb l n ≡ true). rw (y, le-ltb n l (leb-true l n y)) refl) (λ (y : leb l n ≡ false). rw (y, lt-ltb n l (leb-false l n y)) refl) (tested (leb l n))
 
 module _ (d : Device) (h : List Event) (k : Stands d h) where
   -- something is outstanding

@@ -1,6 +1,6 @@
 -- The set outstanding and the halt of a device, held together with its history: kept by each of the ten kinds of effect. Assumes nothing.
 use mathlib.Core.Path.{◌≡◌, refl, sym, ap, ap₂, ◌∙◌}
-use mathlib.Core.Bool.{Bool, true, false, not, ◌&&◌, ◌||◌, and-true, true≢false, false≢true}
+use mathlib.Core.Bool.{Bool, true, false, not, ◌&&◌, ◌||◌, and-true, and-false, true≢false, false≢true}
 use mathlib.Core.List.{List, [], ◌∷◌}
 use mathlib.Core.Logic.{⊎_elim}
 use Prim.Native.Nat.{ℕ, ◌+◌, ◌-◌, ◌^◌, ◌<◌}
@@ -13,6 +13,7 @@ use borrow.Author.Tests.{eqb-true, eqb-false, eq-eqb, ne_eqb, lt-ltb}
 use Rattle.bits.specs.Pick.{pick}
 use Rattle.bits.specs.Bit.{bitIn, withBitIn, clearIn}
 use Rattle.bits.proofs.Picks.{tested}
+use Rattle.bits.proofs.Masks.{no-bit}
 use Rattle.device.proofs.Tags.{bit-with, bit-without}
 use Rattle.device.specs.declared.state.Device.{Device}
 use Rattle.history.specs.Seen.{Seen, accepts}
@@ -23,7 +24,6 @@ use Rattle.history.proofs.Class as kinds
 use Rattle.history.proofs.Class.{Class, Is, none}
 use Rattle.history.proofs.Commands.{TagsBelow, tags-step, tags-none, with_none}
 use Rattle.history.proofs.CoreSteps.{waits-is, sactive-is, number_is, asked_is, blamed, blamed-on, blamed-new, ones-some, total-ones}
-use Rattle.history.proofs.Sets.{no-bit}
 
 -- k is the set outstanding, `halted` says whether the device is halted, h is what was seen
 pub record Inv (k : ℕ) (halted : Bool) (h : List Seen) : Type 0 where
@@ -86,10 +86,6 @@ again-test true false y = refl
 again-test false true y = refl
 again-test false false true = refl
 again-test false false false = refl
-
-off-test : (a : Bool) → a && false ≡ false
-off-test true = refl
-off-test false = refl
 
 -- SActive at a halt: q is a queued command, m that its tag is this one
 halt-test : (q m b ba fa : Bool) → (q ≡ true → fa ≡ false) → ba || fa ≡ true → ((q && m) || b) && true ≡ ltb 0 (one b) || (((q && m) && ba) || false)
@@ -194,7 +190,7 @@ module _ {k : ℕ} {b : Bool} {h : List Seen} (v : Inv k b h) {e : Seen} where
     tags = same-tags v e i.accepted;
     number = λ t u. number_is h i t ∙ sym (ap one (no-bit t));
     waiting = waits-is h i ∙ gone-test (waits h);
-    calm = λ _ t u. sactive-is h i t ∙ off-test (sactive t h) ∙ sym (no-bit t);
+    calm = λ _ t u. sactive-is h i t ∙ and-false (sactive t h) ∙ sym (no-bit t);
     stop = λ y. absurd (false≢true y);
   }
 
@@ -206,7 +202,7 @@ module _ {k : ℕ} {b : Bool} {h : List Seen} (v : Inv k b h) {e : Seen} where
     tags = same-tags v e i.accepted;
     number = λ t u. number_is h i t ∙ zero-add (totalWith t h) ∙ v.number t u ∙ ap (λ (n : ℕ). one (bitIn 32 n t)) (v.stop x).0;
     waiting = waits-is h i ∙ gone-test (waits h);
-    calm = λ _ t u. sactive-is h i t ∙ rw (all t u) (off-test (sactive t h)) ∙ sym (no-bit t);
+    calm = λ _ t u. sactive-is h i t ∙ rw (all t u) (and-false (sactive t h)) ∙ sym (no-bit t);
     stop = λ y. absurd (false≢true y);
   }
 
@@ -274,7 +270,7 @@ pub inv-number : {k : ℕ} {b : Bool} {h : List Seen} → Inv k b h → (t : ℕ
 inv-number v = v.number
 
 -- one is more than none
-one-test : (b : Bool) → ltb 0 (one b) ≡ b
+pub one-test : (b : Bool) → ltb 0 (one b) ≡ b
 one-test true = refl
 one-test false = refl
 

@@ -1,6 +1,6 @@
 -- What the history reads of a host frame is what its act does to the counters; and only page 11h is read as such. Assumes nothing.
 use mathlib.Core.Path.{◌≡◌, refl, sym, ap, ◌∙◌}
-use mathlib.Core.Bool.{Bool, true, false, ◌&&◌, false≢true, true≢false}
+use mathlib.Core.Bool.{Bool, true, false, ◌&&◌, false≢true, true≢false, and-false}
 use mathlib.Core.List.{List, []}
 use Prim.Native.Nat.{ℕ, ◌%◌}
 use native.Mathlib.Omega.{arith}
@@ -29,7 +29,6 @@ use Rattle.replies.specs.Replies.{repliesOf}
 use Rattle.device.specs.After.{after_of, movedBy, unhalted, zeroedIf}
 use Rattle.device.specs.Step.{shown}
 use Rattle.device.specs.declared.state.Device.{Device}
-use Rattle.device.proofs.Never.{and-never}
 use Rattle.history.specs.Replied.{FrameRead, some, isPio}
 use Rattle.history.specs.Logs.{readsLog}
 use Rattle.history.specs.FrameReading.{frameReads, frameZeroes}
@@ -124,7 +123,7 @@ reads-ten h p =
 
 -- a read of 10h zeroes nothing, whatever was sent
 ten-zeroes : (p r x : Bool) → r ≡ false → p && (r && x) ≡ false
-ten-zeroes p r x e = rw e (and-never p)
+ten-zeroes p r x e = rw e (and-false p)
 
 -- ---- each rule
 

@@ -20,7 +20,7 @@ use Rattle.history.specs.Carried.{span, base}
 use Rattle.history.specs.Waits.{waits}
 use Rattle.history.specs.ByHistory.{outstandingWith, isOut, whole, covers, underWayAfter, holding}
 use Rattle.history.proofs.Alls.{all-imp}
-use Rattle.history.proofs.Core.{Inv}
+use Rattle.history.proofs.Core.{Inv, one-test}
 use Rattle.history.proofs.Transfers.{transferOf}
 use Rattle.history.proofs.Moving.{deviceEntry, busyAt}
 use Rattle.history.proofs.Table.{Standing, Following, Tracked}
@@ -118,11 +118,6 @@ module _ (d : Device) (c : Command) (s : Standing d c) where
 -- a set of 32 bits holds no tag of 32 or more
 high-bit : (m t : ℕ) → ltb t 32 ≡ false → bitIn 32 m t ≡ false
 high-bit m t x = rw x
-
--- more than none, of one test
-one-test : (b : Bool) → ltb 0 (one b) ≡ b
-one-test true = refl
-one-test false = refl
 
 module _ (d : Device) (h : List Event) (i : Inv d.status.outstanding d.status.halted (map seen h)) where
   -- a tag is outstanding by the history where it is by the state

@@ -1,6 +1,6 @@
 -- The error record of the state is what the history tells of the last error: what each call does to it. Assumes nothing.
 use mathlib.Core.Path.{◌≡◌, refl, ap, ap₂, subst, ◌∙◌}
-use mathlib.Core.Bool.{Bool, true, false, not}
+use mathlib.Core.Bool.{Bool, true, false, not, and-false}
 use mathlib.Core.List.{List, [], ◌∷◌, map}
 use mathlib.Core.Logic.{⊎_elim}
 use Prim.Native.Nat.{ℕ, ◌+◌, ◌<◌, ◌^◌}
@@ -41,7 +41,6 @@ use Rattle.rules.proofs.Ruled.{heard-unsent}
 use Rattle.device.proofs.Entering.{capacity-most}
 use Rattle.device.proofs.Fitting.{ReadFits, read_fits}
 use Rattle.device.proofs.Keeping.{settings-good}
-use Rattle.device.proofs.Never.{and-never}
 use Rattle.device.proofs.Sized.{SizedRecord}
 use Rattle.history.specs.Event.{Event}
 use Rattle.history.specs.FrameAsks.{Asked, quiet, registerAsks, dataAsks, resetAsks}
@@ -125,7 +124,7 @@ module _ (d : Device) (h : List Event) (w : waits (map seen h) ≡ d.status.halt
   heard-logged x m b g t (by.rule2 f c y z) = rw (c.command, c.kind, w, y, echo-task f.task t) refl
   heard-logged x m b g t (by.rule3 f c y z v) = rw (c.command, c.kind, w, y, echo-task f.task t) refl
   heard-logged x m b g t (by.rule4 f c y z v) = rw c.command k
-  heard-logged x m b g t (by.other-halted f c y) = rw (c.command, c.kind, w, y, and-never _) k
+  heard-logged x m b g t (by.other-halted f c y) = rw (c.command, c.kind, w, y, and-false _) k
   heard-logged x m b g t (by.other-busy f c y) = rw (c.command, c.kind, w, calm g y, u, y, echo-task f.task t) refl
   heard-logged x m b g t (by.page10 f c y p) = paged-logged f d.status.halted _ _ c.command
   heard-logged x m b g t (by.page11 f c y z p) = rw c.command k

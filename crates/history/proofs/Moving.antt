@@ -6,6 +6,7 @@ use mathlib.Core.List.{List, [], ◌++◌, append-nil}
 use Prim.Native.Nat.{ℕ, ◌+◌, ◌*◌, ◌≤◌}
 use lib.Dec.{eqb}
 use borrow.Author.Tests.{eqb-true, eqb-false, eq-eqb}
+use Rattle.std.proofs.lemmas.Bool as bools
 use Rattle.bits.specs.Bit.{bitIn}
 use Rattle.bits.proofs.Picks.{tested, pick_yes, pick_no, or_left}
 use Rattle.device.proofs.Tags.{bit-with, bit-without, busy-below}
@@ -84,23 +85,13 @@ never d d' e c t x = absurd (b-ends (e.finishes t) (errs e || e.asks.resets) c x
 took-other : (d d' : Device) (e : Seen) → Took d e d' → (t : ℕ) → busyAt d t ≡ true → t ≡ e.asks.tag → ⊥
 took-other d d' e k t b x = true≢false (sym b ∙ ap (λ (u : ℕ). bitIn 32 d.status.outstanding u) x ∙ k.free)
 
--- truth table: the second of two tests holds
-or-true : (a b : Bool) → b ≡ true → a || b ≡ true
-or-true true b e = refl
-or-true false b e = e
-
 -- a command is accepted: the tags that were outstanding stay
 took-stays : (d d' : Device) (e : Seen) → Empty e → Took d e d' → (t : ℕ) → busyAt d t ≡ true → Stays d e d' t
 took-stays d d' e y k t b =
     let l = busy-below d.status.outstanding t b in
     stays d d' e t y
-    (ap (λ (m : ℕ). bitIn 32 m t) k.outstanding ∙ bit-with d.status.outstanding e.asks.tag t k.small l ∙ or-true (eqb t e.asks.tag) (busyAt d t) b)
+    (ap (λ (m : ℕ). bitIn 32 m t) k.outstanding ∙ bit-with d.status.outstanding e.asks.tag t k.small l ∙ bools.or_right (eqb t e.asks.tag) (busyAt d t) b)
     (k.others t l (took-other d d' e k t b))
-
--- truth table: the first of two tests holds
-or-here : (a b : Bool) → a ≡ true → a || b ≡ true
-or-here true b e = refl
-or-here false b e = absurd (false≢true e)
 
 -- a command is accepted: its own tag
 took-new : (d d' : Device) (e : Seen) → Took d e d' → New e d'
@@ -108,7 +99,7 @@ took-new d d' e k =
     let t = e.asks.tag in
     record {
       shut = k.phase ∙ k.shut;
-      busy = ap (λ (m : ℕ). bitIn 32 m t) k.outstanding ∙ bit-with d.status.outstanding t t k.small k.small ∙ or-here (eqb t t) (busyAt d t) (eq-eqb t t refl);
+      busy = ap (λ (m : ℕ). bitIn 32 m t) k.outstanding ∙ bit-with d.status.outstanding t t k.small k.small ∙ bools.or_left (eqb t t) (busyAt d t) (eq-eqb t t refl);
       write = k.write;
       first = k.first;
       count = k.count;

@@ -1,6 +1,6 @@
 -- The bytes that the state keeps of a command are what the history tells of it: what each call does to them. Assumes nothing.
 use mathlib.Core.Path.{◌≡◌, refl, sym, ap, subst, ◌∙◌}
-use mathlib.Core.Bool.{Bool, true, false, not, ◌&&◌, ◌||◌}
+use mathlib.Core.Bool.{Bool, true, false, not, ◌&&◌, ◌||◌, and-false}
 use mathlib.Core.List.{List, [], ◌∷◌}
 use mathlib.Core.Logic.{⊎_elim}
 use Prim.Native.Nat.{ℕ, ◌^◌, ◌<◌}
@@ -36,7 +36,6 @@ use Rattle.device.specs.declared.state.Device.{Device}
 use Rattle.rules.proofs.Ruled.{heard-unsent}
 use Rattle.device.proofs.Entering.{tag_small}
 use Rattle.device.proofs.Fitting.{ReadFits, read_fits}
-use Rattle.device.proofs.Never.{and-never}
 use Rattle.device.proofs.Sized.{SizedRecord}
 use Rattle.device.proofs.Tags.{bit-with, bit-without, busy-below}
 use Rattle.history.specs.Event.{Event}
@@ -162,15 +161,15 @@ module _ (d : Device) (h : List Event) (n : Named d h) where
   heard-named x m b {y} {a} t (by.srst f c s) = by-act (frameAsks y) [] (frameTask y) a (rw c refl) (empty-stay d (after_of d a) refl)
   heard-named x m b {y} {a} t (by.release f c s z) = by-act (frameAsks y) [] (frameTask y) a (rw c refl) same
   heard-named x m b {y} {a} t (by.nothing f c s z) = by-act (frameAsks y) [] (frameTask y) a (rw c refl) same
-  heard-named x m b {y} {a} t (by.rule1 f c z) = by-act (frameAsks y) [] (frameTask y) a (and-never _) same
-  heard-named x m b {y} {a} t (by.rule2 f c z u) = by-act (frameAsks y) [] (frameTask y) a (and-never _) (empty-stay d (after_of d a) refl)
-  heard-named x m b {y} {a} t (by.rule3 f c z u v) = by-act (frameAsks y) [] (frameTask y) a (and-never _) (empty-stay d (after_of d a) refl)
+  heard-named x m b {y} {a} t (by.rule1 f c z) = by-act (frameAsks y) [] (frameTask y) a (and-false _) same
+  heard-named x m b {y} {a} t (by.rule2 f c z u) = by-act (frameAsks y) [] (frameTask y) a (and-false _) (empty-stay d (after_of d a) refl)
+  heard-named x m b {y} {a} t (by.rule3 f c z u v) = by-act (frameAsks y) [] (frameTask y) a (and-false _) (empty-stay d (after_of d a) refl)
   heard-named x m b {y} {a} t (by.rule4 f c z u v) = accepted-named f c.command c.kind (sym (echo-task f.task t)) (repliesOf (shown d) [] a) (rw (c.command, c.kind) refl)
-  heard-named x m b {y} {a} t (by.other-halted f c z) = by-act (frameAsks y) [] (frameTask y) a (and-never _) same
-  heard-named x m b {y} {a} t (by.other-busy f c z) = by-act (frameAsks y) [] (frameTask y) a (and-never _) (empty-stay d (after_of d a) refl)
+  heard-named x m b {y} {a} t (by.other-halted f c z) = by-act (frameAsks y) [] (frameTask y) a (and-false _) same
+  heard-named x m b {y} {a} t (by.other-busy f c z) = by-act (frameAsks y) [] (frameTask y) a (and-false _) (empty-stay d (after_of d a) refl)
   heard-named x m b {y} {a} t (by.page10 f c z p) = paged-named f d.status.halted (page10Of d.errors) f.task (after_of d a) c.command c.kind same
   heard-named x m b {y} {a} t (by.page11 f c z u p) = paged-named f false (page11Of d.settings.mask d.values) f.task (after_of d a) c.command c.kind same
-  heard-named x m b {y} {a} t (by.other-bad f c z u) = by-act (frameAsks y) [] (frameTask y) a (and-never _) same
+  heard-named x m b {y} {a} t (by.other-bad f c z u) = by-act (frameAsks y) [] (frameTask y) a (and-false _) same
   heard-named x m b {y} {a} t (by.due l p q z) = data-named l (not (move_of d.status (phaseEntry d) l).last) noTask (after_of d a) (moved-stay d l p)
   heard-named x m b {y} {a} t (by.bist z) = by-act (frameAsks y) [] (frameTask y) a refl same
 

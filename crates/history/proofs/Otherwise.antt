@@ -1,6 +1,6 @@
 -- What a command that is not queued is answered, by the tests of its rules; and those tests by the fields that were read. Assumes nothing.
 use mathlib.Core.Path.{◌≡◌, refl, sym, ◌∙◌}
-use mathlib.Core.Bool.{Bool, true, false, not, ◌&&◌, ◌||◌}
+use mathlib.Core.Bool.{Bool, true, false, not, ◌&&◌, ◌||◌, and-false}
 use mathlib.Core.List.{List, [], ◌∷◌, ◌++◌, map}
 use mathlib.Core.Logic.{⊎_elim}
 use Prim.Native.Nat.{ℕ, ◌%◌, ◌^◌, ◌<◌}
@@ -28,7 +28,6 @@ use Rattle.rules.specs.Decide.{pageAsked, logPage, otherAct}
 use Rattle.rules.specs.declared.facts.Facts.{Facts}
 use Rattle.replies.specs.Replies.{repliesOf, page10Of, page11Of}
 use Rattle.replies.specs.declared.shown.Shown.{Shown}
-use Rattle.device.proofs.Never.{and-never}
 use Rattle.history.specs.Answered.{answeredBad, sweepReply, pageReplies, wellFormed}
 
 -- what it is answered: an error waits, or not; it is a well-formed READ LOG EXT of page 10h, of 11h; something is outstanding
@@ -44,7 +43,7 @@ same-other x y task p q r s = rw (p, q, r, s) refl
 -- a page is 512 bytes
 pub record Paged (s : Shown) : Type 0 where
   pub ten : length (page10Of s.errors) ≡ 512
-  pub eleven : length (page11Of s.settings.mask s.values) ≡ 512
+  pub eleven : length (page11Of s.mask s.values) ≡ 512
 
 module _ (v : Facts) (s : Shown) (part : List ℕ) (h : HostReg) (same : s.halted ≡ v.status.halted) (fit : taskFits h.task ≡ true) (pages : Paged s) where
   abbrev Answer : Bool → Bool → Bool → Bool → Type 0
@@ -91,9 +90,9 @@ and-always false = refl
 page-test : (asks : Option LogPage → Bool) (a b c g w : Bool) (page : Option LogPage) → asks None ≡ false → asks page ≡ w → asks (pick (a && (b && c) && g) page None) ≡ a && (w && (b && (c && g)))
 unfolding pick
 page-test asks false b c g w page z e = z
-page-test asks true false c g w page z e = z ∙ sym (and-never w)
-page-test asks true true false g w page z e = z ∙ sym (and-never w)
-page-test asks true true true false w page z e = z ∙ sym (and-never w)
+page-test asks true false c g w page z e = z ∙ sym (and-false w)
+page-test asks true true false g w page z e = z ∙ sym (and-false w)
+page-test asks true true true false w page z e = z ∙ sym (and-false w)
 page-test asks true true true true w page z e = e ∙ sym (and-always w)
 
 -- byte 4 names page 10h

@@ -1,6 +1,6 @@
 -- Whose data are under way: those of the one outstanding command of the open phase's tag. Assumes nothing.
 use mathlib.Core.Path.{◌≡◌, refl, sym, ap, ap₂, subst⁻¹, ◌∙◌}
-use mathlib.Core.Bool.{Bool, true, false, not, ◌&&◌}
+use mathlib.Core.Bool.{Bool, true, false, not, ◌&&◌, and-false}
 use mathlib.Core.Logic.{⊎_elim}
 use mathlib.Core.List.{List, [], ◌∷◌}
 use Prim.Native.Nat.{ℕ, ◌+◌, ◌<◌}
@@ -11,12 +11,12 @@ use Rattle.bits.specs.Bit.{bitIn}
 use Rattle.bits.proofs.Picks.{tested}
 use Rattle.device.specs.declared.state.Device.{Device}
 use Rattle.device.proofs.Tags.{busy-below}
-use Rattle.device.proofs.Never.{and-never}
 use Rattle.history.specs.Seen.{Seen, Transfer}
 use Rattle.history.specs.Fates.{Command, commands, ownTag, outstanding, one, howMany, All, totalWith}
 use Rattle.history.specs.Carried.{transfer, belongs}
 use Rattle.history.specs.Demand3.{Owned}
 use Rattle.history.proofs.Alls.{all-imp}
+use Rattle.history.proofs.Spans.{own-way}
 use Rattle.history.proofs.Transfers.{transferFor, transfer-shut, transfer-open}
 use Rattle.history.proofs.Moving.{deviceEntry}
 use Rattle.history.proofs.Table.{Following, Tracked}
@@ -27,12 +27,6 @@ pub many-same : (p q : Command → Bool) (cs : List Command) → All (λ c. p c 
 unfolding All howMany
 many-same p q [] a = refl
 many-same p q (c ∷ cs) a = ap₂ (λ (b : Bool) (n : ℕ). one b + n) a.0 (many-same p q cs a.1)
-
--- truth table: the data of a direction are those of a command of that direction
-own-way : (w : Bool) → pick w (not (not w)) (not w) ≡ true
-unfolding pick
-own-way true = refl
-own-way false = refl
 
 -- data of a tag are those of a command with this tag, and with the same write, and of no other
 pub belongs-tag : (w v : Bool) (t u : ℕ) → (t ≡ u → w ≡ v) → belongs v u (not w) t ≡ eqb u t
@@ -48,7 +42,7 @@ belongs-tag w v t u s =
 and-agree : (o a b : Bool) → (o ≡ true → a ≡ b) → o && a ≡ b && o
 and-agree true true b h = ap (λ (x : Bool). x && true) (h refl)
 and-agree true false b h = ap (λ (x : Bool). x && true) (h refl)
-and-agree false a b h = sym (and-never b)
+and-agree false a b h = sym (and-false b)
 
 -- the open phase's data belong to the outstanding commands of its tag
 phase-own : (d : Device) (t : ℕ) (c : Command) → Following d c

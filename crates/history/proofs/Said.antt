@@ -4,6 +4,7 @@ use mathlib.Core.Bool.{Bool, true, false, ◌&&◌, ◌||◌, false≢true}
 use mathlib.Core.List.{List, append-nil}
 use Prim.Native.Nat.{ℕ}
 use Rattle.std.proofs.Common.{Ok}
+use Rattle.std.proofs.lemmas.Bool.{or_right}
 use Rattle.bits.specs.Pick.{pick}
 use Rattle.frame_parts.specs.declared.shared.Task.{Task}
 use Rattle.frames.specs.Write.{FrameValue}
@@ -37,10 +38,6 @@ pub record FrameSays (f : FrameRead) (rs : List FrameValue) : Type 0 where
 pub mild : (f : FrameRead) (rs : List FrameValue) → someBits rs ≡ false → pioIn rs ≡ false → FrameSays f rs
 mild f rs a b = record { swept = λ x. absurd (false≢true (sym a ∙ x)); tells = λ x. absurd (false≢true (sym a ∙ x)); paged = λ x. absurd (false≢true (sym b ∙ x)) }
 
-or-true : (a b : Bool) → b ≡ true → a || b ≡ true
-or-true true b e = refl
-or-true false b e = e
-
 -- page 10h tells an error
 abbrev pub Telling : Shown → Type 0
 Telling s = TellsError (read_log (page10Of s.errors))
@@ -55,7 +52,7 @@ ten-said h task page t false k = record { swept = λ _. rw t; tells = λ x. absu
 pub eleven-said : (h : HostReg) (task : Task) (page : List ℕ) → frameReads 0x11 (Ok (fs.Host h)) ≡ true → FrameSays (Ok (fs.Host h)) (logReplies false task page)
 unfolding some collect pick
 eleven-said h task page t =
-    record { swept = λ x. absurd (false≢true x); tells = λ x. absurd (false≢true x); paged = λ _. or-true (frameReads 0x10 (Ok (fs.Host h))) (frameReads 0x11 (Ok (fs.Host h))) t }
+    record { swept = λ x. absurd (false≢true x); tells = λ x. absurd (false≢true x); paged = λ _. or_right (frameReads 0x10 (Ok (fs.Host h))) (frameReads 0x11 (Ok (fs.Host h))) t }
 
 -- an Activate or none
 pub kept-said : (f : FrameRead) (on : Bool) → FrameSays f (activateIf on)

@@ -1,18 +1,15 @@
 -- Sets of 32 tags, and the empty one; and the test whether something is there. Assumes nothing.
 use mathlib.Core.Path.{◌≡◌, refl, sym, ap, ◌∙◌}
-use mathlib.Core.Bool.{true, false, true≢false, false≢true, and-false}
+use mathlib.Core.Bool.{true, false, true≢false, false≢true}
 use Rattle.std.proofs.Common.{Option, Some, None, is_none}
 use Prim.Native.Nat.{ℕ, ◌/◌, ◌%◌, ◌^◌, ◌<◌}
 use native.Mathlib.Nat.{zero-div}
 use native.Mathlib.Omega.{arith}
-use lib.Dec.{eqb, ltb, lit<}
+use lib.Dec.{eqb, lit<}
 use borrow.Author.Tests.{eqb-false, lt-ltb}
 use Rattle.bits.specs.Bit.{bitIn}
+use Rattle.bits.proofs.Masks.{no-bit}
 use Rattle.std.proofs.lemmas.Nat.Bits.{bit_at-lt, same_from_bits_below}
-
--- no bit of 0 is on
-pub no-bit : (t : ℕ) → bitIn 32 0 t ≡ false
-no-bit t = rw (zero-div (2 ^ t)) (and-false (ltb t 32))
 
 -- a set that is 0 holds no tag
 pub no-busy : (m t : ℕ) → m ≡ 0 → bitIn 32 m t ≡ true → ⊥

@@ -50,15 +50,15 @@ pub onward-some : (k : ℕ) (d : Bool) (t a z : ℕ) → 0 < k → onward k (und
 onward-some zero d t a z l = absurd (omega arith)
 onward-some (suc k) d t a z l = refl
 
--- a command's own data: its direction
-own : (w : Bool) → pick w (not (not w)) (not w) ≡ true
+-- truth table: the data of a direction are those of a command of that direction
+pub own-way : (w : Bool) → pick w (not (not w)) (not w) ≡ true
 unfolding pick
-own true = refl
-own false = refl
+own-way true = refl
+own-way false = refl
 
 -- the data of a tag in a command's direction is the command's
 pub belongs-own : (w : Bool) (t : ℕ) → belongs w t (not w) t ≡ true
-belongs-own w t = rw (eq-eqb t t refl) (own w)
+belongs-own w t = rw (eq-eqb t t refl) (own-way w)
 
 -- another tag's is not
 pub belongs-other : (w d : Bool) (t u : ℕ) → (u ≡ t → ⊥) → belongs w t d u ≡ false

@@ -1,6 +1,6 @@
 -- When a call says no more than it may, and what it must: by its replies. Assumes nothing.
 use mathlib.Core.Path.{◌≡◌, refl, sym, ap, ◌∙◌}
-use mathlib.Core.Bool.{Bool, true, false, not, ◌&&◌, ◌||◌, true≢false, false≢true}
+use mathlib.Core.Bool.{Bool, true, false, not, ◌&&◌, ◌||◌, true≢false, false≢true, and-false}
 use mathlib.Core.List.{List, [], ◌∷◌}
 use mathlib.Core.Logic.{⊎_elim}
 use Prim.Native.Nat.{ℕ, ◌%◌}
@@ -14,7 +14,6 @@ use Rattle.frames.specs.declared.shapes.SetBits.{SetBits}
 use Rattle.frames.specs.declared.shapes.Frame.TheVariants as fs
 use Rattle.page_10h.specs.Page10.{read_log}
 use Rattle.rules.specs.Call.{Call, hostFrame}
-use Rattle.device.proofs.Never.{and-never}
 use Rattle.history.specs.FrameAsks.{Asked}
 use Rattle.history.specs.FrameReading.{frameAsks, frameReads}
 use Rattle.history.specs.Reading.{Speech, noneFinished, setFinished, errorTold, callAsks, callReads, callSays}
@@ -30,7 +29,7 @@ use Rattle.history.proofs.Said.{bitsIn, someBits, FrameSays}
 -- nothing is finished where no A1h is sent
 pub none-finished : (k : Asked) (rs : List FrameValue) → bitsIn rs ≡ [] → (t : ℕ) → (view k rs).finishes t ≡ false
 unfolding view some
-none-finished k rs e t = rw e (and-never (not k.command))
+none-finished k rs e t = rw e (and-false (not k.command))
 
 -- what is seen of a taken call, by what it may say: just a set finished, without ERR; ERR, and nothing finished; nothing finished
 abbrev pub SpokenBy : Speech → Seen → Type 0
@@ -57,7 +56,7 @@ unfolding view
 host-finishes f rs y t =
     ⊎_elim
     (λ (a : someBits rs ≡ true). let c = reads-command 0x10 f (and_left (frameReads 0x10 f) (pioIn rs) (y.swept a)) in rw c)
-    (λ (a : someBits rs ≡ false). ap (λ (b : Bool). not (frameAsks f).command && b) (some-none _ (bitsIn rs) a) ∙ and-never (not (frameAsks f).command))
+    (λ (a : someBits rs ≡ false). ap (λ (b : Bool). not (frameAsks f).command && b) (some-none _ (bitsIn rs) a) ∙ and-false (not (frameAsks f).command))
     (tested (someBits rs))
 
 -- ---- every call

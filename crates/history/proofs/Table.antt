@@ -6,6 +6,7 @@ use mathlib.Core.List.{List, [], ◌∷◌, ◌++◌}
 use Prim.Native.Nat.{ℕ, ◌*◌, ◌≤◌}
 use native.Mathlib.Omega.{arith}
 use borrow.Author.Tests.{not-true}
+use Rattle.std.proofs.lemmas.Bool.{or_left}
 use Rattle.bits.proofs.Picks.{tested, and_left, and_right}
 use Rattle.device.specs.declared.state.Device.{Device}
 use Rattle.history.specs.Seen.{Seen, Transfer}
@@ -96,11 +97,6 @@ b-before : (f o g : Bool) → (f || (o && g)) ≡ true → o ≡ false → f ≡
 b-before true o g e y = refl
 b-before false o g e y = absurd (true≢false (sym (and_left o g e) ∙ y))
 
--- truth table: a finishing event ends
-b-over : (f c : Bool) → f ≡ true → f || c ≡ true
-b-over true c e = refl
-b-over false c e = absurd (false≢true e)
-
 module _ (d d' : Device) (e : Seen) (c : Command) (m : Moving d e d') (k : Following d c) (u : transfer (e ∷ c.after) ≡ transferOf d') where
   -- a command that had already ended
   old : outstanding c ≡ false → Following d' (later e c)
@@ -120,7 +116,7 @@ module _ (d d' : Device) (e : Seen) (c : Command) (m : Moving d e d') (k : Follo
   now o s f =
       let t = ownTag c in
       let g = b-now (finished c) (outstanding c) (e.finishes t) f (finished-over t c.after) o in
-      carried_none (base c) c.accepted.asks.write t e c.after (m.over t (b-over (e.finishes t) _ g))
+      carried_none (base c) c.accepted.asks.write t e c.after (m.over t (or_left (e.finishes t) _ g))
       ∙ s.bytes ∙ ap (span (base c)) (m.done t s.busy g ∙ ap (λ (n : ℕ). 512 * n) s.count)
 
   -- ended by this event

@@ -1,12 +1,13 @@
 -- What the host sees of replies that were sent: the reader's view of the frames, and what demand 3 reads of them. Assumes nothing.
 use mathlib.Core.Path.{◌≡◌, refl, ap, ap₂, ◌∙◌}
-use mathlib.Core.Bool.{Bool, true, false, not, ◌&&◌, ◌||◌}
+use mathlib.Core.Bool.{Bool, true, false, not, ◌&&◌, ◌||◌, and-false}
 use mathlib.Core.List.{List, [], ◌∷◌, ◌++◌, map, append-nil}
 use Prim.Native.Nat.{ℕ, ◌+◌}
 use lib.ListN.{length}
 use Rattle.std.proofs.Common.{Ok}
 use Rattle.bits.specs.Pick.{pick}
 use Rattle.bits.specs.Bit.{bitIn}
+use Rattle.bits.proofs.Masks.{no-bit}
 use Rattle.frames.specs.Read.{readFrame}
 use Rattle.frames.specs.Write.{FrameValue, host, device, setBits, setup, activate, payload, bist, pio, encode}
 use Rattle.frames.specs.RoundTrip as trip
@@ -17,11 +18,9 @@ use Rattle.frames.specs.declared.shapes.PioSetup.{PioSetup}
 use Rattle.frames.proofs.RoundTrip.{read-encoded}
 use Rattle.replies.proofs.Fit.{Fitting}
 use Rattle.replies.specs.Replies.{activateIf}
-use Rattle.device.proofs.Never.{and-never}
 use Rattle.history.specs.FrameAsks.{Asked, quiet, dataAsks, resetAsks}
 use Rattle.history.specs.Replied.{FrameRead, some, errIn, collect, isPio, dataIn, payloads}
 use Rattle.history.specs.Seen.{Seen, seenIn, names, begun, Transfer, underWay}
-use Rattle.history.proofs.Sets.{no-bit}
 use Rattle.history.proofs.Class.{none, Is, Unbegun}
 
 -- what the reader sees of a frame that is sent
@@ -93,11 +92,11 @@ module _ (k : Asked) where
   is-silent q = record {
     queued = q;
     accepted = rw q;
-    bad = and-never k.command;
+    bad = and-false k.command;
     fails = refl;
     resets = refl;
-    sweeps = and-never k.command;
-    finishes = λ t. and-never (not k.command);
+    sweeps = and-false k.command;
+    finishes = λ t. and-false (not k.command);
     clears = λ t. refl;
     sends = refl;
     brings = refl;
@@ -108,12 +107,12 @@ module _ (k : Asked) where
   unfolding view some collect pick
   is-bad f e c r b = record {
     queued = refl;
-    accepted = rw e (and-never k.queued);
+    accepted = rw e (and-false k.queued);
     bad = rw (c, e);
     fails = refl;
     resets = r;
-    sweeps = and-never k.command;
-    finishes = λ t. and-never (not k.command);
+    sweeps = and-false k.command;
+    finishes = λ t. and-false (not k.command);
     clears = λ t. refl;
     sends = refl;
     brings = b;
@@ -129,11 +128,11 @@ module _ (k : Asked) where
   is-good f e r b = record {
     queued = refl;
     accepted = rw e (and-always k.queued);
-    bad = rw e (and-never k.command);
+    bad = rw e (and-false k.command);
     fails = refl;
     resets = r;
-    sweeps = and-never k.command;
-    finishes = λ t. and-never (not k.command);
+    sweeps = and-false k.command;
+    finishes = λ t. and-false (not k.command);
     clears = λ t. refl;
     sends = refl;
     brings = b;
@@ -146,11 +145,11 @@ module _ (k : Asked) where
   is-page f p q r b = record {
     queued = q;
     accepted = rw q;
-    bad = and-never k.command;
+    bad = and-false k.command;
     fails = refl;
     resets = r;
-    sweeps = and-never k.command;
-    finishes = λ t. and-never (not k.command);
+    sweeps = and-false k.command;
+    finishes = λ t. and-false (not k.command);
     clears = λ t. refl;
     sends = refl;
     brings = b;
@@ -163,7 +162,7 @@ module _ (k : Asked) where
   is-swept s f p e c q r b = record {
     queued = q;
     accepted = rw q;
-    bad = and-never k.command;
+    bad = and-false k.command;
     fails = rw e;
     resets = r;
     sweeps = rw c;

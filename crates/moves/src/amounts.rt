@@ -22,10 +22,10 @@ impl Progress {
     }
 
     /// At most `size` bytes, of what is left.
-    pub fn part(self, size: usize) -> u32
+    pub fn part(self, size: usize) -> usize
         ensures { result ≡ partIn self.whole self.moved size }
     {
-        size.min(self.left() as usize) as u32
+        size.min(self.left() as usize)
     }
 
     /// Nothing is left once `size` bytes more have moved.
@@ -47,7 +47,7 @@ impl Progress {
         ensures { result ≡ afterIn self size }
     {
         Progress {
-            moved: self.moved + self.part(size),
+            moved: self.moved + self.part(size) as u32,
             ..self
         }
     }
@@ -56,6 +56,6 @@ impl Progress {
     pub fn due(self) -> usize
         ensures { result ≡ dueIn self }
     {
-        self.part(PAYLOAD_LIMIT) as usize
+        self.part(PAYLOAD_LIMIT)
     }
 }

@@ -2,7 +2,7 @@
 ghost use Rattle.std.specs.Prelude.{◌≡◌};
 ghost use Rattle.moves.specs.Stored.{place_in, stored};
 
-use frame_parts::DATA_HEAD_SIZE;
+use frame_parts::payload_of;
 
 /// Bytes of a sector.
 pub const SECTOR_SIZE: usize = 512;
@@ -15,14 +15,11 @@ pub fn place(first: u32, moved: u32) -> usize
 }
 
 /// The payload behind a frame's head goes to its place in the medium; a frame shorter than its head has none.
-#[tactic(auto, unfolding(crate::specs::Stored::stored, bits::specs::Pick::pick))]
+#[tactic(auto, using(crate::proofs::Storing::stored_behind), unfolding(crate::specs::Stored::stored, bits::specs::Pick::pick))]
 pub fn store(medium: &mut [u8], at: usize, frame: &[u8])
     ensures { medium.new ≡ stored at frame.now medium.old }
 {
-    let Some(payload) = frame.get(DATA_HEAD_SIZE..) else {
-        return;
-    };
     if let Some((_before, place)) = medium.split_at_mut_checked(at) {
-        bits::lay(place, payload);
+        bits::lay(place, payload_of(frame));
     }
 }

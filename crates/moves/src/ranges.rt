@@ -16,15 +16,17 @@ impl Sectors {
     pub fn is_beyond(self, capacity: u32) -> bool
         ensures { result ≡ tooFar capacity self.first self.count }
     {
-        let capacity = u64::from(capacity);
-        capacity < self.first || capacity - self.first < u64::from(self.count)
+        u64::from(capacity)
+            .checked_sub(self.first)
+            .is_none_or(|left| left < u64::from(self.count))
     }
 
     /// True where `sector` is none of them.
     pub fn leaves_out(self, sector: u32) -> bool
         ensures { result ≡ outsideOf self.first self.count sector }
     {
-        let sector = u64::from(sector);
-        sector < self.first || u64::from(self.count) <= sector - self.first
+        u64::from(sector)
+            .checked_sub(self.first)
+            .is_none_or(|index| u64::from(self.count) <= index)
     }
 }

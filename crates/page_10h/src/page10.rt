@@ -9,12 +9,15 @@ use refusals::Refusal;
 /// The named fields of page 10h; by default all zeros.
 #[derive(Clone, Copy, Debug, Default, PartialEq, Eq)]
 pub struct ErrorLog {
+    /// whether the command that failed was not queued: bit 7 of byte 0
     pub nq: bool,
-    /// 0 to 31, and 0 under NQ
+    /// its tag, 0 to 31, and 0 under NQ: bits 4:0 of byte 0
     pub tag: u8,
+    /// the status register: byte 2
     pub status: u8,
+    /// the error register: byte 3
     pub error: u8,
-    /// the command's bytes
+    /// the command's bytes: bytes 4 to 10, 12 and 13
     pub task: Task,
 }
 
@@ -60,16 +63,16 @@ fn tag_shown(first: u8, nq: bool) -> u8
     if nq { 0 } else { first & 31 }
 }
 
-fn read_fields(page: &[u8]) -> ErrorLog
+fn read_fields(page: &[u8; PAGE_SIZE]) -> ErrorLog
     ensures { result ≡ fields10 page.now }
 {
-    let first = frame_parts::byte_of(page, 0);
+    let first = page[0];
     let nq = frame_parts::flag(first, 7);
     ErrorLog {
         nq,
         tag: tag_shown(first, nq),
-        status: frame_parts::byte_of(page, 2),
-        error: frame_parts::byte_of(page, 3),
+        status: page[2],
+        error: page[3],
         task: Task::from_frame(page),
     }
 }
@@ -79,9 +82,7 @@ fn read_fields(page: &[u8]) -> ErrorLog
 pub fn read_log(page: &[u8]) -> Result<ErrorLog, Refusal>
     ensures { LogGiven page.now result }
 {
-    if page.len() != PAGE_SIZE {
-        return Err(Refusal::PageLength);
-    }
+    let page: &[u8; PAGE_SIZE] = page.try_into().map_err(|_| Refusal::PageLength)?;
     if byte_sum(page) != 0 {
         return Err(Refusal::PageSum);
     }

@@ -22,8 +22,10 @@ impl ErrorLog {
 
 /// Writes the page of a record to the front of `buf`: 512, the bytes written; `Unfit` where a value is too large for its
 /// bits or a tag stands under NQ, `BufferShort` where `buf` has no room, and then no byte is changed.
+#[tactic(auto, unfolding(bits::specs::Pick::pick), using(frame_parts::proofs::EmitLaws::emitted_made))]
 pub fn write_log(buf: &mut [u8], log: ErrorLog) -> Result<usize, Refusal>
     ensures { WriteGiven (fits10 log) (page10 log) buf.old result buf.new }
 {
-    frame_parts::emit(buf, log.fits(), &page10_bytes(log), b"")
+    let page = log.page()?;
+    frame_parts::emit(buf, true, &page, b"")
 }

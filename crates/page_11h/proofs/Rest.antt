@@ -2,7 +2,7 @@
 use Rattle.std.proofs.Common.{◌≡◌, refl, ap, sym, ◌∙◌, Bool, true, false, List, [], ◌∷◌, ℕ, suc, Option, Some, None, Result, Ok, Err, cond}
 use Rattle.std.specs.List.{list_any, count_by}
 use Rattle.std.proofs.lemmas.List.Sums.{sum_by-cons}
-use mathlib.Core.Bool.{◌||◌}
+use mathlib.Core.Bool.{◌||◌, or-true}
 use native.Mathlib.Numerals.{one-add}
 use native.Mathlib.Nat.{zero-add}
 use lib.Dec.{leb, leb-zero, leb-suc-suc}
@@ -37,10 +37,6 @@ or-six false false true true p n = refl
 or-six false false true false true n = refl
 or-six false false true false false n = refl
 or-six false false false w p n = refl
-
-or-true : (b : Bool) → (b || true) ≡ true
-or-true true = refl
-or-true false = refl
 
 fault-more : (e : CounterEntry) (es : List CounterEntry) → anyFault (e ∷ es) ≡ faulty e || anyFault es
 unfolding anyFault

@@ -12,19 +12,19 @@ use Rattle.refusals.specs.declared.reasons.Refusal.{Refusal}
 use Rattle.page_11h.proofs.walk
 use Rattle.page_11h.specs.contracts.walk as walk-said
 
--- what `Walk::new` says: the walk holds just this page and this place
-abbrev pub Begun : Bor (List ℕ) → ℕ → Walk → Type 0
-Begun p at r = (r.page ≡ p) × (r.at ≡ at)
+-- what `Walk::new` says: the walk holds just this page, and stands where the entries begin
+abbrev pub Begun : Bor (List ℕ) → Walk → Type 0
+Begun p r = (r.page ≡ p) × (r.at ≡ 4)
 
 same-walk : {p p' : Bor (List ℕ)} {a a' : ℕ} → p ≡ p' → a ≡ a' → ◌≡◌ {A = Walk} (record { page = p; at = a }) (record { page = p'; at = a' })
 same-walk p q = cc
 
 -- which allows one walk only
-pub begun-once : (p : Bor (List ℕ)) (at : ℕ) (r r' : Walk) → Begun p at r → Begun p at r' → r ≡ r'
-begun-once p at r r' e f = same-walk (same e.0 f.0) (same e.1 f.1)
+pub begun-once : (p : Bor (List ℕ)) (r r' : Walk) → Begun p r → Begun p r' → r ≡ r'
+begun-once p r r' e f = same-walk (same e.0 f.0) (same e.1 f.1)
 
-pub tied-new : Tied walk-said.Walk.new.ended walk.Walk.new.Reads.Asked walk.Walk.new.Reads.Post (λ κs a r ws. Begun a.0 a.1.0 r)
-tied-new = by (say (λ κs a. tt) (λ κs a r ws p. p)) (λ κs a r r' ws ws' p q. (begun-once a.0 a.1.0 r r' p q, refl))
+pub tied-new : Tied walk-said.Walk.new.ended walk.Walk.new.Reads.Asked walk.Walk.new.Reads.Post (λ κs a r ws. Begun a.0 r)
+tied-new = by (say (λ κs a. tt) (λ κs a r ws p. p)) (λ κs a r r' ws ws' p q. (begun-once a.0 r r' p q, refl))
 
 -- a step allows one answer and one walk only
 pub stepped-once : (w : Walk) (r r' : Option (Result WalkEntry Refusal)) (v v' : Walk) → Stepped w r v → Stepped w r' v' → (r ≡ r') × (v ≡ v')

@@ -18,7 +18,7 @@ use Rattle.page_rows.specs.Made11.{rows_to, page11}
 use Rattle.page_11h.specs.declared.value.CounterValue.{CounterValue}
 use Rattle.std.proofs.Common.{Option, Some, None, Ok}
 use Rattle.page_rows.proofs.RowLaws.{id-small, id-positive, id_other, row-only, row-missing}
-use Rattle.page_11h.proofs.Walking.{ends, step_end, step_entry, fromHere, turn-rest, reads-walk}
+use Rattle.page_11h.proofs.Walking.{ends, step_end, step_entry, fromHere, turn-here, reads-walk}
 use Rattle.page_rows.proofs.Filling.{length-kept, length-skip, rows_short}
 use Rattle.page_rows.proofs.Bytes11.{L, page-length, page-sum}
 use Rattle.page_11h.proofs.Places11.{page-id, page-value, page-end}
@@ -116,7 +116,7 @@ module _ (mask : ℕ) (values : List ℕ) where
         let a : behind n + 2 + 4 ≡ behind (suc n) = omega arith in
         let m = number-row (id_of n) (id-small n h) in
         let v = vendor-row (id_of n) (id-small n h) in
-        turn-rest page number (behind n) (foundTo n)
+        turn-here page number (behind n) (foundTo n)
         ∙ rw (page-step n h e)
         (⊎_elim
         (λ (t : eqb (id_of n) number ≡ true).
@@ -143,7 +143,7 @@ module _ (mask : ℕ) (values : List ℕ) where
     page-walk (suc n) m = page-walk n (omega arith) ∙ page-more n m
 
     page-done : fromHere page number (behind 16) (foundTo 16) ≡ Ok (foundTo 16)
-    page-done = turn-rest page number (behind 16) (foundTo 16) ∙ rw page-stop
+    page-done = turn-here page number (behind 16) (foundTo 16) ∙ rw page-stop
 
     page-reads : 0 < number → number < 4096 → readCounter page number ≡ Ok (foundTo 16)
     page-reads p q = reads-walk page number (page-length mask values) p q (page-sum mask values) ∙ page-walk 16 (omega arith) ∙ page-done

@@ -1,5 +1,5 @@
 -- The reader's walk: an entry lies within 508 bytes and leads on, and one step of the walk is one entry of the page. Assumes nothing.
-use Rattle.std.proofs.Common.{◌≡◌, refl, ap, sym, ◌∙◌, Bool, true, false, List, [], ◌∷◌, ℕ, zero, suc, ◌+◌, ◌-◌, ◌<◌, ◌≤◌, length, arith, Option, Some, None, Result, Ok, Err}
+use Rattle.std.proofs.Common.{◌≡◌, refl, ap, ap₂, sym, ◌∙◌, Bool, true, false, List, [], ◌∷◌, ℕ, zero, suc, ◌+◌, ◌-◌, ◌<◌, ◌≤◌, length, arith, Option, Some, None, Result, Ok, Err}
 use mathlib.Core.Bool.{◌||◌}
 use mathlib.Core.Logic.{⊎_elim}
 use Prim.Native.Nat.{min}
@@ -142,72 +142,82 @@ entries-fuel page (suc f) (suc g) at h k =
 
 -- ---- one step of the walk is one entry
 
--- the answer from a place on, with what is found so far
-abbrev pub fromHere : List ℕ → ℕ → ℕ → Option CounterValue → Result (Option CounterValue) Refusal
-fromHere page number at found = rest_of page number (entriesFrom page (508 - at) at) found
+-- the answer from a place on, by the first entries there, with what is found so far
+abbrev pub fromPlace : List ℕ → ℕ → ℕ → ℕ → Option CounterValue → Result (Option CounterValue) Refusal
+fromPlace page number fuel at found = rest_of page number (entriesFrom page fuel at) found
 
 -- the value of an entry as the walk finds it
 abbrev pub readOf : List ℕ → WalkEntry → CounterValue
 readOf page e = record { value = leAt page e.start e.bytes; bytes = e.bytes }
 
 -- behind an entry that is asked for: its value is what is found, or it stands there twice
-abbrev pub after_hit : List ℕ → ℕ → WalkEntry → Option CounterValue → Result (Option CounterValue) Refusal
-after_hit page number e None = fromHere page number (e.start + e.bytes) (Some (readOf page e))
-after_hit page number e (Some v) = Err PageDamaged
+abbrev pub after_hit : (ℕ → Option CounterValue → Result (Option CounterValue) Refusal) → List ℕ → WalkEntry → Option CounterValue → Result (Option CounterValue) Refusal
+after_hit go page e None = go (e.start + e.bytes) (Some (readOf page e))
+after_hit go page e (Some v) = Err PageDamaged
 
--- the answer by what a step answers
-abbrev pub after_step : List ℕ → ℕ → Option CounterValue → Option (Result WalkEntry Refusal) → Result (Option CounterValue) Refusal
-after_step page number found None = Ok found
-after_step page number found (Some (Err r)) = Err r
-after_step page number found (Some (Ok e)) = pick (idAsked number e.id.0) (after_hit page number e found) (fromHere page number (e.start + e.bytes) found)
+-- the answer by what a step answers; `go` is the answer from a place on, with what is found so far
+abbrev pub after_step : (ℕ → Option CounterValue → Result (Option CounterValue) Refusal) → List ℕ → ℕ → Option CounterValue → Option (Result WalkEntry Refusal) → Result (Option CounterValue) Refusal
+after_step go page number found None = Ok found
+after_step go page number found (Some (Err r)) = Err r
+after_step go page number found (Some (Ok e)) = pick (idAsked number e.id.0) (after_hit go page e found) (go (e.start + e.bytes) found)
 
-module _ (page : List ℕ) (number at : ℕ) where
-  -- an entry, and those behind it
-  from-entry : ends page at ≡ false → faulty (entry_at page at) ≡ false
-      → entriesFrom page (508 - at) at ≡ entry_at page at ∷ entriesFrom page (508 - end_of (entry_at page at)) (end_of (entry_at page at))
-  from-entry n s =
-      let h : at < 508 = leb-false 508 at (or_left (leb 508 at) (eqb (id_at page at) 0) n) in
-      let e : 508 - at ≡ suc (507 - at) = omega arith in
-      let l = sound (entry_at page at) s in
-      rw e
-      (entries-row page at (507 - at) n s
-      ∙ ap (λ (es : List CounterEntry). entry_at page at ∷ es)
-      (entries-fuel page (507 - at) (508 - end_of (entry_at page at)) (end_of (entry_at page at)) (omega arith) (omega arith)))
+module _ (page : List ℕ) (number fuel at : ℕ) where
+  -- the entry of a place as the walk answers it
+  abbrev here : WalkEntry
+  here = walkEntry (id_at page at) (at + 2) (bytesIn (id_at page at))
 
-  entry-rest : (found : Option CounterValue) → ends page at ≡ false → faulty (entry_at page at) ≡ false
-      → fromHere page number at found ≡ after_step page number found (Some (Ok (walkEntry (id_at page at) (at + 2) (bytesIn (id_at page at)))))
-  entry-rest found n s =
-      rw (from-entry n s)
-      (⊎_elim
+  entry-rest : (found : Option CounterValue) → faulty (entry_at page at) ≡ false
+      → rest_of page number (entry_at page at ∷ entriesFrom page fuel (end_of (entry_at page at))) found
+      ≡ after_step (fromPlace page number fuel) page number found (Some (Ok here))
+  entry-rest found s =
+      ⊎_elim
       (λ (t : entryAsked number (entry_at page at) ≡ true).
-      hit-rest found t ∙ sym (pick_yes (idAsked number (id_at page at)) (after_hit page number (walkEntry (id_at page at) (at + 2) (bytesIn (id_at page at))) found) _ t))
+      hit-rest found t ∙ sym (pick_yes (idAsked number (id_at page at)) (after_hit (fromPlace page number fuel) page here found) _ t))
       (λ (m : entryAsked number (entry_at page at) ≡ false).
-      rest-miss page number (entry_at page at) _ found s m ∙ sym (pick_no (idAsked number (id_at page at)) (after_hit page number (walkEntry (id_at page at) (at + 2) (bytesIn (id_at page at))) found) _ m))
-      (tested (entryAsked number (entry_at page at))))
+      rest-miss page number (entry_at page at) _ found s m ∙ sym (pick_no (idAsked number (id_at page at)) (after_hit (fromPlace page number fuel) page here found) _ m))
+      (tested (entryAsked number (entry_at page at)))
     where
       hit-rest : (more : Option CounterValue) → entryAsked number (entry_at page at) ≡ true
-          → rest_of page number (entry_at page at ∷ entriesFrom page (508 - end_of (entry_at page at)) (end_of (entry_at page at))) more
-          ≡ after_hit page number (walkEntry (id_at page at) (at + 2) (bytesIn (id_at page at))) more
+          → rest_of page number (entry_at page at ∷ entriesFrom page fuel (end_of (entry_at page at))) more
+          ≡ after_hit (fromPlace page number fuel) page here more
       hit-rest None t = rest-hit page number (entry_at page at) _ s t
       hit-rest (Some v) t = rest-twice page number (entry_at page at) _ v t
 
-  fault-rest : (found : Option CounterValue) → ends page at ≡ false → faulty (entry_at page at) ≡ true → fromHere page number at found ≡ Err PageDamaged
-  fault-rest found n f =
-      let h : at < 508 = leb-false 508 at (or_left (leb 508 at) (eqb (id_at page at) 0) n) in
-      let e : 508 - at ≡ suc (507 - at) = omega arith in
-      rw (e, entries-some page at (507 - at) n) (rest-fault page number (entry_at page at) _ found f)
-
-  -- the answer from a place on is what the step there answers, or the answer from where it leads
-  pub turn-rest : (found : Option CounterValue) → fromHere page number at found ≡ after_step page number found (stepAt page at)
+  -- the answer from a place on, whatever the fuel, is what the step there answers, or the answer from where it leads
+  pub turn-rest : (found : Option CounterValue) → rest_of page number (entriesFrom page (suc fuel) at) found ≡ after_step (fromPlace page number fuel) page number found (stepAt page at)
   turn-rest found =
       ⊎_elim
-      (λ (t : ends page at ≡ true). rw (entries-end page at (508 - at) t, step_end page at t) (rest-none page number found))
+      (λ (t : ends page at ≡ true). rw (entries-end page at (suc fuel) t, step_end page at t) (rest-none page number found))
       (λ (n : ends page at ≡ false).
       ⊎_elim
-      (λ (f : faulty (entry_at page at) ≡ true). rw (step-fault page at n f) (fault-rest found n f))
-      (λ (s : faulty (entry_at page at) ≡ false). rw (step_entry page at n s) (entry-rest found n s))
+      (λ (f : faulty (entry_at page at) ≡ true). rw (entries-some page at fuel n, step-fault page at n f) (rest-fault page number (entry_at page at) _ found f))
+      (λ (s : faulty (entry_at page at) ≡ false). rw (entries-row page at fuel n s, step_entry page at n s) (entry-rest found s))
       (tested (faulty (entry_at page at))))
       (tested (ends page at))
+
+-- the answer from a place on by all the entries there
+abbrev pub fromHere : List ℕ → ℕ → ℕ → Option CounterValue → Result (Option CounterValue) Refusal
+fromHere page number at found = fromPlace page number (508 - at) at found
+
+-- any fuel that is as much as the bytes that are left gives that answer
+from-enough : (page : List ℕ) (number fuel at : ℕ) (found : Option CounterValue) → 508 - at ≤ fuel → fromPlace page number fuel at found ≡ fromHere page number at found
+from-enough page number fuel at found h = ap (λ (es : List CounterEntry). rest_of page number es found) (entries-fuel page fuel (508 - at) at h (omega arith))
+
+-- so it is what the step there answers, or such an answer from where it leads
+pub turn-here : (page : List ℕ) (number at : ℕ) (found : Option CounterValue) → fromHere page number at found ≡ after_step (fromHere page number) page number found (stepAt page at)
+turn-here page number at found =
+    sym (from-enough page number (suc (508 - at)) at found (omega arith)) ∙ turn-rest page number (508 - at) at found ∙ led found (stepAt page at) refl
+  where
+    further : (e : WalkEntry) (more : Option CounterValue) → stepAt page at ≡ Some (Ok e) → fromPlace page number (508 - at) (e.start + e.bytes) more ≡ fromHere page number (e.start + e.bytes) more
+    further e more q =
+        let l = entry_lies page at e q in
+        from-enough page number (508 - at) (e.start + e.bytes) more (omega (arith, l.next))
+
+    led : (more : Option CounterValue) (r : Option (Result WalkEntry Refusal)) → stepAt page at ≡ r → after_step (fromPlace page number (508 - at)) page number more r ≡ after_step (fromHere page number) page number more r
+    led more None q = refl
+    led more (Some (Err x)) q = refl
+    led None (Some (Ok e)) q = ap₂ (pick (idAsked number e.id.0)) (further e (Some (readOf page e)) q) (further e None q)
+    led (Some v) (Some (Ok e)) q = ap (pick (idAsked number e.id.0) (Err PageDamaged)) (further e (Some v) q)
 
 -- ---- the walk from one step to the next
 
@@ -226,8 +236,8 @@ pub record Ahead (page : List ℕ) (number : ℕ) (w : Walk) (found : Option Cou
   pub rest : asked_of page number ≡ fromHere page number w.at found
 
 module _ {page : List ℕ} {number : ℕ} {w w' : Walk} {r : Option (Result WalkEntry Refusal)} {found : Option CounterValue} (a : Ahead page number w found) (t : Stepped w r w') where
-  step-rest : asked_of page number ≡ after_step page number found r
-  step-rest = a.rest ∙ rw (t.answer, a.same) (turn-rest page number w.at found)
+  step-rest : asked_of page number ≡ after_step (fromHere page number) page number found r
+  step-rest = a.rest ∙ rw (t.answer, a.same) (turn-here page number w.at found)
 
   step-same : w'.page.now ≡ page
   step-same = rw t.page a.same
@@ -255,7 +265,7 @@ module _ {page : List ℕ} {number : ℕ} {w w' : Walk} {r : Option (Result Walk
         let l = entry_lies w.page.now w.at e (sym t.answer ∙ q) in
         record { same = step-same; rest = step-rest ∙ rw (next-at, q, h, value_read page e.start e.bytes v l.most n) (first found o) }
       where
-        first : (f : Option CounterValue) → is_some f ≡ false → after_hit page number e f ≡ fromHere page number (e.start + e.bytes) (Some (readOf page e))
+        first : (f : Option CounterValue) → is_some f ≡ false → after_hit (fromHere page number) page e f ≡ fromHere page number (e.start + e.bytes) (Some (readOf page e))
         first None o = refl
         first (Some x) o = absurd (let z : true ≡ false = o in cc)
 
@@ -264,7 +274,7 @@ module _ {page : List ℕ} {number : ℕ} {w w' : Walk} {r : Option (Result Walk
     unfolding pick
     hit-twice h o = step-rest ∙ rw (q, h) (second found o)
       where
-        second : (f : Option CounterValue) → is_some f ≡ true → after_hit page number e f ≡ Err PageDamaged
+        second : (f : Option CounterValue) → is_some f ≡ true → after_hit (fromHere page number) page e f ≡ Err PageDamaged
         second None o = absurd (let z : false ≡ true = o in cc)
         second (Some x) o = refl
 

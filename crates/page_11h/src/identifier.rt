@@ -27,7 +27,7 @@ impl Identifier {
     fn is_vendor(self) -> bool
         ensures { result ≡ vendorOf self.0 }
     {
-        (self.0 >> 15) & 1 == 1
+        bits::bit(u32::from(self.0), 15)
     }
 
     // Whether its entry, at a place, is one that no page may have. A vendor's has a width too, but its number may be 0.

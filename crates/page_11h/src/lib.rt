@@ -11,8 +11,5 @@ pub use number::is_counter_number;
 pub use page11::read_counter;
 pub use value::CounterValue;
 
-// Where the entries begin: the four bytes before them are reserved.
-pub(crate) const ENTRIES_START: usize = 4;
-
 // Where the entries end: behind them stand three reserved bytes and the sum byte.
 pub(crate) const ENTRIES_END: usize = page_sum::PAGE_SIZE - 4;

@@ -4,7 +4,6 @@ ghost use Rattle.bits.specs.Pick.{pick};
 ghost use Rattle.page_11h.specs.Entries.{entries};
 ghost use Rattle.page_11h.specs.Page11.{damaged, valueIn, PageCounterGiven};
 
-use crate::ENTRIES_START;
 use crate::number::is_counter_number;
 use crate::value::CounterValue;
 use crate::walk::Walk;
@@ -12,11 +11,11 @@ use page_sum::{PAGE_SIZE, byte_sum};
 use refusals::Refusal;
 
 // The walk from 4 to 0000h or to 508. It goes on after a hit, since a fault or a second hit behind it refuses the page.
-fn find_counter(page: &[u8], number: u16) -> Result<Option<CounterValue>, Refusal>
+fn find_counter(page: &[u8; PAGE_SIZE], number: u16) -> Result<Option<CounterValue>, Refusal>
     ensures { result ≡ pick (damaged number (entries page.now)) (Err Refusal.PageDamaged) (Ok (valueIn page.now number (entries page.now))) }
 {
     let mut found = None;
-    for entry in Walk::new(page, ENTRIES_START) {
+    for entry in Walk::new(page) {
         let entry = entry?;
         if entry.id.is_asked(number) {
             if found.is_some() {
@@ -38,9 +37,7 @@ fn find_counter(page: &[u8], number: u16) -> Result<Option<CounterValue>, Refusa
 pub fn read_counter(page: &[u8], number: u16) -> Result<Option<CounterValue>, Refusal>
     ensures { PageCounterGiven page.now number result }
 {
-    if page.len() != PAGE_SIZE {
-        return Err(Refusal::PageLength);
-    }
+    let page: &[u8; PAGE_SIZE] = page.try_into().map_err(|_| Refusal::PageLength)?;
     if !is_counter_number(number) {
         return Err(Refusal::NoCounter);
     }

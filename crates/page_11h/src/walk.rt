@@ -7,6 +7,7 @@ ghost use Rattle.page_11h.specs.WalkStep.{stepAt, Stepped};
 
 use crate::ENTRIES_END;
 use crate::identifier::Identifier;
+use page_rows::ENTRIES_START;
 use refusals::Refusal;
 
 /// An entry of the page: its identifier, where its value starts, and how many bytes the value has.
@@ -47,10 +48,14 @@ pub(crate) struct Walk<'a> {
 }
 
 impl<'a> Walk<'a> {
-    pub(crate) fn new(page: &'a [u8], at: usize) -> Walk<'a>
-        ensures { (result.page ≡ page.entry) × (result.at ≡ at) }
+    // From the first entry on.
+    pub(crate) fn new(page: &'a [u8]) -> Walk<'a>
+        ensures { (result.page ≡ page.entry) × (result.at ≡ ENTRIES_START) }
     {
-        Walk { page, at }
+        Walk {
+            page,
+            at: ENTRIES_START,
+        }
     }
 }
 

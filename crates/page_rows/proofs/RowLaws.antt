@@ -6,8 +6,15 @@ use lib.ListN.{get_or-eq_default}
 use borrow.Author.Tests.{eqb-true}
 use Rattle.bits.proofs.Tables.{below_all}
 use Rattle.page_rows.specs.Rows.{ids, id_of, row_of}
+use Rattle.page_rows.specs.declared.rows.TheConstants.{IDENTIFIERS}
 
-length_ids : length ids ≡ 16
+-- the public constant has the identifiers of the rows
+pub identifiers-ids : IDENTIFIERS ≡ ids
+unfolding ids
+identifiers-ids = refl
+
+-- there are sixteen
+pub length_ids : length ids ≡ 16
 unfolding ids
 length_ids = refl
 

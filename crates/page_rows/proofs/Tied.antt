@@ -1,6 +1,6 @@
 -- Each public function's own contract: what it says, and that two answers which it allows are equal. Assumes nothing.
 use Rattle.page_rows.specs.Made11.{page11, countersPage, onRow}
-use Rattle.page_rows.specs.Rows.{ids, keepsBoth, kept, row_of}
+use Rattle.page_rows.specs.Rows.{keepsBoth, kept, row_of}
 use Rattle.frame_parts.specs.Emit.{WriteGiven}
 use mathlib.Core.Path.{◌≡◌, refl}
 use Rattle.bits.specs.Contract.{Tied}
@@ -17,9 +17,6 @@ use Rattle.page_rows.specs.contracts.writing as writing-said
 
 pub tied-page11-bytes : Tied made11-said.page11_bytes.ended made11.page11_bytes.Reads.Asked made11.page11_bytes.Reads.Post (λ κs a r ws. r ≡ page11 a.0 a.1.0.now)
 tied-page11-bytes = named (say (λ κs a. tt) (λ κs a r ws p. p)) (λ κs a ws ws'. refl)
-
-pub tied-identifiers : Tied rows-said.identifiers.ended rows.identifiers.Reads.Asked rows.identifiers.Reads.Post (λ κs a r ws. r ≡ ids)
-tied-identifiers = named (say (λ κs a. tt) (λ κs a r ws p. p)) (λ κs a ws ws'. refl)
 
 pub tied-row-of : Tied rows-said.row_of.ended rows.row_of.Reads.Asked rows.row_of.Reads.Post (λ κs a r ws. r ≡ row_of a.0)
 tied-row-of = named (say (λ κs a. tt) (λ κs a r ws p. p)) (λ κs a ws ws'. refl)

@@ -8,8 +8,9 @@ mod rows;
 mod shown;
 mod writing;
 
+pub use made11::ENTRIES_START;
 pub use rows::{
-    COMRESET_ROW, Counters, INTERFACE_CRC_ROW, ROWS, identifiers, is_kept, keeps_both, row_of,
+    COMRESET_ROW, Counters, IDENTIFIERS, INTERFACE_CRC_ROW, ROWS, is_kept, keeps_both, row_of,
 };
 pub use shown::shown_at;
 pub use writing::{counters_page, write_counters};

@@ -1,7 +1,7 @@
 // The sixteen rows of page 11h: which identifier each has, and which are kept. A row is a `usize` where it is a place among the
 // sixteen, and a `u8` where it is what an event names, which may be no row.
 ghost use Rattle.std.specs.Prelude.{◌≡◌};
-ghost use Rattle.page_rows.specs.Rows.{ids, row_of, kept, keepsBoth};
+ghost use Rattle.page_rows.specs.Rows.{row_of, kept, keepsBoth};
 
 /// How many rows there are: a counter each.
 pub const ROWS: usize = 16;
@@ -15,26 +15,18 @@ pub const COMRESET_ROW: u8 = 9;
 /// The values of the counters, in the order of the rows.
 pub type Counters = [u32; ROWS];
 
-// The identifiers, in the order of the rows.
-pub(crate) const IDS: [u16; ROWS] = [
+/// The identifiers of the sixteen rows, in their order.
+pub const IDENTIFIERS: [u16; ROWS] = [
     0x001, 0x002, 0x003, 0x004, 0x005, 0x006, 0x007, 0x008, 0x009, 0x00A, 0x00B, 0x00D, 0x00F,
     0x010, 0x012, 0x013,
 ];
-
-/// The identifiers of the sixteen rows, in their order.
-#[tactic(auto, unfolding(crate::specs::Rows::ids))]
-pub fn identifiers() -> [u16; ROWS]
-    ensures { result ≡ ids }
-{
-    IDS
-}
 
 /// The row of an identifier, 0 to 15, if it has one.
 #[tactic(auto, unfolding(crate::specs::Rows::row_of, crate::specs::Rows::ids))]
 pub fn row_of(number: u16) -> Option<usize>
     ensures { result ≡ row_of number }
 {
-    IDS.iter().position(|id| *id == number)
+    IDENTIFIERS.iter().position(|id| *id == number)
 }
 
 /// Whether the mask keeps a row. From 16 on there is none.

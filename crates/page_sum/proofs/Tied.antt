@@ -1,5 +1,5 @@
 -- Each public function's own contract: what it says, and that two answers which it allows are equal. Assumes nothing.
-use Rattle.page_sum.specs.Sum.{sum256, sumByte, sealed}
+use Rattle.page_sum.specs.Sum.{sum256, sealed}
 use mathlib.Core.Path.{◌≡◌, refl}
 use Rattle.bits.specs.Contract.{Tied}
 use Rattle.bits.proofs.Tying.{same, say, by, named}
@@ -8,9 +8,6 @@ use Rattle.page_sum.specs.contracts.sums as sums-said
 
 pub tied-byte-sum : Tied sums-said.byte_sum.ended sums.byte_sum.Reads.Asked sums.byte_sum.Reads.Post (λ κs a r ws. r ≡ sum256 a.0.now)
 tied-byte-sum = named (say (λ κs a. tt) (λ κs a r ws p. p)) (λ κs a ws ws'. refl)
-
-pub tied-sum-byte : Tied sums-said.sum_byte.ended sums.sum_byte.Reads.Asked sums.sum_byte.Reads.Post (λ κs a r ws. r ≡ sumByte a.0.now)
-tied-sum-byte = named (say (λ κs a. tt) (λ κs a r ws p. p)) (λ κs a ws ws'. refl)
 
 pub tied-seal : Tied sums-said.seal.ended sums.seal.Reads.Asked sums.seal.Reads.Post (λ κs a r ws. ws.0 ≡ sealed a.0.now)
 tied-seal = by (say (λ κs a. tt) (λ κs a r ws p. p)) (λ κs a r r' ws ws' p q. (refl, λ i. (same p q i, tt)))

@@ -3,7 +3,7 @@
 
 mod sums;
 
-pub use sums::{byte_sum, seal, sum_byte};
+pub use sums::{byte_sum, seal};
 
 /// A log page has 512 bytes, whichever it is.
 pub const PAGE_SIZE: usize = 512;

@@ -1,6 +1,6 @@
 // The sum of a page's bytes.
 ghost use Rattle.std.specs.Prelude.{◌≡◌};
-ghost use Rattle.page_sum.specs.Sum.{sum256, sumByte, sealed};
+ghost use Rattle.page_sum.specs.Sum.{sum256, sealed};
 
 use crate::PAGE_SIZE;
 
@@ -12,17 +12,10 @@ pub fn byte_sum(bytes: &[u8]) -> u8
     bytes.iter().fold(0, |sum, &byte| sum.wrapping_add(byte))
 }
 
-/// The byte that is missing to a sum of 0 modulo 256.
-pub fn sum_byte(bytes: &[u8]) -> u8
-    ensures { result ≡ sumByte bytes.now }
-{
-    byte_sum(bytes).wrapping_neg()
-}
-
-/// Sets the last byte of a page, which is still 0, so that all its bytes sum to 0 modulo 256.
+/// Sets the last byte of a page, which is still 0, to what is missing to a sum of 0 modulo 256.
 #[tactic(auto, unfolding(crate::specs::Sum::sealed))]
 pub fn seal(page: &mut [u8; PAGE_SIZE])
     ensures { page.new ≡ sealed page.old }
 {
-    page[PAGE_SIZE - 1] = sum_byte(page);
+    page[PAGE_SIZE - 1] = byte_sum(page).wrapping_neg();
 }

@@ -2,10 +2,10 @@
 use Rattle.std.proofs.Common.{◌≡◌, ℕ, zero, suc, ◌<◌, List, [], ◌∷◌, length, get_or, refl, Option, None, Result, Ok, Err, arith}
 use Rattle.refusals.specs.declared.reasons.Refusal.{Refusal}
 use Rattle.page_rows.specs.Rows.{ids, id_of}
+use Rattle.page_rows.proofs.RowLaws.{length_ids}
 use Rattle.page_11h.specs.Page11.{readCounter}
 use Rattle.page_11h.specs.declared.value.CounterValue.{CounterValue}
 use Rattle.page_text.specs.Counters.{Counter, in_front, counters_in}
-use Rattle.page_text.proofs.Reading.{length_ids}
 
 -- a counter that is told is the number asked, and what the page says of it
 pub record IsAnswered (page : List ℕ) (number : ℕ) (counter : Counter) : Type 0 where

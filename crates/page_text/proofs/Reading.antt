@@ -5,13 +5,10 @@ use lib.Seq.{map-set_same, take_all}
 use Rattle.std.proofs.lemmas.List.{take_more_set, get_or-map, length-map, ext_get_or}
 use Rattle.refusals.specs.declared.reasons.Refusal.{Refusal}
 use Rattle.page_rows.specs.Rows.{ids}
+use Rattle.page_rows.proofs.RowLaws.{length_ids}
 use Rattle.page_11h.specs.Page11.{readCounter}
 use Rattle.page_11h.specs.declared.value.CounterValue.{CounterValue}
 use Rattle.page_text.specs.Counters.{Counter, in_front, counters_in}
-
-pub length_ids : length ids ≡ 16
-unfolding ids
-length_ids = refl
 
 -- ---- what was read so far, in front of what is read of the rest
 

@@ -32,7 +32,7 @@ impl fmt::Display for CounterText {
 fn read_counters(page: &[u8]) -> Result<[(u16, Option<CounterValue>); ROWS], Refusal>
     ensures { result ≡ counters_in page.now ids }
 {
-    let mut counters = page_rows::identifiers().map(|number| (number, None));
+    let mut counters = page_rows::IDENTIFIERS.map(|number| (number, None));
     for (number, counter) in &mut counters {
         *counter = page_11h::read_counter(page, *number)?;
     }

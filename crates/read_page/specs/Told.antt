@@ -1,5 +1,5 @@
 -- What is written for what is read, and for the word that names the page. Assumes nothing.
-use Rattle.std.specs.Prelude.{◌≡◌, ℕ, List, take, codes, if◌then◌else◌, IfSome}
+use Rattle.std.specs.Prelude.{◌≡◌, ℕ, List, take, codes, if◌then◌else◌, IfSome, Result, Ok, Err}
 use Rattle.std.specs.declared.option.Option.{Option}
 use Rattle.std.specs.declared.option.Option.TheVariants.{Some, None}
 use Rattle.std.specs.Str.{bytes_eq}
@@ -11,7 +11,9 @@ use Rattle.frame_parts.specs.declared.log_pages.LogPage.TheVariants.{Errors, Cou
 use Rattle.page_text.specs.Fields.{fields_text}
 use Rattle.page_text.specs.Counters.{counters_text}
 use Rattle.read_page.specs.declared.Told.{Told}
-use Rattle.read_page.specs.declared.Told.TheVariants.{Text, Stopped, Question, Lost}
+use Rattle.read_page.specs.declared.Told.TheVariants.{Text, Stopped, Question}
+use Rattle.read_page.specs.declared.Lost.{Lost}
+use Rattle.read_page.specs.declared.Lost.TheVariants.{Aloud, Unsaid}
 
 -- what is printed of either page
 unfoldable pub text_of : LogPage → List ℕ → List ℕ
@@ -49,7 +51,8 @@ Writes named known old new told = (text : List ℕ) × Owed named known told tex
 abbrev pub WritesFront : Option LogPage → Option (List ℕ) → Option (List ℕ) → Option (List ℕ) → Type 0
 WritesFront named known old new = (told : Told) × (text : List ℕ) × Owed named known told text × AppendsFront old new text
 
--- all that is owed was written and nothing to the errors; or a front of it, and the complaint
-abbrev pub Ran : Option LogPage → Option (List ℕ) → Option (List ℕ) → Option (List ℕ) → Option (List ℕ) → Option (List ℕ) → Told → Type 0
-Ran named known old new errors errors' Lost = WritesFront named known old new × Appends errors errors' complaint
-Ran named known old new errors errors' told = Writes named known old new told × Keeps errors errors'
+-- all that is owed was written and nothing to the errors; or a front of it, and the complaint; or a front of each
+abbrev pub Ran : Option LogPage → Option (List ℕ) → Option (List ℕ) → Option (List ℕ) → Option (List ℕ) → Option (List ℕ) → Result Told Lost → Type 0
+Ran named known old new errors errors' (Ok told) = Writes named known old new told × Keeps errors errors'
+Ran named known old new errors errors' (Err Aloud) = WritesFront named known old new × Appends errors errors' complaint
+Ran named known old new errors errors' (Err Unsaid) = WritesFront named known old new × AppendsFront errors errors' complaint

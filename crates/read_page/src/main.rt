@@ -20,13 +20,19 @@ use streams::{complain, put};
 // One byte more than a page has: one that is longer shows.
 const READ_LIMIT: u64 = PAGE_SIZE as u64 + 1;
 
-// What was written: a page's text, that a read failed, or the question which page; or not all of it, and that was told.
+// What was written: a page's text, that a read failed, or the question which page.
 #[derive(Clone, Copy, Debug, PartialEq, Eq)]
 enum Told {
     Text,
     Stopped,
     Question,
-    Lost,
+}
+
+// Not all of it was written: and that was said aloud, or could not be said either.
+#[derive(Clone, Copy, Debug, PartialEq, Eq)]
+enum Lost {
+    Aloud,
+    Unsaid,
 }
 
 #[tactic(auto, unfolding(crate::specs::Told::text_of))]
@@ -97,22 +103,22 @@ fn answer<R: Read, W: Write>(
     answer_page(alloc, reader, out, which)
 }
 
-// All of the answer, or a front of it and a complaint. An error is left only where the complaint could not be written either.
+// All of the answer; or a front of it, and the complaint, or a front of that where it could not be written either.
 fn run<R: Read, W: Write, E: Write>(
     alloc: Global,
     reader: &mut R,
     out: &mut W,
     errors: &mut E,
     word: &[u8],
-) -> io::Result<Told>
-    ensures { IfOk result (λ told. Ran (page_named word.now) (R.remaining reader.old) (W.contents out.old) (W.contents out.new) (E.contents errors.old) (E.contents errors.new) told) }
+) -> Result<Told, Lost>
+    ensures { Ran (page_named word.now) (R.remaining reader.old) (W.contents out.old) (W.contents out.new) (E.contents errors.old) (E.contents errors.new) result }
 {
     match answer(alloc, reader, out, word) {
         Ok(told) => Ok(told),
-        Err(_) => {
-            complain(errors)?;
-            Ok(Told::Lost)
-        }
+        Err(_) => match complain(errors) {
+            Ok(()) => Err(Lost::Aloud),
+            Err(_) => Err(Lost::Unsaid),
+        },
     }
 }
 

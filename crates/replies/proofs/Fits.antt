@@ -94,7 +94,7 @@ module _ (s : Shown) (part : List ℕ) where
   replies-fit (BadAndHalt f) h = (register-fits true 0x41 f.error (taskIn f.echo) (omega arith) h.0 (echo-fits f.echo h.1), tt)
   replies-fit (Accept q) h = (register-fits false 0x40 0 (taskIn q.entry.echo) (omega arith) (omega arith) (echo-fits q.entry.echo h), tt)
   replies-fit (Log10 task) h = log-fits s.halted task (page10Of s.errors) h.0 (page10-long s.errors h.1)
-  replies-fit (Log11 l) h = log-fits false l.task (page11Of s.settings.mask s.values) h.0 (page11-long s.settings.mask s.values h.1)
+  replies-fit (Log11 l) h = log-fits false l.task (page11Of s.mask s.values) h.0 (page11-long s.mask s.values h.1)
   replies-fit Reset h = tt
   replies-fit Release h = (refl, tt)
   replies-fit ZeroCounters h = tt
@@ -116,7 +116,7 @@ module _ (s : Shown) (part : List ℕ) where
   replies-data-last (BadAndHalt x) = (off, tt)
   replies-data-last (Accept x) = (off, tt)
   replies-data-last (Log10 task) = log-data-last s.halted task (page10Of s.errors)
-  replies-data-last (Log11 l) = log-data-last false l.task (page11Of s.settings.mask s.values)
+  replies-data-last (Log11 l) = log-data-last false l.task (page11Of s.mask s.values)
   replies-data-last Reset = tt
   replies-data-last Release = (off, tt)
   replies-data-last ZeroCounters = tt

@@ -20,7 +20,6 @@ use Rattle.frame_parts.proofs.EmitLaws.{write_refusal-unfit, wrote-all, wrote-ro
 use Rattle.frames.specs.Write.{FrameValue, encode, fits, FrameWriteGiven}
 use Rattle.replies.specs.Replies.{sentBytes, sentAll, RepliesGiven}
 use Rattle.replies.specs.Sends.{Sends}
-use Rattle.replies.specs.declared.emitting.Sent.{Sent}
 
 -- nothing sent
 pub sends_none : (d : List ℕ) → RepliesGiven [] d 0 d
@@ -83,54 +82,25 @@ room-after fs d xs n g h =
     omega (arith, l, length-drop (length (sentAll fs)) d, g.len, room-left n xs)
 
 -- no frame
-pub sends-nothing : (s : Sent) → Sends [] s s
-sends-nothing s = record { same_buffer = refl; behind = λ before empty h g. rw (append-nil before) g }
+pub sends_nothing : (d : List ℕ) → Sends [] d 0 d
+sends_nothing d = record { within = omega arith; sent = λ h. sends_none d }
 
--- a frame that is sent on a condition: where it holds, and where it does not
-pub sends-if : {on : Bool} {f : FrameValue} {s s' : Sent} → on ≡ true → Sends (f ∷ []) s s' → Sends (pick on (f ∷ []) []) s s'
-unfolding pick
-sends-if e w = rw e w
-
-pub sends-unless : {on : Bool} {s : Sent} (f : FrameValue) → on ≡ false → Sends (pick on (f ∷ []) []) s s
-unfolding pick
-sends-unless {s = s} f e = rw e (sends-nothing s)
-
--- one frame, written into the room that is left
-module _ (f : FrameValue) (n : ℕ) (xs : List ℕ) (r : Result ℕ Refusal) (m : ℕ) (ys : List ℕ) where
-  abbrev room : List ℕ
-  room = mid_of n (length xs - n) xs
-
-  pub put-behind : FrameWriteGiven f room r ys → m ≡ sent r → (before : List FrameValue) (empty : List ℕ) → length (sentAll (before ++ f ∷ [])) ≤ length empty
-      → RepliesGiven before empty n xs → RepliesGiven (before ++ f ∷ []) empty (n + m) (put_mid n (length xs - n) xs ys)
-  put-behind w e before empty h g =
-      let l = length-sent before (f ∷ []) in
-      let one : length (sentAll (f ∷ [])) ≡ length (sentBytes f) = ap length (sent-one f) in
-      let left = room-after before empty xs n g (omega (arith, l)) in
-      sends-next before (f ∷ []) empty xs ys n m g (sends-one f room r m ys w e (omega (arith, l, one, left, g.len)))
-
-  -- it ends where the buffer does, at the most
-  pub put-within : FrameWriteGiven f room r ys → m ≡ sent r → n ≤ length xs → n + m ≤ length xs
-  put-within w e h = omega (arith, sent-within (fits f) (encode f) room r ys w, room-left n xs)
-
-  -- and the buffer stays as long as it was
-  pub put-inside : FrameWriteGiven f room r ys → m ≡ sent r → length ys ≡ length room → n ≤ length xs → n + m ≤ length (put_mid n (length xs - n) xs ys)
-  put-inside w e k h =
-      rw (ap length (rest_put n xs ys), length-append (take n xs) ys) (omega (arith, put-within w e h, length-take-le n xs h, k, room-left n xs))
-
--- one list of frames, and then another
-pub sends-then : {fs gs : List FrameValue} {s s' s'' : Sent} → Sends fs s s' → Sends gs s' s'' → Sends (fs ++ gs) s s''
-sends-then {fs} {gs} a b = record {
-  same_buffer = b.same_buffer ∙ a.same_buffer;
-  behind = λ before empty h g.
-      let e = append_assoc before fs gs in
-      let all : length (sentAll ((before ++ fs) ++ gs)) ≤ length empty = rw e h in
-      rw e at (b.behind (before ++ fs) empty all (a.behind before empty (omega (arith, all, length-sent (before ++ fs) gs)) g));
+-- one frame
+pub sends_frame : (f : FrameValue) (d : List ℕ) (r : Result ℕ Refusal) (n : ℕ) (d' : List ℕ) → FrameWriteGiven f d r d' → n ≡ sent r → length d' ≡ length d → Sends (f ∷ []) d n d'
+sends_frame f d r n d' w e k = record {
+  within = omega (arith, e, k, sent-within (fits f) (encode f) d r d' w);
+  sent = λ h. sends-one f d r n d' w e (rw (sent-one f) at h);
 }
 
--- what was sent into a buffer that nothing was sent into before, once the loan of the buffer ends
-pub sends-all : {fs : List FrameValue} {s s' : Sent} {d : List ℕ} → s.len ≡ 0 → Sends fs s s' → (s.buffer.ghost_name ≡ s'.buffer.ghost_name → d ≡ s'.buffer.now)
-    → length (sentAll fs) ≤ length s.buffer.now → RepliesGiven fs s.buffer.now s'.len d
-sends-all {s = s} e w last h = rw (last (sym w.same_buffer)) (w.behind [] s.buffer.now h (rw e (sends_none s.buffer.now)))
+-- one list of frames, and then another in the room that is left
+pub sends_then : {fs gs : List FrameValue} {d xs ys : List ℕ} {n m : ℕ} → Sends fs d n xs → Sends gs (mid_of n (length xs - n) xs) m ys → Sends (fs ++ gs) d (n + m) (put_mid n (length xs - n) xs ys)
+sends_then {fs} {gs} {d} {xs} {ys} {n} {m} a b = record {
+  within = rw (ap length (rest_put n xs ys), length-append (take n xs) ys) (omega (arith, b.within, length-take-le n xs a.within));
+  sent = λ h.
+      let l = length-sent fs gs in
+      let g = a.sent (omega (arith, h, l)) in
+      sends-next fs gs d xs ys n m g (b.sent (omega (arith, h, l, g.len, room-after fs d xs n g (omega (arith, h, l)))));
+}
 
 -- the bytes of a page by value, and none of one that is turned down
 pub page_bytes-pick : (fits : Bool) (page : List ℕ) (r : Refusal) → result_unwrap_or (pick fits (Ok page) (Err r)) [] ≡ pick fits page []

@@ -1,9 +1,10 @@
 // The replies of an act, each behind the ones before.
-ghost use Rattle.std.specs.Prelude.{◌≡◌, [], ◌∷◌, ◌≤◌, leb, length};
+ghost use Rattle.std.specs.Prelude.{◌≡◌, [], ◌∷◌, leb, length};
 ghost use Rattle.std.specs.Result.{result_unwrap_or};
 ghost use Rattle.bits.specs.Pick.{pick};
 ghost use Rattle.replies.specs.Replies.{logReplies, openReplies, repliesOf, RepliesGiven};
 ghost use Rattle.replies.specs.Framed.{framed};
+ghost use Rattle.replies.specs.Sends.{Sends};
 
 use crate::reply::Reply;
 use crate::shown::{Shown, log_of};
@@ -24,72 +25,62 @@ fn page_bytes(page: &Result<Page, Refusal>) -> &[u8]
     }
 }
 
-// What was sent so far stands in the front of the buffer, and the next reply goes behind it.
-#[derive(Drop)]
-struct Sent<'a> {
-    buffer: &'a mut [u8],
-    len: usize,
-    ghost within: { len ≤ length buffer.now },
+// Each function from here on writes its replies to the front of the room that it is lent, one behind the other, and answers
+// how many bytes they are.
+//
+// One reply, or nothing where it is turned down.
+fn put(room: &mut [u8], reply: Reply<'_>) -> usize
+    ensures { Sends (framed reply.entry ∷ []) room.old result room.new }
+{
+    reply.write(room).unwrap_or(0)
 }
 
-impl<'a> Sent<'a> {
-    ghost use Rattle.replies.specs.Sends.{Sends};
+#[tactic(auto, using(crate::proofs::Sending::sends_nothing), unfolding(bits::specs::Pick::pick))]
+fn put_if(room: &mut [u8], on: bool, reply: Reply<'_>) -> usize
+    ensures { Sends (pick on (framed reply.entry ∷ []) []) room.old result room.new }
+{
+    if on { put(room, reply) } else { 0 }
+}
 
-    fn put(&mut self, reply: Reply<'_>)
-        ensures { Sends (framed reply.entry ∷ []) self.old self.new }
-    {
-        let room = &mut self.buffer[self.len..];
-        self.len += reply.write(room).unwrap_or(0);
-    }
+// DMA Setup, and for a write an Activate.
+fn put_open(room: &mut [u8], queued: &Queued) -> usize
+    ensures { Sends (openReplies queued.now) room.old result room.new }
+{
+    let mut len = put(room, Reply::setup(queued));
+    len += put_if(&mut room[len..], queued.entry.write, Reply::Activate);
+    len
+}
 
-    fn put_if(&mut self, on: bool, reply: Reply<'_>)
-        ensures { Sends (pick on (framed reply.entry ∷ []) []) self.old self.new }
-    {
-        if on {
-            self.put(reply);
+// Sweep, PIO Setup and page.
+fn put_log(room: &mut [u8], sweep: bool, task: Task, page: Result<Page, Refusal>) -> usize
+    ensures { Sends (logReplies sweep task (result_unwrap_or page [])) room.old result room.new }
+{
+    let mut len = put_if(room, sweep, Reply::sweep());
+    len += put(&mut room[len..], Reply::pio(task));
+    len += put(&mut room[len..], Reply::Data(page_bytes(&page)));
+    len
+}
+
+#[tactic(auto, using(crate::proofs::Sending::sends_nothing), unfolding(crate::specs::Replies::repliesOf))]
+fn put_all(room: &mut [u8], act: &Act, shown: &Shown<'_>, part: &[u8]) -> usize
+    ensures { Sends (repliesOf shown.now part.now act.now) room.old result room.new }
+{
+    match act {
+        Act::Bad(bad) => put(room, Reply::bad(bad.error, bad.task)),
+        Act::BadAndHalt(fault) => put(room, Reply::bad(fault.error, Task::from(fault.echo))),
+        Act::Accept(queued) => put(room, Reply::good(Task::from(queued.entry.echo))),
+        Act::Log10(task) => put_log(room, shown.halted, *task, log_of(shown.errors).page()),
+        Act::Log11(log) => {
+            let page = page_rows::counters_page(shown.mask, shown.values);
+            put_log(room, false, log.task, page)
         }
-    }
-
-    // DMA Setup, and for a write an Activate.
-    fn put_open(&mut self, queued: &Queued)
-        ensures { Sends (openReplies queued.now) self.old self.new }
-    {
-        self.put(Reply::setup(queued));
-        self.put_if(queued.entry.write, Reply::Activate);
-    }
-
-    // Sweep, PIO Setup and page.
-    fn put_log(&mut self, sweep: bool, task: Task, page: Result<Page, Refusal>)
-        ensures { Sends (logReplies sweep task (result_unwrap_or page [])) self.old self.new }
-    {
-        self.put_if(sweep, Reply::sweep());
-        self.put(Reply::pio(task));
-        self.put(Reply::Data(page_bytes(&page)));
-    }
-
-    #[tactic(auto, unfolding(crate::specs::Replies::repliesOf))]
-    fn put_all(&mut self, act: &Act, shown: &Shown<'_>, part: &[u8])
-        ensures { Sends (repliesOf shown.now part.now act.now) self.old self.new }
-    {
-        match act {
-            Act::Bad(bad) => self.put(Reply::bad(bad.error, bad.task)),
-            Act::BadAndHalt(fault) => self.put(Reply::bad(fault.error, Task::from(fault.echo))),
-            Act::Accept(queued) => self.put(Reply::good(Task::from(queued.entry.echo))),
-            Act::Log10(task) => {
-                self.put_log(shown.halted, *task, log_of(shown.errors).page());
-            }
-            Act::Log11(log) => {
-                let page = page_rows::counters_page(shown.settings.mask, shown.values);
-                self.put_log(false, log.task, page);
-            }
-            Act::Release | Act::Renew => self.put(Reply::signature()),
-            Act::Store(moved) => self.put_if(!moved.last, Reply::Activate),
-            Act::Open(queued) => self.put_open(queued),
-            Act::Send(_) => self.put(Reply::Data(part)),
-            Act::Finish(set) => self.put(Reply::finish(*set)),
-            Act::Media(fault) => self.put(Reply::media(fault.error)),
-            Act::Nothing | Act::Reset | Act::ZeroCounters | Act::Count(_) => {}
-        }
+        Act::Release | Act::Renew => put(room, Reply::signature()),
+        Act::Store(moved) => put_if(room, !moved.last, Reply::Activate),
+        Act::Open(queued) => put_open(room, queued),
+        Act::Send(_) => put(room, Reply::Data(part)),
+        Act::Finish(set) => put(room, Reply::finish(*set)),
+        Act::Media(fault) => put(room, Reply::media(fault.error)),
+        Act::Nothing | Act::Reset | Act::ZeroCounters | Act::Count(_) => 0,
     }
 }
 
@@ -102,10 +93,5 @@ pub fn emit(reply: &mut [u8], act: &Act, shown: &Shown<'_>, part: &[u8]) -> usiz
     if reply.len() < DATA_FRAME_LIMIT {
         return 0;
     }
-    let mut sent = Sent {
-        buffer: reply,
-        len: 0,
-    };
-    sent.put_all(act, shown, part);
-    sent.len
+    put_all(reply, act, shown, part)
 }

@@ -4,14 +4,14 @@ ghost use Rattle.frames.specs.Write.{setBits, FrameWriteGiven};
 ghost use Rattle.replies.specs.Replies.{register, good, badReply, signature, sweep, pioReply, setupReply, finishReply, mediaReply};
 ghost use Rattle.replies.specs.Framed.{framed};
 
-use crate::status::{READY, READY_DATA, READY_ERROR};
+use crate::status::{READY, READY_DATA, READY_ERROR, WELL};
 use frame_parts::Task;
 use frames::{DevReg, DmaSetup, PioSetup, SetBits};
 use page_sum::PAGE_SIZE;
 use refusals::Refusal;
 use rules::Queued;
 
-#[derive(Clone, Copy)]
+#[derive(Clone, Copy, Debug, PartialEq, Eq)]
 pub(crate) enum Reply<'a> {
     Register(DevReg),
     Bits(SetBits),
@@ -64,7 +64,7 @@ impl<'a> Reply<'a> {
             device: 0,
             count: 1,
         };
-        Reply::register(false, READY, 0x01, task)
+        Reply::register(false, READY, WELL, task)
     }
 
     pub(crate) fn sweep() -> Reply<'a>

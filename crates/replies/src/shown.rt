@@ -3,19 +3,19 @@ ghost use Rattle.std.specs.Prelude.{◌≡◌};
 ghost use Rattle.replies.specs.Replies.{logOf};
 
 use crate::status::READY_ERROR;
-use device_state::{ErrorRecord, Settings};
+use device_state::ErrorRecord;
 use frame_parts::Task;
 use page_10h::ErrorLog;
 use page_rows::Counters;
 use std::marker::Model;
 
 /// What replies show of the state. A contract sees the record and the counters themselves.
-#[derive(Drop)]
+#[derive(Debug, Drop)]
 pub struct Shown<'a> {
     /// whether the sweep goes before page 10h
     pub halted: bool,
-    /// which rows page 11h keeps
-    pub settings: Settings,
+    /// bit r keeps row r of page 11h
+    pub mask: u16,
     /// what page 10h shows
     pub errors: &'a ErrorRecord,
     /// what page 11h shows, by its rows
@@ -27,7 +27,7 @@ impl<'a> Model for Shown<'a> {
 
     ghost Value = { StateShown };
 
-    ghost view = { λ s. record { halted = s.halted; settings = s.settings; errors = s.errors.now; values = s.values.now } };
+    ghost view = { λ s. record { halted = s.halted; mask = s.mask; errors = s.errors.now; values = s.values.now } };
 }
 
 // The record as page 10h shows it.

@@ -11,6 +11,7 @@ use Rattle.frames.specs.declared.shapes.Frame.{Frame}
 use Rattle.frames.specs.declared.shapes.Frame.TheVariants.{Host, Data, Bist}
 use Rattle.refusals.specs.declared.reasons.Refusal.{Refusal}
 use Rattle.moves.specs.Range.{tooFar}
+use Rattle.verdicts.specs.Errors.{error_byte}
 use Rattle.verdicts.specs.Queued.{tagRefused, queuedRule}
 use Rattle.verdicts.specs.Other.{otherRule, logZeroes}
 use Rattle.verdicts.specs.declared.commands.Bad as verdict
@@ -33,8 +34,8 @@ fault h t e = BadAndHalt (record { tag = t; error = e; echo = echoOf h.task })
 
 -- a bad command: bad alone, or with a halt, for a tag if it was queued
 abbrev pub badDoes : HostReg → Option ℕ → verdict.Bad → Act
-badDoes h t (Only e) = bad h e
-badDoes h t (Halts e) = fault h t e
+badDoes h t (Only e) = bad h (error_byte e)
+badDoes h t (Halts e) = fault h t (error_byte e)
 
 -- the tag that a queued command names
 abbrev pub tagAsked : HostReg → ℕ

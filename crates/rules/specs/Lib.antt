@@ -2,6 +2,7 @@ pub mod Call
 pub mod Handed
 pub mod Positions
 pub mod Tests
+pub mod Command
 pub mod Decide
 pub mod Act
 pub mod Medium

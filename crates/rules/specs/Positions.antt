@@ -1,5 +1,6 @@
 -- Positions of a command: what is left, and where. What has moved is kept in bytes. Assumes nothing.
-use Rattle.std.specs.Prelude.{ℕ, unwrap_or}
+use Rattle.std.specs.Prelude.{Bool, true, false, ℕ, Option, None, unwrap_or}
+use Rattle.bits.specs.Pick.{pick}
 use Rattle.moves.specs.Amounts.{leftIn, partIn, lastIn, movedOn}
 use Rattle.moves.specs.Stored.{place_in}
 use Rattle.device_state.specs.State.{whole_of}
@@ -32,6 +33,11 @@ moveFor tag e n = record {
   entry = advancedBy e (size_of e n);
   last = lastIn (whole_of e.count) e.moved n;
 }
+
+-- the tag of the open phase, if one is open to write, or to read
+abbrev pub phaseTo : Status → Entry → Bool → Option ℕ
+phaseTo f e true = pick e.write f.phase None
+phaseTo f e false = pick e.write None f.phase
 
 -- in the open phase; where none is open no call moves bytes, and any tag would do
 unfoldable pub move_of : Status → Entry → ℕ → Move

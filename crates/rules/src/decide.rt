@@ -1,11 +1,12 @@
 // What a host frame makes the device do: the first rule that holds.
-ghost use Rattle.std.specs.Prelude.{◌≡◌, Ok};
+ghost use Rattle.std.specs.Prelude.{◌≡◌, eqb, Ok};
 ghost use Rattle.frames.specs.declared.shapes.Frame.TheVariants.{Host, Data, Bist};
-ghost use Rattle.rules.specs.Decide.{badDoes, queuedAct, logPage, otherAct, controlAct, registerAct};
+ghost use Rattle.rules.specs.Decide.{badDoes, queuedAct, logPage, pageAsked, otherAct, controlAct, registerAct};
 ghost use Rattle.device_state.specs.State.{echoOf};
 ghost use Rattle.rules.specs.Act.{kindAct, heardAct};
 
 use crate::acts::{Act, BadReply, CountersRead, Fault, Queued};
+use crate::command::Command;
 use crate::facts::{Facts, next_move};
 use device_state::{Echo, Entry};
 use frame_parts::{LogPage, Task};
@@ -14,189 +15,190 @@ use moves::Sectors;
 use refusals::{Refusal, check};
 use verdicts::{Bad, TagNamed};
 
-// The command that reads a log page.
-const READ_LOG_EXT: u8 = 0x2F;
-
-// The queued read.
-const READ_FPDMA_QUEUED: u8 = 0x60;
-
-// The queued write.
-const WRITE_FPDMA_QUEUED: u8 = 0x61;
-
 // A bad command: answered, and if it halts, for its tag if it was queued.
 fn bad_act(host: HostReg, tag: Option<u8>, bad: Bad) -> Act
     ensures { result ≡ badDoes host tag bad }
 {
     match bad {
         Bad::Only(error) => Act::Bad(BadReply {
-            error,
+            error: error.byte(),
             task: host.task,
         }),
         Bad::Halts(error) => Act::BadAndHalt(Fault {
             tag,
-            error,
+            error: error.byte(),
             echo: Echo::from(host.task),
         }),
     }
 }
 
-// Rules 1 to 4 of a queued command.
-#[tactic(auto, unfolding(crate::specs::Decide::queuedAct, bits::specs::Pick::pick))]
-fn queued_act(facts: &Facts, host: HostReg) -> Act
-    ensures { result ≡ queuedAct facts.now host }
-{
-    let tag = frame_parts::tag_of(host.task.count);
-    let count = frame_parts::sectors_of(host.features, host.features_high);
-    let named = TagNamed {
-        tag,
-        busy: facts.status.is_outstanding(u32::from(tag)),
-    };
-    let sectors = Sectors {
-        first: host.task.lba,
-        count,
-    };
-    let rule = verdicts::queued_rule(
-        facts.status.halted,
-        facts.settings.depth,
-        named,
-        facts.settings.capacity,
-        sectors,
-    );
-    match rule {
-        Err(bad) => bad_act(host, Some(tag), bad),
-        Ok(()) => {
-            let entry = Entry {
-                write: host.command == WRITE_FPDMA_QUEUED,
-                // rule 3 did not hold: it is at most the capacity, a u32
-                first: host.task.lba as u32,
-                count,
-                moved: 0,
-                features: host.features,
-                features_high: host.features_high,
-                echo: Echo::from(host.task),
-            };
-            Act::Accept(Queued { tag, entry })
-        }
-    }
-}
-
-// The page that a well-formed READ LOG EXT asks for; any other command asks for none.
+// The page that a well-formed READ LOG EXT asks for.
 #[tactic(auto, unfolding(crate::specs::Decide::logPage, device_state::specs::State::echoOf, bits::specs::Pick::pick))]
-fn log_page(command: u8, task: Task) -> Option<LogPage>
-    ensures { result ≡ logPage command (echoOf task) }
+fn log_page(task: Task) -> Option<LogPage>
+    ensures { result ≡ logPage 0x2F (echoOf task) }
 {
     let [page, b5, _, _, b9, ..] = task.lba.to_le_bytes();
-    if command == READ_LOG_EXT && b5 == 0 && b9 == 0 && task.count == 1 {
+    if b5 == 0 && b9 == 0 && task.count == 1 {
         return LogPage::from_number(page);
     }
     None
 }
 
-// Any other command.
-#[tactic(auto, unfolding(crate::specs::Decide::otherAct))]
-fn other_act(facts: &Facts, host: HostReg) -> Act
-    ensures { result ≡ otherAct facts.now host }
-{
-    let page = log_page(host.command, host.task);
-    match verdicts::other_rule(facts.status.halted, page, facts.status.outstanding != 0) {
-        Err(bad) => bad_act(host, None, bad),
-        Ok(LogPage::Errors) => Act::Log10(host.task),
-        Ok(LogPage::Counters) => Act::Log11(CountersRead {
-            zero: verdicts::log_zeroes(host.features),
-            task: host.task,
-        }),
+impl Facts {
+    // Rules 1 to 4 of a queued command, a write or a read.
+    #[tactic(auto, unfolding(crate::specs::Decide::queuedAct, bits::specs::Pick::pick))]
+    fn queued_act(&self, host: HostReg, write: bool) -> Act
+        requires { write ≡ eqb host.command 0x61 }
+        ensures { result ≡ queuedAct self.now host }
+    {
+        let tag = frame_parts::tag_of(host.task.count);
+        let count = frame_parts::sectors_of(host.features, host.features_high);
+        let named = TagNamed {
+            tag,
+            busy: self.status.is_outstanding(u32::from(tag)),
+        };
+        let sectors = Sectors {
+            first: host.task.lba,
+            count,
+        };
+        let rule = verdicts::queued_rule(
+            self.status.halted,
+            self.settings.depth,
+            named,
+            self.settings.capacity,
+            sectors,
+        );
+        match rule {
+            Err(bad) => bad_act(host, Some(tag), bad),
+            Ok(()) => {
+                let entry = Entry {
+                    write,
+                    // rule 3 did not hold: it is at most the capacity, a u32
+                    first: host.task.lba as u32,
+                    count,
+                    moved: 0,
+                    features: host.features,
+                    features_high: host.features_high,
+                    echo: Echo::from(host.task),
+                };
+                Act::Accept(Queued { tag, entry })
+            }
+        }
     }
-}
 
-// A control frame.
-#[tactic(auto, unfolding(crate::specs::Decide::controlAct, bits::specs::Pick::pick))]
-fn control_act(facts: &Facts, host: HostReg) -> Act
-    ensures { result ≡ controlAct facts.now host }
-{
-    if frame_parts::srst(host.control) {
-        return Act::Reset;
+    // Any other command, with the page that it asks for, if it asks for one.
+    #[tactic(auto, unfolding(crate::specs::Decide::otherAct))]
+    fn other_act(&self, host: HostReg, page: Option<LogPage>) -> Act
+        requires { page ≡ pageAsked host }
+        ensures { result ≡ otherAct self.now host }
+    {
+        match verdicts::other_rule(self.status.halted, page, self.status.outstanding != 0) {
+            Err(bad) => bad_act(host, None, bad),
+            Ok(LogPage::Errors) => Act::Log10(host.task),
+            Ok(LogPage::Counters) => Act::Log11(CountersRead {
+                zero: verdicts::log_zeroes(host.features),
+                task: host.task,
+            }),
+        }
     }
-    if facts.status.held {
-        return Act::Release;
-    }
-    Act::Nothing
-}
 
-// A register frame at its time.
-#[tactic(auto, unfolding(crate::specs::Decide::registerAct, bits::specs::Pick::pick))]
-fn register_act(facts: &Facts, host: HostReg) -> Act
-    ensures { result ≡ registerAct facts.now host }
-{
-    if !host.command_bit {
-        return control_act(facts, host);
+    // A control frame.
+    #[tactic(auto, unfolding(crate::specs::Decide::controlAct, bits::specs::Pick::pick))]
+    fn control_act(&self, host: HostReg) -> Act
+        ensures { result ≡ controlAct self.now host }
+    {
+        if frame_parts::srst(host.control) {
+            return Act::Reset;
+        }
+        if self.status.held {
+            return Act::Release;
+        }
+        Act::Nothing
     }
-    if host.command == READ_FPDMA_QUEUED || host.command == WRITE_FPDMA_QUEUED {
-        return queued_act(facts, host);
-    }
-    other_act(facts, host)
-}
 
-// 27h.
-#[tactic(auto, unfolding(crate::specs::Decide::frameAct, crate::specs::Tests::wrongKind, crate::specs::Tests::wrongTime, crate::specs::Tests::wrongSize, refusals::specs::First::first_of, bits::specs::Pick::pick))]
-fn host_act(facts: &Facts, host: HostReg) -> Result<Act, Refusal>
-    ensures { result ≡ kindAct facts.now (Ok (Host host)) }
-{
-    if host.command_bit && (facts.status.held || facts.status.is_link_busy()) {
-        return Err(Refusal::WrongTime);
+    // A register frame at its time: a control frame, or a command.
+    #[tactic(auto, unfolding(crate::specs::Decide::registerAct, crate::specs::Decide::logPage, bits::specs::Pick::pick))]
+    fn register_act(&self, host: HostReg) -> Act
+        ensures { result ≡ registerAct self.now host }
+    {
+        if !host.command_bit {
+            return self.control_act(host);
+        }
+        match Command::from_byte(host.command) {
+            Some(Command::ReadFpdmaQueued) => self.queued_act(host, false),
+            Some(Command::WriteFpdmaQueued) => self.queued_act(host, true),
+            Some(Command::ReadLogExt) => self.other_act(host, log_page(host.task)),
+            None => self.other_act(host, None),
+        }
     }
-    Ok(register_act(facts, host))
-}
 
-// 46h: host data in a write phase.
-#[tactic(auto, unfolding(crate::specs::Decide::frameAct, crate::specs::Tests::wrongKind, crate::specs::Tests::wrongTime, crate::specs::Tests::wrongSize, crate::specs::Positions::move_of, refusals::specs::First::first_of, bits::specs::Pick::pick))]
-fn data_act(facts: &Facts, size: usize) -> Result<Act, Refusal>
-    ensures { result ≡ kindAct facts.now (Ok (Data size)) }
-{
-    let Some(tag) = facts.status.phase else {
-        return Err(Refusal::WrongTime);
-    };
-    if !facts.entry.write {
-        return Err(Refusal::WrongTime);
+    // 27h.
+    #[tactic(auto, unfolding(crate::specs::Decide::frameAct, crate::specs::Tests::wrongKind, crate::specs::Tests::wrongTime, crate::specs::Tests::wrongSize, refusals::specs::First::first_of, bits::specs::Pick::pick))]
+    fn host_act(&self, host: HostReg) -> Result<Act, Refusal>
+        ensures { result ≡ kindAct self.now (Ok (Host host)) }
+    {
+        if host.command_bit && (self.status.held || self.status.is_link_busy()) {
+            return Err(Refusal::WrongTime);
+        }
+        Ok(self.register_act(host))
     }
-    if verdicts::is_too_long(facts.entry.progress(), size) {
-        return Err(Refusal::TooLong);
-    }
-    Ok(Act::Store(next_move(tag, facts.entry, size)))
-}
 
-// 58h.
-#[tactic(auto, unfolding(crate::specs::Decide::frameAct, crate::specs::Tests::wrongKind, crate::specs::Tests::wrongTime, crate::specs::Tests::wrongSize, refusals::specs::First::first_of, bits::specs::Pick::pick))]
-fn bist_act(facts: &Facts) -> Result<Act, Refusal>
-    ensures { result ≡ kindAct facts.now (Ok Bist) }
-{
-    if facts.status.is_link_busy() {
-        return Err(Refusal::WrongTime);
+    // 46h: host data in a write phase.
+    #[tactic(auto, unfolding(crate::specs::Decide::frameAct, crate::specs::Tests::wrongKind, crate::specs::Tests::wrongTime, crate::specs::Tests::wrongSize, crate::specs::Positions::move_of, refusals::specs::First::first_of, bits::specs::Pick::pick))]
+    fn data_act(&self, size: usize) -> Result<Act, Refusal>
+        ensures { result ≡ kindAct self.now (Ok (Data size)) }
+    {
+        let Some(tag) = self.open_phase(true) else {
+            return Err(Refusal::WrongTime);
+        };
+        if verdicts::is_too_long(self.entry.progress(), size) {
+            return Err(Refusal::TooLong);
+        }
+        Ok(Act::Store(next_move(tag, self.entry, size)))
     }
-    Ok(Act::ZeroCounters)
-}
 
-// A host frame for which what is lent is right.
-#[tactic(auto, unfolding(crate::specs::Tests::wrongKind, refusals::specs::First::first_of, bits::specs::Pick::pick))]
-fn kind_act(facts: &Facts, frame: Result<Frame, Refusal>) -> Result<Act, Refusal>
-    ensures { result ≡ kindAct facts.now frame }
-{
-    match frame {
-        Ok(Frame::Host(host)) => host_act(facts, host),
-        Ok(Frame::Data(size)) => data_act(facts, size),
-        Ok(Frame::Bist) => bist_act(facts),
-        _ => Err(Refusal::NoHostFrame),
+    // 58h.
+    #[tactic(auto, unfolding(crate::specs::Decide::frameAct, crate::specs::Tests::wrongKind, crate::specs::Tests::wrongTime, crate::specs::Tests::wrongSize, refusals::specs::First::first_of, bits::specs::Pick::pick))]
+    fn bist_act(&self) -> Result<Act, Refusal>
+        ensures { result ≡ kindAct self.now (Ok Bist) }
+    {
+        if self.status.is_link_busy() {
+            return Err(Refusal::WrongTime);
+        }
+        Ok(Act::ZeroCounters)
     }
-}
 
-/// A host frame, as it was read. Refused with 1, 2, 3, 4 (the reader turned it down, or its kind is no host's), 5 or 6.
-#[tactic(auto, unfolding(refusals::specs::First::first_of, bits::specs::Pick::pick))]
-pub fn frame_act(facts: &Facts, frame: Result<Frame, Refusal>) -> Result<Act, Refusal>
-    ensures { result ≡ heardAct facts.now frame }
-{
-    check(&[
-        (facts.contradicts, Refusal::Contradiction),
-        (facts.medium_wrong, Refusal::MediumLength),
-        (facts.reply_short, Refusal::ReplyShort),
-    ])?;
-    kind_act(facts, frame)
+    // A host frame for which what is lent is right.
+    #[tactic(auto, unfolding(crate::specs::Tests::wrongKind, refusals::specs::First::first_of, bits::specs::Pick::pick))]
+    fn kind_act(&self, frame: Result<Frame, Refusal>) -> Result<Act, Refusal>
+        ensures { result ≡ kindAct self.now frame }
+    {
+        let Ok(Frame::Host(host)) = frame else {
+            let Ok(Frame::Data(size)) = frame else {
+                let Ok(Frame::Bist) = frame else {
+                    return Err(Refusal::NoHostFrame);
+                };
+                return self.bist_act();
+            };
+            return self.data_act(size);
+        };
+        self.host_act(host)
+    }
+
+    /// What a host frame, as it was read, makes the device do.
+    ///
+    /// # Errors
+    /// The first that holds of `Contradiction` (1), `MediumLength` (2), `ReplyShort` (3), `NoHostFrame` (4: the reader
+    /// turned it down, or its kind is no host's), `WrongTime` (5), `TooLong` (6).
+    #[tactic(auto, unfolding(refusals::specs::First::first_of, bits::specs::Pick::pick))]
+    pub fn frame_act(&self, frame: Result<Frame, Refusal>) -> Result<Act, Refusal>
+        ensures { result ≡ heardAct self.now frame }
+    {
+        check(&[
+            (self.contradicts, Refusal::Contradiction),
+            (self.medium_wrong, Refusal::MediumLength),
+            (self.reply_short, Refusal::ReplyShort),
+        ])?;
+        self.kind_act(frame)
+    }
 }

@@ -24,20 +24,6 @@ pub fn some_unready(entries: &Entries, status: Status, set: u32) -> bool
     })
 }
 
-/// Finish a set of tags. One bad tag refuses the whole set. Refused with 1, 3, 8 or 11.
-#[tactic(auto, unfolding(crate::specs::Act::act, crate::specs::Act::does, crate::specs::Tests::tests))]
-pub fn finish_act(facts: &Facts, set: u32) -> Result<Act, Refusal>
-    ensures { result ≡ act facts.now (finishTags set) }
-{
-    check(&[
-        (facts.contradicts, Refusal::Contradiction),
-        (facts.reply_short, Refusal::ReplyShort),
-        (facts.status.is_link_busy(), Refusal::PhaseOpen),
-        (set == 0 || facts.unready, Refusal::SetUnready),
-    ])?;
-    Ok(Act::Finish(set))
-}
-
 // The command's bytes with the failing sector in those of the LBA.
 fn failing(echo: Echo, sector: u32) -> Echo
     ensures { result ≡ failing echo sector }
@@ -48,54 +34,83 @@ fn failing(echo: Echo, sector: u32) -> Echo
     })
 }
 
-/// Media error at a sector of an outstanding command, in any phase. Refused with 1, 3, 7 or 12.
-#[tactic(auto, unfolding(crate::specs::Act::act, crate::specs::Act::does, crate::specs::Tests::tests))]
-pub fn media_act(facts: &Facts, tag: u8, error: u8, sector: u32) -> Result<Act, Refusal>
-    ensures { result ≡ act facts.now (mediaError tag error sector) }
-{
-    check(&[
-        (facts.contradicts, Refusal::Contradiction),
-        (facts.reply_short, Refusal::ReplyShort),
-        (
-            !facts.status.is_outstanding(u32::from(tag)),
-            Refusal::TagIdle,
-        ),
-        (
-            error == 0 || facts.entry.sectors().leaves_out(sector),
-            Refusal::OutsideCommand,
-        ),
-    ])?;
-    let fault = Fault {
-        tag: Some(tag),
-        error,
-        echo: failing(facts.entry.echo, sector),
-    };
-    Ok(Act::Media(fault))
-}
+impl Facts {
+    /// What finishing a set of tags, bit t for tag t, makes the device do. One bad tag refuses the whole set.
+    ///
+    /// # Errors
+    /// The first that holds of `Contradiction` (1), `ReplyShort` (3), `PhaseOpen` (8), `SetUnready` (11).
+    #[tactic(auto, unfolding(crate::specs::Act::act, crate::specs::Act::does, crate::specs::Tests::tests))]
+    pub fn finish_act(&self, set: u32) -> Result<Act, Refusal>
+        ensures { result ≡ act self.now (finishTags set) }
+    {
+        check(&[
+            (self.contradicts, Refusal::Contradiction),
+            (self.reply_short, Refusal::ReplyShort),
+            (self.status.is_link_busy(), Refusal::PhaseOpen),
+            (set == 0 || self.unready, Refusal::SetUnready),
+        ])?;
+        Ok(Act::Finish(set))
+    }
 
-/// Link event. Refused with 1 or 13.
-#[tactic(auto, unfolding(crate::specs::Act::act, crate::specs::Act::does, crate::specs::Tests::tests))]
-pub fn link_act(facts: &Facts, row: u8) -> Result<Act, Refusal>
-    ensures { result ≡ act facts.now (linkEvent row) }
-{
-    check(&[
-        (facts.contradicts, Refusal::Contradiction),
-        (
-            contradictions::row_refused(facts.settings.mask, row),
-            Refusal::NoRow,
-        ),
-    ])?;
-    Ok(Act::Count(row))
-}
+    /// What a media error at a sector of an outstanding command makes the device do, in any phase.
+    ///
+    /// # Errors
+    /// The first that holds of `Contradiction` (1), `ReplyShort` (3), `TagIdle` (7), `OutsideCommand` (12: or the error
+    /// byte is 0).
+    #[tactic(auto, unfolding(crate::specs::Act::act, crate::specs::Act::does, crate::specs::Tests::tests))]
+    pub fn media_act(&self, tag: u8, error: u8, sector: u32) -> Result<Act, Refusal>
+        ensures { result ≡ act self.now (mediaError tag error sector) }
+    {
+        check(&[
+            (self.contradicts, Refusal::Contradiction),
+            (self.reply_short, Refusal::ReplyShort),
+            (
+                !self.status.is_outstanding(u32::from(tag)),
+                Refusal::TagIdle,
+            ),
+            (
+                error == 0 || self.entry.sectors().leaves_out(sector),
+                Refusal::OutsideCommand,
+            ),
+        ])?;
+        let fault = Fault {
+            tag: Some(tag),
+            error,
+            echo: failing(self.entry.echo, sector),
+        };
+        Ok(Act::Media(fault))
+    }
 
-/// COMRESET. Refused with 1 or 3.
-#[tactic(auto, unfolding(crate::specs::Act::act, crate::specs::Act::does, crate::specs::Tests::tests))]
-pub fn comreset_act(facts: &Facts) -> Result<Act, Refusal>
-    ensures { result ≡ act facts.now comReset }
-{
-    check(&[
-        (facts.contradicts, Refusal::Contradiction),
-        (facts.reply_short, Refusal::ReplyShort),
-    ])?;
-    Ok(Act::Renew)
+    /// What a link event makes the device do. `row`: of page 11h.
+    ///
+    /// # Errors
+    /// The first that holds of `Contradiction` (1), `NoRow` (13).
+    #[tactic(auto, unfolding(crate::specs::Act::act, crate::specs::Act::does, crate::specs::Tests::tests))]
+    pub fn link_act(&self, row: u8) -> Result<Act, Refusal>
+        ensures { result ≡ act self.now (linkEvent row) }
+    {
+        check(&[
+            (self.contradicts, Refusal::Contradiction),
+            (
+                contradictions::row_refused(self.settings.mask, row),
+                Refusal::NoRow,
+            ),
+        ])?;
+        Ok(Act::Count(row))
+    }
+
+    /// What COMRESET makes the device do.
+    ///
+    /// # Errors
+    /// The first that holds of `Contradiction` (1), `ReplyShort` (3).
+    #[tactic(auto, unfolding(crate::specs::Act::act, crate::specs::Act::does, crate::specs::Tests::tests))]
+    pub fn comreset_act(&self) -> Result<Act, Refusal>
+        ensures { result ≡ act self.now comReset }
+    {
+        check(&[
+            (self.contradicts, Refusal::Contradiction),
+            (self.reply_short, Refusal::ReplyShort),
+        ])?;
+        Ok(Act::Renew)
+    }
 }

@@ -1,18 +1,19 @@
 // What a decision looks at: lengths and control values, never medium or payload bytes.
 ghost use Rattle.std.specs.Prelude.{◌≡◌};
-ghost use Rattle.rules.specs.Positions.{moveFor};
+ghost use Rattle.rules.specs.Positions.{phaseTo, moveFor};
 
 use crate::acts::Move;
 use device_state::{Entry, Settings, Status};
 
-/// The tests of refusals 1, 2, 3 and 11, settings and control values, and the one entry that the call is about.
+/// The tests of `Contradiction` (1), `MediumLength` (2), `ReplyShort` (3) and `SetUnready` (11), settings and control values,
+/// and the one entry that the call is about. A method for each call says what it makes the device do.
 #[derive(Clone, Copy, Debug, PartialEq, Eq)]
 pub struct Facts {
-    /// 1: the state contradicts itself
+    /// `Contradiction` (1): the state contradicts itself
     pub contradicts: bool,
-    /// 2, of a host frame and of a send: the medium is not 512 × capacity bytes
+    /// `MediumLength` (2), of a host frame and of a send: the medium is not 512 × capacity bytes
     pub medium_wrong: bool,
-    /// 3, of a call that replies: the reply buffer is under 8,196 bytes
+    /// `ReplyShort` (3), of a call that replies: the reply buffer is under 8,196 bytes
     pub reply_short: bool,
     /// depth in tags, capacity in sectors, the rows that are kept
     pub settings: Settings,
@@ -20,8 +21,18 @@ pub struct Facts {
     pub status: Status,
     /// that of the tag asked for, or of the open phase; an idle one if there is none
     pub entry: Entry,
-    /// 11: a tag of the set asked for is not outstanding or not wholly moved; false of a call that names no set
+    /// `SetUnready` (11): a tag of the set asked for is not outstanding or not wholly moved; false of a call that names no set
     pub unready: bool,
+}
+
+impl Facts {
+    /// The tag of the open phase, if one is open whose command moves data that way. `write`: from the host.
+    #[tactic(auto, unfolding(bits::specs::Pick::pick))]
+    pub(crate) fn open_phase(&self, write: bool) -> Option<u32>
+        ensures { result ≡ phaseTo self.now.status self.now.entry write }
+    {
+        self.status.phase.filter(|_| self.entry.write == write)
+    }
 }
 
 /// The next `size` bytes of a command of a tag, or what is left of it.
@@ -33,7 +44,7 @@ pub fn next_move(tag: u32, entry: Entry, size: usize) -> Move
     Move {
         tag,
         at: moves::place(entry.first, entry.moved),
-        size: progress.part(size) as usize,
+        size: progress.part(size),
         entry: Entry {
             moved: progress.after(size).moved,
             ..entry

@@ -1,11 +1,16 @@
 // Runs an event file: standard input to standard output, one line an event.
 #![tactic(auto)]
 
+use event_program::{Format, PIECE, run_in_pieces};
+
 fn main(rt: HostRuntime) {
-    event_program::run_in_pieces(
-        rt.alloc(),
-        false,
-        event_program::PIECE,
+    let format = Format {
+        alloc: rt.alloc(),
+        traced: false,
+    };
+    run_in_pieces(
+        format,
+        PIECE,
         rt.stdin(),
         &mut rt.stdout(),
         &mut rt.stderr(),

@@ -7,6 +7,10 @@ use std::io::Read;
 
 /// Reads until the buffer is full or the input ends: how many bytes the buffer holds then.
 /// The library's `read_exact` tells neither how many it read nor an input that ends within the buffer from one that ends before it.
+///
+/// # Errors
+/// The reader's: the first error that a read gives, `ErrorKind::Interrupted` too. What was read before it stands in front of the
+/// buffer.
 pub fn fill<R: Read>(reader: &mut R, buffer: &mut [u8]) -> io::Result<usize>
     ensures same { length buffer.new ≡ length buffer.old }
     ensures ok { IfOk result (λ n. Filled (R.remaining reader.old) (R.remaining reader.new) n buffer.new) }

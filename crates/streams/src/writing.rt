@@ -8,6 +8,10 @@ use std::io::{Error, ErrorKind, Write};
 
 /// All of a text, or a front of it. A write that a signal broke off is tried again.
 /// The library's `write_all` does the same, and says nothing of what was written where it fails.
+///
+/// # Errors
+/// The writer's: the first error that a write gives, but for `ErrorKind::Interrupted`; `ErrorKind::WriteZero` where a write takes
+/// nothing; `ErrorKind::TimedOut` where `u64::MAX` writes have not sufficed. A front of the text is written then.
 pub fn put<W: Write>(out: &mut W, text: &[u8]) -> io::Result<()>
     ensures ok { OnOk result (Appends (W.contents out.old) (W.contents out.new) text.now) }
     ensures err { OnErr result (AppendsFront (W.contents out.old) (W.contents out.new) text.now) }

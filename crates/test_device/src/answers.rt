@@ -56,7 +56,7 @@ fn op_of(byte: u8) -> Option<Op> {
 }
 
 /// The state and the medium that stay between two cases.
-#[derive(Drop)]
+#[derive(Debug, Drop)]
 pub struct TestedDevice<'a> {
     /// as the last call left it, or as a case set it
     pub state: Device,
@@ -88,7 +88,7 @@ impl<'a> TestedDevice<'a> {
             unready: false,
         };
         let frame = frames::read_frame(&case[9..29]);
-        lines::say_ruling(out, rules::frame_act(&facts, frame))
+        lines::say_ruling(out, facts.frame_act(frame))
     }
 
     // A call that is lent nothing.

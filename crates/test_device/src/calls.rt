@@ -10,11 +10,17 @@ use vector_io::ROOM;
 /// A call that is lent a reply buffer.
 #[derive(Clone, Copy, Debug, PartialEq, Eq)]
 pub enum Call {
+    /// A frame from the host.
     HostFrame,
+    /// Open a phase for a tag.
     Open,
+    /// Send the next data frame.
     Send,
+    /// Finish a set of tags.
     Finish,
+    /// A command fails at a sector.
     MediaError,
+    /// COMRESET.
     Comreset,
 }
 

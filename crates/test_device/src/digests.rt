@@ -1,15 +1,6 @@
 // The digests of the entries, of the counters, and of plain bytes.
 use device_state::{Echo, Entries, Entry};
 
-/// On from a digest by some bytes.
-pub fn more(from: u64, bytes: &[u8]) -> u64 {
-    vector_io::digest(from, bytes, 257, 4294967291)
-}
-
-fn with_number(from: u64, number: u32) -> u64 {
-    more(from, &number.to_le_bytes())
-}
-
 /// The bytes that an entry or a record keeps of its command, in their order.
 pub fn echo_bytes(echo: &Echo) -> [u8; 9] {
     [
@@ -17,21 +8,50 @@ pub fn echo_bytes(echo: &Echo) -> [u8; 9] {
     ]
 }
 
-fn with_entry(from: u64, entry: &Entry) -> u64 {
-    let first = with_number(more(from, &[u8::from(entry.write)]), entry.first);
-    let moved = with_number(with_number(first, entry.count), entry.moved);
-    more(
-        more(moved, &[entry.features, entry.features_high]),
-        &echo_bytes(&entry.echo),
-    )
+// A digest that goes on with what is put to it.
+#[derive(Clone, Copy, Debug, Default, PartialEq, Eq)]
+struct Digest(u64);
+
+impl Digest {
+    fn bytes(&mut self, bytes: &[u8]) {
+        self.0 = vector_io::digest(self.0, bytes, 257, 4294967291);
+    }
+
+    fn number(&mut self, number: u32) {
+        self.bytes(&number.to_le_bytes());
+    }
+
+    fn entry(&mut self, entry: &Entry) {
+        self.bytes(&[u8::from(entry.write)]);
+        self.number(entry.first);
+        self.number(entry.count);
+        self.number(entry.moved);
+        self.bytes(&[entry.features, entry.features_high]);
+        self.bytes(&echo_bytes(&entry.echo));
+    }
+}
+
+/// The digest of some bytes.
+pub fn of_bytes(bytes: &[u8]) -> u64 {
+    let mut digest = Digest::default();
+    digest.bytes(bytes);
+    digest.0
 }
 
 /// The digest of the table's entries.
 pub fn of_entries(entries: &Entries) -> u64 {
-    entries.iter().fold(0, with_entry)
+    let mut digest = Digest::default();
+    for entry in entries {
+        digest.entry(entry);
+    }
+    digest.0
 }
 
 /// The digest of the counters' values, each as four bytes.
 pub fn of_counters(values: &[u32]) -> u64 {
-    values.iter().fold(0, |sum, &value| with_number(sum, value))
+    let mut digest = Digest::default();
+    for value in values {
+        digest.number(*value);
+    }
+    digest.0
 }

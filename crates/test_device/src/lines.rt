@@ -73,7 +73,7 @@ pub fn say_ruling<W: Write>(out: &mut W, ruling: Result<Act, Refusal>) -> io::Re
 
 fn say_medium<W: Write>(out: &mut W, call: Call, medium: &[u8]) -> io::Result<()> {
     if call.takes_medium() {
-        write!(out, " {}", digests::more(0, medium))
+        write!(out, " {}", digests::of_bytes(medium))
     } else {
         write!(out, " -")
     }
@@ -88,7 +88,7 @@ pub fn say_long<W: Write>(
     reply: &[u8],
 ) -> io::Result<()> {
     say_state(out, outcome)?;
-    write!(out, " {}", digests::more(0, reply))?;
+    write!(out, " {}", digests::of_bytes(reply))?;
     say_medium(out, call, medium)?;
     if let Some(replies) = reply.get(..outcome.len) {
         hex(out, replies, 64)?;

@@ -2,7 +2,7 @@
 // with its input in pieces that hardly hold an event.
 #![tactic(auto)]
 
-use event_program::{PIECE, run_in_pieces};
+use event_program::{Format, PIECE, run_in_pieces};
 use std::io::Write;
 use std::{env, fs, io};
 
@@ -11,14 +11,11 @@ fn run_file(rt: HostRuntime, path: &str, traced: bool, piece: usize) -> io::Resu
     let Ok(file) = fs::open(&rt, path) else {
         return rt.stdout().write_all(b"cannot be opened\n");
     };
-    run_in_pieces(
-        rt.alloc(),
+    let format = Format {
+        alloc: rt.alloc(),
         traced,
-        piece,
-        file,
-        &mut rt.stdout(),
-        &mut rt.stderr(),
-    );
+    };
+    run_in_pieces(format, piece, file, &mut rt.stdout(), &mut rt.stderr());
     Ok(())
 }
 

@@ -141,7 +141,7 @@ impl<'a> Case<'a> {
 }
 
 /// Frames and pages: nothing stays between two cases.
-#[derive(Clone, Copy, Debug)]
+#[derive(Clone, Copy, Debug, PartialEq, Eq)]
 pub struct CaseByCase;
 
 impl Answers<CASE> for CaseByCase {

@@ -151,10 +151,9 @@ pub fn say_log<W: Write>(out: &mut W, buf: &mut [u8], fields: &Body) -> io::Resu
 
 /// Writes page 11h, and says what came of it.
 pub fn say_counters<W: Write>(out: &mut W, buf: &mut [u8], fields: &Body) -> io::Result<()> {
-    let mut values = [0u32; ROWS];
-    for (row, value) in values.iter_mut().enumerate() {
-        *value = le32(fields, 2 + 4 * row);
-    }
+    let (words, _) = fields[2..].as_chunks::<4>();
+    let rows = words.first_chunk::<ROWS>().unwrap();
+    let values = rows.map(u32::from_le_bytes);
     let written = page_rows::write_counters(buf, le16(fields, 0), &values);
     say_written(out, written, buf)
 }

@@ -8,6 +8,7 @@ use Rattle.verdicts.specs.Queued.{queuedRule}
 use Rattle.verdicts.specs.Other.{asksErrors, asksCounters}
 use Rattle.frame_parts.specs.declared.log_pages.LogPage.{LogPage}
 use Rattle.frame_parts.specs.declared.log_pages.LogPage.TheVariants.{Errors, Counters}
+use Rattle.verdicts.specs.declared.errors.CommandError.TheVariants.{Aborted}
 use Rattle.verdicts.specs.declared.commands.Bad.{Bad}
 use Rattle.verdicts.specs.declared.commands.Bad.TheVariants.{Only}
 
@@ -21,7 +22,7 @@ good-near r false false false g e = refl
 
 -- what a command that asks for a page comes to, by the page
 pub by-page : (P : Result LogPage Bad → Type 0) (page : Option LogPage) → (asksErrors page ≡ true → P (Ok Errors))
-    → (asksErrors page ≡ false → asksCounters page ≡ true → P (Ok Counters)) → (asksErrors page ≡ false → P (Err (Only 0x04))) → P (ok_or page (Only 0x04))
+    → (asksErrors page ≡ false → asksCounters page ≡ true → P (Ok Counters)) → (asksErrors page ≡ false → P (Err (Only Aborted))) → P (ok_or page (Only Aborted))
 by-page P (Some Errors) e c b = e refl
 by-page P (Some Counters) e c b = c refl refl
 by-page P None e c b = b refl

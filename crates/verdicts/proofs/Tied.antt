@@ -2,6 +2,7 @@
 use Rattle.moves.specs.Amounts.{leftIn}
 use Rattle.moves.specs.Range.{tooFar}
 use Rattle.verdicts.specs.Moved.{longer, notReady}
+use Rattle.verdicts.specs.Errors.{error_byte}
 use Rattle.verdicts.specs.Queued.{tagRefused, queuedRule}
 use Rattle.verdicts.specs.Other.{otherRule, logZeroes}
 use mathlib.Core.Path.{◌≡◌, refl}
@@ -9,6 +10,8 @@ use Rattle.bits.specs.Contract.{Tied}
 use Rattle.bits.proofs.Tying.{say, named}
 use Rattle.verdicts.proofs.commands
 use Rattle.verdicts.specs.contracts.commands as commands-said
+use Rattle.verdicts.proofs.errors
+use Rattle.verdicts.specs.contracts.errors as errors-said
 use Rattle.verdicts.proofs.moving
 use Rattle.verdicts.specs.contracts.moving as moving-said
 
@@ -24,6 +27,9 @@ tied-other-rule = named (say (λ κs a. tt) (λ κs a r ws p. p)) (λ κs a ws w
 
 pub tied-log-zeroes : Tied commands-said.log_zeroes.ended commands.log_zeroes.Reads.Asked commands.log_zeroes.Reads.Post (λ κs a r ws. r ≡ logZeroes a.0)
 tied-log-zeroes = named (say (λ κs a. tt) (λ κs a r ws p. p)) (λ κs a ws ws'. refl)
+
+pub tied-byte : Tied errors-said.CommandError.byte.ended errors.CommandError.byte.Reads.Asked errors.CommandError.byte.Reads.Post (λ κs a r ws. r ≡ error_byte a.0)
+tied-byte = named (say (λ κs a. tt) (λ κs a r ws p. p)) (λ κs a ws ws'. refl)
 
 pub tied-is-too-long : Tied moving-said.is_too_long.ended moving.is_too_long.Reads.Asked moving.is_too_long.Reads.Post (λ κs a r ws. r ≡ longer (leftIn a.0.whole a.0.moved) a.1.0)
 tied-is-too-long = named (say (λ κs a. tt) (λ κs a r ws p. p)) (λ κs a ws ws'. refl)

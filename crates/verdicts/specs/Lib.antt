@@ -1,3 +1,4 @@
 pub mod Moved
+pub mod Errors
 pub mod Queued
 pub mod Other

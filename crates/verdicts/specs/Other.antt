@@ -5,6 +5,7 @@ use Rattle.bits.specs.Pick.{pick}
 use Rattle.bits.specs.Bit.{bitIn}
 use Rattle.frame_parts.specs.declared.log_pages.LogPage.{LogPage}
 use Rattle.frame_parts.specs.declared.log_pages.LogPage.TheVariants.{Errors, Counters}
+use Rattle.verdicts.specs.declared.errors.CommandError.TheVariants.{Aborted}
 use Rattle.verdicts.specs.declared.commands.Bad.{Bad}
 use Rattle.verdicts.specs.declared.commands.Bad.TheVariants.{Only, Halts}
 
@@ -20,7 +21,7 @@ asksCounters _ = false
 
 -- any other command: halted and not a well-formed READ LOG EXT of page 10h: bad; something outstanding: bad, halt; the page that it asks for, 10h or 11h; otherwise bad, no halt
 abbrev pub otherRule : Bool → Option LogPage → Bool → Result LogPage Bad
-otherRule halted page busy = pick (halted && not (asksErrors page)) (Err (Only 0x04)) (pick busy (Err (Halts 0x04)) (ok_or page (Only 0x04)))
+otherRule halted page busy = pick (halted && not (asksErrors page)) (Err (Only Aborted)) (pick busy (Err (Halts Aborted)) (ok_or page (Only Aborted)))
 
 -- page 11h with features bit 0 zeroes the counters
 abbrev pub logZeroes : ℕ → Bool

@@ -1,6 +1,7 @@
 -- Which rule holds for a queued command. Assumes nothing.
 use Rattle.std.specs.Prelude.{Bool, ◌||◌, ℕ, leb, Result, Ok, Err}
 use Rattle.bits.specs.Pick.{pick}
+use Rattle.verdicts.specs.declared.errors.CommandError.TheVariants.{Aborted, IdNotFound}
 use Rattle.verdicts.specs.declared.commands.Bad.{Bad}
 use Rattle.verdicts.specs.declared.commands.Bad.TheVariants.{Only, Halts}
 
@@ -10,4 +11,4 @@ tagRefused depth tag busy = leb depth tag || busy
 
 -- queued command, first rule that holds: 1 halted: bad 04h; 2 tag: bad 04h, halt; 3 first sector + count above capacity: bad 10h, halt; 4 otherwise good
 abbrev pub queuedRule : Bool → Bool → Bool → Result Unit Bad
-queuedRule halted tag far = pick halted (Err (Only 0x04)) (pick tag (Err (Halts 0x04)) (pick far (Err (Halts 0x10)) (Ok tt)))
+queuedRule halted tag far = pick halted (Err (Only Aborted)) (pick tag (Err (Halts Aborted)) (pick far (Err (Halts IdNotFound)) (Ok tt)))

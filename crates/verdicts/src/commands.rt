@@ -4,22 +4,17 @@ ghost use Rattle.moves.specs.Range.{tooFar};
 ghost use Rattle.verdicts.specs.Queued.{tagRefused, queuedRule};
 ghost use Rattle.verdicts.specs.Other.{otherRule, logZeroes};
 
+use crate::errors::CommandError;
 use frame_parts::LogPage;
 use moves::Sectors;
-
-// The error of a command that was aborted.
-const ABORTED: u8 = 0x04;
-
-// The error of a command that names a sector which is not there.
-const ID_NOT_FOUND: u8 = 0x10;
 
 /// A bad command, with its error.
 #[derive(Clone, Copy, Debug, PartialEq, Eq)]
 pub enum Bad {
     /// Answered with the error, and no more.
-    Only(u8),
+    Only(CommandError),
     /// Answered with the error, and with a halt whose record holds it.
-    Halts(u8),
+    Halts(CommandError),
 }
 
 /// The tag that a queued command names.
@@ -52,13 +47,13 @@ pub fn queued_rule(
     ensures { result ≡ queuedRule halted (tagRefused depth tag.tag tag.busy) (tooFar capacity sectors.first sectors.count) }
 {
     if halted {
-        return Err(Bad::Only(ABORTED));
+        return Err(Bad::Only(CommandError::Aborted));
     }
     if tag.is_refused(depth) {
-        return Err(Bad::Halts(ABORTED));
+        return Err(Bad::Halts(CommandError::Aborted));
     }
     if sectors.is_beyond(capacity) {
-        return Err(Bad::Halts(ID_NOT_FOUND));
+        return Err(Bad::Halts(CommandError::IdNotFound));
     }
     Ok(())
 }
@@ -68,18 +63,18 @@ pub fn queued_rule(
 pub fn other_rule(halted: bool, page: Option<LogPage>, busy: bool) -> Result<LogPage, Bad>
     ensures { result ≡ otherRule halted page busy }
 {
-    if halted && !matches!(page, Some(LogPage::Errors)) {
-        return Err(Bad::Only(ABORTED));
+    if halted && page != Some(LogPage::Errors) {
+        return Err(Bad::Only(CommandError::Aborted));
     }
     if busy {
-        return Err(Bad::Halts(ABORTED));
+        return Err(Bad::Halts(CommandError::Aborted));
     }
-    page.ok_or(Bad::Only(ABORTED))
+    page.ok_or(Bad::Only(CommandError::Aborted))
 }
 
 /// True where page 11h zeroes the counters once it is made. `features`: the low byte of the command that asks for it.
 pub fn log_zeroes(features: u8) -> bool
     ensures { result ≡ logZeroes features }
 {
-    bits::bit(u32::from(features), 0)
+    frame_parts::flag(features, 0)
 }

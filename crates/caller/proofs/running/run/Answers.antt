@@ -2,4 +2,4 @@ use Rattle.caller.proofs.ProgramCode.{program-history-code}
 use Rattle.caller.proofs.running.run.Goals as goal
 
 pub returns : goal.returns
-returns g c = program-history-code c.args.traced _ _ _ _ c.run.result c.run.ensures
+returns g c = program-history-code c.args.format.traced _ _ _ _ c.run.result c.run.ensures

@@ -12,7 +12,7 @@ loop-number-init g c = none-yet _ _ _ _ _
 -- one event more
 pub loop-number-preserved : goal.loop-number-preserved
 loop-number-preserved g c =
-    let more = one-more c.loop-number.invariant c.in-Ok-Ok.field-0-is c.in-Ok-Ok.ensures.ok c.as_slice.ensures c.play_and_tell.ensures.kept c.in_ok-play_and_tell-in-Ok-Ok.ensures.line in
+    let more = one-more c.loop-number.invariant c.in-Ok-Ok.field-0-is c.in-Ok-Ok.ensures.ok c.play_and_tell.ensures.kept c.in_ok-play_and_tell-in-Ok-Ok.ensures.line in
     some-passed more _ _ c.in_ok-pass_on-in-Ok-Ok.ensures.ok
 
 -- no memory for a line
@@ -24,7 +24,7 @@ returns-in_err-play_and_tell-in-Ok-Ok g c =
 -- the lines could not be passed on
 pub returns-in_err-pass_on-in-Ok-Ok : goal.returns-in_err-pass_on-in-Ok-Ok
 returns-in_err-pass_on-in-Ok-Ok g c =
-    let more = one-more c.loop-number.invariant c.in-Ok-Ok.field-0-is c.in-Ok-Ok.ensures.ok c.as_slice.ensures c.play_and_tell.ensures.kept c.in_ok-play_and_tell-in-Ok-Ok.ensures.line in
+    let more = one-more c.loop-number.invariant c.in-Ok-Ok.field-0-is c.in-Ok-Ok.ensures.ok c.play_and_tell.ensures.kept c.in_ok-play_and_tell-in-Ok-Ok.ensures.line in
     let failed = c.in_err-pass_on-in-Ok-Ok.ensures.err in
     let handed = c.from_residual-in_err-pass_on-in-Ok-Ok.ensures in
     lost more _ _ _ _ handed.0 handed.1 (output-lost _ failed.0) failed.1

@@ -1,12 +1,14 @@
 use Rattle.std.proofs.Common.{sym, ap, ◌∙◌, None, Err, rules}
 use Rattle.std.proofs.lemmas.Result.{err_from_is_err_and}
+use Rattle.page_rows.specs.Rows.{ids}
 use Rattle.page_text.proofs.Reading.{reads-none, reads-one, reads-refused, reads-all}
 use Rattle.page_text.proofs.counters.read_counters.Goals as goal
 
 pub loop-number-init : goal.loop-number-init
+unfolding ids
 loop-number-init c =
     let h = c.map-counters.ensures.items in
-    reads-none _ _ h.long (λ i k. let t = h.at i 0 (0, None) k in rw (← c.identifiers.ensures) (search rules))
+    reads-none _ _ h.long (λ i k. let t = h.at i 0 (0, None) k in search rules)
 
 pub returns-in_err-counter : goal.returns-in_err-counter
 returns-in_err-counter c =

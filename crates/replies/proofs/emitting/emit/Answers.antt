@@ -1,4 +1,3 @@
-use mathlib.Core.Path.{refl}
 use native.Mathlib.Omega.{arith}
 use mathlib.Core.List.{[]}
 use lib.Dec.{leb}
@@ -6,7 +5,6 @@ use lib.ListN.{length}
 use borrow.Author.Tests.{le-leb}
 use Rattle.bits.proofs.Picks.{pick_yes}
 use Rattle.replies.specs.Replies.{repliesOf}
-use Rattle.replies.proofs.Sending.{sends-all}
 use Rattle.replies.proofs.Room.{replies-room}
 use Rattle.replies.proofs.emitting.emit.Goals as goal
 
@@ -16,4 +14,4 @@ returns c =
     let d = a.reply.now in
     let h = c.if-reply-lt-DATA_FRAME_LIMIT.false in
     rw (pick_yes (leb 8196 (length d)) (repliesOf a.shown.now a.part.now a.act.now) [] (le-leb 8196 (length d) h))
-    (sends-all refl c.put_all.ensures (search) (omega (arith, h, replies-room a.shown.now a.part.now a.act.now)))
+    (c.put_all.ensures.sent (omega (arith, h, replies-room a.shown.now a.part.now a.act.now)))

@@ -8,7 +8,7 @@ pub returns-in_err-act : goal.returns-in_err-act
 returns-in_err-act c = given-refused _ _ _ _ _ c.from_residual.ensures.1 c.in_err-act.was c.send_act.ensures
 
 pub returns : goal.returns
-returns c = given-sent _ _ _ _ _ _ _ _ (sym c.in_ok-act.was ∙ c.send_act.ensures) c.part_sent.ensures c.done.ensures.state c.done.ensures.reply
+returns c = given-sent _ _ _ _ _ _ _ _ (sym c.in_ok-act.was ∙ c.send_act.ensures) c.part.ensures c.done.ensures.state c.done.ensures.reply
 
 pub invariant_of-self : goal.invariant_of-self
 invariant_of-self c = record { sound = sound-done _ _ _ _ (omega arith) (sym c.in_ok-act.was ∙ c.send_act.ensures) c.done.ensures.state }

@@ -4,7 +4,7 @@ use Rattle.page_rows.specs.Made11.{page11}
 use Rattle.page_rows.specs.Rows.{keepsBoth}
 use Rattle.replies.specs.Replies.{logOf, repliesOf}
 use Rattle.replies.proofs.Sending.{page_bytes-pick}
-use Rattle.replies.proofs.emitting.Sent.put_all.Goals as goal
+use Rattle.replies.proofs.emitting.put_all.Goals as goal
 
 pub returns-in-Log10 : goal.returns-in-Log10
 unfolding repliesOf
@@ -16,4 +16,4 @@ pub returns-in-Log11 : goal.returns-in-Log11
 unfolding repliesOf
 returns-in-Log11 c =
     let shown = c.shown.inside in
-    rw (c.in-Log11.is, ← c.shown.view_is) (rw (c.counters_page-page.ensures, page_bytes-pick (keepsBoth shown.settings.mask) (page11 shown.settings.mask shown.values.now) _) at c.put_log-in-Log11.ensures)
+    rw (c.in-Log11.is, ← c.shown.view_is) (rw (c.counters_page-page.ensures, page_bytes-pick (keepsBoth shown.mask) (page11 shown.mask shown.values.now) _) at c.put_log-in-Log11.ensures)

@@ -1,0 +1,27 @@
+// One event to its call, of a device by value.
+ghost use Rattle.device.specs.Lent.{gave};
+ghost use Rattle.device.specs.Step.{Gives};
+ghost use Rattle.events.specs.Played.{eventStep};
+
+use crate::plays::make_call;
+use device::{Device, Outcome, Sealed};
+use event_kinds::request_of;
+use refusals::Refusal;
+
+/// One event to its call, as `play`, of a state that is handed in and back as by the calls of `Device`. What is no event
+/// is refused with `NoFrame` (24), and a state that contradicts itself with `Contradiction` (1); all stays as it was then.
+#[tactic(auto, unfolding(crate::specs::Played::stepFor, replies::specs::Replies::sentAll, frame_parts::specs::Cut::joined), using(device::proofs::Contradicted::given_contradicted))]
+pub fn play_by_value(device: Device, event: &[u8], medium: &mut [u8], reply: &mut [u8]) -> Outcome
+    ensures { Gives (eventStep device event.now medium.old reply.old) reply.old (gave result medium.new reply.new) }
+{
+    let Some(request) = request_of(event) else {
+        return device.with(Err(Refusal::NoFrame));
+    };
+    match Sealed::try_from(device) {
+        Ok(mut sealed) => {
+            let answer = make_call(&mut sealed, request, event, medium, reply);
+            sealed.device.with(answer)
+        }
+        Err(refusal) => device.with(Err(refusal)),
+    }
+}

@@ -1,0 +1,9 @@
+-- The commands that the device tells apart, by their bytes. Assumes nothing.
+use Rattle.std.specs.Prelude.{ℕ, eqb, Option, Some, None}
+use Rattle.bits.specs.Pick.{pick}
+use Rattle.rules.specs.declared.command.Command.{Command}
+use Rattle.rules.specs.declared.command.Command.TheVariants.{ReadLogExt, ReadFpdmaQueued, WriteFpdmaQueued}
+
+-- the command that a byte names: 2Fh, 60h and 61h alone
+abbrev pub commandNamed : ℕ → Option Command
+commandNamed byte = pick (eqb byte 0x2F) (Some ReadLogExt) (pick (eqb byte 0x60) (Some ReadFpdmaQueued) (pick (eqb byte 0x61) (Some WriteFpdmaQueued) None))
