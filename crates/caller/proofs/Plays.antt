@@ -1,7 +1,7 @@
 -- Events played one after the other are a history in the sense of demand 3, whatever they are and whatever is lent to them. Assumes nothing.
 use mathlib.Core.Path.{◌≡◌, refl, sym, ap, subst}
 use mathlib.Core.List.{List, [], ◌∷◌, ◌++◌}
-use Prim.Native.Nat.{ℕ, zero, suc, ◌<◌}
+use Prim.Native.Nat.{ℕ, zero, suc, ◌+◌, ◌<◌}
 use native.Mathlib.Omega.{arith}
 use lib.ListN.{get_or, replicate}
 use Rattle.std.proofs.Common.{append-nil, append_assoc}
@@ -34,9 +34,10 @@ use Rattle.events.specs.HostData.{dataFrame, hostData}
 use Rattle.events.specs.Start.{start_by, start_of}
 use Rattle.events.specs.Calls.{call_of, callFor}
 use Rattle.events.specs.Played.{stepFor}
+use Rattle.event_program.specs.Running.{told}
 use Rattle.history.specs.Run.{Done, done}
 use Rattle.caller.specs.Continued.{Reached, Holds}
-use Rattle.caller.specs.Playing.{Play, BeginsBy, doneBy, donesAll, endState, ContinuesBy, PlayContinues, PlayGiven, EachPlay, PlaysContinue, GivenPlaysHold, HeldBy}
+use Rattle.caller.specs.Playing.{Play, BeginsBy, doneBy, donesAll, endState, ContinuesBy, PlayContinues, PlayGiven, EachPlay, PlaysContinue, GivenPlaysHold, EachTold, GivenPlaysTold, HeldBy}
 use Rattle.caller.proofs.Continuing.{holds, begins, continues-given}
 
 -- ---- the arguments of an event's call are of their types
@@ -116,6 +117,11 @@ plays-continue d (p ∷ ps) h s r xs q =
 
 pub plays-given : GivenPlaysHold
 plays-given d ps h = let e = each-continues d ps h in (e, plays-continue d ps e)
+
+pub plays-told : GivenPlaysTold
+unfolding EachPlay EachTold told
+plays-told traced n d [] h = tt
+plays-told traced n d (p ∷ ps) h = (rw (h.0.1.refusal, h.0.1.state) refl, plays-told traced (n + 1) p.gave.outcome.state ps h.1)
 
 -- ---- from power-on
 by-asked : (o : Option Settings) (r : Result Sealed Refusal) → poweredOf r ≡ start_by o → BeginsBy o r

@@ -15,7 +15,7 @@ use mir.Syntax.{Dict}
 use Rattle.std.specs.declared.io.traits.Read as Reader
 use Rattle.std.specs.declared.io.traits.Write as Writer
 use Rattle.caller.specs.Continued.{Begins, Continues, ContinuesReplying, ContinuesAlone, FirstCall}
-use Rattle.caller.specs.Playing.{play as played, BeginsBy, PlayContinues, PlaysContinue, GivenPlaysHold}
+use Rattle.caller.specs.Playing.{play as played, BeginsBy, PlayContinues, PlaysContinue, GivenPlaysHold, GivenPlaysTold}
 use Rattle.caller.specs.Program.{RunHistory}
 use Rattle.caller.proofs.calling
 use Rattle.caller.specs.contracts.calling as calling-said
@@ -98,5 +98,5 @@ tied-play = say (λ κs a. tt) (λ κs a r ws p. p)
 pub tied-play-by-value : Says playing-said.play_by_value.ended playing.play_by_value.Reads.Asked playing.play_by_value.Reads.Post (λ κs a r ws. PlayContinues a.0 (played a.1.0.now a.1.1.0.now a.1.1.1.0.now (gave r ws.1.1.0 ws.1.1.1.0)))
 tied-play-by-value = say (λ κs a. tt) (λ κs a r ws p. p)
 
-pub tied-events-are-a-history : Says playing-said.events_are_a_history.ended playing.events_are_a_history.Reads.Asked playing.events_are_a_history.Reads.Post (λ κs a r ws. PlaysContinue × GivenPlaysHold)
-tied-events-are-a-history = say (λ κs a. tt) (λ κs a r ws p. (p.0, p.1))
+pub tied-events-are-a-history : Says playing-said.events_are_a_history.ended playing.events_are_a_history.Reads.Asked playing.events_are_a_history.Reads.Post (λ κs a r ws. PlaysContinue × (GivenPlaysHold × GivenPlaysTold))
+tied-events-are-a-history = say (λ κs a. tt) (λ κs a r ws p. (p.0, (p.1.0, p.1.1)))

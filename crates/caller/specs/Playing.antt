@@ -1,18 +1,20 @@
 -- Events played one after the other, each with any medium and any reply buffer, and the history that they are. Assumes nothing.
 -- Were only the run of an event file spoken of, a device would pass that forgets its commands where a medium of another length or a short reply buffer is lent to it, or that resets at bytes which are no event: a run lends one medium and one buffer of the right lengths, and plays no such bytes.
-use Rattle.std.specs.Prelude.{◌≡◌, List, [], ◌∷◌, ◌++◌, ℕ, Option, Some, None, option_map, option_to_list, Result, Err}
+use Rattle.std.specs.Prelude.{◌≡◌, Bool, ◌+◌, List, [], ◌∷◌, ◌++◌, ℕ, Option, Some, None, option_map, option_to_list, Result, Err}
 use Rattle.bits.specs.Little.{Bytes}
 use Rattle.refusals.specs.declared.reasons.Refusal.{Refusal}
 use Rattle.refusals.specs.declared.reasons.Refusal.TheVariants.{Contradiction, NoFrame}
 use Rattle.device_state.specs.declared.shapes.Settings.{Settings}
 use Rattle.device.specs.Lent.{lent, Gave, gave, answered}
 use Rattle.device.specs.Sealing.{poweredOf}
-use Rattle.device.specs.Step.{Gives}
+use Rattle.device.specs.Step.{Gives, bytes_of}
 use Rattle.device.specs.declared.sealed.Sealed.{Sealed}
 use Rattle.device.specs.declared.state.Device.{Device}
 use Rattle.device.specs.declared.state.Outcome.{Outcome}
 use Rattle.events.specs.Calls.{callFor}
 use Rattle.events.specs.Played.{eventStep}
+use Rattle.event_program.specs.Lines.{line_of}
+use Rattle.event_program.specs.Running.{kept, told}
 use Rattle.history.specs.Run.{Done, done}
 use Rattle.caller.specs.Continued.{Reached, Holds, Continues, Begins}
 
@@ -75,6 +77,21 @@ PlaysContinue = (d : Device) (ps : List Play) → EachPlay PlayContinues d ps �
 -- events of which each is as it was promised, whatever they are and whatever is lent to them, continue and hold
 abbrev pub GivenPlaysHold : Type 0
 GivenPlaysHold = (d : Device) (ps : List Play) → EachPlay PlayGiven d ps → EachPlay PlayContinues d ps × PlaysHold d ps
+
+-- the line of an event, as the event program tells it, also of one that a run does not come to and of any medium and reply buffer: the refusal, what is outstanding behind it, and the replies
+abbrev pub LineTold : Bool → ℕ → Device → Play → Type 0
+LineTold traced number d p =
+    told traced number (kept d p.medium p.buffer) p.event
+    ≡ line_of traced number p.gave.outcome.refusal p.gave.outcome.state.status.outstanding (bytes_of (eventStep d p.event p.medium p.buffer))
+
+-- every event, numbered on
+unfoldable pub EachTold : Bool → ℕ → Device → List Play → Type 0
+EachTold traced n d [] = Unit
+EachTold traced n d (p ∷ ps) = LineTold traced n d p × EachTold traced (n + 1) p.gave.outcome.state ps
+
+-- events that are as promised have these lines
+abbrev pub GivenPlaysTold : Type 0
+GivenPlaysTold = (traced : Bool) (n : ℕ) (d : Device) (ps : List Play) → EachPlay PlayGiven d ps → EachTold traced n d ps
 
 -- behind power-on by a settings record: demand 3 holds of these events, with the settings that it asks for; where it asks for none, 1, and there is no device
 abbrev pub HeldBy : Option Settings → Outcome → List Play → Type 0

@@ -1,7 +1,7 @@
 // One event each, with any medium and any reply buffer: what is proved is what the contracts of `events` tell a caller.
 ghost use Rattle.device.specs.Lent.{gave, answered};
 ghost use Rattle.event_kinds.specs.Settings.{asked_of};
-ghost use Rattle.caller.specs.Playing.{play as played, BeginsBy, PlayContinues, PlaysContinue, GivenPlaysHold};
+ghost use Rattle.caller.specs.Playing.{play as played, BeginsBy, PlayContinues, PlaysContinue, GivenPlaysHold, GivenPlaysTold};
 
 use device::{Device, Outcome, Sealed};
 use refusals::Refusal;
@@ -32,8 +32,9 @@ pub fn play_by_value(device: Device, event: &[u8], medium: &mut [u8], reply: &mu
     events::play_by_value(device, event, medium, reply)
 }
 
-/// Events played one after the other are a history of which all that docs/DEMAND3.md promises holds: fates, data, SActive, replies, counters and refusals.
+/// Events played one after the other are a history of which all that docs/DEMAND3.md promises holds: fates, data, SActive, replies, counters and refusals. Their lines tell what each came to.
 pub fn events_are_a_history()
     ensures together { PlaysContinue }
     ensures given { GivenPlaysHold }
+    ensures told { GivenPlaysTold }
 {}

@@ -1,13 +1,21 @@
 -- The turns of the loops that write the fields of a line's replies and the digits of bytes. Assumes nothing.
-use Rattle.std.proofs.Common.{◌≡◌, ℕ, ◌<◌, ◌+◌, ◌/◌, ◌%◌, Bool, List, [], ◌∷◌, ◌++◌, length, get_or, slice_index, take, refl, ap, ◌∙◌, append_assoc}
+use Rattle.std.proofs.Common.{◌≡◌, ℕ, ◌<◌, ◌+◌, ◌/◌, ◌%◌, Bool, List, [], ◌∷◌, ◌++◌, length, get_or, slice_index, take, drop, refl, arith, ap, ◌∙◌, append_assoc}
 use Rattle.std.proofs.lemmas.List.{take_more}
 use Rattle.hex.specs.Hex.{encode_with, encode_upper, upper_digits}
+use Rattle.frame_parts.specs.Cut.{firstLength, cut}
+use Rattle.frame_parts.proofs.Cuts.{cut-next}
 use Rattle.event_program.specs.Lines.{field_of, fields_of}
 
 -- one reply more
-pub fields-turn : (traced : Bool) (reply : List ℕ) (rest replies : List (List ℕ)) (done all : List ℕ) → replies ≡ reply ∷ rest
+pub fields-more : (traced : Bool) (reply : List ℕ) (rest replies : List (List ℕ)) (done all : List ℕ) → replies ≡ reply ∷ rest
     → done ++ fields_of traced replies ≡ all → (done ++ field_of traced reply) ++ fields_of traced rest ≡ all
-fields-turn traced reply rest replies done all e p = append_assoc done (field_of traced reply) (fields_of traced rest) ∙ (rw e at p)
+fields-more traced reply rest replies done all e p = append_assoc done (field_of traced reply) (fields_of traced rest) ∙ (rw e at p)
+
+-- of bytes that are cut into replies: behind the field of the first piece come those of what is behind it
+pub fields-turn : (traced : Bool) (l piece more : List ℕ) (n : ℕ) (done all : List ℕ) → 0 < length l → n ≡ firstLength l → piece ≡ take n l → more ≡ drop n l
+    → done ++ fields_of traced (cut l) ≡ all → (done ++ field_of traced piece) ++ fields_of traced (cut more) ≡ all
+fields-turn traced l piece more n done all h e f g p =
+    rw (f, g, e) (fields-more traced (take (firstLength l) l) (cut (drop (firstLength l) l)) (cut l) done all (cut-next l (λ z. omega (arith, z, h))) p)
 
 digits-append : (a b : List ℕ) → encode_upper (a ++ b) ≡ encode_upper a ++ encode_upper b
 unfolding encode_with

@@ -1,7 +1,7 @@
 use Rattle.std.proofs.Common.{◌++◌}
 use Rattle.frame_parts.specs.Cut.{cut}
 use Rattle.event_program.specs.Lines.{field_of, fields_of}
-use Rattle.event_program.proofs.Fields.{fields-turn}
+use Rattle.event_program.proofs.Fields.{fields-more}
 use Rattle.std.proofs.KnownBytes.{Appends-trans}
 use Rattle.event_program.proofs.lines.Format.write_fields.Goals as goal
 
@@ -10,5 +10,5 @@ loop-reply-preserved g c =
     let inv = c.loop-reply.invariant in (
       inv.0 ++ field_of c.args.self.traced c.in-Some.reply.now,
       Appends-trans _ _ _ _ _ inv.1 c.in_ok-write_field.ensures,
-      fields-turn c.args.self.traced _ _ _ inv.0 (fields_of c.args.self.traced (cut c.args.replies.now)) c.in-Some.ensures.steps inv.2,
+      fields-more c.args.self.traced _ _ _ inv.0 (fields_of c.args.self.traced (cut c.args.replies.now)) c.in-Some.ensures.steps inv.2,
     )
