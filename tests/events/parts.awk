@@ -8,14 +8,31 @@ BEGIN {
 		octal[hex] = sprintf("\\%03o", i)
 	}
 	line = ""
+	times = pending = 1
 }
 
 { sub(/#.*/, "") }
 
+# The next event and its line, so many times over.
+/^times / {
+	finish()
+	if ($2 !~ /^[1-9][0-9]*$/ || NF > 2)
+		fault("no number of times")
+	pending = $2
+	next
+}
+
 # Behind `>` a new expected line, behind `>>` more of it.
 /^>>/ { line = line " " substr($0, 3); next }
 /^>/ { finish(); line = substr($0, 2); next }
-NF > 0 { finish(); if (part == "events") print escaped(tolower($0)) }
+NF > 0 {
+	finish()
+	times = pending
+	pending = 1
+	if (part == "events")
+		for (i = 0; i < times; i++)
+			print escaped(tolower($0))
+}
 END { finish() }
 
 function fault(text) {
@@ -57,7 +74,7 @@ function finish(    words, n, i, text, reply, halves) {
 		return
 	n = split(line, words, " ")
 	line = ""
-	text = words[1]
+	text = ""
 	reply = ""
 	for (i = 2; i <= n; i++) {
 		if (words[i] !~ /:/ && reply == "") {
@@ -73,8 +90,11 @@ function finish(    words, n, i, text, reply, halves) {
 			reply = reply expanded(words[i])
 	}
 	text = text shown(reply)
-	if (part != "events")
-		print text
+	if (part == "events")
+		return
+	print words[1] text
+	for (i = 1; i < times; i++)
+		print (words[1] + i) text
 }
 
 # A whole reply as the part shows it.

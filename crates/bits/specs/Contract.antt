@@ -35,7 +35,8 @@ pub record Tied (T : Ended) (Asked : Premise T) (Post : Contract T) (C : Claim T
   pub promise : Says T Asked Post C
   pub single : Single T (Allows T Post)
 
--- the same of a function over any type of reader or writer: it asks that what the type borrows is alive, as each call of such a function does, and nothing else; its contract says the claim
-pub record SaysOver (T : Ended) (Alive : Premise T) (Asked : Premise T) (Post : Contract T) (C : Claim T) : Type 0 where
-  pub free : (κs : Lfts T.signature.lifetimes) (a : Args T.signature κs) → Alive κs a → Asked κs a
+-- the same of a function over any type of reader or writer. What it asks is of what that type borrows alone: the same whatever the arguments are, and at some lifetimes, those that keep it alive, nothing. Its contract says the claim
+pub record SaysOver (T : Ended) (Asked : Premise T) (Post : Contract T) (C : Claim T) : Type 0 where
+  pub same : (κs : Lfts T.signature.lifetimes) (a b : Args T.signature κs) → Asked κs a → Asked κs b
+  pub some : (κs : Lfts T.signature.lifetimes) × ((a : Args T.signature κs) → Asked κs a)
   pub says : (κs : Lfts T.signature.lifetimes) (a : Args T.signature κs) (r : Res T.signature κs) (ws : Lasts T κs a) → Allows T Post κs a r ws → C κs a r ws

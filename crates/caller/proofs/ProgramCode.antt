@@ -14,7 +14,7 @@ use Rattle.event_program.specs.Running.{Plays, run_lines, ending, next_behind}
 use Rattle.event_program.specs.Runs.{Ran}
 use Rattle.frame_parts.specs.Cut.{joined}
 use Rattle.event_program.specs.Reading.{Ends}
-use Rattle.event_program.proofs.Fronts.{front-of}
+use Rattle.streams.proofs.Fronts.{front-of}
 use Rattle.event_program.proofs.Runs.{begins}
 use Rattle.caller.specs.Program.{RunHistory}
 use Rattle.caller.proofs.Programs.{AllBytes, program-history}

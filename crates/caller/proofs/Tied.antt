@@ -1,6 +1,5 @@
 -- What each contract of a caller says. The answer itself is said by the contract of the device's call, which is tied there. Assumes nothing.
-use mathlib.Core.List.{Mem}
-use Prim.Native.Nat.{ℕ}
+use mathlib.Core.List.{[]}
 use Rattle.bits.specs.Contract.{Says, SaysOver}
 use Rattle.bits.proofs.Tying.{say}
 use Rattle.rules.specs.Call.{hostFrame, openPhase, sendData, finishTags, mediaError, linkEvent, comReset}
@@ -57,9 +56,9 @@ tied-first-link = say (λ κs a. tt) (λ κs a r ws p. p)
 
 -- the event program's run, by any reader to any writer
 pub tied-run : (R W : RattleType) (l : Laws R) (m : Laws W) (g : Reader.Ghosts R.Denot) (d : Dict) (h : Writer.Ghosts W.Denot) (e : Dict)
-    → SaysOver (running-said.run.ended R W g d h e) (λ κs a. ((x : ℕ) → Mem x R.lives → Mem x κs.1.1.0) × ((x : ℕ) → Mem x W.lives → Mem x κs.1.1.1.0)) (running.run.Reads.Asked R W l m g d h e) (running.run.Reads.Post R W l m g d h e)
+    → SaysOver (running-said.run.ended R W g d h e) (running.run.Reads.Asked R W l m g d h e) (running.run.Reads.Post R W l m g d h e)
     (λ κs a r ws. IfSome (g.remaining a.1.0.now) (λ input. Bytes input → RunHistory a.0.traced input (h.contents a.1.1.0.now) (h.contents ws.1.1.0)))
-tied-run R W l m g d h e = record { free = λ κs a x. x; says = λ κs a r ws p. p }
+tied-run R W l m g d h e = record { same = λ κs a b h. h; some = (([], ([], (R.lives, (W.lives, tt)))), λ a. ((λ x h. h), (λ x h. h))); says = λ κs a r ws p. p }
 
 -- ---- of a kept device
 

@@ -1,9 +1,9 @@
 -- Fronts of a text. Assumes nothing.
-use Rattle.std.proofs.Common.{◌≡◌, ℕ, ◌+◌, List, [], ◌++◌, Option, Result, Ok, Err, OnErr, IfErr, IsErrAnd, length, take, drop, sym, ap, subst, ◌∙◌, append_assoc, append-nil, take-append-drop}
+use Rattle.std.proofs.Common.{◌≡◌, ℕ, List, [], ◌++◌, Option, Result, Ok, Err, OnErr, IfErr, IsErrAnd, take, drop, sym, ap, subst, ◌∙◌, append_assoc, append-nil, take-append-drop}
 use Rattle.std.proofs.KnownBytes.{Appends-trans}
-use lib.Seq.{take-append_seam, take-append-add}
 use Rattle.std.specs.Io.KnownBytes.{Appends}
 use Rattle.streams.specs.Fronts.{AppendsFront}
+use Rattle.streams.proofs.Fronts.{front-of, front-then}
 
 pub on_err : {A E : Type 0} (r : Result A E) (P : Type 0) → P → OnErr r P
 on_err (Ok a) P p = tt
@@ -18,10 +18,6 @@ pub if_err_so : {A E : Type 0} (r : Result A E) (P Q : E → Type 0) → ((e : E
 if_err_so (Ok a) P Q f p = tt
 if_err_so (Err e) P Q f p = f e p
 
--- what was written is a front of a text that begins with it
-pub front-of : (a b : Option (List ℕ)) (done rest all : List ℕ) → all ≡ done ++ rest → Appends a b done → AppendsFront a b all
-front-of a b done rest all e p = (length done, subst (Appends a b) (sym (ap (take (length done)) e ∙ take-append_seam done rest)) p)
-
 -- all of a text is a front of it
 pub front-all : (a b : Option (List ℕ)) (all : List ℕ) → Appends a b all → AppendsFront a b all
 front-all a b all p = front-of a b all [] all (sym (append-nil all)) p
@@ -30,10 +26,6 @@ front-all a b all p = front-of a b all [] all (sym (append-nil all)) p
 pub front-first : (a b : Option (List ℕ)) (s t : List ℕ) → AppendsFront a b s → AppendsFront a b (s ++ t)
 front-first a b s t f =
     front-of a b (take f.0 s) (drop f.0 s ++ t) (s ++ t) (ap (λ (l : List ℕ). l ++ t) (sym (take-append-drop f.0 s)) ∙ append_assoc (take f.0 s) (drop f.0 s) t) f.1
-
--- a text, and a front of another
-pub front-then : (a b c : Option (List ℕ)) (s t : List ℕ) → Appends a b s → AppendsFront b c t → AppendsFront a c (s ++ t)
-front-then a b c s t p f = (length s + f.0, subst (Appends a c) (sym (take-append-add s t f.0)) (Appends-trans a b c s (take f.0 t) p f.1))
 
 -- the lines that are left, and a last text, behind those that are written
 pub front-last : (a b c : Option (List ℕ)) (done lines text last : List ℕ) → text ≡ done ++ lines → Appends a b done → AppendsFront b c (lines ++ last) → AppendsFront a c (text ++ last)

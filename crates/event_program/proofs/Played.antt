@@ -12,7 +12,8 @@ use Rattle.event_program.specs.Output.{PassedOn}
 use Rattle.event_program.specs.Reading.{IsEvent, ReadEvent}
 use Rattle.event_program.specs.Running.{Kept, told, after, lines_from, kept_after, AllEvents}
 use Rattle.event_program.specs.Runs.{lines_on, later, always, PlayedOn}
-use Rattle.event_program.proofs.Fronts.{front-first, front-then}
+use Rattle.streams.proofs.Fronts.{front-then}
+use Rattle.event_program.proofs.Fronts.{front-first}
 use Rattle.event_program.proofs.Runs.{joined-more, kept-more, events-more, text-more, text-passed, begins, CameTo, IsLost, told-lost, finished, finished-behind}
 
 -- the events so far were read, and left k; their lines, and those that were left before (l), are written, but for the lines that are left; n is the next number

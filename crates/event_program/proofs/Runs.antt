@@ -16,7 +16,8 @@ use Rattle.streams.specs.Fronts.{AppendsFront}
 use Rattle.frame_parts.specs.Cut.{joined}
 use Rattle.event_program.specs.Ends.{last_text, Finished}
 use Rattle.event_program.specs.Output.{IsOutput}
-use Rattle.event_program.proofs.Fronts.{front-of, front-first, front-last, all-last}
+use Rattle.streams.proofs.Fronts.{front-of}
+use Rattle.event_program.proofs.Fronts.{front-first, front-last, all-last}
 use Rattle.event_program.specs.Runs.{lines_on, RunsOut, Loses, Told}
 
 pub joined-more : (es : List (List ℕ)) (e : List ℕ) → joined (es ++ e ∷ []) ≡ joined es ++ e

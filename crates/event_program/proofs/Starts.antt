@@ -1,5 +1,5 @@
 -- The whole run, from the run behind the settings. Assumes nothing.
-use Rattle.std.proofs.Common.{◌≡◌, ℕ, suc, Bool, true, false, List, [], ◌∷◌, ◌++◌, Option, Some, None, IfSome, Result, Ok, Err, OnOk, OnErr, subst, sym, refl, ap, ◌∙◌, append-nil, append_assoc, true≢false}
+use Rattle.std.proofs.Common.{◌≡◌, ℕ, suc, Bool, true, false, List, [], ◌∷◌, ◌++◌, Option, Some, None, IfSome, Result, Ok, Err, subst, sym, refl, ap, ◌∙◌, append-nil, append_assoc, true≢false}
 use Rattle.std.specs.Io.KnownBytes.{Appends, Consumes}
 use Rattle.std.proofs.KnownBytes.{Consumes-trans, Consumes-nil, Appends-nil}
 use Rattle.event_kinds.specs.declared.kinds.InputEnd.{InputEnd}
@@ -32,9 +32,9 @@ use Rattle.event_program.specs.declared.errors.RunError.TheVariants.{Input, Outp
 use Rattle.event_program.specs.Reading.{Ends, IsEvent}
 use Rattle.streams.specs.Fronts.{AppendsFront}
 use Rattle.event_program.specs.Running.{Kept, AllEvents, lines_from, ending, refused, started, start_line, run_lines, Plays, ReadsOn, next_behind}
-use Rattle.event_program.specs.Runs.{Ran, RunAloud, HasRun, PlayedOn, lines_on, Loses}
+use Rattle.event_program.specs.Runs.{Ran, PlayedOn, lines_on, Loses}
 use Rattle.event_program.specs.Ends.{Finished}
-use Rattle.event_program.proofs.Fronts.{front-of, front-all}
+use Rattle.streams.proofs.Fronts.{front-of}
 use Rattle.event_program.proofs.Runs.{begins, finished}
 use Rattle.event_program.proofs.Steps.{same-kept}
 
@@ -223,8 +223,3 @@ pub started-is : (s : List ℕ) (d : Sealed) (m b : List ℕ) → poweredOf (Ok 
 unfolding started poweredOf
 started-is s d m b e n size p q =
     same-kept (ap (λ (x : Outcome). x.state) e) (p ∙ ap (λ (k : ℕ). replicate k 0) (size ∙ ap (λ (x : Outcome). medium_size x.state.settings.capacity) e)) q
-
--- whether all could be said of a run or not, what was said of it is a front
-pub run-said : {A E : Type 0} (r : Result A E) (traced : Bool) (known w w' v v' : Option (List ℕ)) → OnOk r (RunAloud traced known w w' v v') → OnErr r (HasRun traced known w w' v v') → HasRun traced known w w' v v'
-run-said (Ok a) traced known w w' v v' told front = (told.0, told.1, told.2, front-all v v' _ told.3)
-run-said (Err e) traced known w w' v v' told front = front

@@ -5,6 +5,7 @@ use Rattle.frame_parts.specs.Cut.{joined}
 use Rattle.event_kinds.specs.declared.kinds.InputEnd.{InputEnd}
 use Rattle.event_kinds.specs.declared.kinds.InputEnd.TheVariants.{NoEvent}
 use Rattle.event_kinds.specs.Kinds.{next_of}
+use Rattle.event_program.specs.declared.ended.Ended.{Ended}
 use Rattle.event_program.specs.declared.errors.RunError.{RunError}
 use Rattle.event_program.specs.declared.errors.RunError.TheVariants.{Input, Output, Memory, TooMany}
 use Rattle.event_program.specs.Reading.{Ends, IsEvent}
@@ -69,15 +70,23 @@ said_of (Err (Output e)) = complaint
 said_of (Err Memory) = complaint
 said_of (Err TooMany) = []
 
--- a run of this input, whatever was left of it and however it ended, and what is said of it stands on `errors`
-abbrev pub RunAloud : Bool → (known old new errors errors' : Option (List ℕ)) → Type 0
-RunAloud traced known old new errors errors' =
-    (left : Option (List ℕ)) × (result : Result Unit RunError) × Ran traced known left old new result × Appends errors errors' (said_of result)
+-- a text was said, or a front of it where that failed
+abbrev pub Said : List ℕ → (errors errors' : Option (List ℕ)) → {E : Type 0} → Result Unit E → Type 0
+Said text errors errors' (Ok u) = Appends errors errors' text
+Said text errors errors' (Err e) = AppendsFront errors errors' text
 
--- or a front of it, where that could not be written
-abbrev pub HasRun : Bool → (known old new errors errors' : Option (List ℕ)) → Type 0
-HasRun traced known old new errors errors' =
-    (left : Option (List ℕ)) × (result : Result Unit RunError) × Ran traced known left old new result × AppendsFront errors errors' (said_of result)
+-- a run of this input, whatever was left of it, and what was said of it
+abbrev pub HasRun : Bool → (known old new errors errors' : Option (List ℕ)) → Ended → Type 0
+HasRun traced known old new errors errors' ended =
+    (left : Option (List ℕ)) × Ran traced known left old new ended.run × Said (said_of ended.run) errors errors' ended.said
+
+-- the exit status of a program by its run: 0 where the input ended, 3 where a read failed or the numbers are used up, 4 where lines are missing
+abbrev pub exit_status_of : Result Unit RunError → ℕ
+exit_status_of (Ok u) = 0
+exit_status_of (Err (Input e)) = 3
+exit_status_of (Err (Output e)) = 4
+exit_status_of (Err Memory) = 4
+exit_status_of (Err TooMany) = 3
 
 -- behind the settings a run reads on, whatever came
 abbrev pub always : List (List ℕ) → Type 0

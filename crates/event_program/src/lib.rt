@@ -2,6 +2,7 @@
 #![tactic(auto)]
 
 mod bench;
+mod ended;
 mod errors;
 mod lines;
 mod output;
@@ -9,6 +10,7 @@ mod pieces;
 mod reading;
 mod running;
 
+pub use ended::Ended;
 pub use errors::RunError;
 pub use lines::Format;
 pub use pieces::{PIECE, run_in_pieces};

@@ -3,12 +3,13 @@ use Rattle.std.proofs.Common.{◌≡◌, refl, Bool, ap, ◌∙◌, true, false,
 use Rattle.std.specs.Option.{option_map_or}
 use Rattle.bits.specs.Pick.{pick}
 use Rattle.refusals.specs.First.{first_of, refusal_in, FirstExactly}
+use Rattle.refusals.specs.Number.{number_told}
 use Rattle.refusals.specs.declared.reasons.Refusal.{Refusal}
 use Rattle.refusals.specs.declared.reasons.Refusal.TheVariants.{NoFrame}
 use Rattle.refusals.proofs.FirstLaws.{first-exactly as of-a-list}
 use Rattle.frame_parts.specs.Size.{kindNamed, allows, readable}
 use Rattle.frame_parts.specs.declared.kinds.FrameKind.{FrameKind}
-use Rattle.frames.specs.Read.{frameOf, frameByKind, readFrame, ladder24, FrameGiven}
+use Rattle.frames.specs.Read.{frameOf, frameByKind, readFrame, ladder24, frameAnswer, FrameGiven}
 use Rattle.frames.specs.declared.shapes.Frame.{Frame}
 
 refused-24 : (l : List ℕ) → refusal_in (readFrame l) ≡ first_of (ladder24 l)
@@ -27,6 +28,12 @@ refused-24 l = of-kind (kindNamed (get_or l 0 0))
 -- 24, exactly when the kind is unknown or the length wrong
 pub first-exactly : (l : List ℕ) → FirstExactly (ladder24 l) (refusal_in (readFrame l))
 first-exactly l = rw (refused-24 l) (of-a-list (ladder24 l) tt)
+
+-- the number that an answer tells is that of its refusal, and 0 where it has none
+pub number-told : (r : Result Frame Refusal) → (frameAnswer r).number ≡ number_told (refusal_in r)
+unfolding frameAnswer
+number-told (Ok f) = refl
+number-told (Err r) = refl
 
 -- the frame that the bytes are is all that the reader promises
 pub read_told : (l : List ℕ) (r : Result Frame Refusal) → r ≡ readFrame l → FrameGiven l r

@@ -1,10 +1,13 @@
 -- Each public function's own contract: what it says, and that two answers which it allows are equal. Assumes nothing.
 use Rattle.page_10h.specs.Page10.{LogGiven, fits10, page10, logPage}
+use Rattle.page_10h.specs.Others.{OtherBytesGiven}
 use Rattle.frame_parts.specs.Emit.{WriteGiven}
 use mathlib.Core.Path.{◌≡◌, refl}
 use Rattle.bits.specs.Contract.{Tied}
 use Rattle.bits.proofs.Tying.{same, say, by, named}
 use Rattle.frame_parts.proofs.EmitLaws.{emitted-once}
+use Rattle.page_10h.proofs.others
+use Rattle.page_10h.specs.contracts.others as others-said
 use Rattle.page_10h.proofs.page10
 use Rattle.page_10h.specs.contracts.page10 as page10-said
 use Rattle.page_10h.proofs.writing
@@ -24,3 +27,6 @@ tied-read-log = by (say (λ κs a. tt) (λ κs a r ws p. p)) (λ κs a r r' ws w
 
 pub tied-write-log : Tied writing-said.write_log.ended writing.write_log.Reads.Asked writing.write_log.Reads.Post (λ κs a r ws. WriteGiven (fits10 a.1.0) (page10 a.1.0) a.0.now r ws.0)
 tied-write-log = by (say (λ κs a. tt) (λ κs a r ws p. p)) (λ κs a r r' ws ws' p q. let e = emitted-once _ _ _ r r' ws.0 ws'.0 p q in (e.0, λ i. (e.1 i, (tt, tt))))
+
+pub tied-count-other-bytes : Tied others-said.count_other_bytes.ended others.count_other_bytes.Reads.Asked others.count_other_bytes.Reads.Post (λ κs a r ws. OtherBytesGiven a.0.now r)
+tied-count-other-bytes = by (say (λ κs a. tt) (λ κs a r ws p. p)) (λ κs a r r' ws ws' p q. (same p.answer q.answer, refl))

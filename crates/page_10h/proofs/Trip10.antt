@@ -73,7 +73,7 @@ module _ (f : ErrorLog) where
         same_log (nq-back f.nq f.tag) (ap (tagShown (firstByte f.nq f.tag)) (nq-back f.nq f.tag) ∙ tag_back f.nq f.tag tag-ok nq-ok) refl refl
         (task-all (logRegisters f) task-ok)
 
-    read-page : read_log (page10 f) ≡ Ok f
+    pub read-page : read_log (page10 f) ≡ Ok f
     unfolding read_log first_of pick
     read-page = rw (eq-eqb (length (page10 f)) 512 length-10, eq-eqb (sum256 (page10 f)) 0 sums-to-zero) (ap (λ (x : ErrorLog). Ok x) fields_back)
 

@@ -1,1 +1,2 @@
 pub mod Page10
+pub mod Others

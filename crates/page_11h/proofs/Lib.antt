@@ -1,5 +1,6 @@
 pub mod Rest
 pub mod Walking
+pub mod Counting
 pub mod Exactly11
 pub mod ByWidth
 pub mod Values
@@ -7,6 +8,8 @@ pub mod Places11
 pub mod Trip11
 pub mod Straddle
 pub mod Written11
+pub mod WrittenOthers
 pub mod Largest
+pub mod OtherLaws
 pub mod Tied
 pub mod TiedWalk

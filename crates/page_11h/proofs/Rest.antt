@@ -11,13 +11,9 @@ use Rattle.bits.proofs.Picks.{pick_yes}
 use Rattle.refusals.specs.declared.reasons.Refusal.{Refusal}
 use Rattle.refusals.specs.declared.reasons.Refusal.TheVariants.{PageDamaged}
 use Rattle.page_11h.specs.Entries.{CounterEntry, wrongWidth, pastEnd, nameless, entryAsked}
-use Rattle.page_11h.specs.Page11.{damaged, valueOf, valueIn}
+use Rattle.page_11h.specs.Page11.{anyFault, damaged, valueOf, valueIn}
 use Rattle.page_11h.specs.WalkStep.{faulty}
 use Rattle.page_11h.specs.declared.value.CounterValue.{CounterValue}
-
--- some entry may not stand there
-unfoldable pub anyFault : List CounterEntry → Bool
-anyFault es = (list_any wrongWidth es || list_any pastEnd es) || list_any nameless es
 
 -- one more hit is one too many
 unfoldable pub spoilt : ℕ → List CounterEntry → Bool
@@ -39,17 +35,16 @@ or-six false false true false false n = refl
 or-six false false false w p n = refl
 
 fault-more : (e : CounterEntry) (es : List CounterEntry) → anyFault (e ∷ es) ≡ faulty e || anyFault es
-unfolding anyFault
 fault-more e es = or-six (wrongWidth e) (pastEnd e) (nameless e) (list_any wrongWidth es) (list_any pastEnd es) (list_any nameless es)
 
-fault-here : (e : CounterEntry) (es : List CounterEntry) → faulty e ≡ true → anyFault (e ∷ es) ≡ true
+pub fault-here : (e : CounterEntry) (es : List CounterEntry) → faulty e ≡ true → anyFault (e ∷ es) ≡ true
 fault-here e es h = fault-more e es ∙ ap (λ (b : Bool). b || anyFault es) h
 
-fault-not : (e : CounterEntry) (es : List CounterEntry) → faulty e ≡ false → anyFault (e ∷ es) ≡ anyFault es
+pub fault-not : (e : CounterEntry) (es : List CounterEntry) → faulty e ≡ false → anyFault (e ∷ es) ≡ anyFault es
 fault-not e es h = fault-more e es ∙ ap (λ (b : Bool). b || anyFault es) h
 
 damaged-any : (number : ℕ) (es : List CounterEntry) → damaged number es ≡ anyFault es || leb 2 (count_by (entryAsked number) es)
-unfolding damaged anyFault
+unfolding damaged
 damaged-any number es = refl
 
 module _ (number : ℕ) (e : CounterEntry) (es : List CounterEntry) where
@@ -84,7 +79,7 @@ module _ (number : ℕ) (e : CounterEntry) (es : List CounterEntry) where
 
 module _ (page : List ℕ) (number : ℕ) where
   pub rest-none : (found : Option CounterValue) → rest_of page number [] found ≡ Ok found
-  unfolding rest_of damaged spoilt anyFault valueIn pick
+  unfolding rest_of damaged spoilt valueIn pick
   rest-none None = refl
   rest-none (Some v) = refl
 

@@ -2,6 +2,7 @@
 use Rattle.page_11h.specs.Entries.{idAsked}
 use Rattle.page_11h.specs.Top.{atTop}
 use Rattle.page_11h.specs.Page11.{noNumber, PageCounterGiven}
+use Rattle.page_11h.specs.Others.{idOther, OthersGiven}
 use Rattle.page_11h.specs.WalkStep.{stepAt}
 use mathlib.Core.Bool.{not}
 use mathlib.Core.Path.{◌≡◌, refl}
@@ -11,6 +12,8 @@ use Rattle.page_11h.proofs.identifier
 use Rattle.page_11h.specs.contracts.identifier as identifier-said
 use Rattle.page_11h.proofs.number
 use Rattle.page_11h.specs.contracts.number as number-said
+use Rattle.page_11h.proofs.others
+use Rattle.page_11h.specs.contracts.others as others-said
 use Rattle.page_11h.proofs.page11
 use Rattle.page_11h.specs.contracts.page11 as page11-said
 use Rattle.page_11h.proofs.value
@@ -24,11 +27,17 @@ tied-is-counter-number = named (say (λ κs a. tt) (λ κs a r ws p. p)) (λ κs
 pub tied-read-counter : Tied page11-said.read_counter.ended page11.read_counter.Reads.Asked page11.read_counter.Reads.Post (λ κs a r ws. PageCounterGiven a.0.now a.1.0 r)
 tied-read-counter = by (say (λ κs a. tt) (λ κs a r ws p. p)) (λ κs a r r' ws ws' p q. (same p.answer q.answer, refl))
 
+pub tied-count-others : Tied others-said.count_others.ended others.count_others.Reads.Asked others.count_others.Reads.Post (λ κs a r ws. OthersGiven a.0.now r)
+tied-count-others = by (say (λ κs a. tt) (λ κs a r ws p. p)) (λ κs a r r' ws ws' p q. (same p.answer q.answer, refl))
+
 pub tied-is-top : Tied value-said.CounterValue.is_top.ended value.CounterValue.is_top.Reads.Asked value.CounterValue.is_top.Reads.Post (λ κs a r ws. r ≡ atTop a.0)
 tied-is-top = named (say (λ κs a. tt) (λ κs a r ws p. p)) (λ κs a ws ws'. refl)
 
 pub tied-is-asked : Tied identifier-said.Identifier.is_asked.ended identifier.Identifier.is_asked.Reads.Asked identifier.Identifier.is_asked.Reads.Post (λ κs a r ws. r ≡ idAsked a.1.0 a.0.0)
 tied-is-asked = named (say (λ κs a. tt) (λ κs a r ws p. p)) (λ κs a ws ws'. refl)
+
+pub tied-is-other : Tied identifier-said.Identifier.is_other.ended identifier.Identifier.is_other.Reads.Asked identifier.Identifier.is_other.Reads.Post (λ κs a r ws. r ≡ idOther a.0.0)
+tied-is-other = named (say (λ κs a. tt) (λ κs a r ws p. p)) (λ κs a ws ws'. refl)
 
 pub tied-entry-at : Tied walk-said.entry_at.ended walk.entry_at.Reads.Asked walk.entry_at.Reads.Post (λ κs a r ws. r ≡ stepAt a.0.now a.1.0)
 tied-entry-at = named (say (λ κs a. tt) (λ κs a r ws p. p)) (λ κs a ws ws'. refl)

@@ -29,10 +29,10 @@ use Rattle.page_11h.proofs.Places11.{page-id, page-value, page-end}
 width-row : (id : ℕ) → id < 4096 → width_of (8192 + id) ≡ 2
 width-row id h = omega arith
 
-number-row : (id : ℕ) → id < 4096 → number_in (8192 + id) ≡ id
+pub number-row : (id : ℕ) → id < 4096 → number_in (8192 + id) ≡ id
 number-row id h = omega arith
 
-vendor-row : (id : ℕ) → id < 4096 → vendorOf (8192 + id) ≡ false
+pub vendor-row : (id : ℕ) → id < 4096 → vendorOf (8192 + id) ≡ false
 vendor-row id h =
     let v : (8192 + id) / 32768 % 2 ≡ 0 = omega arith in
     simp v
@@ -46,10 +46,10 @@ module _ (mask : ℕ) (values : List ℕ) where
   page = page11 mask values
 
   -- where the rows behind the first n begin
-  abbrev behind : ℕ → ℕ
+  abbrev pub behind : ℕ → ℕ
   behind n = 4 + L mask values n
 
-  page-step : (r : ℕ) → r < 16 → kept mask r ≡ true → stepAt page (behind r) ≡ Some (Ok (walkEntry (8192 + id_of r) (behind r + 2) 4))
+  pub page-step : (r : ℕ) → r < 16 → kept mask r ≡ true → stepAt page (behind r) ≡ Some (Ok (walkEntry (8192 + id_of r) (behind r + 2) 4))
   page-step r h e =
       let s = rows_short mask values r in
       let i = page-id mask values r h e in
@@ -57,7 +57,7 @@ module _ (mask : ℕ) (values : List ℕ) where
       let f : faulty (entry_at page (behind r)) ≡ false = rw i (faulty-row (behind r) (id_of r) (omega arith) (id-positive r h) (id-small r h)) in
       step_entry page (behind r) a f ∙ simp (i, width-row (id_of r) (id-small r h))
 
-  page-stop : stepAt page (behind 16) ≡ None
+  pub page-stop : stepAt page (behind 16) ≡ None
   page-stop =
       let s = rows_short mask values 16 in
       let a : ends page (behind 16) ≡ true = simp (lt-leb 508 (behind 16) (omega arith), page-end mask values) in

@@ -12,9 +12,13 @@ use Rattle.page_sum.specs.Sum.{sum256}
 use Rattle.page_11h.specs.Entries.{CounterEntry, bytesIn, wrongWidth, pastEnd, nameless, entryAsked, entries}
 use Rattle.page_11h.specs.declared.value.CounterValue.{CounterValue}
 
--- 22: width not 1 to 4, identifier or value past 508, a non-vendor identifier other than 0000h with low 12 bits 0, or the asked number found twice
+-- 22, of any entry: width not 1 to 4, identifier or value past 508, or a non-vendor identifier other than 0000h with low 12 bits 0
+abbrev pub anyFault : List CounterEntry → Bool
+anyFault es = (list_any wrongWidth es || list_any pastEnd es) || list_any nameless es
+
+-- 22: such an entry, or the asked number found twice
 unfoldable pub damaged : ℕ → List CounterEntry → Bool
-damaged asked es = ((list_any wrongWidth es || list_any pastEnd es) || list_any nameless es) || leb 2 (count_by (entryAsked asked) es)
+damaged asked es = anyFault es || leb 2 (count_by (entryAsked asked) es)
 
 -- the value of an entry, which stands behind its identifier, and its bytes
 abbrev pub valueOf : List ℕ → CounterEntry → CounterValue

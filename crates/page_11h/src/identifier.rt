@@ -1,6 +1,7 @@
 // The identifier that an entry of page 11h begins with.
 ghost use Rattle.std.specs.Prelude.{◌≡◌, ◌<◌};
 ghost use Rattle.page_11h.specs.Entries.{counterEntry, width_of, number_in, vendorOf, idAsked};
+ghost use Rattle.page_11h.specs.Others.{idOther};
 ghost use Rattle.page_11h.specs.WalkStep.{faulty};
 
 use crate::ENTRIES_END;
@@ -46,5 +47,12 @@ impl Identifier {
         ensures { result ≡ idAsked number self.0 }
     {
         !self.is_vendor() && self.number() == number
+    }
+
+    // Whether it is none of the sixteen counters': a vendor's, or one whose number has no row.
+    pub(crate) fn is_other(self) -> bool
+        ensures { result ≡ idOther self.0 }
+    {
+        self.is_vendor() || page_rows::row_of(self.number()).is_none()
     }
 }

@@ -3,11 +3,13 @@
 
 mod identifier;
 mod number;
+mod others;
 mod page11;
 mod value;
 mod walk;
 
 pub use number::is_counter_number;
+pub use others::count_others;
 pub use page11::read_counter;
 pub use value::CounterValue;
 

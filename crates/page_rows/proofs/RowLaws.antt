@@ -1,11 +1,12 @@
 -- Laws of the sixteen rows: each identifier has its row, and no other number has one. Assumes nothing.
-use Rattle.std.proofs.Common.{◌≡◌, refl, ap, sym, ◌∙◌, Bool, false, ℕ, ◌<◌, ◌≤◌, length, Option, Some, None}
+use Rattle.std.proofs.Common.{◌≡◌, refl, ap, sym, ◌∙◌, Bool, false, [], ◌∷◌, ℕ, ◌<◌, ◌≤◌, length, Option, Some, None}
 use Rattle.std.proofs.lemmas.List.Quantifiers.{position-Some}
 use lib.Dec.{T, eqb, ltb, eqb→eq, ltb→lt}
 use lib.ListN.{get_or-eq_default}
 use borrow.Author.Tests.{eqb-true}
+use Rattle.bits.specs.Answer.{Answer}
 use Rattle.bits.proofs.Tables.{below_all}
-use Rattle.page_rows.specs.Rows.{ids, id_of, row_of}
+use Rattle.page_rows.specs.Rows.{ids, id_of, row_of, placeAnswer}
 use Rattle.page_rows.specs.declared.rows.TheConstants.{IDENTIFIERS}
 
 -- the public constant has the identifiers of the rows
@@ -73,3 +74,11 @@ pub row-missing : (n : ℕ) → row_of n ≡ None → (k : ℕ) → k < 16 → i
 row-missing n e k h s =
     let r : None ≡ Some k = sym e ∙ ap row_of (sym s) ∙ row-found k h in
     cc
+
+-- what is told of a place tells it from every other, and from none
+pub place-told : (a b : Option ℕ) → placeAnswer a ≡ placeAnswer b → a ≡ b
+unfolding placeAnswer
+place-told (Some j) (Some k) e = let v : j ∷ [] ≡ k ∷ [] = ap (λ (x : Answer). x.values) e in cc
+place-told (Some j) None e = let v : j ∷ [] ≡ [] = ap (λ (x : Answer). x.values) e in cc
+place-told None (Some k) e = let v : [] ≡ k ∷ [] = ap (λ (x : Answer). x.values) e in cc
+place-told None None e = refl

@@ -1,10 +1,14 @@
 -- Where the sixteen lines of page 11h are told, each is the page's own answer for its number, and none is a refusal. Assumes nothing.
 use Rattle.std.proofs.Common.{◌≡◌, ℕ, zero, suc, ◌<◌, List, [], ◌∷◌, length, get_or, refl, Option, None, Result, Ok, Err, arith}
+use Rattle.std.specs.List.{count_by}
 use Rattle.refusals.specs.declared.reasons.Refusal.{Refusal}
 use Rattle.page_rows.specs.Rows.{ids, id_of}
 use Rattle.page_rows.proofs.RowLaws.{length_ids}
+use Rattle.page_11h.specs.Entries.{entries}
 use Rattle.page_11h.specs.Page11.{readCounter}
+use Rattle.page_11h.specs.Others.{entryOther, countOthers}
 use Rattle.page_11h.specs.declared.value.CounterValue.{CounterValue}
+use Rattle.page_11h.proofs.Counting.{counted-where-read}
 use Rattle.page_text.specs.Counters.{Counter, in_front, counters_in}
 
 -- a counter that is told is the number asked, and what the page says of it
@@ -42,3 +46,7 @@ answered page counters e row h = each page ids counters e row (omega (arith, len
 -- no row is refused
 pub never-refused : (page : List ℕ) (counters : List Counter) → counters_in page ids ≡ Ok counters → (row : ℕ) (refusal : Refusal) → row < 16 → readCounter page (id_of row) ≡ Err refusal → ⊥
 never-refused page counters e row refusal h r = let a = answered page counters e row h in cc (a.answer)
+
+-- the count of the entries that are none of them refuses no page of which they are told
+pub others-answered : (page : List ℕ) (counters : List Counter) → counters_in page ids ≡ Ok counters → countOthers page ≡ Ok (count_by entryOther (entries page))
+others-answered page counters e = counted-where-read page (id_of 0) (get_or counters 0 (0, None)).1 (answered page counters e 0 (omega arith)).answer

@@ -1,33 +1,36 @@
 -- How long a page's text is at most. Assumes nothing.
-use Rattle.std.proofs.Common.{◌≡◌, ℕ, ◌+◌, ◌*◌, ◌^◌, ◌<◌, ◌≤◌, Bool, true, false, List, [], ◌∷◌, length, get_or, refl, ap, Option, Some, None, Result, Ok, Err, arith, length-append, decimal, codes}
+use Rattle.std.proofs.Common.{◌≡◌, ℕ, ◌+◌, ◌*◌, ◌^◌, ◌<◌, ◌≤◌, Bool, true, false, List, [], ◌∷◌, length, get_or, refl, sym, ap, Option, Some, None, Ok, arith, length-append, decimal, codes}
 use mathlib.Core.Logic.{⊎_elim}
 use native.Mathlib.Nat.{lt_of_lt_of_le}
 use lib.Dec.{ltb}
 use lib.Pow.{pow_mono}
 use borrow.Author.Tests.{ltb-true}
 use Rattle.std.proofs.lemmas.Fmt.{length-decimal-le}
-use Rattle.std.specs.List.{list_all}
+use Rattle.std.specs.List.{list_all, count_by, enumerate_from}
 use Rattle.bits.specs.Little.{leAt, Bytes}
 use Rattle.bits.specs.Answer.{bitNumber}
 use Rattle.bits.specs.Bit.{bitIn}
 use Rattle.bits.proofs.Littles.{le-lt}
 use Rattle.bits.proofs.Picks.{tested, and_left, and_right, by-test}
 use Rattle.refusals.specs.First.{first_of}
-use Rattle.refusals.specs.declared.reasons.Refusal.{Refusal}
-use Rattle.refusals.proofs.FirstLaws.{by-unless}
+use Rattle.refusals.proofs.FirstLaws.{unless-ok}
 use Rattle.page_rows.specs.Rows.{ids}
 use Rattle.page_10h.specs.Page10.{fields10, ladder10, read_log}
+use Rattle.page_10h.specs.Others.{hasOther, countOtherBytes}
+use Rattle.page_10h.proofs.OtherLaws.{others-most as other-bytes-most}
 use Rattle.page_10h.specs.declared.page10.ErrorLog.{ErrorLog}
 use Rattle.page_11h.specs.Entries.{bytesIn, entries}
 use Rattle.page_11h.specs.Page11.{readCounter}
 use Rattle.page_11h.specs.Top.{atTop}
+use Rattle.page_11h.specs.Others.{entryOther, countOthers}
+use Rattle.page_11h.proofs.Counting.{others-most}
 use Rattle.page_11h.specs.declared.value.CounterValue.{CounterValue}
 use Rattle.page_11h.proofs.Largest.{top-exactly}
 use Rattle.page_11h.proofs.Values.{noEntry}
-use Rattle.page_text.specs.Counters.{Counter, counters_in, shown_text, line_text, lines_text, told_text, counters_text}
-use Rattle.page_text.specs.Fields.{tag_text, status_text, task_text, log_text, read_text, fields_text}
-use Rattle.page_text.proofs.Pieces.{length-upper, refusal-most}
-use Rattle.page_text.proofs.Answered.{front}
+use Rattle.page_text.specs.Counters.{Counter, counters_in, shown_text, line_text, lines_text, others_text, told_text, counters_text}
+use Rattle.page_text.specs.Fields.{tag_text, status_text, task_text, log_text, other_bytes_text, read_text, fields_text}
+use Rattle.page_text.proofs.Pieces.{length-upper, refusal-most, by-both, others-text-most, other-bytes-text-most}
+use Rattle.page_text.proofs.Answered.{front, others-answered}
 
 -- a log whose values fit their bits
 record Fits (log : ErrorLog) : Type 0 where
@@ -69,10 +72,18 @@ module _ (page : List ℕ) (bytes : Bytes page) where
     count = omega (arith, le-lt page bytes 12 2);
   }
 
-  -- page 10h: eleven bytes of a refusal, or 74 of the fields
-  pub fields-most : length (fields_text page) ≤ 74
-  unfolding read_log
-  fields-most = by-unless (λ r. length (read_text r) ≤ 74) (first_of (ladder10 page)) (fields10 page) (λ refusal _. omega (arith, refusal-most refusal)) (λ _. log-most (fields10 page) read-fits)
+  log-told-most : (log : ErrorLog) (others : ℕ) → read_log page ≡ Ok log → countOtherBytes page ≡ Ok others → length (read_text (Ok (log, others))) ≤ 90
+  unfolding read_log countOtherBytes
+  log-told-most log others p q =
+      let u = unless-ok (first_of (ladder10 page)) (fields10 page) log (sym p) in
+      let v = unless-ok (first_of (ladder10 page)) (count_by hasOther (enumerate_from 0 page)) others (sym q) in
+      let f : length (log_text log) ≤ 74 = rw u.1 (log-most (fields10 page) read-fits) in
+      let o = other-bytes-text-most others (omega (arith, v.1, other-bytes-most page u.0)) in
+      omega (arith, length-append (log_text log) (other_bytes_text others))
+
+  -- page 10h: eleven bytes of a refusal, or 74 of the fields and 16 of the count
+  pub fields-most : length (fields_text page) ≤ 90
+  fields-most = by-both (λ r. length (read_text r) ≤ 90) (read_log page) (countOtherBytes page) (λ refusal. omega (arith, refusal-most refusal)) log-told-most
 
   module _ (number : ℕ) where
     -- a value of page 11h has 8 bytes at most
@@ -110,11 +121,14 @@ module _ (page : List ℕ) (bytes : Bytes page) where
       let m : length (lines_text f.more) ≤ 30 * length numbers = lines-most numbers f.more (and_right (ltb number 4096) _ h) f.told in
       rw f.whole (omega (arith, length-append (line_text (number, f.first)) (lines_text f.more)))
 
-  told-most : (told : Result (List Counter) Refusal) → counters_in page ids ≡ told → length (told_text told) ≤ 480
+  told-most : (counters : List Counter) (others : ℕ) → counters_in page ids ≡ Ok counters → countOthers page ≡ Ok others → length (told_text (Ok (counters, others))) ≤ 491
   unfolding ids
-  told-most (Ok counters) e = lines-most ids counters refl e
-  told-most (Err refusal) e = omega (arith, refusal-most refusal)
+  told-most counters others e q =
+      let l : length (lines_text counters) ≤ 480 = lines-most ids counters refl e in
+      let n : others ≡ count_by entryOther (entries page) = cc (others-answered page counters e) in
+      let o = others-text-most others (omega (arith, n, others-most page)) in
+      omega (arith, length-append (lines_text counters) (others_text others))
 
-  -- page 11h: sixteen lines of 30 bytes
-  pub counters-most : length (counters_text page) ≤ 480
-  counters-most = told-most (counters_in page ids) refl
+  -- page 11h: sixteen lines of 30 bytes, and 11 of the count
+  pub counters-most : length (counters_text page) ≤ 491
+  counters-most = by-both (λ r. length (told_text r) ≤ 491) (counters_in page ids) (countOthers page) (λ refusal. omega (arith, refusal-most refusal)) told-most

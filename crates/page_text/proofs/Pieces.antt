@@ -1,5 +1,5 @@
 -- How long the pieces of a page's text are. Assumes nothing.
-use Rattle.std.proofs.Common.{◌≡◌, ℕ, zero, suc, ◌+◌, ◌/◌, ◌%◌, ◌^◌, ◌<◌, ◌≤◌, true, false, List, [], ◌∷◌, length, arith, length-append}
+use Rattle.std.proofs.Common.{◌≡◌, ℕ, zero, suc, ◌+◌, ◌/◌, ◌%◌, ◌^◌, ◌<◌, ◌≤◌, true, false, List, [], ◌∷◌, length, refl, Result, Ok, Err, arith, length-append}
 use mathlib.Core.Logic.{⊎_elim}
 use native.Mathlib.Nat.{pow-suc}
 use lib.Dec.{eqb}
@@ -11,6 +11,9 @@ use Rattle.bits.proofs.Picks.{tested}
 use Rattle.refusals.specs.Number.{number}
 use Rattle.refusals.specs.declared.reasons.Refusal.{Refusal}
 use Rattle.page_text.specs.Words.{upper, refusal_text}
+use Rattle.page_text.specs.Both.{both}
+use Rattle.page_text.specs.Fields.{other_bytes_text}
+use Rattle.page_text.specs.Counters.{others_text}
 
 -- a number below 16 ^ (j + 1) has j + 1 hex digits at most
 hex-most : (k j n : ℕ) (acc : List ℕ) → n < 16 ^ suc j → length (digits_onto k 16 true n acc) ≤ suc j + length acc
@@ -38,4 +41,21 @@ pub refusal-most : (refusal : Refusal) → length (refusal_text refusal) ≤ 11
 refusal-most refusal =
     let n = number refusal in
     let d = length-decimal-le 2 n (omega arith) (number-lt refusal) (omega (arith, number-lt refusal)) in
+    simp length-append (omega arith)
+
+-- what is told of two answers
+pub by-both : {A B : Type 0} (P : Result (A × B) Refusal → Type 0) (a : Result A Refusal) (b : Result B Refusal) → ((refusal : Refusal) → P (Err refusal)) → ((x : A) (y : B) → a ≡ Ok x → b ≡ Ok y → P (Ok (x, y))) → P (both a b)
+by-both P (Ok x) (Ok y) r t = t x y refl refl
+by-both P (Ok x) (Err refusal) r t = r refusal
+by-both P (Err refusal) b r t = r refusal
+
+-- the lines of the counts, which are below 1,000
+pub others-text-most : (n : ℕ) → n < 1000 → length (others_text n) ≤ 11
+others-text-most n h =
+    let d = length-decimal-le 3 n (omega arith) h (omega arith) in
+    simp length-append (omega arith)
+
+pub other-bytes-text-most : (n : ℕ) → n < 1000 → length (other_bytes_text n) ≤ 16
+other-bytes-text-most n h =
+    let d = length-decimal-le 3 n (omega arith) h (omega arith) in
     simp length-append (omega arith)

@@ -3,9 +3,11 @@ use Rattle.std.specs.Prelude.{ℕ, List, [], ◌∷◌, ◌++◌, if◌then◌el
 use Rattle.refusals.specs.declared.reasons.Refusal.{Refusal}
 use Rattle.page_rows.specs.Rows.{ids}
 use Rattle.page_11h.specs.Page11.{readCounter}
+use Rattle.page_11h.specs.Others.{countOthers}
 use Rattle.page_11h.specs.Top.{atTop}
 use Rattle.page_11h.specs.declared.value.CounterValue.{CounterValue}
 use Rattle.page_text.specs.Words.{upper, refusal_text}
+use Rattle.page_text.specs.Both.{both}
 
 -- a counter's number, and what a page says of it
 abbrev pub Counter : Type 0
@@ -35,11 +37,19 @@ line_text counter = upper 3 counter.0 ++ codes "h " ++ shown_text counter.1 ++ c
 abbrev pub lines_text : List Counter → List ℕ
 lines_text counters = flat_map line_text counters
 
--- the lines, or the refusal alone
-abbrev pub told_text : Result (List Counter) Refusal → List ℕ
-told_text (Ok counters) = lines_text counters
+-- how many entries of the page are none of these counters
+abbrev pub others_text : ℕ → List ℕ
+others_text others = codes "others " ++ decimal others ++ codes "\n"
+
+-- the lines and the count of what they do not tell of, or the refusal alone
+abbrev pub told_text : Result (List Counter × ℕ) Refusal → List ℕ
+told_text (Ok told) = lines_text told.0 ++ others_text told.1
 told_text (Err refusal) = refusal_text refusal
 
--- page 11h: the sixteen counters, or the refusal alone where one of them is refused
+-- what is told of page 11h, or why it is refused
+abbrev pub counters_told : List ℕ → Result (List Counter × ℕ) Refusal
+counters_told page = both (counters_in page ids) (countOthers page)
+
+-- page 11h: the sixteen counters and the count of other entries, or the refusal alone
 abbrev pub counters_text : List ℕ → List ℕ
-counters_text page = told_text (counters_in page ids)
+counters_text page = told_text (counters_told page)

@@ -1,11 +1,13 @@
 -- What is printed of page 10h. Assumes nothing.
-use Rattle.std.specs.Prelude.{List, ℕ, ◌++◌, decimal, codes, Result, Ok, Err}
+use Rattle.std.specs.Prelude.{ℕ, List, ◌++◌, decimal, codes, Result, Ok, Err}
 use Rattle.bits.specs.Answer.{bitNumber}
 use Rattle.refusals.specs.declared.reasons.Refusal.{Refusal}
 use Rattle.frame_parts.specs.declared.shared.Task.{Task}
 use Rattle.page_10h.specs.Page10.{read_log}
+use Rattle.page_10h.specs.Others.{countOtherBytes}
 use Rattle.page_10h.specs.declared.page10.ErrorLog.{ErrorLog}
 use Rattle.page_text.specs.Words.{upper, refusal_text}
+use Rattle.page_text.specs.Both.{both}
 
 -- NQ and tag in decimal
 unfoldable pub tag_text : ErrorLog → List ℕ
@@ -29,11 +31,19 @@ task_text task =
 unfoldable pub log_text : ErrorLog → List ℕ
 log_text log = tag_text log ++ status_text log ++ task_text log.task
 
--- the fields, or the refusal alone
-abbrev pub read_text : Result ErrorLog Refusal → List ℕ
-read_text (Ok log) = log_text log
+-- how many bytes of the page have a bit set that is neither these fields' nor the sum's
+abbrev pub other_bytes_text : ℕ → List ℕ
+other_bytes_text others = codes "other bytes " ++ decimal others ++ codes "\n"
+
+-- the fields and the count of what they do not tell of, or the refusal alone
+abbrev pub read_text : Result (ErrorLog × ℕ) Refusal → List ℕ
+read_text (Ok told) = log_text told.0 ++ other_bytes_text told.1
 read_text (Err refusal) = refusal_text refusal
+
+-- what is told of page 10h, or why it is refused
+abbrev pub log_told : List ℕ → Result (ErrorLog × ℕ) Refusal
+log_told page = both (read_log page) (countOtherBytes page)
 
 -- page 10h
 abbrev pub fields_text : List ℕ → List ℕ
-fields_text page = read_text (read_log page)
+fields_text page = read_text (log_told page)

@@ -1,3 +1,4 @@
 pub mod Words
+pub mod Both
 pub mod Fields
 pub mod Counters

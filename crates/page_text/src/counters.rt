@@ -1,8 +1,9 @@
-// The sixteen counters of page 11h, the SATA PHY event counters, in the order of their numbers.
-ghost use Rattle.std.specs.Prelude.{◌≡◌, OnOk, Some};
+// The sixteen counters of page 11h, the SATA PHY event counters, in the order of their numbers, and how many entries are none of them.
+ghost use Rattle.std.specs.Prelude.{◌≡◌, OnOk, IfOk, Some};
 ghost use Rattle.std.specs.Io.KnownBytes.{Appends};
+ghost use Rattle.refusals.specs.First.{refusal_in};
 ghost use Rattle.page_rows.specs.Rows.{ids};
-ghost use Rattle.page_text.specs.Counters.{counters_in, shown_text, lines_text, counters_text};
+ghost use Rattle.page_text.specs.Counters.{counters_in, shown_text, lines_text, counters_told, counters_text};
 
 use crate::words::write_refusal;
 use page_11h::CounterValue;
@@ -39,6 +40,13 @@ fn read_counters(page: &[u8]) -> Result<[(u16, Option<CounterValue>); ROWS], Ref
     Ok(counters)
 }
 
+// All that is told is read before anything is written.
+fn read_page(page: &[u8]) -> Result<([(u16, Option<CounterValue>); ROWS], usize), Refusal>
+    ensures { result ≡ counters_told page.now }
+{
+    Ok((read_counters(page)?, page_11h::count_others(page)?))
+}
+
 fn write_lines<W: Write>(out: &mut W, counters: &[(u16, Option<CounterValue>)]) -> io::Result<()>
     ensures { OnOk result (Appends (W.contents out.old) (W.contents out.new) (lines_text counters.now)) }
 {
@@ -48,16 +56,26 @@ fn write_lines<W: Write>(out: &mut W, counters: &[(u16, Option<CounterValue>)]) 
     Ok(())
 }
 
-/// Writes the sixteen counters of page 11h, a line each; of a page that is refused the refusal alone.
+/// Writes the sixteen counters of page 11h, a line each, and then how many of its entries are none of them; of a page that
+/// is refused the refusal alone, which is handed back.
 ///
 /// # Errors
 ///
 /// The writer's.
-pub fn write_counters<W: Write>(out: &mut W, page: &[u8]) -> io::Result<()>
-    ensures { OnOk result (Appends (W.contents out.old) (W.contents out.new) (counters_text page.now)) }
+pub fn write_counters<W: Write>(out: &mut W, page: &[u8]) -> io::Result<Option<Refusal>>
+    ensures text { OnOk result (Appends (W.contents out.old) (W.contents out.new) (counters_text page.now)) }
+    ensures refused { IfOk result (λ refusal. refusal ≡ refusal_in (counters_told page.now)) }
 {
-    match read_counters(page) {
-        Ok(counters) => write_lines(out, &counters),
-        Err(refusal) => write_refusal(out, refusal),
+    match read_page(page) {
+        Ok(told) => {
+            let (counters, others) = &told;
+            write_lines(out, counters)?;
+            writeln!(out, "others {others}")?;
+            Ok(None)
+        }
+        Err(refusal) => {
+            write_refusal(out, refusal)?;
+            Ok(Some(refusal))
+        }
     }
 }

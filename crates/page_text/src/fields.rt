@@ -1,11 +1,13 @@
-// The fields of page 10h, each by its name.
-ghost use Rattle.std.specs.Prelude.{OnOk};
+// The fields of page 10h, each by its name, and how many bytes have a bit set that is neither theirs nor the sum's.
+ghost use Rattle.std.specs.Prelude.{◌≡◌, OnOk, IfOk};
 ghost use Rattle.std.specs.Io.KnownBytes.{Appends};
-ghost use Rattle.page_text.specs.Fields.{tag_text, status_text, task_text, log_text, fields_text};
+ghost use Rattle.refusals.specs.First.{refusal_in};
+ghost use Rattle.page_text.specs.Fields.{tag_text, status_text, task_text, log_text, log_told, fields_text};
 
 use crate::words::write_refusal;
 use frame_parts::Task;
 use page_10h::ErrorLog;
+use refusals::Refusal;
 use std::io;
 use std::io::Write;
 
@@ -48,16 +50,35 @@ fn write_log<W: Write>(out: &mut W, log: ErrorLog) -> io::Result<()>
     write_task(out, log.task)
 }
 
-/// Writes the fields of page 10h, a line each; of a page that is refused the refusal alone.
+// All that is told is read before anything is written.
+fn read_page(page: &[u8]) -> Result<(ErrorLog, usize), Refusal>
+    ensures { result ≡ log_told page.now }
+{
+    Ok((
+        page_10h::read_log(page)?,
+        page_10h::count_other_bytes(page)?,
+    ))
+}
+
+/// Writes the fields of page 10h, a line each, and then how many of its bytes have a bit set that is none of theirs; of a
+/// page that is refused the refusal alone, which is handed back.
 ///
 /// # Errors
 ///
 /// The writer's.
-pub fn write_fields<W: Write>(out: &mut W, page: &[u8]) -> io::Result<()>
-    ensures { OnOk result (Appends (W.contents out.old) (W.contents out.new) (fields_text page.now)) }
+pub fn write_fields<W: Write>(out: &mut W, page: &[u8]) -> io::Result<Option<Refusal>>
+    ensures text { OnOk result (Appends (W.contents out.old) (W.contents out.new) (fields_text page.now)) }
+    ensures refused { IfOk result (λ refusal. refusal ≡ refusal_in (log_told page.now)) }
 {
-    match page_10h::read_log(page) {
-        Ok(log) => write_log(out, log),
-        Err(refusal) => write_refusal(out, refusal),
+    match read_page(page) {
+        Ok((log, others)) => {
+            write_log(out, log)?;
+            writeln!(out, "other bytes {others}")?;
+            Ok(None)
+        }
+        Err(refusal) => {
+            write_refusal(out, refusal)?;
+            Ok(Some(refusal))
+        }
     }
 }

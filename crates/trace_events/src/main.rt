@@ -2,17 +2,19 @@
 #![tactic(auto)]
 
 use event_program::{Format, PIECE, run_in_pieces};
+use std::process::ExitCode;
 
-fn main(rt: HostRuntime) {
+fn main(rt: HostRuntime) -> ExitCode {
     let format = Format {
         alloc: rt.alloc(),
         traced: true,
     };
-    run_in_pieces(
+    let ended = run_in_pieces(
         format,
         PIECE,
         rt.stdin(),
         &mut rt.stdout(),
         &mut rt.stderr(),
     );
+    ExitCode::from(ended.exit_status())
 }

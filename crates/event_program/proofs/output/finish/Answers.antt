@@ -4,7 +4,8 @@ use Rattle.std.proofs.KnownBytes.{Appends-trans}
 use Rattle.streams.specs.Fronts.{AppendsFront}
 use Rattle.event_program.specs.Ends.{last_text}
 use Rattle.event_program.specs.Output.{IsOutput}
-use Rattle.event_program.proofs.Fronts.{front-first, front-then}
+use Rattle.streams.proofs.Fronts.{front-then}
+use Rattle.event_program.proofs.Fronts.{front-first}
 use Rattle.event_program.proofs.Runs.{unfinished, written}
 use Rattle.event_program.proofs.output.finish.Goals as goal
 

@@ -1,0 +1,6 @@
+pub mod Collecting
+pub mod Reading
+pub mod RoundTrip
+pub mod Spaces
+pub mod Swapping
+pub mod Tied

@@ -1,0 +1,2 @@
+pub mod Text
+pub mod Words

@@ -1,0 +1,4 @@
+pub mod Filing
+pub mod Fits
+pub mod Owing
+pub mod Tied

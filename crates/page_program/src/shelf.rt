@@ -1,0 +1,22 @@
+// Where the pages that are named lie.
+ghost use Rattle.std.specs.Prelude.{Option, List, ℕ, IfSome};
+ghost use Rattle.page_program.specs.Opened.{opened, Agrees};
+
+use std::io;
+use std::io::Read;
+
+/// Where the pages that are named lie.
+pub trait Shelf {
+    /// What a named page is read from.
+    type Page: Read + Drop;
+
+    // What is known of a name: that it cannot be opened, or the bytes behind it.
+    ghost holds: { Self → List ℕ → Option (Option (List ℕ)) };
+
+    /// The page of a name, to be read from its first byte on.
+    ///
+    /// # Errors
+    /// Where it cannot be opened.
+    fn open(&self, name: &str) -> io::Result<Self::Page>
+        ensures { Agrees (holds self.now name.now) (opened Self.Page.remaining result) };
+}

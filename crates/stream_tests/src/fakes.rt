@@ -1,0 +1,81 @@
+// A reader and a writer that fail when they are told to, and a shelf of pages. Nothing is claimed of their bytes.
+use page_program::Shelf;
+use std::alloc::Global;
+use std::io;
+use std::io::{Error, ErrorKind, Read, Write};
+
+/// Bytes, and behind them the input's end, or reads that fail.
+#[derive(Clone, Copy)]
+pub(crate) struct Source<'a> {
+    pub(crate) bytes: &'a [u8],
+    pub(crate) breaks: bool,
+}
+
+impl<'a> Read for Source<'a> {
+    fn read(&mut self, buf: &mut [u8]) -> io::Result<usize> {
+        if self.breaks && self.bytes.is_empty() {
+            return Err(Error::from(ErrorKind::Other));
+        }
+        self.bytes.read(buf)
+    }
+}
+
+/// A writer that takes seven bytes a write. Behind so many writes one fails, and those behind that go on.
+#[derive(Drop)]
+pub(crate) struct Sink {
+    pub(crate) bytes: Vec<u8>,
+    before_failure: u64,
+}
+
+impl Sink {
+    pub(crate) fn new(alloc: Global, before_failure: u64) -> Sink {
+        Sink {
+            bytes: Vec::new(alloc),
+            before_failure,
+        }
+    }
+}
+
+impl Write for Sink {
+    fn write(&mut self, buf: &[u8]) -> io::Result<usize> {
+        let fails = self.before_failure == 0;
+        self.before_failure = self.before_failure.wrapping_sub(1);
+        if fails {
+            return Err(Error::from(ErrorKind::Other));
+        }
+        let taken = buf.len().min(7);
+        self.bytes.extend_from_slice(&buf[..taken])?;
+        Ok(taken)
+    }
+
+    fn flush(&mut self) -> io::Result<()> {
+        Ok(())
+    }
+}
+
+/// The pages of two months.
+#[derive(Drop)]
+pub(crate) struct Months<'a> {
+    pub(crate) may: &'a [u8],
+    pub(crate) june: &'a [u8],
+}
+
+impl<'a> Shelf for Months<'a> {
+    ghost use Rattle.std.specs.Prelude.{None};
+
+    type Page = Source<'a>;
+
+    ghost holds = { λ months name. None };
+
+    fn open(&self, name: &str) -> io::Result<Source<'a>> {
+        let bytes = match name {
+            "may" => self.may,
+            "june" => self.june,
+            _ => return Err(Error::from(ErrorKind::NotFound)),
+        };
+        Ok(Source {
+            bytes,
+            breaks: false,
+        })
+    }
+}
