@@ -26,7 +26,20 @@ pub const IDENTIFIERS: [u16; ROWS] = [
 pub fn row_of(number: u16) -> Option<usize>
     ensures { result ≡ row_of number }
 {
-    IDENTIFIERS.iter().position(|id| *id == number)
+    match number {
+        0x001..=0x00B => Some(usize::from(number - 0x001)),
+        // 00Ch is no counter: the list in figure 24 of Serial ATA II Extensions 1.2 goes from 00Bh to 00Dh.
+        0x00C => None,
+        0x00D => Some(11),
+        // 00Eh is none: the list goes from 00Dh to 00Fh.
+        0x00E => None,
+        0x00F..=0x010 => Some(usize::from(number - 0x00F) + 12),
+        // 011h is none: the list goes from 010h to 012h.
+        0x011 => None,
+        0x012..=0x013 => Some(usize::from(number - 0x012) + 14),
+        // 000h, which ends the entries of a page, and all above 013h.
+        _ => None,
+    }
 }
 
 /// Whether the mask keeps a row. From 16 on there is none.
