@@ -1,15 +1,10 @@
 -- Laws of little-endian numbers, over the width. Assumes nothing.
-use mathlib.Core.Path.{◌≡◌, refl, sym, ap, ◌∙◌}
-use mathlib.Core.List.{List, [], ◌∷◌, ◌++◌}
-use Prim.Native.Nat.{ℕ, zero, suc, ◌+◌, ◌-◌, ◌*◌, ◌/◌, ◌%◌, ◌^◌, ◌≤◌, ◌<◌, min}
-use native.Mathlib.Nat.{mod-one, div-one, mod-eq_of_lt, not-suc-le-zero, le_of_suc-le-suc}
-use native.Mathlib.Omega.{arith}
+use Rattle.std.proofs.Common.{◌≡◌, refl, sym, ap, ◌∙◌, List, [], ◌∷◌, ◌++◌, ℕ, zero, suc, ◌+◌, ◌-◌, ◌*◌, ◌/◌, ◌%◌, ◌^◌, ◌≤◌, ◌<◌, min, div-one, mod-eq_of_lt, not-suc-le-zero, le_of_suc-le-suc, arith, lit≤, lit<, pow-add, shr-shr, get_or, length, length-take, take, drop, replicate, get_or-drop}
+use native.Mathlib.Nat.{mod-one}
 use lib.Arith.{digits_lt}
-use lib.Dec.{lit≤, lit<}
-use lib.Pow.{pow-add, shr-shr, mod-pow-add}
-use lib.ListN.{get_or, length, length-take, take, drop, replicate}
+use lib.Pow.{mod-pow-add}
 use Rattle.std.specs.Int.{w16, w32, w64, from_le_bytes}
-use Rattle.std.proofs.lemmas.List.{get_or-drop, drop-replicate, length-replicate}
+use Rattle.std.proofs.lemmas.List.{drop-replicate, length-replicate}
 use Rattle.bits.specs.Laid.{over}
 use Rattle.bits.proofs.Fronts.{over_yes}
 use Rattle.bits.specs.Little.{leAt, byte_of, bytesFrom, le_bytes, Bytes, NumberGiven}

@@ -1,14 +1,10 @@
 -- Laws of single bits and masks, over the width and the index. Bit `t` of `m` is `m / 2 ^ t % 2`. Assumes nothing.
-use mathlib.Core.Path.{◌≡◌, sym, ap, ◌∙◌}
-use Prim.Native.Nat.{ℕ, zero, suc, ◌+◌, ◌-◌, ◌*◌, ◌/◌, ◌%◌, ◌^◌, ◌≤◌, ◌<◌, min}
-use mathlib.Core.Bool.{false, and-false}
-use native.Mathlib.Nat.{zero-div, mod-lt, pow-suc, le_of_suc-le-suc}
-use native.Mathlib.Numerals.{one-add}
-use native.Mathlib.Omega.{arith}
+use Rattle.std.proofs.Common.{◌≡◌, sym, ap, ◌∙◌, ℕ, zero, suc, ◌+◌, ◌-◌, ◌*◌, ◌/◌, ◌%◌, ◌^◌, ◌≤◌, ◌<◌, min, false, mod-lt, pow-suc, le_of_suc-le-suc, one-add, arith, pow_pos, shr-shr, shl_exact, bit_and, bit_or, ltb}
+use mathlib.Core.Bool.{and-false}
+use native.Mathlib.Nat.{zero-div}
 use Rattle.std.proofs.lemmas.Nat.Bits.{bit_at_or, bit_at_and, bit_at-pow_same, bit_at-pow_other, bit_at-lt}
-use lib.Pow.{pow_pos, shr-shr, shl_exact, split}
-use lib.Bits.{bit_and, bit_or, and_block, or_shifted}
-use lib.Dec.{ltb}
+use lib.Pow.{split}
+use lib.Bits.{and_block, or_shifted}
 use Rattle.bits.specs.Bit.{bitIn}
 
 -- `(hi << k) | lo` at a width of w digits

@@ -1,11 +1,5 @@
 -- Laws of `pick` and of tests. Assumes nothing.
-use mathlib.Core.Path.{◌≡◌, refl, sym}
-use mathlib.Core.Bool.{Bool, true, false, not, ◌&&◌, ◌||◌}
-use Prim.Native.Nat.{ℕ}
-use native.Mathlib.Omega.{arith}
-use mathlib.Core.Logic.{◌⊎◌, inl, inr, ⊎_elim}
-use lib.Dec.{ltb, leb}
-use borrow.Author.Tests.{lt-ltb, le-ltb, leb-true, leb-false}
+use Rattle.std.proofs.Common.{◌≡◌, refl, sym, Bool, true, false, not, ◌&&◌, ◌||◌, ℕ, arith, ◌⊎◌, inl, inr, ⊎_elim, ltb, leb, lt-ltb, le-ltb, leb-true, leb-false}
 use Rattle.bits.specs.Pick.{pick}
 
 -- what holds of either of two, each under what the test then says, holds of the one that is picked

@@ -1,16 +1,7 @@
 -- Laws of tables: a mask's ones counted against a table, and a rule of every number below a bound. Assumes nothing.
-use mathlib.Core.Path.{◌≡◌, sym, ap, ap₂, ◌∙◌, subst}
-use mathlib.Core.List.{List, [], ◌∷◌}
-use mathlib.Core.Logic.{⊎_elim}
-use mathlib.Core.Bool.{Bool, true, false, ◌&&◌}
-use Prim.Native.Nat.{ℕ, zero, suc, ◌+◌, ◌/◌, ◌%◌, ◌^◌, ◌<◌, suc-le-suc}
-use native.Mathlib.Nat.{not-suc-le-zero, eq-or-lt_of_le, div-one, zero-lt-suc, le_of_suc-le-suc}
-use native.Mathlib.Numerals.{add-one}
+use Rattle.std.proofs.Common.{◌≡◌, sym, ap, ap₂, ◌∙◌, subst, List, [], ◌∷◌, ⊎_elim, Bool, true, false, ◌&&◌, ℕ, zero, suc, ◌+◌, ◌/◌, ◌%◌, ◌^◌, ◌<◌, suc-le-suc, not-suc-le-zero, eq-or-lt_of_le, div-one, zero-lt-suc, le_of_suc-le-suc, add-one, T, shr_lt, length, get_or}
 use lib.Arith.{lt-one}
-use lib.Dec.{T}
-use lib.Pow.{shr_lt}
 use lib.Count.{ones, ones_step}
-use lib.ListN.{length, get_or}
 use Rattle.std.specs.List.{sum_by}
 use Rattle.std.proofs.lemmas.Nat.Bits.{bit_at-suc}
 use Rattle.std.proofs.lemmas.List.Sums.{sum_by-cons}

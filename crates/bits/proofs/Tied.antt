@@ -1,11 +1,8 @@
 -- Each public function's own contract: what it says, and that two answers which it allows are equal. Assumes nothing.
-use Prim.Native.Nat.{min}
+use Rattle.std.proofs.Common.{min, leb, length, take, drop, ◌≡◌, refl}
 use Rattle.bits.specs.Bit.{bitIn, withBitIn}
 use Rattle.bits.specs.Laid.{over}
 use Rattle.bits.specs.Little.{NumberGiven, leAt}
-use lib.Dec.{leb}
-use lib.ListN.{length, take, drop}
-use mathlib.Core.Path.{◌≡◌, refl}
 use Rattle.bits.specs.Contract.{Says, Tied}
 use Rattle.bits.proofs.Tying.{same, say, by, named}
 use Rattle.bits.proofs.copying

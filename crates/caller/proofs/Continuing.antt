@@ -1,8 +1,5 @@
 -- One call more: what its contract allows continues every history that led to its state. Assumes nothing.
-use mathlib.Core.Path.{◌≡◌, refl, sym, subst}
-use mathlib.Core.Bool.{false}
-use mathlib.Core.List.{List, [], ◌∷◌, ◌++◌}
-use Prim.Native.Nat.{ℕ}
+use Rattle.std.proofs.Common.{◌≡◌, refl, sym, subst, false, List, [], ◌∷◌, ◌++◌, ℕ}
 use Rattle.rules.specs.Call.{Call}
 use Rattle.rules.specs.Handed.{handed}
 use Rattle.device_state.specs.declared.shapes.Settings.{Settings}

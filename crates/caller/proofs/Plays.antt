@@ -1,11 +1,5 @@
 -- Events played one after the other are a history in the sense of demand 3, whatever they are and whatever is lent to them. Assumes nothing.
-use mathlib.Core.Path.{◌≡◌, refl, sym, ap, subst}
-use mathlib.Core.List.{List, [], ◌∷◌, ◌++◌}
-use Prim.Native.Nat.{ℕ, zero, suc, ◌+◌, ◌<◌}
-use native.Mathlib.Omega.{arith}
-use lib.ListN.{get_or, replicate}
-use Rattle.std.proofs.Common.{append-nil, append_assoc}
-use Rattle.std.specs.Prelude.{Option, Some, None, unwrap_or, option_map, option_to_list, Result, Err}
+use Rattle.std.proofs.Common.{append-nil, append_assoc, ◌≡◌, refl, sym, ap, subst, List, [], ◌∷◌, ◌++◌, ℕ, zero, suc, ◌+◌, ◌<◌, arith, get_or, replicate, Option, Some, None, unwrap_or, option_map, option_to_list, Result, Err}
 use Rattle.bits.specs.Little.{Bytes}
 use Rattle.bits.proofs.Littles.{le-lt}
 use Rattle.frame_parts.specs.Cut.{joined}

@@ -1,7 +1,6 @@
 -- What the contracts of `events` allow, event by event: every sequence of such results is a history. Assumes nothing.
-use Rattle.std.specs.Prelude.{List, [], ◌∷◌, ℕ, Result, None}
+use Rattle.std.proofs.Common.{List, [], ◌∷◌, ℕ, Result, None, ◌≡◌, refl, sym, ap, subst, ◌∙◌}
 use contract.Lifetimes.{Lfts}
-use mathlib.Core.Path.{◌≡◌, refl, sym, ap, subst, ◌∙◌}
 use Rattle.std.specs.Borrow.{Bor, MutBor}
 use Rattle.bits.specs.Contract.{Allows}
 use Rattle.bits.specs.Little.{Bytes}

@@ -1,11 +1,6 @@
 -- What the event program plays is a history in the sense of demand 3. Assumes nothing.
-use mathlib.Core.Path.{◌≡◌, refl, sym, ap, subst, ◌∙◌}
-use mathlib.Core.Bool.{Bool, true, false, true≢false}
-use mathlib.Core.List.{List, [], ◌∷◌}
-use Prim.Native.Nat.{ℕ, ◌+◌}
-use lib.ListN.{length, take, drop}
+use Rattle.std.proofs.Common.{◌≡◌, refl, sym, ap, subst, ◌∙◌, Bool, true, false, true≢false, List, [], ◌∷◌, ℕ, ◌+◌, length, take, drop, Option, Some, None, is_none, option_map}
 use lib.Seq.{take-append_seam, take-length}
-use Rattle.std.specs.Prelude.{Option, Some, None, is_none, option_map}
 use Rattle.bits.specs.Laid.{laid}
 use Rattle.bits.specs.Little.{Bytes}
 use Rattle.rules.specs.Call.{Call}

@@ -1,12 +1,11 @@
 -- What each contract of a caller says. The answer itself is said by the contract of the device's call, which is tied there. Assumes nothing.
-use mathlib.Core.List.{[]}
+use Rattle.std.proofs.Common.{[], IfSome}
 use Rattle.bits.specs.Contract.{Says, SaysOver}
 use Rattle.bits.proofs.Tying.{say}
 use Rattle.rules.specs.Call.{hostFrame, openPhase, sendData, finishTags, mediaError, linkEvent, comReset}
 use Rattle.device.specs.Lent.{lent, gave, answered}
 use Rattle.device.specs.Sealing.{poweredOf}
 use Rattle.event_kinds.specs.Settings.{asked_of}
-use Rattle.std.specs.Prelude.{IfSome}
 use Rattle.bits.specs.Little.{Bytes}
 use denote.RattleType.{RattleType}
 use denote.Param.Laws.{Laws}

@@ -1,9 +1,5 @@
 -- SRST, release, a halt and its end, a media error and zeroed counters leave a state that does not contradict itself. Assumes nothing.
-use mathlib.Core.Path.{◌≡◌, refl}
-use mathlib.Core.Bool.{Bool, true, false, not, ◌&&◌, ◌||◌}
-use Prim.Native.Nat.{ℕ}
-use Rattle.std.proofs.Common.{Option, Some, None, is_none, unwrap_or}
-use lib.Dec.{eqb, ltb}
+use Rattle.std.proofs.Common.{Option, Some, None, is_none, unwrap_or, ◌≡◌, refl, Bool, true, false, not, ◌&&◌, ◌||◌, ℕ, eqb, ltb}
 use Rattle.bits.specs.Pick.{pick}
 use Rattle.bits.specs.Bit.{bitIn}
 use Rattle.contradictions.specs.Clauses.{statusBad, recordBad, phaseIdle, contradictory}

@@ -1,10 +1,6 @@
 -- What is known of an outstanding command in a state that does not contradict itself. Assumes nothing.
-use mathlib.Core.Path.{◌≡◌, ◌∙◌, sym}
-use mathlib.Core.Bool.{Bool, true, false, ◌||◌}
-use Prim.Native.Nat.{ℕ, ◌+◌, ◌-◌, ◌*◌, ◌%◌, ◌≤◌, ◌<◌, min}
-use lib.Dec.{eqb}
-use native.Mathlib.Omega.{arith}
-use borrow.Author.Tests.{ltb-false, eqb-true, eqb-false, not-false}
+use Rattle.std.proofs.Common.{is_none, unwrap_or, ◌≡◌, ◌∙◌, sym, Bool, true, false, ◌||◌, ℕ, ◌+◌, ◌-◌, ◌*◌, ◌%◌, ◌≤◌, ◌<◌, min, eqb, arith, ltb-false, eqb-true}
+use borrow.Author.Tests.{eqb-false, not-false}
 use Rattle.bits.specs.Bit.{bitIn}
 use Rattle.bits.proofs.Picks.{pick_yes, or_left, or_right}
 use Rattle.device_state.specs.State.{whole_of}
@@ -22,7 +18,6 @@ use Rattle.device.proofs.Keeping.{settings-good}
 use Rattle.device.proofs.Tags.{busy-below}
 use Rattle.device.proofs.Phases.{some-open, open-entry, own-open}
 use Rattle.device_state.specs.UnderWay.{openFor}
-use Rattle.std.proofs.Common.{is_none, unwrap_or}
 
 -- the phase of a tag is open
 abbrev pub phaseOf : Device → ℕ → Bool

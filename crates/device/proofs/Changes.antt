@@ -1,8 +1,5 @@
 -- A command accepted, opened, moved on or finished leaves a state that does not contradict itself. Assumes nothing.
-use mathlib.Core.Path.{◌≡◌}
-use mathlib.Core.Bool.{true, false}
-use Prim.Native.Nat.{ℕ, ◌%◌, ◌^◌, ◌<◌, min}
-use lib.Dec.{leb, eqb}
+use Rattle.std.proofs.Common.{Some, None, is_some, is_none, unwrap_or, ◌≡◌, true, false, ℕ, ◌%◌, ◌^◌, ◌<◌, min, leb, eqb}
 use Rattle.bits.specs.Pick.{pick}
 use Rattle.bits.specs.Bit.{bitIn, withBitIn, clearIn}
 use Rattle.device_state.specs.State.{whole_of}
@@ -17,7 +14,6 @@ use Rattle.device.proofs.Parts.{tag-good, status-good, retagged-good}
 use Rattle.device.proofs.Retagging.{accepted-tag, opened-tag, moved-tag, finished-tag}
 use Rattle.device.proofs.StatusLaws.{statusWith, free-status, kept-status, phase-good, phase-busy, opened-idle, moved-idle, none_left}
 use Rattle.device.proofs.Phases.{none-open}
-use Rattle.std.proofs.Common.{Some, None, is_some, is_none, unwrap_or}
 
 -- accepted: neither halted nor held, no phase open, with an entry that is right for its tag
 pub accepted-good : (d : Device) (q : Queued) → contradictoryDevice d ≡ false → d.status.halted ≡ false → d.status.held ≡ false → is_some d.status.phase ≡ false

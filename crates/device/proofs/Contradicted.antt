@@ -1,7 +1,6 @@
 -- Every call on a state that contradicts itself is refused with 1, and leaves all as it was. Assumes nothing.
-use mathlib.Core.Path.{◌≡◌, sym, ap, subst⁻¹, ◌∙◌}
-use mathlib.Core.Bool.{true}
-use Rattle.std.proofs.Common.{Option, Some, Err}
+use Rattle.std.proofs.Common.{Option, Some, Err, ◌≡◌, sym, ap, ◌∙◌, true}
+use mathlib.Core.Path.{subst⁻¹}
 use Rattle.refusals.specs.First.{unless}
 use Rattle.refusals.specs.declared.reasons.Refusal.{Refusal}
 use Rattle.refusals.specs.declared.reasons.Refusal.TheVariants.{Contradiction}

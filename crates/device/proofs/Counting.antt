@@ -1,7 +1,5 @@
 -- What `counter` and `outstanding_count` refuse, by their lists. Assumes nothing.
-use mathlib.Core.Path.{sym, subst}
-use Prim.Native.Nat.{ℕ}
-use Rattle.std.proofs.Common.{Option, Result}
+use Rattle.std.proofs.Common.{Option, Result, sym, subst, ℕ}
 use Rattle.refusals.specs.First.{FirstExactly, refusal_in}
 use Rattle.refusals.specs.Ladders.{powerLadder}
 use Rattle.refusals.specs.declared.reasons.Refusal.{Refusal}

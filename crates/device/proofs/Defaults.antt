@@ -1,12 +1,8 @@
 -- A device by default is all zeros. Assumes nothing.
-use mathlib.Core.Path.{◌≡◌, sym, ◌∙◌}
-use mathlib.Core.List.{List}
-use Prim.Native.Nat.{ℕ, ◌<◌}
-use native.Mathlib.Omega.{arith}
-use lib.ListN.{replicate, length-replicate}
+use Rattle.std.proofs.Common.{rules, ◌≡◌, sym, ◌∙◌, List, ℕ, ◌<◌, arith, replicate, ext_get_or}
+use lib.ListN.{length-replicate}
 use Rattle.std.specs.Array.{AllOfLen}
-use Rattle.std.proofs.Common.{rules}
-use Rattle.std.proofs.lemmas.List.{ext_get_or, get_or-replicate}
+use Rattle.std.proofs.lemmas.List.{get_or-replicate}
 use Rattle.device_state.specs.State.{zeroEntry}
 use Rattle.device_state.specs.declared.shapes.Entry.{Entry}
 use Rattle.device.specs.Device.{freshDevice, zeroDevice}

@@ -1,15 +1,11 @@
 -- The host data that is due, in plain numbers. Assumes nothing.
-use mathlib.Core.Path.{◌≡◌, ap, ◌∙◌}
-use mathlib.Core.Bool.{true, false, not}
-use Prim.Native.Nat.{ℕ, ◌≤◌, min}
-use native.Mathlib.Omega.{arith}
+use Rattle.std.proofs.Common.{Option, Some, None, is_some, unwrap_or, ◌≡◌, ap, ◌∙◌, true, false, not, ℕ, ◌≤◌, min, arith}
 use Rattle.bits.proofs.Picks.{by-test, and_left, pick_yes, pick_no}
 use Rattle.rules.specs.Positions.{left_of}
 use Rattle.device.specs.Device.{contradictoryDevice}
 use Rattle.device.specs.DataDue.{phaseEntry, writing, dataDue}
 use Rattle.device.specs.declared.state.Device.{Device}
 use Rattle.device.proofs.Moves.{left, left_is}
-use Rattle.std.proofs.Common.{Option, Some, None, is_some, unwrap_or}
 
 -- in the write phase of a state that does not contradict itself, the length due is min(8,192, what is left of the command)
 pub due-is : (d : Device) → contradictoryDevice d ≡ false → writing d ≡ true → dataDue d ≡ Some (min 8192 (left d))

@@ -1,9 +1,5 @@
 -- What each change of the state does, said of its parts; and of every act: settings, record, phase, bytes. Assumes nothing.
-use mathlib.Core.Path.{◌≡◌, refl, sym, subst}
-use mathlib.Core.Bool.{Bool, true, false, true≢false}
-use Prim.Native.Nat.{ℕ, ◌<◌}
-use lib.Dec.{lit<}
-use lib.ListN.{replicate}
+use Rattle.std.proofs.Common.{Option, None, is_none, ◌≡◌, refl, sym, subst, Bool, true, false, true≢false, ℕ, ◌<◌, lit<, replicate}
 use Rattle.bits.specs.Pick.{pick}
 use Rattle.bits.specs.Bit.{bitIn}
 use Rattle.device_state.specs.State.{blankRecord, zeroEcho}
@@ -16,7 +12,6 @@ use Rattle.rules.specs.declared.acts.Act.TheVariants.{Nothing, Bad, BadAndHalt, 
 use Rattle.device.specs.After.{withValue, haltWith, unhalted, zeroedIf, resetHeld, released, acceptedBy, movedBy, openedFor, finishedBy, failedBy, renewed, after_of}
 use Rattle.device.specs.declared.state.Device.{Device}
 use Rattle.device.proofs.Widths.{Small, SmallAll, Wide, zero-small, placed-small, cleared-small, idle-small}
-use Rattle.std.proofs.Common.{Option, None, is_none}
 
 -- halt: every outstanding command is given up, an open phase closes, the error record is set
 pub halt-effect : (d : Device) (f : Fault) → ((haltWith d f).status ≡ record { outstanding = 0; phase = None; halted = true; held = false }) × ((haltWith d f).errors.set ≡ true) × ((haltWith d f).values ≡ d.values)

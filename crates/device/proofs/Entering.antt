@@ -1,10 +1,5 @@
 -- The entry of a queued command that is taken is right for its tag: its bytes name that tag and its range. Assumes nothing.
-use mathlib.Core.Path.{◌≡◌, refl}
-use mathlib.Core.Bool.{Bool, true, false, not, ◌||◌}
-use Prim.Native.Nat.{ℕ, ◌+◌, ◌*◌, ◌^◌, ◌≤◌, ◌<◌}
-use native.Mathlib.Omega.{arith}
-use lib.Dec.{ltb, leb, eqb}
-use borrow.Author.Tests.{eq-eqb, ltb-false}
+use Rattle.std.proofs.Common.{◌≡◌, refl, Bool, true, false, not, ◌||◌, ℕ, ◌+◌, ◌*◌, ◌^◌, ◌≤◌, ◌<◌, arith, ltb, leb, eqb, eq-eqb, ltb-false}
 use Rattle.bits.proofs.Picks.{by-test, or_left, or_right}
 use Rattle.page_rows.specs.Rows.{keepsBoth}
 use Rattle.frame_parts.specs.Shared.{tag_of, sectorsOf}

@@ -1,5 +1,5 @@
 -- Each call gives each refusal of its row exactly when that test holds and none before it does, none exactly when none holds, and no other. Assumes nothing.
-use mathlib.Core.Path.{sym, subst}
+use Rattle.std.proofs.Common.{sym, subst}
 use Rattle.refusals.specs.First.{FirstExactly}
 use Rattle.refusals.specs.Ladders.{powerLadder}
 use Rattle.refusals.proofs.FirstLaws as firsts

@@ -1,13 +1,6 @@
 -- A taken link event never makes a state that contradicts itself. Assumes nothing.
-use mathlib.Core.Path.{◌≡◌}
-use mathlib.Core.Bool.{true, false, not, ◌||◌}
-use mathlib.Core.List.{List}
-use mathlib.Core.Logic.{⊎_elim}
-use Prim.Native.Nat.{ℕ}
-use lib.Dec.{eqb, ltb, leb}
-use lib.ListN.{get_or, set}
-use lib.Seq.{get_or-set_other}
-use borrow.Author.Tests.{not-false, eqb-true, eqb-false}
+use Rattle.std.proofs.Common.{◌≡◌, true, false, not, ◌||◌, List, ⊎_elim, ℕ, eqb, ltb, leb, get_or, set, get_or-set_other, eqb-true}
+use borrow.Author.Tests.{not-false, eqb-false}
 use Rattle.bits.specs.Pick.{pick}
 use Rattle.bits.proofs.Picks.{tested, and_left, and_right, or_left, or_right}
 use Rattle.page_rows.specs.Rows.{kept, keepsBoth}

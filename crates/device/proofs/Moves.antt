@@ -1,13 +1,5 @@
 -- What moves, in plain numbers: of a command 512 × count bytes less what has moved are left, and the next one stands at 512 × first and what has moved. Assumes nothing.
-use mathlib.Core.Path.{◌≡◌, refl, sym, ap, ◌∙◌}
-use mathlib.Core.Bool.{Bool, true, false}
-use mathlib.Core.List.{List, [], ◌∷◌, ◌++◌}
-use Rattle.std.proofs.Common.{Option, Some, None, Result, Ok, is_none, unwrap_or}
-use Prim.Native.Nat.{ℕ, ◌+◌, ◌-◌, ◌*◌, ◌%◌, ◌≤◌, min}
-use native.Mathlib.Omega.{arith}
-use lib.Dec.{ltb}
-use lib.ListN.{length, get_or, take, drop, length-drop}
-use borrow.Author.Tests.{le-leb, le-ltb, eq-eqb}
+use Rattle.std.proofs.Common.{Option, Some, None, Result, Ok, is_none, unwrap_or, ◌≡◌, refl, sym, ap, ◌∙◌, Bool, true, false, List, [], ◌∷◌, ◌++◌, ℕ, ◌+◌, ◌-◌, ◌*◌, ◌%◌, ◌≤◌, min, arith, ltb, length, get_or, take, drop, length-drop, le-leb, le-ltb, eq-eqb}
 use Rattle.bits.specs.Pick.{pick}
 use Rattle.bits.proofs.Picks.{not-leb}
 use Rattle.frame_parts.specs.Size.{payloadSize}

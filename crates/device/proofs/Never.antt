@@ -1,10 +1,7 @@
 -- A state that power-on makes never contradicts itself. Assumes nothing.
-use mathlib.Core.Path.{◌≡◌, refl}
-use mathlib.Core.Bool.{Bool, true, false, not, and-false}
-use Prim.Native.Nat.{ℕ}
-use Rattle.std.proofs.Common.{None}
-use lib.Dec.{lit<}
-use lib.ListN.{replicate, get_or-replicate}
+use Rattle.std.proofs.Common.{None, ◌≡◌, refl, Bool, true, false, not, ℕ, lit<, replicate}
+use mathlib.Core.Bool.{and-false}
+use lib.ListN.{get_or-replicate}
 use Rattle.bits.specs.Pick.{pick}
 use Rattle.bits.proofs.Masks.{no-bit}
 use Rattle.page_rows.specs.Rows.{kept}

@@ -1,10 +1,5 @@
 -- A taken call never makes a state that contradicts itself. Assumes nothing.
-use mathlib.Core.Path.{◌≡◌, refl, ap, ◌∙◌}
-use mathlib.Core.Bool.{false}
-use mathlib.Core.List.{List}
-use Rattle.std.proofs.Common.{None, Ok}
-use Prim.Native.Nat.{ℕ, ◌^◌, ◌<◌}
-use lib.ListN.{length}
+use Rattle.std.proofs.Common.{None, Ok, ◌≡◌, refl, ap, ◌∙◌, false, List, ℕ, ◌^◌, ◌<◌, length}
 use Rattle.frames.proofs.ReadLaws.{read-data}
 use Rattle.rules.specs.Call.{Call, hostFrame}
 use Rattle.rules.specs.Handed.{handed}

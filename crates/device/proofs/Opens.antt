@@ -1,15 +1,8 @@
 -- As many tags are outstanding as the table holds commands, and never more than the depth. Assumes nothing.
-use mathlib.Core.Path.{◌≡◌, refl, sym, ap, ◌∙◌}
-use mathlib.Core.Bool.{Bool, true, false, not, ◌&&◌, ◌||◌}
-use mathlib.Core.List.{List, [], ◌∷◌}
-use mathlib.Core.Logic.{⊎_elim}
-use Prim.Native.Nat.{ℕ, ◌+◌, ◌*◌, ◌/◌, ◌%◌, ◌^◌, ◌≤◌, ◌<◌}
-use native.Mathlib.Nat.{zero-div, mod-lt, div-le_self, div-eq_of_lt, div-add-mod', lt_of_le_of_lt, lt_of_lt_of_le}
-use native.Mathlib.Omega.{arith}
+use Rattle.std.proofs.Common.{◌≡◌, refl, sym, ap, ◌∙◌, Bool, true, false, not, ◌&&◌, ◌||◌, List, [], ◌∷◌, ⊎_elim, ℕ, ◌+◌, ◌*◌, ◌/◌, ◌%◌, ◌^◌, ◌≤◌, ◌<◌, mod-lt, div-le_self, div-add-mod', lt_of_le_of_lt, lt_of_lt_of_le, arith, leb, eqb, pow_pos, pow_mono, shr-shr, lt-ltb, le-leb, eqb-true}
+use native.Mathlib.Nat.{zero-div, div-eq_of_lt}
 use lib.Count.{ones, ones-le}
-use lib.Dec.{leb, eqb}
-use lib.Pow.{pow_pos, pow_mono, shr-shr}
-use borrow.Author.Tests.{lt-ltb, le-leb, not-false, eqb-true, eqb-false}
+use borrow.Author.Tests.{not-false, eqb-false}
 use Rattle.bits.specs.Pick.{pick}
 use Rattle.bits.specs.Bit.{bitIn}
 use Rattle.std.proofs.lemmas.Nat.Bits.{bit_at-lt, same_from_bits_below}

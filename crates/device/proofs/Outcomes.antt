@@ -1,8 +1,5 @@
 -- Laws of outcomes: they are known by their parts, and a call answers once. Assumes nothing.
-use mathlib.Core.Path.{◌≡◌}
-use Prim.Native.Nat.{ℕ}
-use mathlib.Core.List.{List}
-use Rattle.std.proofs.Common.{Option}
+use Rattle.std.proofs.Common.{Option, ◌≡◌, ℕ, List}
 use Rattle.bits.proofs.Tying.{same}
 use Rattle.refusals.specs.declared.reasons.Refusal.{Refusal}
 use Rattle.device.specs.Lent.{gave}

@@ -1,8 +1,5 @@
 -- The clauses of a state that does not contradict itself, one by one, and such a state from its clauses. Assumes nothing.
-use mathlib.Core.Path.{◌≡◌}
-use mathlib.Core.Bool.{Bool, false, ◌||◌}
-use mathlib.Core.List.{List}
-use Prim.Native.Nat.{ℕ, ◌<◌}
+use Rattle.std.proofs.Common.{◌≡◌, Bool, false, ◌||◌, List, ℕ, ◌<◌}
 use Rattle.bits.proofs.Picks.{or_left, or_right}
 use Rattle.contradictions.specs.Clauses.{settingsOut, tagBad, tableBad, statusBad, recordBad, contradictory}
 use Rattle.device_state.specs.declared.shapes.Entry.{Entry}

@@ -1,11 +1,6 @@
 -- The open phase: what tests of it tell. Assumes nothing.
-use mathlib.Core.Path.{◌≡◌, refl, sym}
-use mathlib.Core.Bool.{Bool, true, false, not, true≢false}
-use Rattle.std.proofs.Common.{Option, Some, None, is_some, is_none, unwrap_or}
-use mathlib.Core.List.{List}
-use Prim.Native.Nat.{ℕ}
-use lib.Dec.{eqb}
-use borrow.Author.Tests.{eq-eqb, ne_eqb, eqb-false}
+use Rattle.std.proofs.Common.{Option, Some, None, is_some, is_none, unwrap_or, ◌≡◌, refl, sym, Bool, true, false, not, true≢false, List, ℕ, eqb, eq-eqb, ne_eqb}
+use borrow.Author.Tests.{eqb-false}
 use Rattle.bits.specs.Pick.{pick}
 use Rattle.device_state.specs.Table.{entry_of}
 use Rattle.device_state.specs.UnderWay.{openFor}

@@ -1,9 +1,5 @@
 -- What a refusal hands back: the very state that came in, no frames, and every byte as it was. Assumes nothing.
-use mathlib.Core.Path.{◌≡◌, refl, ap, ◌∙◌}
-use mathlib.Core.List.{List, []}
-use Prim.Native.Nat.{ℕ}
-use lib.ListN.{length}
-use Rattle.std.proofs.Common.{Option, Some, None}
+use Rattle.std.proofs.Common.{Option, Some, None, ◌≡◌, refl, ap, ◌∙◌, List, [], ℕ, length}
 use Rattle.bits.specs.Laid.{laid}
 use Rattle.frame_parts.specs.Cut.{joined}
 use Rattle.frames.specs.Write.{FrameValue}

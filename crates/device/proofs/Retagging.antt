@@ -1,11 +1,6 @@
 -- The test of any one tag, after a command is accepted, opened, moved on or finished. Assumes nothing.
-use mathlib.Core.Path.{◌≡◌, refl, sym}
-use mathlib.Core.Bool.{Bool, true, false, not, ◌||◌}
-use mathlib.Core.List.{List}
-use mathlib.Core.Logic.{⊎_elim}
-use Prim.Native.Nat.{ℕ, ◌%◌, ◌^◌, ◌<◌, min}
-use lib.Dec.{leb, eqb}
-use borrow.Author.Tests.{eq-eqb, ne_eqb, eqb-true, eqb-false}
+use Rattle.std.proofs.Common.{Option, Some, None, is_none, unwrap_or, ◌≡◌, refl, sym, Bool, true, false, not, ◌||◌, List, ⊎_elim, ℕ, ◌%◌, ◌^◌, ◌<◌, min, leb, eqb, eq-eqb, ne_eqb, eqb-true}
+use borrow.Author.Tests.{eqb-false}
 use Rattle.bits.specs.Pick.{pick}
 use Rattle.bits.specs.Bit.{bitIn, withBitIn, clearIn}
 use Rattle.bits.proofs.Picks.{tested, or_left, or_right}
@@ -19,7 +14,6 @@ use Rattle.device_state.proofs.TableLaws.{getD-placed, getD-cleared}
 use Rattle.device.proofs.Never.{idle-tag}
 use Rattle.device.proofs.Phases.{no-phase, phase-same, phase-other}
 use Rattle.device_state.specs.UnderWay.{openFor}
-use Rattle.std.proofs.Common.{Option, Some, None, is_none, unwrap_or}
 use Rattle.device.proofs.Tags.{bit-with, bit-without, busy-below, wrongMove, moved-opened, moved_on}
 
 -- the clauses of an entry that do not ask what has moved

@@ -1,12 +1,6 @@
 -- Every taken call that replies has room for its replies, and its place in the medium. Assumes nothing.
-use mathlib.Core.Path.{◌≡◌}
-use mathlib.Core.Bool.{true, false}
-use Rattle.std.proofs.Common.{Ok, is_none, unwrap_or}
-use Prim.Native.Nat.{ℕ, ◌+◌, ◌*◌, ◌≤◌}
-use native.Mathlib.Omega.{arith}
-use lib.Dec.{leb, eqb}
-use lib.ListN.{length}
-use borrow.Author.Tests.{ltb-false, le-leb, eqb-true, not-false}
+use Rattle.std.proofs.Common.{Ok, is_none, unwrap_or, ◌≡◌, true, false, ℕ, ◌+◌, ◌*◌, ◌≤◌, arith, leb, eqb, length, ltb-false, le-leb, eqb-true}
+use borrow.Author.Tests.{not-false}
 use Rattle.bits.specs.Bit.{bitIn}
 use Rattle.rules.specs.Handed.{handed}
 use Rattle.rules.specs.Positions.{move_of}

@@ -1,13 +1,6 @@
 -- What each rule and each device event keeps: its replies can be written, what it puts into the state is of bytes, and the state does not contradict itself. Assumes nothing.
-use mathlib.Core.Path.{◌≡◌, refl, subst, sym}
-use mathlib.Core.Bool.{true≢false, Bool, ◌&&◌, ◌||◌, false, not, true}
-use mathlib.Core.List.{List, []}
-use Rattle.std.proofs.Common.{Option, Some, None, Result, is_none, unwrap_or}
-use Prim.Native.Nat.{◌%◌, ◌*◌, ◌+◌, ◌<◌, ◌^◌, ◌≤◌, min, ℕ}
-use native.Mathlib.Omega.{arith}
-use lib.Dec.{eqb, leb, ltb, lit<}
-use lib.ListN.{length, take, drop, length-drop, length-take}
-use borrow.Author.Tests.{eq-eqb, eqb-true, le-leb, le-ltb, not-false}
+use Rattle.std.proofs.Common.{Option, Some, None, Result, is_none, unwrap_or, ◌≡◌, refl, subst, sym, true≢false, Bool, ◌&&◌, ◌||◌, false, not, true, List, [], ◌%◌, ◌*◌, ◌+◌, ◌<◌, ◌^◌, ◌≤◌, min, ℕ, arith, eqb, leb, ltb, lit<, length, take, drop, length-drop, length-take, eq-eqb, eqb-true, le-leb, le-ltb}
+use borrow.Author.Tests.{not-false}
 use Rattle.bits.specs.Bit.{bitIn}
 use Rattle.bits.proofs.Picks.{and_right, or_left, or_right}
 use Rattle.frame_parts.specs.Size.{payloadSize}

@@ -1,9 +1,5 @@
 -- What a call replies stands in the buffer whole, frame by frame. Assumes nothing.
-use mathlib.Core.Path.{◌≡◌, subst}
-use mathlib.Core.List.{List, map}
-use Rattle.std.proofs.Common.{Ok, Err}
-use Prim.Native.Nat.{ℕ}
-use lib.ListN.{length, take}
+use Rattle.std.proofs.Common.{Ok, Err, ◌≡◌, subst, List, map, ℕ, length, take}
 use Rattle.frame_parts.specs.Cut.{cut, joined}
 use Rattle.frames.proofs.ReadLaws.{read-data}
 use Rattle.frames.specs.Write.{encode}

@@ -1,7 +1,5 @@
 -- What the machine's own widths give of a device. Assumes nothing.
-use mathlib.Core.Path.{◌≡◌}
-use Prim.Native.Nat.{◌^◌, ◌<◌}
-use lib.ListN.{length}
+use Rattle.std.proofs.Common.{◌≡◌, ◌^◌, ◌<◌, length}
 use Rattle.bits.specs.Little.{Bytes}
 use Rattle.device_state.specs.State.{placedBytes}
 use Rattle.device.specs.declared.state.Device.{Device}

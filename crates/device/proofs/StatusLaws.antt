@@ -1,17 +1,12 @@
 -- The test of the status, after a command is accepted, opened, moved on or finished. Assumes nothing.
-use mathlib.Core.Path.{◌≡◌, refl, ap, ◌∙◌}
-use mathlib.Core.Bool.{Bool, true, false, true≢false, not, ◌&&◌, ◌||◌}
-use Prim.Native.Nat.{ℕ, ◌-◌, ◌^◌}
-use native.Mathlib.Omega.{arith}
-use lib.Dec.{eqb}
+use Rattle.std.proofs.Common.{Option, Some, None, is_some, is_none, unwrap_or, ◌≡◌, refl, ap, ◌∙◌, Bool, true, false, true≢false, not, ◌&&◌, ◌||◌, ℕ, ◌-◌, ◌^◌, arith, eqb, eqb-true}
 use lib.Bits.{and_zero_l}
-use borrow.Author.Tests.{not-false, eqb-true}
+use borrow.Author.Tests.{not-false}
 use Rattle.bits.specs.Pick.{pick}
 use Rattle.bits.specs.Bit.{bitIn, clearIn}
 use Rattle.bits.proofs.Picks.{or_left, or_right}
 use Rattle.contradictions.specs.Clauses.{openIdle, phaseIdle, statusBad}
 use Rattle.device_state.specs.declared.shapes.Status.{Status}
-use Rattle.std.proofs.Common.{Option, Some, None, is_some, is_none, unwrap_or}
 use Rattle.device.proofs.Phases.{none-open}
 
 -- a status by its parts

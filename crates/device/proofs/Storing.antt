@@ -1,15 +1,5 @@
 -- Host data: what is known of a frame that was taken, where it goes, and when 6 is given, by what the rules go by. Assumes nothing.
-use mathlib.Core.Path.{◌≡◌, refl, sym, ap, ◌∙◌}
-use Rattle.std.proofs.Common.{Option, Some, None, Result, Ok, Err, is_none}
-use mathlib.Core.Bool.{true, false, not, ◌&&◌, true≢false}
-use mathlib.Core.List.{List, ◌++◌}
-use mathlib.Core.Logic.{⊎_elim}
-use Prim.Native.Nat.{ℕ, ◌+◌, ◌-◌, ◌%◌, ◌≤◌}
-use native.Mathlib.Omega.{arith}
-use lib.Dec.{ltb, leb, eqb, lit<}
-use lib.ListN.{length, get_or, take, drop, length-drop}
-use lib.Seq.{drop-drop}
-use borrow.Author.Tests.{le-leb, leb-true, ltb-false}
+use Rattle.std.proofs.Common.{Option, Some, None, Result, Ok, Err, is_none, ◌≡◌, refl, sym, ap, ◌∙◌, true, false, not, ◌&&◌, true≢false, List, ◌++◌, ⊎_elim, ℕ, ◌+◌, ◌-◌, ◌%◌, ◌≤◌, arith, ltb, leb, eqb, lit<, length, get_or, take, drop, length-drop, drop-drop, le-leb, leb-true, ltb-false}
 use Rattle.bits.specs.Pick.{pick}
 use Rattle.refusals.specs.First.{first_of, unless}
 use Rattle.refusals.specs.declared.reasons.Refusal.{Refusal}

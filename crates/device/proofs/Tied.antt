@@ -1,4 +1,5 @@
 -- Each public function's own contract: what it says, and that two answers which it allows are equal. Assumes nothing.
+use Rattle.std.proofs.Common.{[], ◌≡◌, refl}
 use Rattle.rules.specs.Call.{hostFrame, openPhase, sendData, finishTags, mediaError, linkEvent, comReset}
 use Rattle.device.specs.After.{after_of}
 use Rattle.device.specs.Counter.{CountGiven, CounterGiven}
@@ -7,8 +8,6 @@ use Rattle.device.specs.Device.{contradictoryDevice, powerOn}
 use Rattle.device.specs.Lent.{lent, gave, answered}
 use Rattle.device.specs.Step.{Given, GivenReplying, GivenAlone}
 use Rattle.device.proofs.Outcomes.{given-once}
-use mathlib.Core.List.{[]}
-use mathlib.Core.Path.{◌≡◌, refl}
 use Rattle.bits.specs.Contract.{Tied}
 use Rattle.bits.proofs.Tying.{same, say, by, named}
 use Rattle.device.proofs.state

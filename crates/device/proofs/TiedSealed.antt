@@ -1,4 +1,5 @@
 -- The same of the calls of a device that is kept. Assumes nothing.
+use Rattle.std.proofs.Common.{[], ◌≡◌, refl}
 use Rattle.rules.specs.Call.{hostFrame, openPhase, sendData, finishTags, mediaError, linkEvent, comReset}
 use Rattle.device.specs.Device.{powerOn}
 use Rattle.device.specs.Lent.{lent, gave, answered}
@@ -6,8 +7,6 @@ use Rattle.device.specs.Sealing.{Seals, poweredOf}
 use Rattle.device.specs.Step.{Given, GivenReplying, GivenAlone}
 use Rattle.device.proofs.Outcomes.{given-once}
 use Rattle.device.proofs.Kept.{kept-once, sealed-once, same-answer, same-state, powered-once}
-use mathlib.Core.List.{[]}
-use mathlib.Core.Path.{◌≡◌, refl}
 use Rattle.bits.specs.Contract.{Tied}
 use Rattle.bits.proofs.Tying.{same, say, by}
 use Rattle.device.proofs.sealed

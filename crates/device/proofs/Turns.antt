@@ -1,6 +1,5 @@
 -- What a call comes to: a refusal, or an act that one of the rules gives. Assumes nothing.
-use mathlib.Core.Path.{◌≡◌, refl, sym, subst, ◌∙◌}
-use Rattle.std.proofs.Common.{Some, None, Result, Ok, Err}
+use Rattle.std.proofs.Common.{Some, None, Result, Ok, Err, ◌≡◌, refl, sym, subst, ◌∙◌}
 use Rattle.refusals.specs.First.{first_of, refusal_in}
 use Rattle.refusals.specs.declared.reasons.Refusal.{Refusal}
 use Rattle.rules.specs.Tests.{tests}

@@ -1,8 +1,5 @@
 -- Arguments of their types, by what a call is handed. Assumes nothing.
-use mathlib.Core.List.{List, []}
-use Prim.Native.Nat.{ℕ, ◌^◌, ◌<◌}
-use native.Mathlib.Omega.{arith}
-use lib.Dec.{lit<}
+use Rattle.std.proofs.Common.{List, [], ℕ, ◌^◌, ◌<◌, arith, lit<}
 use Rattle.bits.specs.Little.{Bytes}
 
 no_bytes : Bytes []

@@ -1,9 +1,5 @@
 -- What the types give of a device holds after every call: the error record and each command's bytes are bytes. Assumes nothing.
-use mathlib.Core.List.{List}
-use Prim.Native.Nat.{ℕ}
-use lib.Dec.{lit<}
-use lib.ListN.{length}
-use Rattle.std.proofs.Common.{Option, Some, None, Ok}
+use Rattle.std.proofs.Common.{Option, Some, None, Ok, List, ℕ, lit<, length}
 use Rattle.refusals.specs.declared.reasons.Refusal.{Refusal}
 use Rattle.frames.proofs.ReadLaws.{read-data}
 use Rattle.device_state.specs.declared.shapes.Settings.{Settings}

@@ -1,13 +1,7 @@
 -- Bytes that stay bytes: the record and the table of commands. Assumes nothing.
-use mathlib.Core.Path.{◌≡◌, refl, subst⁻¹}
-use mathlib.Core.Bool.{true, false}
-use mathlib.Core.List.{List}
-use mathlib.Core.Logic.{⊎_elim}
-use Prim.Native.Nat.{ℕ, zero, suc, ◌≤◌, ◌<◌}
-use native.Mathlib.Omega.{arith}
-use lib.Dec.{eqb, ltb}
-use lib.ListN.{length, get_or, replicate, get_or-eq_default}
-use borrow.Author.Tests.{ltb-true, ltb-false}
+use Rattle.std.proofs.Common.{◌≡◌, refl, true, false, List, ⊎_elim, ℕ, zero, suc, ◌≤◌, ◌<◌, arith, eqb, ltb, length, get_or, replicate, ltb-true, ltb-false}
+use mathlib.Core.Path.{subst⁻¹}
+use lib.ListN.{get_or-eq_default}
 use Rattle.bits.specs.Bit.{bitIn}
 use Rattle.bits.specs.Little.{Bytes}
 use Rattle.bits.proofs.Picks.{by-test, tested}

@@ -1,6 +1,5 @@
 -- Every call on the zeros of a refused power-on is refused with 1. Assumes nothing.
-use mathlib.Core.Path.{◌≡◌}
-use Rattle.std.proofs.Common.{Some}
+use Rattle.std.proofs.Common.{Some, ◌≡◌}
 use Rattle.refusals.specs.declared.reasons.Refusal.TheVariants.{Contradiction}
 use Rattle.device.specs.Device.{zeroDevice}
 use Rattle.device.specs.Lent.{Lent}

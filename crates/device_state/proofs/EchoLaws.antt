@@ -1,8 +1,5 @@
 -- The bytes that are kept of a command name what the command named. Assumes nothing.
-use mathlib.Core.Path.{◌≡◌, refl, ap, ap₂, ◌∙◌}
-use mathlib.Core.Bool.{true, ◌&&◌}
-use Prim.Native.Nat.{ℕ, ◌+◌, ◌*◌, ◌^◌, ◌<◌}
-use native.Mathlib.Omega.{arith}
+use Rattle.std.proofs.Common.{◌≡◌, refl, ap, ap₂, ◌∙◌, true, ◌&&◌, ℕ, ◌+◌, ◌*◌, ◌^◌, ◌<◌, arith}
 use Rattle.bits.proofs.Picks.{and_left, and_right}
 use Rattle.bits.proofs.Littles.{le-bytesFrom}
 use Rattle.frame_parts.specs.Shared.{tag_of, below, taskFits}

@@ -1,16 +1,8 @@
 -- Laws of tests over a table. Assumes nothing.
-use mathlib.Core.Path.{◌≡◌, refl, sym, ap, ◌∙◌}
-use mathlib.Core.Bool.{Bool, true, false}
-use Prim.Native.Nat.{ℕ, zero, suc, ◌+◌, ◌≤◌, ◌<◌}
-use native.Mathlib.Numerals.{add-one}
-use native.Mathlib.Omega.{arith}
-use mathlib.Core.List.{List, [], ◌∷◌, ◌++◌, append-nil}
-use mathlib.Core.Logic.{⊎_elim}
-use native.Mathlib.Nat.{eq-or-lt_of_le, le_of_eq}
-use lib.Dec.{eqb}
-use lib.ListN.{length, get_or, set, drop, length-append, length-set, get_or-append, drop_of_length-le}
-use lib.Seq.{set_at, drop-cons, append_snoc, get_or_at, ext_get_or, get_or-set_same, get_or-set_other}
-use borrow.Author.Tests.{eqb-true, eqb-false, ne_eqb}
+use Rattle.std.proofs.Common.{◌≡◌, refl, sym, ap, ◌∙◌, Bool, true, false, ℕ, zero, suc, ◌+◌, ◌≤◌, ◌<◌, add-one, arith, List, [], ◌∷◌, ◌++◌, append-nil, ⊎_elim, eq-or-lt_of_le, le_of_eq, eqb, length, get_or, set, drop, length-append, length-set, drop_of_length-le, drop-cons, ext_get_or, get_or-set_same, get_or-set_other, eqb-true, ne_eqb}
+use lib.ListN.{get_or-append}
+use lib.Seq.{set_at, append_snoc, get_or_at}
+use borrow.Author.Tests.{eqb-false}
 use Rattle.bits.specs.Pick.{pick}
 use Rattle.bits.specs.Bit.{bitIn}
 use Rattle.bits.proofs.Picks.{tested, or_left, or_right}

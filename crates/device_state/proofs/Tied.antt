@@ -1,10 +1,9 @@
 -- Each public function's own contract: what it says, and that two answers which it allows are equal. Assumes nothing.
+use Rattle.std.proofs.Common.{true, false, ◌≡◌, refl}
 use Rattle.device_state.specs.State.{echoOf, medium_size, progress_of, sectors_of, taskIn, whole_of}
 use Rattle.device_state.specs.Table.{cleared, entry_of, placed}
 use Rattle.device_state.specs.UnderWay.{linkBusy, noneUnderWay, with_tag, withoutTags}
 use Rattle.bits.specs.Bit.{bitIn}
-use mathlib.Core.Bool.{true, false}
-use mathlib.Core.Path.{◌≡◌, refl}
 use Rattle.bits.specs.Contract.{Tied}
 use Rattle.bits.proofs.Tying.{same, say, by, named}
 use Rattle.device_state.proofs.shapes

@@ -1,7 +1,5 @@
 -- A walk over a table, place by place, tests every place. Assumes nothing.
-use Rattle.std.proofs.Common.{◌≡◌, refl, sym, ap, ap₂, ◌∙◌, Bool, ◌||◌, List, [], ◌∷◌, ℕ, zero, suc, ◌+◌, ◌<◌, length, get_or, arith}
-use Prim.Native.Nat.{suc-le-suc}
-use native.Mathlib.Nat.{zero-lt-suc}
+use Rattle.std.proofs.Common.{◌≡◌, refl, sym, ap, ap₂, ◌∙◌, Bool, ◌||◌, List, [], ◌∷◌, ℕ, zero, suc, ◌+◌, ◌<◌, length, get_or, arith, suc-le-suc, zero-lt-suc}
 use Rattle.std.proofs.Math.Bool.{or-false, or_assoc}
 use Rattle.std.specs.List.{list_any, enumerate_from}
 use Rattle.device_state.specs.Table.{someBelow}

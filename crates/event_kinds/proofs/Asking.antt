@@ -1,20 +1,11 @@
 -- What is no event, and only that, asks for nothing; and every event that a run comes to asks for something. Assumes nothing.
-use mathlib.Core.Path.{◌≡◌, refl, sym, ◌∙◌}
-use mathlib.Core.Bool.{Bool, true, false, false≢true}
-use mathlib.Core.List.{List, [], ◌∷◌}
-use Prim.Native.Nat.{ℕ, zero, suc, ◌+◌, ◌≤◌}
-use native.Mathlib.Omega.{arith}
-use mathlib.Core.Logic.{⊎_elim}
-use lib.Dec.{eqb, leb}
-use lib.ListN.{length, get_or, take}
-use lib.Seq.{length-take-le}
-use borrow.Author.Tests.{leb-true, eqb-true, eq-eqb}
+use Rattle.std.proofs.Common.{◌≡◌, refl, sym, ◌∙◌, Bool, true, false, List, [], ◌∷◌, ℕ, zero, suc, ◌+◌, ◌≤◌, arith, ⊎_elim, eqb, leb, length, get_or, take, length-take-le, leb-true, eqb-true, eq-eqb, Option, Some, None, is_none, option_map, Result, Ok, Err}
+use mathlib.Core.Bool.{false≢true}
 use Rattle.bits.specs.Pick.{pick}
 use Rattle.bits.proofs.Picks.{tested, by-test}
 use Rattle.event_kinds.specs.Kinds.{kindNamed, bodyOf, bodyLength, nextWhole, nextBy, next_of, fitsLength, isEvent, eventKind}
 use Rattle.event_kinds.specs.Requests.{callByKind, requestOf}
 use Rattle.event_kinds.specs.Stops.{noCall}
-use Rattle.std.specs.Prelude.{Option, Some, None, is_none, option_map, Result, Ok, Err}
 use Rattle.std.specs.Option.{option_and_then}
 use Rattle.event_kinds.specs.declared.kinds.Kind.{Kind}
 use Rattle.event_kinds.specs.declared.kinds.InputEnd.{InputEnd}

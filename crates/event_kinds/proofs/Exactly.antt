@@ -1,14 +1,8 @@
 -- `stop` is printed exactly when the rules say. Assumes nothing.
-use mathlib.Core.Path.{◌≡◌, refl, ap, ◌∙◌}
-use mathlib.Core.Bool.{Bool, true, false, not, ◌&&◌, ◌||◌}
-use mathlib.Core.List.{List}
-use Prim.Native.Nat.{ℕ, ◌+◌}
-use lib.Dec.{eqb, leb}
-use lib.ListN.{length, get_or}
+use Rattle.std.proofs.Common.{◌≡◌, refl, ap, ◌∙◌, Bool, true, false, not, ◌&&◌, ◌||◌, List, ℕ, ◌+◌, eqb, leb, length, get_or, Option, Some, None, option_map, Result, Ok, Err}
 use Rattle.bits.specs.Pick.{pick}
 use Rattle.event_kinds.specs.Kinds.{kindNamed, bodyOf, bodyLength, nextWhole, nextBy, next_of}
 use Rattle.event_kinds.specs.Stops.{isStop, notWhole, stopsAt}
-use Rattle.std.specs.Prelude.{Option, Some, None, option_map, Result, Ok, Err}
 use Rattle.event_kinds.specs.declared.kinds.Kind.{Kind}
 use Rattle.event_kinds.specs.declared.kinds.InputEnd.{InputEnd}
 use Rattle.event_kinds.specs.declared.kinds.InputEnd.TheVariants.{Clean, NoEvent}

@@ -1,15 +1,8 @@
 -- A settings record is what its kind says. Assumes nothing.
-use mathlib.Core.Path.{◌≡◌, refl, sym, ◌∙◌}
-use mathlib.Core.Bool.{Bool, true, false, not, false≢true, ◌&&◌}
-use mathlib.Core.Logic.{⊎_elim}
-use borrow.Author.Tests.{eqb-true}
+use Rattle.std.proofs.Common.{◌≡◌, refl, sym, ◌∙◌, Bool, true, false, not, ◌&&◌, ⊎_elim, eqb-true, List, ℕ, eqb, get_or, Option, Some}
+use mathlib.Core.Bool.{false≢true}
 use Rattle.bits.specs.Pick.{pick}
-use mathlib.Core.List.{List}
-use Prim.Native.Nat.{ℕ}
-use lib.Dec.{eqb}
-use lib.ListN.{get_or}
 use Rattle.bits.proofs.Picks.{by-test, tested}
-use Rattle.std.specs.Prelude.{Option, Some}
 use Rattle.std.specs.Option.{option_eq}
 use Rattle.event_kinds.specs.Kinds.{kindNamed, misplaced, isEvent, eventKind}
 use Rattle.event_kinds.specs.declared.kinds.Kind.{Kind}

@@ -1,8 +1,8 @@
 -- Each public function's own contract: what it says, and that two answers which it allows are equal. Assumes nothing.
+use Rattle.std.proofs.Common.{◌≡◌, refl}
 use Rattle.event_kinds.specs.Kinds.{kindNamed, bodyOf, eventKind, misplaced}
 use Rattle.event_kinds.specs.Requests.{requestOf}
 use Rattle.event_kinds.specs.Settings.{asked_of}
-use mathlib.Core.Path.{◌≡◌, refl}
 use Rattle.bits.specs.Contract.{Tied}
 use Rattle.bits.proofs.Tying.{say, named}
 use Rattle.event_kinds.proofs.asked

@@ -1,14 +1,12 @@
 -- What the known bytes begin with, by what was read of them. Assumes nothing.
-use Rattle.std.proofs.Common.{◌≡◌, ℕ, ◌+◌, ◌<◌, Bool, true, false, List, [], ◌∷◌, ◌++◌, length, Option, Some, None, IfSome, refl, ap, ◌∙◌, append-nil, arith, ◌≤◌}
+use Rattle.std.proofs.Common.{◌≡◌, ℕ, ◌+◌, ◌<◌, Bool, true, false, List, [], ◌∷◌, ◌++◌, length, Option, Some, None, IfSome, refl, ap, ◌∙◌, append-nil, arith, ◌≤◌, le-leb, ne_eqb, eqb, Result, Ok, Err, not}
 use Rattle.std.specs.Io.KnownBytes.{Consumes, IsAtEnd}
 use Rattle.event_kinds.specs.declared.kinds.InputEnd.{InputEnd}
 use Rattle.event_kinds.specs.declared.kinds.InputEnd.TheVariants.{NoEvent}
 use Rattle.event_kinds.specs.Kinds.{kindNamed, bodyOf, misplaced, nextWhole, nextBy, next_of}
 use Rattle.event_kinds.specs.declared.kinds.Kind.{Kind}
 use Rattle.event_kinds.specs.declared.kinds.Kind.TheVariants.{Settings, OpenPhase, SendData, FinishTags, MediaError, LinkEvent, ComReset, HostData, HostFrame}
-use borrow.Author.Tests.{lt-leb, le-leb, ne_eqb}
-use lib.Dec.{eqb}
-use Rattle.std.specs.Prelude.{Result, Ok, Err, not}
+use borrow.Author.Tests.{lt-leb}
 use Rattle.std.specs.Bool.{then_some}
 use Rattle.bits.specs.Pick.{pick}
 use Rattle.bits.proofs.Picks.{by-test}

@@ -1,7 +1,6 @@
 -- An event as it is read: the byte of its kind, and its body behind it. Assumes nothing.
-use Rattle.std.proofs.Common.{◌≡◌, ℕ, suc, ◌+◌, ◌<◌, ◌≤◌, Bool, false, List, [], ◌∷◌, length, take, drop, take_all, length-take, length-take-le, length-drop, length-set, Option, Some, IfSome, refl, sym, subst, ◌∙◌, arith}
+use Rattle.std.proofs.Common.{◌≡◌, ℕ, suc, ◌+◌, ◌<◌, ◌≤◌, Bool, false, List, [], ◌∷◌, length, take, drop, take_all, length-take, length-take-le, length-drop, length-set, Option, Some, IfSome, refl, sym, subst, ◌∙◌, arith, slice_get, Err}
 use Rattle.std.proofs.Math.ListN.{set}
-use Rattle.std.specs.Prelude.{slice_get, Err}
 use Rattle.std.proofs.KnownBytes.{Consumes-trans}
 use Rattle.std.specs.Io.KnownBytes.{Consumes}
 use Rattle.streams.specs.Fronts.{Filled, StuckBefore}

@@ -1,20 +1,15 @@
 -- The whole run, from the run behind the settings. Assumes nothing.
-use Rattle.std.proofs.Common.{◌≡◌, ℕ, suc, Bool, true, false, List, [], ◌∷◌, ◌++◌, Option, Some, None, IfSome, Result, Ok, Err, subst, sym, refl, ap, ◌∙◌, append-nil, append_assoc, true≢false}
+use Rattle.std.proofs.Common.{◌≡◌, ℕ, suc, Bool, true, false, List, [], ◌∷◌, ◌++◌, Option, Some, None, IfSome, Result, Ok, Err, subst, sym, refl, ap, ◌∙◌, append-nil, append_assoc, true≢false, length, take, length-take-le, ap₂, ◌≤◌, get_or, arith, eqb, replicate, ◌&&◌, leb, is_some, option_copied, leb-true, Bor}
 use Rattle.std.specs.Io.KnownBytes.{Appends, Consumes}
 use Rattle.std.proofs.KnownBytes.{Consumes-trans, Consumes-nil, Appends-nil}
 use Rattle.event_kinds.specs.declared.kinds.InputEnd.{InputEnd}
 use Rattle.event_kinds.specs.declared.kinds.InputEnd.TheVariants.{Clean, NoEvent}
 use Rattle.event_kinds.specs.Kinds.{next_of}
-use lib.Dec.{eqb}
 use Rattle.events.specs.Start.{start_by, start_of}
 use Rattle.device.specs.declared.state.Outcome.{Outcome}
 use Rattle.event_program.specs.Lines.{line_of}
 use Rattle.event_program.specs.Running.{kept}
-use Rattle.std.specs.Prelude.{replicate, ◌&&◌, leb, is_some, option_copied}
-use Rattle.std.proofs.Common.{length, take, length-take-le, ap₂, ◌≤◌, get_or, arith}
-use borrow.Author.Tests.{leb-true}
 use Rattle.bits.proofs.Picks.{by-test, and_right}
-use denote.Ref.{Bor}
 use Rattle.std.specs.Result.{result_err, result_copied}
 use Rattle.refusals.specs.declared.reasons.Refusal.{Refusal}
 use Rattle.std.proofs.lemmas.List.{length-replicate}

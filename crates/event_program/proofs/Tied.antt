@@ -1,6 +1,5 @@
 -- What each contract says, by any reader and any writer: a read or a write may go more than one way. That a run has one text is a law of its own. Assumes nothing.
-use mathlib.Core.List.{[]}
-use mathlib.Core.Path.{refl}
+use Rattle.std.proofs.Common.{[], refl, ◌≡◌}
 use denote.RattleType.{RattleType}
 use denote.Param.Laws.{Laws}
 use mir.Syntax.{Dict}
@@ -8,7 +7,6 @@ use Rattle.std.specs.declared.io.traits.Read as Reader
 use Rattle.std.specs.declared.io.traits.Write as Writer
 use Rattle.bits.specs.Contract.{SaysOver, Tied}
 use Rattle.bits.proofs.Tying.{say, by, named}
-use Rattle.std.specs.Prelude.{◌≡◌}
 use Rattle.event_program.specs.Runs.{Ran, HasRun, OneText, OneBroken, exit_status_of}
 use Rattle.event_program.proofs.ended
 use Rattle.event_program.specs.contracts.ended as ended-said

@@ -1,9 +1,6 @@
 -- A settings record is refused exactly when the rules say. Assumes nothing.
-use mathlib.Core.Bool.{Bool, true, false, not, ◌||◌}
-use mathlib.Core.List.{List}
-use Prim.Native.Nat.{ℕ}
+use Rattle.std.proofs.Common.{Bool, true, false, not, ◌||◌, List, ℕ, Some, None}
 use Rattle.bits.specs.Pick.{pick}
-use Rattle.std.specs.Prelude.{Some, None}
 use Rattle.refusals.specs.First.{FirstExactly, first_of}
 use Rattle.refusals.specs.Ladders.{powerLadder}
 use Rattle.refusals.proofs.FirstLaws.{first-exactly}

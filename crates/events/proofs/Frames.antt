@@ -1,11 +1,5 @@
 -- The frame of host data. Assumes nothing.
-use mathlib.Core.Path.{◌≡◌, refl, ap, subst, ◌∙◌}
-use mathlib.Core.List.{List, ◌∷◌}
-use Prim.Native.Nat.{ℕ, zero, suc, ◌+◌, ◌≤◌}
-use native.Mathlib.Omega.{arith}
-use lib.Dec.{lit≤}
-use lib.ListN.{take, replicate}
-use Rattle.std.proofs.Common.{Option, unwrap_or}
+use Rattle.std.proofs.Common.{Option, unwrap_or, ◌≡◌, refl, ap, subst, ◌∙◌, List, ◌∷◌, ℕ, zero, suc, ◌+◌, ◌≤◌, arith, lit≤, take, replicate}
 use Rattle.rules.specs.Call.{hostFrame}
 use Rattle.device.specs.Lent.{Gave, lent}
 use Rattle.device.specs.DataDue.{dataDue}

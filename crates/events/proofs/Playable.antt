@@ -1,10 +1,5 @@
 -- What is no event, and only that, has no call; and every event that a run comes to has one. Assumes nothing.
-use mathlib.Core.Path.{◌≡◌, refl, ◌∙◌}
-use mathlib.Core.Bool.{false}
-use mathlib.Core.List.{List}
-use Prim.Native.Nat.{ℕ}
-use lib.ListN.{take}
-use Rattle.std.specs.Prelude.{Option, Some, None, is_none, option_map, Ok}
+use Rattle.std.proofs.Common.{◌≡◌, refl, ◌∙◌, false, List, ℕ, take, Option, Some, None, is_none, option_map, Ok}
 use Rattle.rules.specs.Call.{Call}
 use Rattle.device.specs.declared.state.Device.{Device}
 use Rattle.event_kinds.specs.Kinds.{next_of}

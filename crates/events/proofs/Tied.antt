@@ -1,4 +1,5 @@
 -- Each public function's own contract: what it says, and that two answers which it allows are equal. Assumes nothing.
+use Rattle.std.proofs.Common.{◌≡◌, refl}
 use Rattle.rules.specs.Call.{hostFrame}
 use Rattle.device.specs.Lent.{lent, gave, answered}
 use Rattle.device.specs.Sealing.{poweredOf}
@@ -6,7 +7,6 @@ use Rattle.device.specs.Step.{Given, Gives}
 use Rattle.events.specs.HostData.{hostData}
 use Rattle.events.specs.Played.{eventStep}
 use Rattle.events.specs.Start.{start_of}
-use mathlib.Core.Path.{◌≡◌, refl}
 use Rattle.bits.specs.Contract.{Tied}
 use Rattle.bits.proofs.Tying.{same, say, by}
 use Rattle.device.proofs.Outcomes.{given-once}

@@ -1,14 +1,5 @@
 -- An event is turned down exactly as its call is; 24 is given exactly to what has none. Assumes nothing.
-use mathlib.Core.Path.{◌≡◌, refl, sym, ap, ◌∙◌}
-use mathlib.Core.Bool.{true, false, not, true≢false}
-use mathlib.Core.List.{List, [], ◌∷◌}
-use mathlib.Core.Logic.{⊎_elim}
-use Prim.Native.Nat.{ℕ, zero, suc, ◌<◌}
-use native.Mathlib.Omega.{arith}
-use lib.Dec.{eqb}
-use lib.ListN.{length, get_or}
-use borrow.Author.Tests.{eqb-true, eq-eqb}
-use Rattle.std.specs.Prelude.{Option, Some, None, is_none}
+use Rattle.std.proofs.Common.{◌≡◌, refl, sym, ap, ◌∙◌, true, false, not, true≢false, List, [], ◌∷◌, ⊎_elim, ℕ, zero, suc, ◌<◌, arith, eqb, length, get_or, eqb-true, eq-eqb, Option, Some, None, is_none}
 use Rattle.bits.specs.Pick.{pick}
 use Rattle.bits.proofs.Picks.{tested, and_left, and_right}
 use Rattle.refusals.specs.First.{Rung, first_of, noRung, FirstExactly, fresh}

@@ -1,15 +1,7 @@
 -- The cut of several frames: nothing is lost, and every piece has a byte. Assumes nothing.
-use mathlib.Core.Path.{◌≡◌, refl, sym, ap, ◌∙◌}
-use mathlib.Core.Bool.{true, false}
-use mathlib.Core.List.{List, [], ◌∷◌, ◌++◌}
-use mathlib.Core.Logic.{⊎_elim}
-use Prim.Native.Nat.{ℕ, zero, suc, ◌-◌, ◌≤◌, ◌<◌}
-use native.Mathlib.Omega.{arith}
-use lib.Dec.{eqb}
-use lib.ListN.{length, get_or, take, drop, length-drop, take-append-drop}
-use borrow.Author.Tests.{eqb-true, eqb-false, ne_eqb, eq-eqb}
+use Rattle.std.proofs.Common.{◌≡◌, refl, sym, ap, ◌∙◌, true, false, List, [], ◌∷◌, ◌++◌, ⊎_elim, ℕ, zero, suc, ◌-◌, ◌≤◌, ◌<◌, arith, eqb, length, get_or, take, drop, length-drop, take-append-drop, eqb-true, ne_eqb, eq-eqb, Option, Some, None, unwrap_or}
+use borrow.Author.Tests.{eqb-false}
 use Rattle.bits.proofs.Picks.{pick_yes, pick_no, tested}
-use Rattle.std.specs.Prelude.{Option, Some, None, unwrap_or}
 use Rattle.std.specs.Option.{option_and_then}
 use Rattle.frame_parts.specs.Size.{fixedSize, kindNamed, sizeOf}
 use Rattle.frame_parts.specs.declared.kinds.FrameKind.{FrameKind}

@@ -1,6 +1,5 @@
 -- Registers by default are all zeros. Assumes nothing.
-use mathlib.Core.Path.{◌≡◌}
-use Rattle.std.proofs.Common.{rules}
+use Rattle.std.proofs.Common.{rules, ◌≡◌}
 use Rattle.frame_parts.specs.contracts.shared.RegistersDefault.TheImpl
 use Rattle.frame_parts.specs.declared.shared.Registers.{Registers}
 

@@ -1,8 +1,5 @@
 -- Laws of every writer. Assumes nothing.
-use Rattle.std.proofs.Common.{◌≡◌, refl, ◌∙◌, Bool, true, false, List, [], ◌++◌, ℕ, ◌≤◌, ◌<◌, length, Some, None, Result, Ok, Err}
-use mathlib.Core.List.{append-nil}
-use mathlib.Core.Logic.{⊎_elim}
-use borrow.Author.Tests.{lt-ltb, le-ltb}
+use Rattle.std.proofs.Common.{◌≡◌, refl, ◌∙◌, Bool, true, false, List, [], ◌++◌, ℕ, ◌≤◌, ◌<◌, length, Some, None, Result, Ok, Err, append-nil, ⊎_elim, lt-ltb, le-ltb}
 use Rattle.bits.specs.Pick.{pick}
 use Rattle.bits.specs.Laid.{laid}
 use Rattle.std.proofs.lemmas.Bool.{cases_lt}

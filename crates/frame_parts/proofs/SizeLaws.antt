@@ -1,11 +1,5 @@
 -- Laws of kinds and of the lengths of frames. Assumes nothing.
-use mathlib.Core.Path.{◌≡◌}
-use mathlib.Core.Bool.{true, ◌&&◌}
-use Prim.Native.Nat.{ℕ, ◌-◌, ◌%◌, ◌≤◌, ◌<◌}
-use native.Mathlib.Omega.{arith}
-use lib.Dec.{leb, eqb}
-use borrow.Author.Tests.{leb-true, eqb-true}
-use Rattle.std.specs.Prelude.{Option, Some, None, unwrap_or}
+use Rattle.std.proofs.Common.{◌≡◌, true, ◌&&◌, ℕ, ◌-◌, ◌%◌, ◌≤◌, ◌<◌, arith, leb, eqb, leb-true, eqb-true, Option, Some, None, unwrap_or}
 use Rattle.bits.proofs.Picks.{by-test, and_left}
 use Rattle.frame_parts.specs.Size.{kindNamed, sizeOf, payloadSize}
 use Rattle.frame_parts.specs.declared.kinds.FrameKind.{FrameKind}

@@ -1,13 +1,6 @@
 -- What is written of a command's bytes is read again. Assumes nothing.
-use mathlib.Core.Path.{◌≡◌, refl, ap, ap₂, ◌∙◌}
-use mathlib.Core.Bool.{true, ◌&&◌}
-use mathlib.Core.List.{List}
-use Prim.Native.Nat.{ℕ, ◌+◌, ◌*◌, ◌%◌, ◌^◌, ◌<◌}
-use native.Mathlib.Nat.{div-one}
-use native.Mathlib.Omega.{arith}
+use Rattle.std.proofs.Common.{◌≡◌, refl, ap, ap₂, ◌∙◌, true, ◌&&◌, List, ℕ, ◌+◌, ◌*◌, ◌%◌, ◌^◌, ◌<◌, div-one, arith, get_or, ltb-true, lt-ltb}
 use lib.Pow.{recompose}
-use lib.ListN.{get_or}
-use borrow.Author.Tests.{ltb-true, lt-ltb}
 use Rattle.bits.specs.Little.{leAt, bytesFrom, Bytes}
 use Rattle.bits.proofs.Picks.{and_left, and_right}
 use Rattle.bits.proofs.Littles.{le-leBytes, le-bytesFrom, le-lt}

@@ -1,13 +1,11 @@
 -- Each public function's own contract: what it says, and that two answers which it allows are equal. Assumes nothing.
+use Rattle.std.proofs.Common.{drop, get_or, ◌++◌, ◌≡◌, refl}
 use Rattle.bits.specs.Bit.{bitIn}
 use Rattle.frame_parts.specs.Cut.{cut}
 use Rattle.frame_parts.specs.Emit.{WriteGiven}
 use Rattle.frame_parts.specs.Pages.{pageNamed}
 use Rattle.frame_parts.specs.Shared.{flags_of, halvesOf, registerBytes, sectorsOf, srstOf, tag_of, taskFits, task_of}
 use Rattle.frame_parts.specs.Size.{allows, fixedSize, kindNamed, payloadSize, sizeOf}
-use lib.ListN.{drop, get_or}
-use mathlib.Core.List.{◌++◌}
-use mathlib.Core.Path.{◌≡◌, refl}
 use Rattle.bits.specs.Contract.{Says, Tied}
 use Rattle.std.specs.Iterator.{YieldsFirstRef}
 use Rattle.bits.proofs.Tying.{say, by, named}

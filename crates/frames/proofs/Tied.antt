@@ -1,8 +1,8 @@
 -- Each public function's own contract: what it says, and that two answers which it allows are equal. Assumes nothing.
+use Rattle.std.proofs.Common.{refl}
 use Rattle.frames.specs.Read.{FrameGiven}
 use Rattle.frames.specs.Write.{FrameWriteGiven}
 use Rattle.frames.specs.Write.FrameValue.{activate, bist, device, host, payload, pio, setBits, setup}
-use mathlib.Core.Path.{refl}
 use Rattle.bits.specs.Contract.{Tied}
 use Rattle.bits.proofs.Tying.{same, say, by}
 use Rattle.frame_parts.proofs.EmitLaws.{emitted-once}

@@ -1,15 +1,7 @@
 -- What was read, written again, is the frame with its dropped bits zeroed. Assumes nothing.
-use mathlib.Core.Path.{◌≡◌, refl, sym, ap, ◌∙◌}
-use mathlib.Core.Bool.{Bool, true, false, not}
-use mathlib.Core.List.{List, [], ◌∷◌}
-use Prim.Native.Nat.{ℕ, zero, suc, ◌+◌, ◌-◌, ◌*◌, ◌/◌, ◌^◌, ◌<◌}
-use native.Mathlib.Nat.{mod-eq_of_lt, mod-one, div-one, le_of_eq}
-use native.Mathlib.Omega.{arith}
-use lib.Bits.{bit_and, and_mask}
-use lib.Pow.{shr-shr}
-use lib.Dec.{T, eqb, ltb, eqb→eq, lit<}
-use lib.ListN.{length, get_or, drop, drop_of_length-le, length-drop}
-use borrow.Author.Tests.{eqb-true, lt-ltb}
+use Rattle.std.proofs.Common.{Result, Ok, Err, Some, ◌≡◌, refl, sym, ap, ◌∙◌, Bool, true, false, not, List, [], ◌∷◌, ℕ, zero, suc, ◌+◌, ◌-◌, ◌*◌, ◌/◌, ◌^◌, ◌<◌, mod-eq_of_lt, div-one, le_of_eq, arith, bit_and, shr-shr, T, eqb, ltb, eqb→eq, lit<, length, get_or, drop, drop_of_length-le, length-drop, eqb-true, lt-ltb}
+use native.Mathlib.Nat.{mod-one}
+use lib.Bits.{and_mask}
 use Rattle.bits.specs.Pick.{pick}
 use Rattle.bits.specs.Bit.{bitIn}
 use Rattle.bits.specs.Little.{leAt, byte_of, Bytes}
@@ -27,7 +19,6 @@ use Rattle.frame_parts.proofs.SizeLaws.{payload-4, named-byte}
 use Rattle.frame_parts.proofs.TaskLaws.{task-fits}
 use Rattle.frames.proofs.ReadLaws.{by-kind}
 use Rattle.frames.proofs.WriteLaws.{length-payload}
-use Rattle.std.proofs.Common.{Result, Ok, Err, Some}
 use Rattle.refusals.specs.declared.reasons.Refusal.{Refusal}
 use Rattle.frames.specs.declared.shapes.Frame.{Frame}
 

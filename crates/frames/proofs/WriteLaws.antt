@@ -1,6 +1,5 @@
 -- Laws of the writers. Assumes nothing.
-use Rattle.std.proofs.Common.{◌≡◌, true, not, ◌&&◌, List, ℕ, ◌+◌, ◌<◌, length, arith}
-use borrow.Author.Tests.{lt-ltb}
+use Rattle.std.proofs.Common.{◌≡◌, true, not, ◌&&◌, List, ℕ, ◌+◌, ◌<◌, length, arith, lt-ltb}
 use Rattle.bits.specs.Bit.{bitIn}
 use Rattle.frame_parts.specs.Shared.{taskFits}
 use Rattle.frames.specs.Write.{host, device, setBits, pio, setup, payload, encode, fits}

@@ -1,7 +1,5 @@
 -- Laws of what holds of every command of a history. Assumes nothing.
-use mathlib.Core.Path.{◌≡◌}
-use mathlib.Core.Bool.{true}
-use mathlib.Core.List.{List, [], ◌∷◌, map}
+use Rattle.std.proofs.Common.{◌≡◌, true, List, [], ◌∷◌, map}
 use Rattle.bits.proofs.Picks.{by-test}
 use Rattle.history.specs.Seen.{Seen, accepts}
 use Rattle.history.specs.Fates.{Command, later, commands, All}

@@ -1,12 +1,6 @@
 -- A history splits at the error that waits, and what was outstanding before that error was given up at it. Assumes nothing.
-use mathlib.Core.Path.{◌≡◌, refl, sym, ap, ◌∙◌}
-use mathlib.Core.Bool.{Bool, true, false, not, ◌&&◌, ◌||◌, false≢true}
-use mathlib.Core.List.{List, [], ◌∷◌, ◌++◌, map}
-use mathlib.Core.Logic.{⊎_elim}
-use Prim.Native.Nat.{ℕ, ◌≤◌, ◌<◌}
-use native.Mathlib.Omega.{arith}
-use lib.Dec.{eqb, ltb}
-use borrow.Author.Tests.{ltb-true}
+use Rattle.std.proofs.Common.{◌≡◌, refl, sym, ap, ◌∙◌, Bool, true, false, not, ◌&&◌, ◌||◌, List, [], ◌∷◌, ◌++◌, map, ⊎_elim, ℕ, ◌≤◌, ◌<◌, arith, eqb, ltb, ltb-true}
+use mathlib.Core.Bool.{false≢true}
 use Rattle.bits.specs.Pick.{pick}
 use Rattle.bits.proofs.Picks.{tested, pick_yes, pick_no}
 use Rattle.history.specs.Seen.{Seen, errs, accepts}

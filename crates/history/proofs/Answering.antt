@@ -1,13 +1,6 @@
 -- Every taken call is answered what the history before it says, over every run from power-on. Assumes nothing.
-use mathlib.Core.Path.{◌≡◌, refl, sym, ap, ap₂, subst, ◌∙◌}
-use mathlib.Core.Bool.{Bool, true, false, not, ◌&&◌, ◌||◌, false≢true}
-use mathlib.Core.List.{List, [], ◌∷◌, map}
-use mathlib.Core.Logic.{⊎_elim}
-use Prim.Native.Nat.{ℕ, ◌-◌, ◌*◌, min}
-use lib.Dec.{eqb, ltb, leb}
-use lib.ListN.{length}
-use borrow.Author.Tests.{eqb-true}
-use Rattle.std.proofs.Common.{is_none, Ok, Err, Some, unwrap_or}
+use Rattle.std.proofs.Common.{is_none, Ok, Err, Some, unwrap_or, ◌≡◌, refl, sym, ap, ap₂, subst, ◌∙◌, Bool, true, false, not, ◌&&◌, ◌||◌, List, [], ◌∷◌, map, ⊎_elim, ℕ, ◌-◌, ◌*◌, min, eqb, ltb, leb, length, eqb-true}
+use mathlib.Core.Bool.{false≢true}
 use Rattle.bits.specs.Pick.{pick}
 use Rattle.bits.specs.Bit.{bitIn}
 use Rattle.bits.proofs.Picks.{tested, not-leb, pick_yes, pick_no, and_left, and_right}

@@ -1,9 +1,5 @@
 -- A counter asked for by its number gives what the history tells; and a run in which a page 11h is sent. Assumes nothing.
-use mathlib.Core.Path.{◌≡◌, refl, ap, ◌∙◌}
-use mathlib.Core.List.{List}
-use Prim.Native.Nat.{ℕ}
-use lib.Dec.{lit<}
-use Rattle.std.proofs.Common.{Option, Some, None, Ok}
+use Rattle.std.proofs.Common.{Option, Some, None, Ok, ◌≡◌, refl, ap, ◌∙◌, List, ℕ, lit<}
 use Rattle.bits.specs.Pick.{pick}
 use Rattle.refusals.specs.First.{first_of, unless}
 use Rattle.refusals.specs.declared.reasons.Refusal.{Refusal}

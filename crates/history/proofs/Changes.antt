@@ -1,12 +1,6 @@
 -- What each change of the state does to settings, commands, phase and halt. Assumes nothing.
-use mathlib.Core.Path.{◌≡◌, refl, sym, ap, ◌∙◌}
-use mathlib.Core.Bool.{Bool, true, false, not, ◌&&◌, ◌||◌}
-use mathlib.Core.List.{List}
-use Prim.Native.Nat.{ℕ, ◌+◌, ◌-◌, ◌*◌, ◌<◌, min}
-use native.Mathlib.Omega.{arith}
-use lib.Dec.{eqb, leb}
-use mathlib.Core.Logic.{⊎_elim}
-use borrow.Author.Tests.{eqb-true, eq-eqb, ne_eqb, not-false, leb-true, leb-false, le-leb, lt-leb}
+use Rattle.std.proofs.Common.{Some, None, is_none, unwrap_or, ◌≡◌, refl, sym, ap, ◌∙◌, Bool, true, false, not, ◌&&◌, ◌||◌, List, ℕ, ◌+◌, ◌-◌, ◌*◌, ◌<◌, min, arith, eqb, leb, ⊎_elim, eqb-true, eq-eqb, ne_eqb, leb-true, leb-false, le-leb}
+use borrow.Author.Tests.{not-false, lt-leb}
 use Rattle.bits.specs.Pick.{pick}
 use Rattle.bits.specs.Bit.{bitIn}
 use Rattle.bits.proofs.Picks.{tested, or_left, or_right}
@@ -31,7 +25,6 @@ use Rattle.history.specs.Seen.{Seen}
 use Rattle.history.proofs.Class.{Same, Took, Carried}
 use Rattle.history.proofs.Sets.{no-busy}
 use Rattle.device.proofs.Phases.{some-open, own-open, no-phase}
-use Rattle.std.proofs.Common.{Some, None, is_none, unwrap_or}
 
 -- the same state
 pub same : (d : Device) → Same d d

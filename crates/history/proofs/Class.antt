@@ -1,14 +1,10 @@
 -- What a call can do, as demand 3 reads it: ten kinds of effect. A new call or command comes to one of them. Assumes nothing.
-use mathlib.Core.Path.{◌≡◌}
-use mathlib.Core.Bool.{Bool, true, false, not, ◌&&◌, ◌||◌}
-use Prim.Native.Nat.{ℕ, ◌+◌, ◌*◌, ◌^◌, ◌≤◌, ◌<◌}
-use lib.Dec.{eqb, leb}
+use Rattle.std.proofs.Common.{Some, None, ◌≡◌, Bool, true, false, not, ◌&&◌, ◌||◌, ℕ, ◌+◌, ◌*◌, ◌^◌, ◌≤◌, ◌<◌, eqb, leb}
 use Rattle.bits.specs.Pick.{pick}
 use Rattle.bits.specs.Bit.{bitIn, withBitIn, clearIn}
 use Rattle.device_state.specs.Table.{entry_of}
 use Rattle.device.specs.declared.state.Device.{Device}
 use Rattle.history.specs.Seen.{Seen, Transfer, underWay, accepts}
-use Rattle.std.proofs.Common.{Some, None}
 
 -- no tag
 abbrev pub none : ℕ → Bool

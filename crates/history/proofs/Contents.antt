@@ -1,11 +1,6 @@
 -- The data of one call: read, they are what the medium held at the command's place; written, the medium holds them there, whole, and is otherwise as it was. Assumes nothing.
-use mathlib.Core.Path.{◌≡◌, refl, ap, subst, subst⁻¹, ◌∙◌}
-use mathlib.Core.Bool.{true, not}
-use mathlib.Core.List.{List}
-use Prim.Native.Nat.{ℕ, ◌+◌, ◌*◌, ◌<◌}
-use native.Mathlib.Omega.{arith}
-use lib.Dec.{eqb}
-use borrow.Author.Tests.{eqb-true}
+use Rattle.std.proofs.Common.{Option, Some, None, ◌≡◌, refl, ap, subst, ◌∙◌, true, not, List, ℕ, ◌+◌, ◌*◌, ◌<◌, arith, eqb, eqb-true}
+use mathlib.Core.Path.{subst⁻¹}
 use Rattle.bits.specs.Pick.{pick}
 use Rattle.bits.specs.Bit.{bitIn}
 use Rattle.bits.proofs.Picks.{and_left}
@@ -32,7 +27,6 @@ use Rattle.history.proofs.Strays.{due, transfer-since}
 use Rattle.history.proofs.Owners.{owned}
 use Rattle.history.proofs.Placed.{SentFrom, Placed, left-same}
 use Rattle.history.proofs.Kept.{call_lies, call-sent}
-use Rattle.std.proofs.Common.{Option, Some, None}
 
 -- the place of the open phase: that of its tag's entry
 phase-place : (d : Device) (t : ℕ) → d.status.phase ≡ Some t → place_of (phaseEntry d) ≡ place_of (deviceEntry d t)

@@ -1,7 +1,5 @@
 -- From contracts to runs: what the public calls' contracts allow, call by call, is the run of the definitions. Assumes nothing.
-use mathlib.Core.Path.{◌≡◌, refl, sym, ap, subst, ◌∙◌}
-use mathlib.Core.List.{List, [], ◌∷◌, map}
-use Prim.Native.Nat.{ℕ}
+use Rattle.std.proofs.Common.{Option, Result, ◌≡◌, refl, sym, ap, subst, ◌∙◌, List, [], ◌∷◌, map, ℕ}
 use Rattle.device_state.specs.declared.shapes.Settings.{Settings}
 use Rattle.rules.specs.Call.{openPhase, finishTags, mediaError, linkEvent, comReset}
 use Rattle.device.specs.Step.{Given}
@@ -12,7 +10,6 @@ use Rattle.history.specs.Event.{Event}
 use Rattle.device.specs.Lent.{Lent, Gave}
 use Rattle.history.specs.Run.{result, Done, done, event, Run, run, run_from, history}
 use Rattle.device.specs.Counter.{CounterGiven, CountGiven}
-use Rattle.std.proofs.Common.{Option, Result}
 use Rattle.refusals.specs.declared.reasons.Refusal.{Refusal}
 use Rattle.history.specs.Follows.{FollowsBy, newestFirst, final, lents, historyOf, Began}
 use Rattle.history.proofs.Allowed.{Allowed, hosted, opened, sent, finished, failed, linked, reset, BeganCode, CounterCode, counted, CountCode, summed}

@@ -1,15 +1,10 @@
 -- The set outstanding and the halt of a device, held together with its history: kept by each of the ten kinds of effect. Assumes nothing.
-use mathlib.Core.Path.{◌≡◌, refl, sym, ap, ap₂, ◌∙◌}
-use mathlib.Core.Bool.{Bool, true, false, not, ◌&&◌, ◌||◌, and-true, and-false, true≢false, false≢true}
-use mathlib.Core.List.{List, [], ◌∷◌}
-use mathlib.Core.Logic.{⊎_elim}
-use Prim.Native.Nat.{ℕ, ◌+◌, ◌-◌, ◌^◌, ◌<◌}
-use native.Mathlib.Nat.{zero-add, lt_of_le_of_lt}
+use Rattle.std.proofs.Common.{◌≡◌, refl, sym, ap, ap₂, ◌∙◌, Bool, true, false, not, ◌&&◌, ◌||◌, true≢false, List, [], ◌∷◌, ⊎_elim, ℕ, ◌+◌, ◌-◌, ◌^◌, ◌<◌, zero-add, lt_of_le_of_lt, eqb, ltb, lit<, eqb-true, eq-eqb, ne_eqb, lt-ltb}
+use mathlib.Core.Bool.{and-true, and-false, false≢true}
 use lib.Bits.{or_lt, and_le_l}
 use lib.Count.{ones, ones_in}
-use lib.Dec.{eqb, ltb, lit<}
 use lib.Pow.{pow-lt}
-use borrow.Author.Tests.{eqb-true, eqb-false, eq-eqb, ne_eqb, lt-ltb}
+use borrow.Author.Tests.{eqb-false}
 use Rattle.bits.specs.Pick.{pick}
 use Rattle.bits.specs.Bit.{bitIn, withBitIn, clearIn}
 use Rattle.bits.proofs.Picks.{tested}

@@ -1,5 +1,5 @@
 -- The truth of the counters, for every run of typed calls from any power-on. Assumes nothing.
-use mathlib.Core.List.{List, []}
+use Rattle.std.proofs.Common.{List, []}
 use Rattle.device_state.specs.declared.shapes.Settings.{Settings}
 use Rattle.device.specs.Device.{powerOn}
 use Rattle.device.specs.declared.state.Device.{Device}

@@ -1,12 +1,6 @@
 -- Over every call the counters go on telling the events since their zeroing. Assumes nothing.
-use mathlib.Core.Path.{◌≡◌, refl, sym, ap, subst⁻¹}
-use mathlib.Core.Bool.{Bool, false}
-use mathlib.Core.List.{List, ◌∷◌}
-use Prim.Native.Nat.{ℕ}
-use native.Mathlib.Omega.{arith}
-use lib.ListN.{length, take}
-use borrow.Author.Tests.{ne_eqb}
-use Rattle.std.proofs.Common.{Ok, Err}
+use Rattle.std.proofs.Common.{Ok, Err, ◌≡◌, refl, sym, ap, Bool, false, List, ◌∷◌, ℕ, arith, length, take, ne_eqb}
+use mathlib.Core.Path.{subst⁻¹}
 use Rattle.bits.specs.Pick.{pick}
 use Rattle.bits.specs.Laid.{laid}
 use Rattle.rules.specs.Call.{Call}

@@ -1,7 +1,6 @@
 -- What a call leaves behind, by how it was decided: refused, or taken by one of the rules. Assumes nothing.
-use mathlib.Core.Path.{◌≡◌, ap}
+use Rattle.std.proofs.Common.{None, Result, Ok, Err, is_none, ◌≡◌, ap}
 use mathlib.Core.Bool.{false≢true}
-use Rattle.std.proofs.Common.{None, Result, Ok, Err, is_none}
 use Rattle.refusals.specs.declared.reasons.Refusal.{Refusal}
 use Rattle.rules.specs.declared.acts.Act.{Act}
 use Rattle.rules.proofs.Ruled as by

@@ -1,5 +1,5 @@
 -- Demand 3 whole: over every run of the definitions from power-on, and over every sequence of results that the public calls' contracts allow. Assumes nothing.
-use mathlib.Core.List.{List}
+use Rattle.std.proofs.Common.{Option, None, Result, Ok, List, ℕ, ◌≡◌, map}
 use Rattle.device_state.specs.declared.shapes.Settings.{Settings}
 use Rattle.device.specs.declared.state.Device.{Device}
 use Rattle.device.specs.declared.state.Outcome.{Outcome}
@@ -12,11 +12,7 @@ use Rattle.history.specs.Logged.{LogTold}
 use Rattle.history.proofs.Answering.{answered}
 use Rattle.device.specs.Lent.{Lent}
 use Rattle.history.specs.Run.{Done, AllTyped, run_from, history}
-use Prim.Native.Nat.{ℕ}
-use mathlib.Core.Path.{◌≡◌}
-use mathlib.Core.List.{map}
 use Rattle.device.specs.Device.{powerOn}
-use Rattle.std.proofs.Common.{Option, None, Result, Ok}
 use Rattle.refusals.specs.First.{refusal_in}
 use Rattle.refusals.specs.declared.reasons.Refusal.{Refusal}
 use Rattle.history.specs.Seen.{seen}

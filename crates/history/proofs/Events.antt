@@ -1,13 +1,6 @@
 -- Every taken device event comes to one of the ten kinds. Assumes nothing.
-use mathlib.Core.Path.{◌≡◌, refl, sym, ap, subst, ◌∙◌}
-use mathlib.Core.Bool.{Bool, true, false, not, ◌||◌, true≢false}
-use mathlib.Core.List.{List}
-use Prim.Native.Nat.{ℕ, ◌+◌, ◌*◌, ◌^◌, ◌≤◌, ◌<◌, min}
-use native.Mathlib.Omega.{arith}
-use native.Mathlib.Nat.{zero-add}
-use lib.Dec.{eqb, lit<}
-use lib.ListN.{length, take, drop, length-take, length-drop}
-use borrow.Author.Tests.{eqb-true, eqb-false, not-false}
+use Rattle.std.proofs.Common.{None, is_none, unwrap_or, ◌≡◌, refl, sym, ap, subst, ◌∙◌, Bool, true, false, not, ◌||◌, true≢false, List, ℕ, ◌+◌, ◌*◌, ◌^◌, ◌≤◌, ◌<◌, min, arith, zero-add, eqb, lit<, length, take, drop, length-take, length-drop, eqb-true}
+use borrow.Author.Tests.{eqb-false, not-false}
 use Rattle.bits.specs.Pick.{pick}
 use Rattle.bits.specs.Bit.{bitIn}
 use Rattle.bits.proofs.Picks.{by-test, or_left, or_right}
@@ -38,7 +31,6 @@ use Rattle.history.proofs.Sets.{no-busy, no_bits}
 use Rattle.history.proofs.Views.{view, is-silent, is-finish, is-failed, is-reset, is-setup, setup-begins, is-sent, silent-unbegun, answer-unbegun, bits-unbegun, sent-unbegun}
 use Rattle.history.proofs.Changes.{halted-empty, carried-by, unmoved, cleared-other}
 use Rattle.device.proofs.Phases.{open-entry}
-use Rattle.std.proofs.Common.{None, is_none, unwrap_or}
 
 -- an act's part of the medium, and what is seen of it
 abbrev pub Happens : Device → List ℕ → Act → Type 0

@@ -1,8 +1,5 @@
 -- From reply bytes to frames: what is read of an event's bytes is what the step sent. Assumes nothing.
-use mathlib.Core.Path.{◌≡◌, refl, ap, ap₂, ◌∙◌}
-use mathlib.Core.List.{List, [], map}
-use Prim.Native.Nat.{ℕ}
-use lib.ListN.{length}
+use Rattle.std.proofs.Common.{◌≡◌, refl, ap, ap₂, ◌∙◌, List, [], map, ℕ, length}
 use Rattle.bits.specs.Pick.{pick}
 use Rattle.frame_parts.specs.Cut.{cut}
 use Rattle.frames.specs.Read.{readFrame}

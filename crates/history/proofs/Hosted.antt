@@ -1,13 +1,6 @@
 -- All that is proved of a host frame that is not turned down: one row a rule. Assumes nothing.
-use mathlib.Core.Path.{◌≡◌, refl, sym, subst}
-use mathlib.Core.Bool.{Bool, true, false, not, false≢true}
-use mathlib.Core.List.{List, []}
-use mathlib.Core.Logic.{inl, inr}
-use Prim.Native.Nat.{ℕ}
-use Rattle.std.proofs.Common.{Option, Some, None, Ok}
-use lib.Dec.{leb}
-use lib.ListN.{get_or}
-use borrow.Author.Tests.{eqb-true}
+use Rattle.std.proofs.Common.{Option, Some, None, Ok, ◌≡◌, refl, sym, subst, Bool, true, false, not, List, [], inl, inr, ℕ, leb, get_or, eqb-true}
+use mathlib.Core.Bool.{false≢true}
 use Rattle.bits.specs.Pick.{pick}
 use Rattle.bits.specs.Bit.{bitIn}
 use Rattle.bits.proofs.Picks.{or_right}

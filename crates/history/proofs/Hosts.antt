@@ -1,12 +1,7 @@
 -- What a host frame asks for and its act, where it is not turned down, come to one of the ten kinds. Assumes nothing.
-use mathlib.Core.Path.{◌≡◌, refl, sym, ap, subst, ◌∙◌}
-use mathlib.Core.Bool.{Bool, true, false, not, ◌&&◌, ◌||◌}
-use mathlib.Core.List.{List, []}
-use Prim.Native.Nat.{ℕ, ◌-◌, ◌/◌, ◌%◌, ◌^◌, ◌<◌, min}
+use Rattle.std.proofs.Common.{Option, Some, None, is_some, is_none, unwrap_or, ◌≡◌, refl, sym, ap, subst, ◌∙◌, Bool, true, false, not, ◌&&◌, ◌||◌, List, [], ℕ, ◌-◌, ◌/◌, ◌%◌, ◌^◌, ◌<◌, min, arith, eqb, ltb, leb, lit<, lt-ltb, ltb-false, leb-true}
 use native.Mathlib.Nat.{zero-div}
-use native.Mathlib.Omega.{arith}
-use lib.Dec.{eqb, ltb, leb, lit<}
-use borrow.Author.Tests.{eqb-false, lt-ltb, ltb-false, leb-true}
+use borrow.Author.Tests.{eqb-false}
 use Rattle.bits.specs.Pick.{pick}
 use Rattle.bits.specs.Bit.{bitIn}
 use Rattle.bits.proofs.Masks.{bit_not}
@@ -33,7 +28,6 @@ use Rattle.history.proofs.Class.{none, Is, Class, plain, again, freely, halts, r
 use Rattle.history.proofs.Views.{view, is-silent, is-bad, is-good, is-page, is-swept, is-brought, silent-unbegun, answer-unbegun, page-unbegun, swept-unbegun, active-unbegun}
 use Rattle.history.proofs.Changes.{same, halted-empty, took_by, carried-by}
 use Rattle.device.proofs.Phases.{none-open, open-entry}
-use Rattle.std.proofs.Common.{Option, Some, None, is_some, is_none, unwrap_or}
 
 -- what is seen of an act that answers what was asked, with a part of the medium
 abbrev pub actSeen : Device → List ℕ → Asked → Act → Seen

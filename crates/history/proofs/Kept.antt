@@ -1,10 +1,5 @@
 -- What a call leaves in the medium, host data at the place of the open phase, whole, and every other byte as it was; and what it sends of it. Assumes nothing.
-use mathlib.Core.Path.{◌≡◌, refl, sym, ap, subst}
-use mathlib.Core.List.{List, []}
-use Prim.Native.Nat.{ℕ, ◌-◌}
-use Rattle.std.proofs.Common.{None, Result, Ok, is_none}
-use native.Mathlib.Omega.{arith}
-use lib.ListN.{length, get_or, drop, length-drop}
+use Rattle.std.proofs.Common.{None, Result, Ok, is_none, ◌≡◌, refl, sym, ap, subst, List, [], ℕ, ◌-◌, arith, length, get_or, drop, length-drop}
 use Rattle.bits.specs.Pick.{pick}
 use Rattle.bits.proofs.Picks.{by-test}
 use Rattle.frames.proofs.ReadLaws.{DataRead, read-data}

@@ -1,9 +1,6 @@
 -- Sequences of calls of a device that is kept: what their contracts allow is a sequence as the one contract promises it. Assumes nothing.
-use mathlib.Core.Path.{◌≡◌, refl, subst, sym}
-use mathlib.Core.List.{List, [], ◌∷◌}
-use Prim.Native.Nat.{ℕ}
+use Rattle.std.proofs.Common.{◌≡◌, refl, subst, sym, List, [], ◌∷◌, ℕ, Result, Ok}
 use contract.Lifetimes.{Lfts}
-use Rattle.std.specs.Prelude.{Result, Ok}
 use Rattle.std.specs.Borrow.{Bor, MutBor}
 use Rattle.bits.specs.Contract.{Allows}
 use Rattle.device_state.specs.declared.shapes.Settings.{Settings}

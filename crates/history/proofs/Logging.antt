@@ -1,13 +1,7 @@
 -- The error record of the state is what the history tells of the last error: what each call does to it. Assumes nothing.
-use mathlib.Core.Path.{◌≡◌, refl, ap, ap₂, subst, ◌∙◌}
-use mathlib.Core.Bool.{Bool, true, false, not, and-false}
-use mathlib.Core.List.{List, [], ◌∷◌, map}
-use mathlib.Core.Logic.{⊎_elim}
-use Prim.Native.Nat.{ℕ, ◌+◌, ◌<◌, ◌^◌}
-use native.Mathlib.Omega.{arith}
-use lib.Dec.{eqb, ltb, leb}
-use borrow.Author.Tests.{eqb-false, leb-false}
-use Rattle.std.proofs.Common.{Ok, Err}
+use Rattle.std.proofs.Common.{Ok, Err, ◌≡◌, refl, ap, ap₂, subst, ◌∙◌, Bool, true, false, not, List, [], ◌∷◌, map, ⊎_elim, ℕ, ◌+◌, ◌<◌, ◌^◌, arith, eqb, ltb, leb, leb-false}
+use mathlib.Core.Bool.{and-false}
+use borrow.Author.Tests.{eqb-false}
 use Rattle.bits.specs.Pick.{pick}
 use Rattle.bits.specs.Bit.{bitIn}
 use Rattle.bits.proofs.Picks.{tested, or_right}

@@ -1,11 +1,7 @@
 -- While the device is halted its record is set, and so page 10h tells an error. Assumes nothing.
-use mathlib.Core.Path.{◌≡◌, refl, ap, subst⁻¹, ◌∙◌}
-use mathlib.Core.Bool.{true, false, false≢true}
-use mathlib.Core.List.{List, []}
-use Prim.Native.Nat.{ℕ}
-use Rattle.std.proofs.Common.{Option, Some, None, Ok}
-use lib.ListN.{length, get_or}
-use borrow.Author.Tests.{eq-eqb}
+use Rattle.std.proofs.Common.{Option, Some, None, Ok, ◌≡◌, refl, ap, ◌∙◌, true, false, List, [], ℕ, length, get_or, eq-eqb}
+use mathlib.Core.Path.{subst⁻¹}
+use mathlib.Core.Bool.{false≢true}
 use Rattle.bits.specs.Pick.{pick}
 use Rattle.bits.proofs.Picks.{pick_yes}
 use Rattle.refusals.specs.First.{first_of}

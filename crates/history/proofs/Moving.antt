@@ -1,11 +1,7 @@
 -- What each kind of effect does to the table, as far as the carried positions need it. Assumes nothing.
-use mathlib.Core.Path.{◌≡◌, refl, sym, ap, ap₂, ◌∙◌, subst}
-use mathlib.Core.Logic.{⊎_elim}
-use mathlib.Core.Bool.{Bool, true, false, not, ◌&&◌, ◌||◌, true≢false, false≢true}
-use mathlib.Core.List.{List, [], ◌++◌, append-nil}
-use Prim.Native.Nat.{ℕ, ◌+◌, ◌*◌, ◌≤◌}
-use lib.Dec.{eqb}
-use borrow.Author.Tests.{eqb-true, eqb-false, eq-eqb}
+use Rattle.std.proofs.Common.{Some, None, ◌≡◌, refl, sym, ap, ap₂, ◌∙◌, subst, ⊎_elim, Bool, true, false, not, ◌&&◌, ◌||◌, true≢false, List, [], ◌++◌, append-nil, ℕ, ◌+◌, ◌*◌, ◌≤◌, eqb, eqb-true, eq-eqb}
+use mathlib.Core.Bool.{false≢true}
+use borrow.Author.Tests.{eqb-false}
 use Rattle.std.proofs.lemmas.Bool as bools
 use Rattle.bits.specs.Bit.{bitIn}
 use Rattle.bits.proofs.Picks.{tested, pick_yes, pick_no, or_left}
@@ -21,7 +17,6 @@ use Rattle.history.proofs.Class.{Took, Carried, Ended, Class}
 use Rattle.history.proofs.Spans.{Empty, first-length-none, span-add, belongs-own, belongs-other}
 use Rattle.history.proofs.Transfers.{transferOf, transfer-open, empty_of, closing, b-halt, load-own}
 use Rattle.history.proofs.Sets.{no-busy}
-use Rattle.std.proofs.Common.{Some, None}
 
 -- the entry of a tag
 abbrev pub deviceEntry : Device → ℕ → Entry

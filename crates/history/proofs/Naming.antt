@@ -1,12 +1,7 @@
 -- The bytes that the state keeps of a command are what the history tells of it: what each call does to them. Assumes nothing.
-use mathlib.Core.Path.{◌≡◌, refl, sym, ap, subst, ◌∙◌}
-use mathlib.Core.Bool.{Bool, true, false, not, ◌&&◌, ◌||◌, and-false}
-use mathlib.Core.List.{List, [], ◌∷◌}
-use mathlib.Core.Logic.{⊎_elim}
-use Prim.Native.Nat.{ℕ, ◌^◌, ◌<◌}
-use lib.Dec.{eqb}
-use borrow.Author.Tests.{eqb-true, eqb-false, not-true}
-use Rattle.std.proofs.Common.{Ok, Err, is_none, unwrap_or}
+use Rattle.std.proofs.Common.{Ok, Err, is_none, unwrap_or, ◌≡◌, refl, sym, ap, subst, ◌∙◌, Bool, true, false, not, ◌&&◌, ◌||◌, List, [], ◌∷◌, ⊎_elim, ℕ, ◌^◌, ◌<◌, eqb, eqb-true}
+use mathlib.Core.Bool.{and-false}
+use borrow.Author.Tests.{eqb-false, not-true}
 use Rattle.bits.specs.Pick.{pick}
 use Rattle.bits.specs.Bit.{bitIn}
 use Rattle.bits.proofs.Picks.{tested, and_left, and_right}

@@ -1,14 +1,7 @@
 -- What a command that is not queued is answered, by the tests of its rules; and those tests by the fields that were read. Assumes nothing.
-use mathlib.Core.Path.{◌≡◌, refl, sym, ◌∙◌}
-use mathlib.Core.Bool.{Bool, true, false, not, ◌&&◌, ◌||◌, and-false}
-use mathlib.Core.List.{List, [], ◌∷◌, ◌++◌, map}
-use mathlib.Core.Logic.{⊎_elim}
-use Prim.Native.Nat.{ℕ, ◌%◌, ◌^◌, ◌<◌}
-use native.Mathlib.Omega.{arith}
-use lib.Dec.{eqb}
-use lib.ListN.{length}
-use borrow.Author.Tests.{eqb-true, eqb-false, ltb-true}
-use Rattle.std.proofs.Common.{Option, Some, None}
+use Rattle.std.proofs.Common.{Option, Some, None, ◌≡◌, refl, sym, ◌∙◌, Bool, true, false, not, ◌&&◌, ◌||◌, List, [], ◌∷◌, ◌++◌, map, ⊎_elim, ℕ, ◌%◌, ◌^◌, ◌<◌, arith, eqb, length, eqb-true, ltb-true}
+use mathlib.Core.Bool.{and-false}
+use borrow.Author.Tests.{eqb-false}
 use Rattle.bits.specs.Pick.{pick}
 use Rattle.bits.specs.Little.{byte_of}
 use Rattle.bits.proofs.Picks.{tested, and_left, and_right}

@@ -1,9 +1,6 @@
 -- All that is proved of a device event that is taken: one row an event. Assumes nothing.
-use mathlib.Core.Path.{◌≡◌, refl}
-use mathlib.Core.Bool.{Bool, true, false, false≢true}
-use mathlib.Core.List.{List, [], ◌∷◌}
-use mathlib.Core.Logic.{inl, inr}
-use Prim.Native.Nat.{ℕ}
+use Rattle.std.proofs.Common.{Some, None, is_some, ◌≡◌, refl, Bool, true, false, List, [], ◌∷◌, inl, inr, ℕ}
+use mathlib.Core.Bool.{false≢true}
 use Rattle.bits.specs.Pick.{pick}
 use Rattle.bits.specs.Bit.{bitIn}
 use Rattle.frames.specs.Write.{FrameValue}
@@ -36,7 +33,6 @@ use Rattle.history.proofs.Hearing.{pioIn}
 use Rattle.history.proofs.Shaped.{kindsOf, erring, sendsFaulty, CallShaped, unblamed}
 use Rattle.history.proofs.Speechless.{SpokenBy, Utters, none-finished, event-utters}
 use Rattle.device.proofs.Phases.{none-open}
-use Rattle.std.proofs.Common.{Some, None, is_some}
 
 -- the replies rs of an event: no page, of a shape that they may have, and they say no more than they may
 pub record OwnReplies (c : Call) (rs : List FrameValue) : Type 0 where

@@ -1,11 +1,8 @@
 -- Whose data are under way: those of the one outstanding command of the open phase's tag. Assumes nothing.
-use mathlib.Core.Path.{◌≡◌, refl, sym, ap, ap₂, subst⁻¹, ◌∙◌}
-use mathlib.Core.Bool.{Bool, true, false, not, ◌&&◌, and-false}
-use mathlib.Core.Logic.{⊎_elim}
-use mathlib.Core.List.{List, [], ◌∷◌}
-use Prim.Native.Nat.{ℕ, ◌+◌, ◌<◌}
-use lib.Dec.{eqb}
-use borrow.Author.Tests.{eqb-true, eqb-false, eq-eqb, ne_eqb}
+use Rattle.std.proofs.Common.{Option, Some, None, ◌≡◌, refl, sym, ap, ap₂, ◌∙◌, Bool, true, false, not, ◌&&◌, ⊎_elim, List, [], ◌∷◌, ℕ, ◌+◌, ◌<◌, eqb, eqb-true, eq-eqb, ne_eqb}
+use mathlib.Core.Path.{subst⁻¹}
+use mathlib.Core.Bool.{and-false}
+use borrow.Author.Tests.{eqb-false}
 use Rattle.bits.specs.Pick.{pick}
 use Rattle.bits.specs.Bit.{bitIn}
 use Rattle.bits.proofs.Picks.{tested}
@@ -20,7 +17,6 @@ use Rattle.history.proofs.Spans.{own-way}
 use Rattle.history.proofs.Transfers.{transferFor, transfer-shut, transfer-open}
 use Rattle.history.proofs.Moving.{deviceEntry}
 use Rattle.history.proofs.Table.{Following, Tracked}
-use Rattle.std.proofs.Common.{Option, Some, None}
 
 -- tests that agree of every command hold of as many
 pub many-same : (p q : Command → Bool) (cs : List Command) → All (λ c. p c ≡ q c) cs → howMany p cs ≡ howMany q cs

@@ -1,13 +1,6 @@
 -- Every page 11h that is sent shows the events since the last zeroing before it. Assumes nothing.
-use mathlib.Core.Path.{◌≡◌, refl, sym, ap, ◌∙◌, subst}
-use mathlib.Core.Bool.{Bool, true, false, false≢true}
-use mathlib.Core.List.{List, [], ◌∷◌, map, append-nil}
-use Prim.Native.Nat.{ℕ, ◌<◌}
-use native.Mathlib.Omega.{arith}
-use lib.Dec.{ltb}
-use lib.ListN.{get_or}
-use borrow.Author.Tests.{ltb-false}
-use Rattle.std.proofs.Common.{Option, Some, None, Result, Ok}
+use Rattle.std.proofs.Common.{Option, Some, None, Result, Ok, ◌≡◌, refl, sym, ap, ◌∙◌, subst, Bool, true, false, List, [], ◌∷◌, map, append-nil, ℕ, ◌<◌, arith, ltb, get_or, ltb-false}
+use mathlib.Core.Bool.{false≢true}
 use Rattle.std.specs.Option.{option_map}
 use Rattle.bits.specs.Pick.{pick}
 use Rattle.bits.proofs.Picks.{pick_yes, pick_no, and_left, and_right, or_left, or_right}

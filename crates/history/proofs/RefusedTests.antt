@@ -1,13 +1,7 @@
 -- Each test of the table of refusals, by the history (Refused) and by the state. Assumes nothing.
-use mathlib.Core.Path.{◌≡◌, refl, sym, ap, ap₂, ◌∙◌}
-use mathlib.Core.Bool.{Bool, true, false, not, ◌&&◌, ◌||◌, not-not}
-use mathlib.Core.List.{List}
-use mathlib.Core.Logic.{⊎_elim}
-use Prim.Native.Nat.{ℕ, zero, suc, ◌-◌, ◌*◌, ◌<◌}
-use native.Mathlib.Omega.{arith}
-use lib.Dec.{eqb, ltb, leb}
-use borrow.Author.Tests.{ne_eqb, not-false, not-true}
-use Rattle.std.proofs.Common.{Option, Some, None, Ok, is_some, is_none, unwrap_or}
+use Rattle.std.proofs.Common.{Option, Some, None, Ok, is_some, is_none, unwrap_or, ◌≡◌, refl, sym, ap, ap₂, ◌∙◌, Bool, true, false, not, ◌&&◌, ◌||◌, List, ⊎_elim, ℕ, zero, suc, ◌-◌, ◌*◌, ◌<◌, arith, eqb, ltb, leb, ne_eqb}
+use mathlib.Core.Bool.{not-not}
+use borrow.Author.Tests.{not-false, not-true}
 use Rattle.bits.specs.Pick.{pick}
 use Rattle.bits.specs.Bit.{bitIn}
 use Rattle.bits.proofs.Picks.{tested, or_left, or_right}

@@ -1,10 +1,5 @@
 -- Every event is turned down for what the table of refusals says of the history before it (Refused). Assumes nothing.
-use mathlib.Core.Path.{◌≡◌, refl, sym, ap, ◌∙◌}
-use mathlib.Core.Bool.{Bool, true, false, not, ◌||◌}
-use mathlib.Core.List.{List, ◌∷◌}
-use Prim.Native.Nat.{ℕ}
-use lib.Dec.{eqb}
-use Rattle.std.proofs.Common.{Some}
+use Rattle.std.proofs.Common.{Some, ◌≡◌, refl, sym, ap, ◌∙◌, Bool, true, false, not, ◌||◌, List, ◌∷◌, ℕ, eqb}
 use Rattle.bits.specs.Pick.{pick}
 use Rattle.refusals.specs.First.{Rung, rung, first_of}
 use Rattle.refusals.specs.declared.reasons.Refusal.{Refusal}

@@ -1,11 +1,5 @@
 -- Demand 3 over every run from power-on. Assumes nothing.
-use mathlib.Core.Path.{◌≡◌, refl, ap, subst, ◌∙◌}
-use mathlib.Core.Bool.{Bool, true, false}
-use mathlib.Core.List.{List, [], ◌∷◌, map}
-use Prim.Native.Nat.{◌≤◌}
-use native.Mathlib.Nat.{le_trans, le_of_eq}
-use native.Mathlib.Omega.{arith}
-use lib.Dec.{ltb}
+use Rattle.std.proofs.Common.{None, ◌≡◌, refl, ap, subst, ◌∙◌, Bool, true, false, List, [], ◌∷◌, map, ◌≤◌, le_trans, le_of_eq, arith, ltb}
 use lib.Count.{ones}
 use Rattle.bits.specs.Bit.{bitIn}
 use Rattle.device_state.specs.declared.shapes.Settings.{Settings}
@@ -39,7 +33,6 @@ use Rattle.history.proofs.Logging.{logged-step, logged-power}
 use Rattle.history.proofs.Showing.{told-step}
 use Rattle.history.proofs.CoreSteps.{ones-some}
 use Rattle.history.proofs.Soundness.{by-power, from-power, Sound, sound-power, sound-step}
-use Rattle.std.proofs.Common.{None}
 
 -- the state and the history, held together
 pub record Held (s : Settings) (d : Device) (h : List Event) : Type 0 where

@@ -1,12 +1,8 @@
 -- Sets of 32 tags, and the empty one; and the test whether something is there. Assumes nothing.
-use mathlib.Core.Path.{◌≡◌, refl, sym, ap, ◌∙◌}
-use mathlib.Core.Bool.{true, false, true≢false, false≢true}
-use Rattle.std.proofs.Common.{Option, Some, None, is_none}
-use Prim.Native.Nat.{ℕ, ◌/◌, ◌%◌, ◌^◌, ◌<◌}
+use Rattle.std.proofs.Common.{Option, Some, None, is_none, ◌≡◌, refl, sym, ap, ◌∙◌, true, false, true≢false, ℕ, ◌/◌, ◌%◌, ◌^◌, ◌<◌, arith, eqb, lit<, lt-ltb}
+use mathlib.Core.Bool.{false≢true}
 use native.Mathlib.Nat.{zero-div}
-use native.Mathlib.Omega.{arith}
-use lib.Dec.{eqb, lit<}
-use borrow.Author.Tests.{eqb-false, lt-ltb}
+use borrow.Author.Tests.{eqb-false}
 use Rattle.bits.specs.Bit.{bitIn}
 use Rattle.bits.proofs.Masks.{no-bit}
 use Rattle.std.proofs.lemmas.Nat.Bits.{bit_at-lt, same_from_bits_below}

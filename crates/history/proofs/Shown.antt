@@ -1,8 +1,5 @@
 -- The truth of the counters over every run: each page 11h ever sent shows the events since the last zeroing before it. Assumes nothing.
-use mathlib.Core.Path.{refl, ap, ◌∙◌}
-use mathlib.Core.Bool.{true≢false}
-use mathlib.Core.List.{List, [], ◌∷◌, map}
-use Prim.Native.Nat.{ℕ}
+use Rattle.std.proofs.Common.{refl, ap, ◌∙◌, true≢false, List, [], ◌∷◌, map, ℕ}
 use Rattle.contradictions.specs.Clauses.{settingsOut}
 use Rattle.device_state.specs.declared.shapes.Settings.{Settings}
 use Rattle.device.specs.Device.{freshDevice, powerOn}

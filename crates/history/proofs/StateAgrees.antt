@@ -1,10 +1,6 @@
 -- The state at the end of every run is what its history tells. Assumes nothing.
-use mathlib.Core.Path.{sym, ap, subst, ◌∙◌}
-use mathlib.Core.List.{List}
-use Prim.Native.Nat.{ℕ, ◌≤◌}
+use Rattle.std.proofs.Common.{Ok, sym, ap, subst, ◌∙◌, List, ℕ, ◌≤◌, Bool}
 use lib.Count.{ones}
-use mathlib.Core.Bool.{Bool}
-use Rattle.std.proofs.Common.{Ok}
 use Rattle.bits.specs.Pick.{pick}
 use Rattle.refusals.specs.First.{first_of, unless}
 use Rattle.refusals.specs.Ladders.{powerLadder}

@@ -1,10 +1,5 @@
 -- Every call, taken or refused, comes to one of the ten kinds, seen from its call and its reply bytes; and a halt keeps its record. Assumes nothing.
-use mathlib.Core.Path.{◌≡◌, refl, sym, ap, subst, ◌∙◌}
-use mathlib.Core.Bool.{true, false}
-use mathlib.Core.List.{List, []}
-use mathlib.Core.Logic.{⊎_elim}
-use Prim.Native.Nat.{ℕ}
-use Rattle.std.proofs.Common.{None, Ok, is_none}
+use Rattle.std.proofs.Common.{None, Ok, is_none, ◌≡◌, refl, sym, ap, subst, ◌∙◌, true, false, List, [], ⊎_elim, ℕ}
 use Rattle.bits.specs.Pick.{pick}
 use Rattle.bits.proofs.Picks.{tested}
 use Rattle.rules.specs.Call.{Call}

@@ -1,9 +1,5 @@
 -- Refused calls struck out of a sequence change no later refusal, reply, medium or state. Assumes nothing.
-use mathlib.Core.Path.{◌≡◌, refl, sym, ap, ◌∙◌}
-use mathlib.Core.Bool.{true, false}
-use mathlib.Core.List.{List, [], ◌∷◌}
-use mathlib.Core.Logic.{⊎_elim}
-use Rattle.std.proofs.Common.{is_none}
+use Rattle.std.proofs.Common.{is_none, ◌≡◌, refl, sym, ap, ◌∙◌, true, false, List, [], ◌∷◌, ⊎_elim}
 use Rattle.bits.proofs.Picks.{tested, pick_yes, pick_no}
 use Rattle.device_state.specs.declared.shapes.Settings.{Settings}
 use Rattle.device.specs.Device.{powerOn}

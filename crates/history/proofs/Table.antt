@@ -1,10 +1,6 @@
 -- The commands of a history against the device's table: what each carried is what its entry says has moved. Assumes nothing.
-use mathlib.Core.Path.{◌≡◌, refl, sym, ap, ap₂, ◌∙◌}
-use mathlib.Core.Logic.{⊎_elim}
-use mathlib.Core.Bool.{Bool, true, false, not, ◌&&◌, ◌||◌, true≢false, false≢true}
-use mathlib.Core.List.{List, [], ◌∷◌, ◌++◌}
-use Prim.Native.Nat.{ℕ, ◌*◌, ◌≤◌}
-use native.Mathlib.Omega.{arith}
+use Rattle.std.proofs.Common.{None, ◌≡◌, refl, sym, ap, ap₂, ◌∙◌, ⊎_elim, Bool, true, false, not, ◌&&◌, ◌||◌, true≢false, List, [], ◌∷◌, ◌++◌, ℕ, ◌*◌, ◌≤◌, arith}
+use mathlib.Core.Bool.{false≢true}
 use borrow.Author.Tests.{not-true}
 use Rattle.std.proofs.lemmas.Bool.{or_left}
 use Rattle.bits.proofs.Picks.{tested, and_left, and_right}
@@ -18,7 +14,6 @@ use Rattle.history.proofs.Alls.{freshCommand, all-imp, all_start, all-step}
 use Rattle.history.proofs.Spans.{span_none, carried-after, carried-while, carried_none, finished-over}
 use Rattle.history.proofs.Transfers.{transferOf, Phased, phased-shut, phased-step, whole-transfer-step, whole-transfer-start}
 use Rattle.history.proofs.Moving.{deviceEntry, busyAt, New, Moving, moving}
-use Rattle.std.proofs.Common.{None}
 
 -- an outstanding command against its tag's entry: outstanding there too, asking for the same, and with as much moved as was carried
 pub record Standing (d : Device) (c : Command) : Type 0 where

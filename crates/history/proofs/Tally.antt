@@ -1,15 +1,8 @@
 -- What an event does to the sixteen counters, and that they then tell the events since the last zeroing. Assumes nothing.
-use mathlib.Core.Path.{◌≡◌, refl, sym, ap, ◌∙◌, subst⁻¹}
-use mathlib.Core.Bool.{Bool, true, false}
-use mathlib.Core.List.{List, [], ◌∷◌}
-use mathlib.Core.Logic.{⊎_elim}
-use Prim.Native.Nat.{ℕ, zero, suc, ◌+◌, ◌^◌, ◌≤◌, ◌<◌, min}
-use native.Mathlib.Omega.{arith}
-use Rattle.std.proofs.Common.{Option, Some, None}
-use lib.Dec.{eqb, ltb}
-use lib.ListN.{length, get_or, set, replicate, length-set, length-replicate, get_or-eq_default}
-use lib.Seq.{get_or-set_same, get_or-set_other}
-use borrow.Author.Tests.{eqb-true, eqb-false, ne_eqb, ltb-true, ltb-false}
+use Rattle.std.proofs.Common.{Option, Some, None, ◌≡◌, refl, sym, ap, ◌∙◌, Bool, true, false, List, [], ◌∷◌, ⊎_elim, ℕ, zero, suc, ◌+◌, ◌^◌, ◌≤◌, ◌<◌, min, arith, eqb, ltb, length, get_or, set, replicate, length-set, get_or-set_same, get_or-set_other, eqb-true, ne_eqb, ltb-true, ltb-false}
+use mathlib.Core.Path.{subst⁻¹}
+use lib.ListN.{length-replicate, get_or-eq_default}
+use borrow.Author.Tests.{eqb-false}
 use Rattle.bits.specs.Pick.{pick}
 use Rattle.bits.proofs.Picks.{by-test, tested, pick_yes}
 use Rattle.refusals.specs.declared.reasons.Refusal.{Refusal}

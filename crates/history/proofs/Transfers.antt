@@ -1,10 +1,6 @@
 -- What is under way, by the history and by the state: each kind of effect keeps them equal. Assumes nothing.
-use mathlib.Core.Path.{◌≡◌, refl, sym, ap, ap₂, ◌∙◌}
-use mathlib.Core.Bool.{Bool, true, false, not, ◌&&◌, ◌||◌, false≢true}
-use mathlib.Core.List.{List, [], ◌∷◌}
-use Prim.Native.Nat.{ℕ, ◌+◌, ◌*◌}
-use lib.Dec.{eqb, ltb, leb}
-use borrow.Author.Tests.{lt-ltb, le-ltb, leb-true, leb-false}
+use Rattle.std.proofs.Common.{Option, Some, None, is_some, unwrap_or, true≢false, ◌≡◌, refl, sym, ap, ap₂, ◌∙◌, Bool, true, false, not, ◌&&◌, ◌||◌, List, [], ◌∷◌, ℕ, ◌+◌, ◌*◌, eqb, ltb, leb, lt-ltb, le-ltb, leb-true, leb-false}
+use mathlib.Core.Bool.{false≢true}
 use Rattle.bits.specs.Pick.{pick}
 use Rattle.bits.specs.Bit.{bitIn}
 use Rattle.bits.proofs.Picks.{pick_yes, pick_no}
@@ -16,7 +12,6 @@ use Rattle.history.specs.Carried.{load, onward, advanced, transfer}
 use Rattle.history.proofs.Class.{Is, Unbegun, Same, Carried, Class, plain, again, freely, halts, resets, sweeps, takes, opens, carries, ends}
 use Rattle.history.proofs.Spans.{Empty, advanced-none, onward-some}
 use Rattle.history.proofs.Sets.{no-busy}
-use Rattle.std.proofs.Common.{Option, Some, None, is_some, unwrap_or, true≢false}
 
 -- what an entry's open phase stands for: a read's data go to the host; the next byte is behind those moved
 abbrev pub transferFor : Entry → ℕ → Transfer

@@ -1,13 +1,7 @@
 -- A payload laid into the medium, for a frame of any length. Assumes nothing.
-use mathlib.Core.Path.{◌≡◌, refl}
-use mathlib.Core.List.{List, [], ◌++◌}
-use mathlib.Core.Logic.{⊎_elim}
-use Prim.Native.Nat.{ℕ, ◌≤◌, ◌<◌}
-use native.Mathlib.Omega.{arith}
-use lib.ListN.{length, take, drop, drop_of_length-le}
-use borrow.Author.Tests.{le-leb, lt-leb}
+use Rattle.std.proofs.Common.{◌≡◌, refl, List, [], ◌++◌, ⊎_elim, ℕ, ◌≤◌, ◌<◌, arith, length, take, drop, drop_of_length-le, le-leb, take-append-drop}
+use borrow.Author.Tests.{lt-leb}
 use Rattle.std.proofs.lemmas.Bool.{cases_lt}
-use Rattle.std.proofs.lemmas.List.{take-append-drop}
 use Rattle.bits.specs.Laid.{over}
 use Rattle.bits.proofs.Fronts.{over_yes}
 use Rattle.bits.specs.Pick.{pick}

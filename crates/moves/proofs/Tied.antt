@@ -1,8 +1,8 @@
 -- Each public function's own contract: what it says, and that two answers which it allows are equal. Assumes nothing.
+use Rattle.std.proofs.Common.{◌≡◌, refl}
 use Rattle.moves.specs.Amounts.{leftIn, partIn, lastIn, wholly, dueIn, afterIn}
 use Rattle.moves.specs.Stored.{place_in, stored}
 use Rattle.moves.specs.Range.{tooFar, outsideOf}
-use mathlib.Core.Path.{◌≡◌, refl}
 use Rattle.bits.specs.Contract.{Tied}
 use Rattle.bits.proofs.Tying.{same, say, by, named}
 use Rattle.moves.proofs.amounts

@@ -1,9 +1,5 @@
 -- Laws of page 10h. Assumes nothing.
-use mathlib.Core.Path.{◌≡◌, ap, ◌∙◌}
-use mathlib.Core.List.{List, ◌++◌}
-use Prim.Native.Nat.{ℕ}
-use lib.Dec.{lit≤}
-use lib.ListN.{length, replicate}
+use Rattle.std.proofs.Common.{◌≡◌, ap, ◌∙◌, List, ◌++◌, ℕ, lit≤, length, replicate}
 use Rattle.bits.specs.Laid.{over}
 use Rattle.bits.proofs.Fronts.{over_yes}
 use Rattle.page_sum.specs.Sum.{sealed}

@@ -1,12 +1,8 @@
 -- The other bytes of page 10h: how many there can be, and what holds where there are none. Assumes nothing.
-use Rattle.std.proofs.Common.{◌≡◌, refl, ◌∙◌, ℕ, zero, suc, ◌+◌, ◌≤◌, ◌<◌, Bool, true, false, not, List, [], ◌∷◌, length, get_or, cond, None, arith}
+use Rattle.std.proofs.Common.{◌≡◌, refl, ◌∙◌, ℕ, zero, suc, ◌+◌, ◌≤◌, ◌<◌, Bool, true, false, not, List, [], ◌∷◌, length, get_or, cond, None, arith, ⊎_elim, zero-add, not-suc-le-zero, le_of_suc-le-suc, eqb, lit<, eqb-true}
 use Rattle.std.specs.List.{count_by, enumerate_from}
 use Rattle.std.proofs.lemmas.List.Sums.{count_by-le-length, sum_by-cons}
 use Rattle.std.proofs.lemmas.List.FromFn.{length-enumerate_from, get_or-enumerate_from}
-use mathlib.Core.Logic.{⊎_elim}
-use native.Mathlib.Nat.{zero-add, not-suc-le-zero, le_of_suc-le-suc}
-use lib.Dec.{eqb, lit<}
-use borrow.Author.Tests.{eqb-true}
 use Rattle.bits.specs.Bit.{clearIn}
 use Rattle.bits.proofs.Picks.{tested}
 use Rattle.refusals.specs.First.{first_of}

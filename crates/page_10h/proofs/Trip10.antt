@@ -1,17 +1,8 @@
 -- Page 10h, there and back, and its refusals exactly. Assumes nothing.
-use mathlib.Core.Path.{◌≡◌, refl, sym, ap, ◌∙◌}
-use mathlib.Core.Bool.{Bool, true, false, not, ◌&&◌, ◌||◌}
-use mathlib.Core.List.{List}
-use Prim.Native.Nat.{ℕ, ◌+◌, ◌/◌, ◌%◌, ◌^◌, ◌<◌}
-use native.Mathlib.Omega.{arith}
-use lib.Dec.{eqb}
-use lib.ListN.{length, take, drop, length-set}
-use lib.Seq.{take_at}
-use borrow.Author.Tests.{ltb-true, eq-eqb, ne_eqb, eqb-true}
+use Rattle.std.proofs.Common.{Ok, ◌≡◌, refl, sym, ap, ◌∙◌, Bool, true, false, not, ◌&&◌, ◌||◌, List, ℕ, ◌+◌, ◌/◌, ◌%◌, ◌^◌, ◌<◌, arith, eqb, length, take, drop, length-set, take_at, ltb-true, eq-eqb, ne_eqb, eqb-true}
 use Rattle.bits.specs.Pick.{pick}
 use Rattle.bits.specs.Bit.{bitIn}
 use Rattle.refusals.specs.First.{first_of}
-use Rattle.std.proofs.Common.{Ok}
 use Rattle.frame_parts.specs.Shared.{registerBytes, below, taskFits}
 use Rattle.frame_parts.specs.Emit.{WriteGiven}
 use Rattle.frame_parts.specs.declared.shared.Task.{Task}

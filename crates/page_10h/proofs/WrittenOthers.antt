@@ -1,10 +1,7 @@
 -- A page 10h as a writer wrote it has no bit set but those of its fields and of its sum. Assumes nothing.
-use Rattle.std.proofs.Common.{rules, ◌≡◌, not, ◌||◌, refl, sym, ℕ, ◌+◌, ◌%◌, Bool, true, false, List, length, take, drop, Ok, arith}
+use Rattle.std.proofs.Common.{rules, ◌≡◌, not, ◌||◌, refl, sym, ℕ, ◌+◌, ◌%◌, Bool, true, false, List, length, take, drop, Ok, arith, eqb, eqb→eq, take_at, eqb-true}
 use Rattle.std.specs.List.{count_by, enumerate_from}
 use Rattle.std.specs.Int.Bits.{and_zero_r}
-use lib.Dec.{eqb, eqb→eq}
-use lib.Seq.{take_at}
-use borrow.Author.Tests.{eqb-true}
 use Rattle.bits.specs.Bit.{clearIn}
 use Rattle.bits.proofs.Picks.{and_right}
 use Rattle.bits.proofs.Tables.{below_all}

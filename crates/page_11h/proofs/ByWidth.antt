@@ -1,9 +1,5 @@
 -- A number is read as it was written: one law over the width. Assumes nothing.
-use mathlib.Core.Path.{◌≡◌, refl, ◌∙◌}
-use mathlib.Core.List.{List}
-use Prim.Native.Nat.{ℕ, zero, suc, ◌+◌, ◌*◌, ◌^◌, ◌<◌}
-use native.Mathlib.Omega.{arith}
-use lib.ListN.{get_or}
+use Rattle.std.proofs.Common.{◌≡◌, refl, ◌∙◌, List, ℕ, zero, suc, ◌+◌, ◌*◌, ◌^◌, ◌<◌, arith, get_or}
 use Rattle.bits.specs.Little.{leAt, le_bytes}
 use Rattle.bits.proofs.Littles.{le-leBytes}
 

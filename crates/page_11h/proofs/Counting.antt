@@ -1,12 +1,7 @@
 -- The count of the entries that are none of the sixteen counters, over the walk. Assumes nothing.
-use Rattle.std.proofs.Common.{◌≡◌, refl, ap, sym, ◌∙◌, Bool, true, false, List, [], ◌∷◌, length, ℕ, zero, suc, ◌+◌, ◌-◌, ◌≤◌, ◌<◌, Option, Some, None, Result, Ok, Err, cond, arith}
+use Rattle.std.proofs.Common.{◌≡◌, refl, ap, sym, ◌∙◌, Bool, true, false, List, [], ◌∷◌, length, ℕ, zero, suc, ◌+◌, ◌-◌, ◌≤◌, ◌<◌, Option, Some, None, Result, Ok, Err, cond, arith, ◌||◌, ⊎_elim, lit<, eq-eqb, zero-add}
 use Rattle.std.specs.List.{count_by}
 use Rattle.std.proofs.lemmas.List.Sums.{sum_by-cons, count_by-le-length}
-use mathlib.Core.Bool.{◌||◌}
-use mathlib.Core.Logic.{⊎_elim}
-use lib.Dec.{lit<}
-use borrow.Author.Tests.{eq-eqb}
-use native.Mathlib.Nat.{zero-add}
 use Rattle.bits.specs.Pick.{pick}
 use Rattle.bits.proofs.Picks.{by-test, pick_yes, tested, or_left}
 use Rattle.page_sum.specs.Sum.{sum256}

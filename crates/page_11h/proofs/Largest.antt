@@ -1,15 +1,5 @@
 -- A value is said to be at the top exactly where it is the largest of the entry that it was read from. Assumes nothing.
-use mathlib.Core.Path.{◌≡◌, ap, sym, ◌∙◌}
-use mathlib.Core.Bool.{true, false, ◌||◌}
-use mathlib.Core.Logic.{⊎_elim}
-use mathlib.Core.List.{List, [], ◌∷◌}
-use Prim.Native.Nat.{ℕ, suc, ◌*◌, ◌-◌, ◌^◌, ◌<◌, ◌≤◌, min, suc-le-suc}
-use native.Mathlib.Nat.{zero-lt-suc}
-use native.Mathlib.Omega.{arith}
-use lib.Dec.{ltb, leb, lit<}
-use lib.ListN.{length, get_or}
-use borrow.Author.Tests.{ltb-false, eqb-true, eq-eqb}
-use Rattle.std.proofs.Common.{Some, None, Ok}
+use Rattle.std.proofs.Common.{Some, None, Ok, ◌≡◌, ap, sym, ◌∙◌, true, false, ◌||◌, ⊎_elim, List, [], ◌∷◌, ℕ, suc, ◌*◌, ◌-◌, ◌^◌, ◌<◌, ◌≤◌, min, suc-le-suc, zero-lt-suc, arith, ltb, leb, lit<, length, get_or, ltb-false, eqb-true, eq-eqb}
 use Rattle.std.specs.List.{list_any, count_by}
 use Rattle.refusals.specs.First.{first_of, Iff}
 use Rattle.refusals.proofs.FirstLaws as firsts

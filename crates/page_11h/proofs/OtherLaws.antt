@@ -1,11 +1,8 @@
 -- The entries that are none of the sixteen counters are just those that no row's number asks for. Assumes nothing.
-use Rattle.std.proofs.Common.{◌≡◌, refl, sym, ◌∙◌, true, false, List, [], ◌∷◌, length, get_or, ℕ, zero, suc, ◌+◌, ◌<◌, Option, Some, None, cond, arith}
+use Rattle.std.proofs.Common.{◌≡◌, refl, sym, ◌∙◌, true, false, List, [], ◌∷◌, length, get_or, ℕ, zero, suc, ◌+◌, ◌<◌, Option, Some, None, cond, arith, ⊎_elim, not-suc-le-zero, le_of_suc-le-suc, eq-eqb, ne_eqb}
 use Rattle.std.specs.List.{count_by}
 use Rattle.std.specs.Option.{is_none}
 use Rattle.std.proofs.lemmas.List.Sums.{sum_by-cons}
-use mathlib.Core.Logic.{⊎_elim}
-use native.Mathlib.Nat.{not-suc-le-zero, le_of_suc-le-suc}
-use borrow.Author.Tests.{eq-eqb, ne_eqb}
 use Rattle.bits.proofs.Picks.{tested, or_left, or_right}
 use Rattle.page_rows.specs.Rows.{id_of, row_of}
 use Rattle.page_rows.proofs.RowLaws.{row-only, row-missing}

@@ -1,10 +1,5 @@
 -- What is read where of page 11h as it is made: each kept row's identifier and value, and 0000h behind the last. Assumes nothing.
-use mathlib.Core.Path.{◌≡◌, ◌∙◌}
-use mathlib.Core.Bool.{true}
-use mathlib.Core.List.{List}
-use Prim.Native.Nat.{ℕ, suc, ◌+◌, ◌^◌, ◌<◌}
-use native.Mathlib.Omega.{arith}
-use lib.ListN.{get_or}
+use Rattle.std.proofs.Common.{◌≡◌, ◌∙◌, true, List, ℕ, suc, ◌+◌, ◌^◌, ◌<◌, arith, get_or}
 use Rattle.bits.specs.Little.{leAt}
 use Rattle.page_rows.specs.Rows.{id_of, kept}
 use Rattle.page_rows.specs.Made11.{page11}

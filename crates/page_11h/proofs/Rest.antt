@@ -1,11 +1,9 @@
 -- The answer for a list of entries, with what is found so far, entry by entry: from it the four clauses of refusal 22 follow. Assumes nothing.
-use Rattle.std.proofs.Common.{◌≡◌, refl, ap, sym, ◌∙◌, Bool, true, false, List, [], ◌∷◌, ℕ, suc, Option, Some, None, Result, Ok, Err, cond}
+use Rattle.std.proofs.Common.{◌≡◌, refl, ap, sym, ◌∙◌, Bool, true, false, List, [], ◌∷◌, ℕ, suc, Option, Some, None, Result, Ok, Err, cond, ◌||◌, one-add, zero-add, leb}
 use Rattle.std.specs.List.{list_any, count_by}
 use Rattle.std.proofs.lemmas.List.Sums.{sum_by-cons}
-use mathlib.Core.Bool.{◌||◌, or-true}
-use native.Mathlib.Numerals.{one-add}
-use native.Mathlib.Nat.{zero-add}
-use lib.Dec.{leb, leb-zero, leb-suc-suc}
+use mathlib.Core.Bool.{or-true}
+use lib.Dec.{leb-zero, leb-suc-suc}
 use Rattle.bits.specs.Pick.{pick}
 use Rattle.bits.proofs.Picks.{pick_yes}
 use Rattle.refusals.specs.declared.reasons.Refusal.{Refusal}

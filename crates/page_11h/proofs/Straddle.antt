@@ -1,12 +1,5 @@
 -- Places are even, so that no identifier straddles 508: of refusal 22's second clause only values' ends are left. Assumes nothing.
-use mathlib.Core.Path.{◌≡◌, refl, ap₂}
-use mathlib.Core.Bool.{Bool, true, false, ◌||◌}
-use mathlib.Core.Logic.{⊎_elim}
-use mathlib.Core.List.{List, []}
-use Prim.Native.Nat.{ℕ, zero, suc, ◌+◌, ◌%◌, ◌<◌}
-use native.Mathlib.Omega.{arith}
-use lib.Dec.{ltb, leb, eqb}
-use borrow.Author.Tests.{leb-false, le-ltb}
+use Rattle.std.proofs.Common.{◌≡◌, refl, ap₂, Bool, true, false, ◌||◌, ⊎_elim, List, [], ℕ, zero, suc, ◌+◌, ◌%◌, ◌<◌, arith, ltb, leb, eqb, leb-false, le-ltb}
 use Rattle.bits.proofs.Picks.{by-test, tested, or_left}
 use Rattle.page_11h.specs.Entries.{CounterEntry, entry_at, id_at, end_of, wrongWidth, pastEnd, entriesFrom, entries}
 use Rattle.std.specs.List.{list_any}

@@ -1,11 +1,10 @@
 -- Each public function's own contract: what it says, and that two answers which it allows are equal. Assumes nothing.
+use Rattle.std.proofs.Common.{not, ◌≡◌, refl}
 use Rattle.page_11h.specs.Entries.{idAsked}
 use Rattle.page_11h.specs.Top.{atTop}
 use Rattle.page_11h.specs.Page11.{noNumber, PageCounterGiven}
 use Rattle.page_11h.specs.Others.{idOther, OthersGiven}
 use Rattle.page_11h.specs.WalkStep.{stepAt}
-use mathlib.Core.Bool.{not}
-use mathlib.Core.Path.{◌≡◌, refl}
 use Rattle.bits.specs.Contract.{Tied}
 use Rattle.bits.proofs.Tying.{same, say, by, named}
 use Rattle.page_11h.proofs.identifier

@@ -1,13 +1,6 @@
 -- The round trip of page 11h: of every number 1 to 4095, a kept row's value is read, and any other number is absent. Assumes nothing.
-use mathlib.Core.Path.{◌≡◌, refl, ap, sym, ◌∙◌}
-use mathlib.Core.Bool.{Bool, true, false, ◌&&◌}
-use mathlib.Core.Logic.{⊎_elim}
-use mathlib.Core.List.{List}
-use Prim.Native.Nat.{ℕ, zero, suc, ◌+◌, ◌/◌, ◌%◌, ◌^◌, ◌<◌, ◌≤◌}
-use native.Mathlib.Omega.{arith}
-use borrow.Author.Tests.{eq-eqb, ne_eqb, lt-leb, le-ltb, eqb-true, eqb-false}
-use lib.Dec.{eqb}
-use lib.ListN.{get_or}
+use Rattle.std.proofs.Common.{Option, Some, None, Ok, ◌≡◌, refl, ap, sym, ◌∙◌, Bool, true, false, ◌&&◌, ⊎_elim, List, ℕ, zero, suc, ◌+◌, ◌/◌, ◌%◌, ◌^◌, ◌<◌, ◌≤◌, arith, eq-eqb, ne_eqb, le-ltb, eqb-true, eqb, get_or}
+use borrow.Author.Tests.{lt-leb, eqb-false}
 use Rattle.bits.specs.Pick.{pick}
 use Rattle.bits.proofs.Picks.{pick_yes, pick_no, tested}
 use Rattle.page_rows.specs.Rows.{id_of, kept, row_of}
@@ -16,7 +9,6 @@ use Rattle.page_11h.specs.Page11.{rowValue, readCounter}
 use Rattle.page_11h.specs.WalkStep.{faulty, walkEntry, stepAt}
 use Rattle.page_rows.specs.Made11.{rows_to, page11}
 use Rattle.page_11h.specs.declared.value.CounterValue.{CounterValue}
-use Rattle.std.proofs.Common.{Option, Some, None, Ok}
 use Rattle.page_rows.proofs.RowLaws.{id-small, id-positive, id_other, row-only, row-missing}
 use Rattle.page_11h.proofs.Walking.{ends, step_end, step_entry, fromHere, turn-here, reads-walk}
 use Rattle.page_rows.proofs.Filling.{length-kept, length-skip, rows_short}

@@ -1,19 +1,9 @@
 -- The value of an entry is read at each width: one law over the width, for every page. Assumes nothing.
-use mathlib.Core.Path.{◌≡◌}
-use mathlib.Core.Bool.{true, false, ◌||◌}
-use mathlib.Core.List.{List, [], ◌∷◌}
-use mathlib.Core.Logic.{⊎_elim}
-use Prim.Native.Nat.{ℕ, zero, suc, ◌+◌, ◌*◌, ◌^◌, ◌≤◌, ◌<◌}
-use native.Mathlib.Nat.{not-suc-le-zero, le_of_suc-le-suc}
-use native.Mathlib.Omega.{arith}
-use lib.Dec.{leb, lit<}
-use lib.ListN.{length, get_or}
-use borrow.Author.Tests.{leb-false}
+use Rattle.std.proofs.Common.{Some, None, Ok, cond, ◌≡◌, true, false, ◌||◌, List, [], ◌∷◌, ⊎_elim, ℕ, zero, suc, ◌+◌, ◌*◌, ◌^◌, ◌≤◌, ◌<◌, not-suc-le-zero, le_of_suc-le-suc, arith, leb, lit<, length, get_or, leb-false}
 use Rattle.refusals.specs.First.{first_of}
 use Rattle.bits.specs.Little.{le_bytes}
 use Rattle.bits.proofs.Picks.{tested, or_right}
 use Rattle.refusals.proofs.FirstLaws as firsts
-use Rattle.std.proofs.Common.{Some, None, Ok, cond}
 use Rattle.std.specs.List.{list_any, count_by}
 use Rattle.std.proofs.lemmas.List.Sums.{sum_by-cons}
 use Rattle.page_11h.specs.Entries.{CounterEntry, counterEntry, width_of, entryAsked, entries, wrongWidth, pastEnd, nameless}

@@ -1,10 +1,5 @@
 -- The reader's walk: an entry lies within 508 bytes and leads on, and one step of the walk is one entry of the page. Assumes nothing.
-use Rattle.std.proofs.Common.{◌≡◌, refl, ap, ap₂, sym, ◌∙◌, Bool, true, false, List, [], ◌∷◌, ℕ, zero, suc, ◌+◌, ◌-◌, ◌<◌, ◌≤◌, length, arith, Option, Some, None, Result, Ok, Err}
-use mathlib.Core.Bool.{◌||◌}
-use mathlib.Core.Logic.{⊎_elim}
-use Prim.Native.Nat.{min}
-use lib.Dec.{ltb, leb, eqb}
-use borrow.Author.Tests.{ltb-false, leb-false, le-leb, le-ltb, eq-eqb}
+use Rattle.std.proofs.Common.{◌≡◌, refl, ap, ap₂, sym, ◌∙◌, Bool, true, false, List, [], ◌∷◌, ℕ, zero, suc, ◌+◌, ◌-◌, ◌<◌, ◌≤◌, length, arith, Option, Some, None, Result, Ok, Err, ◌||◌, ⊎_elim, min, ltb, leb, eqb, ltb-false, leb-false, le-leb, le-ltb, eq-eqb}
 use Rattle.bits.specs.Pick.{pick}
 use Rattle.bits.specs.Little.{leAt, NumberGiven}
 use Rattle.bits.proofs.Picks.{by-test, pick_yes, pick_no, tested, or_left, or_right}

@@ -1,13 +1,6 @@
 -- Page 11h as a writer wrote it, read for any number: the value of a kept row, and else absent. Assumes nothing.
-use mathlib.Core.Path.{◌≡◌, refl, sym, ap, ◌∙◌}
-use mathlib.Core.Bool.{true, false}
-use mathlib.Core.List.{List}
-use mathlib.Core.Logic.{⊎_elim}
-use Prim.Native.Nat.{ℕ, ◌^◌, ◌<◌}
-use lib.Dec.{eqb}
-use lib.ListN.{length, get_or, take, drop}
-use lib.Seq.{take_at}
-use borrow.Author.Tests.{eqb-true, eqb-false}
+use Rattle.std.proofs.Common.{Option, Some, None, Ok, ◌≡◌, refl, sym, ap, ◌∙◌, true, false, List, ⊎_elim, ℕ, ◌^◌, ◌<◌, eqb, length, get_or, take, drop, take_at, eqb-true}
+use borrow.Author.Tests.{eqb-false}
 use Rattle.bits.proofs.Picks.{pick_yes, pick_no, tested}
 use Rattle.frame_parts.specs.Emit.{WriteGiven}
 use Rattle.frame_parts.proofs.EmitLaws.{wrote-all}
@@ -18,7 +11,6 @@ use Rattle.page_rows.specs.Made11.{page11, shownFor, onRow}
 use Rattle.page_rows.proofs.RowLaws.{row-only, row-missing, id_other}
 use Rattle.page_rows.proofs.Bytes11.{page-sum}
 use Rattle.page_11h.proofs.Trip11.{kept-reads, unkept-absent}
-use Rattle.std.proofs.Common.{Option, Some, None, Ok}
 use Rattle.std.specs.Option.{option_map}
 
 module _ (mask : ℕ) (values : List ℕ) where

@@ -1,7 +1,5 @@
 -- A page 11h as a writer wrote it has no entry but the sixteen counters'. Assumes nothing.
-use Rattle.std.proofs.Common.{◌≡◌, refl, ap, ◌∙◌, true, false, List, length, take, drop, ℕ, zero, suc, ◌+◌, ◌<◌, ◌≤◌, Ok, arith}
-use mathlib.Core.Logic.{⊎_elim}
-use lib.Seq.{take_at}
+use Rattle.std.proofs.Common.{◌≡◌, refl, ap, ◌∙◌, true, false, List, length, take, drop, ℕ, zero, suc, ◌+◌, ◌<◌, ◌≤◌, Ok, arith, ⊎_elim, take_at}
 use Rattle.bits.proofs.Picks.{tested}
 use Rattle.frame_parts.specs.Emit.{WriteGiven}
 use Rattle.frame_parts.proofs.EmitLaws.{wrote-all}

@@ -1,6 +1,6 @@
 -- One word of a page after the other, its bytes swapped. Assumes nothing.
-use Rattle.std.proofs.Common.{◌≡◌, ℕ, ◌+◌, ◌*◌, ◌<◌, ◌≤◌, List, ◌++◌, length, get_or, take, drop, sym, arith}
-use Rattle.std.proofs.lemmas.List.{append_assoc, append-nil, drop-set-lt, drop_all, take_all}
+use Rattle.std.proofs.Common.{◌≡◌, ℕ, ◌+◌, ◌*◌, ◌<◌, ◌≤◌, List, ◌++◌, length, get_or, take, drop, sym, arith, append_assoc, append-nil, drop-set-lt, take_all}
+use Rattle.std.proofs.lemmas.List.{drop_all}
 use Rattle.std.proofs.lemmas.List.Edits.{swap_is}
 use Rattle.std.proofs.Math.ListN.{set}
 use Rattle.std.specs.List.{swap}

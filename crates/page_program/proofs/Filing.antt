@@ -1,6 +1,6 @@
 -- The sections of files, one behind the other. Assumes nothing.
-use Rattle.std.proofs.Common.{map, take, drop, length, get_or, ◌<◌, ◌≤◌, ◌+◌, ltb, subst, take-append-drop, ◌≡◌, ℕ, Bool, List, [], ◌∷◌, ◌++◌, max, Option, Some, None, refl, sym, ap, ◌∙◌, append-nil, append_assoc, arith}
-use Rattle.std.proofs.lemmas.List.{take_all, map_more, map-append}
+use Rattle.std.proofs.Common.{map, take, drop, length, get_or, ◌<◌, ◌≤◌, ◌+◌, ltb, subst, take-append-drop, ◌≡◌, ℕ, Bool, List, [], ◌∷◌, ◌++◌, max, Option, Some, None, refl, sym, ap, ◌∙◌, append-nil, append_assoc, arith, take_all, codes}
+use Rattle.std.proofs.lemmas.List.{map_more, map-append}
 use Rattle.std.proofs.KnownBytes.{Appends-trans}
 use Rattle.std.specs.Borrow.{Bor}
 use Rattle.std.specs.Io.KnownBytes.{Appends}
@@ -14,7 +14,6 @@ use Rattle.page_program.specs.Opened.{Agrees}
 use Rattle.page_program.specs.Sections.{OwesOpened, OwesFile, OwesFiles, heading}
 use Rattle.page_program.specs.Written.{Tells, TellsFront}
 use Rattle.page_program.proofs.Owing.{appends-none}
-use Rattle.std.specs.Prelude.{codes}
 
 -- each file has a section that it may have
 pub some-section : (query : Query) (many : Bool) (held : Option (Option (List ℕ))) (name : List ℕ)

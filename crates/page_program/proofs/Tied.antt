@@ -1,5 +1,5 @@
 -- The public functions' own contracts: what they say. A run reads from any reader and any shelf and writes to any writer, and may go more than one way. Assumes nothing.
-use mathlib.Core.Path.{refl}
+use Rattle.std.proofs.Common.{refl, ◌≡◌, [], map}
 use denote.Param.Laws.{Laws}
 use denote.RattleType.{RattleType}
 use mir.Syntax.{Dict}
@@ -8,7 +8,6 @@ use Rattle.bits.proofs.Tying.{named, say}
 use Rattle.std.specs.declared.io.traits.Read as Reader
 use Rattle.std.specs.declared.io.traits.Write as Writer
 use Rattle.page_program.specs.declared.shelf.Shelf as Shelves
-use Rattle.std.specs.Prelude.{◌≡◌, [], map}
 use Rattle.page_program.specs.Answers.{status_of}
 use Rattle.page_program.specs.Runs.{Ran, exit_status_of}
 use Rattle.page_program.proofs.answers

@@ -1,14 +1,6 @@
 -- What stands where in page 11h as it is made: 512 bytes, a sum of 0, each kept row, and then zeros. Assumes nothing.
-use mathlib.Core.Path.{◌≡◌, refl, ap, ◌∙◌}
-use mathlib.Core.Bool.{true}
-use mathlib.Core.Logic.{⊎_elim}
-use mathlib.Core.List.{List, ◌++◌}
-use Prim.Native.Nat.{ℕ, zero, suc, ◌+◌, ◌-◌, ◌<◌, ◌≤◌}
-use native.Mathlib.Omega.{arith}
-use borrow.Author.Tests.{leb-true, leb-false}
-use lib.Dec.{leb}
-use lib.ListN.{length, get_or, replicate, length-set, get_or-replicate, get_or-append}
-use lib.Seq.{get_or-set_other, get_or-append-add}
+use Rattle.std.proofs.Common.{◌≡◌, refl, ap, ◌∙◌, true, ⊎_elim, List, ◌++◌, ℕ, zero, suc, ◌+◌, ◌-◌, ◌<◌, ◌≤◌, arith, leb-true, leb-false, leb, length, get_or, replicate, length-set, get_or-set_other, get_or-append-add}
+use lib.ListN.{get_or-replicate, get_or-append}
 use Rattle.bits.specs.Little.{le_bytes}
 use Rattle.bits.proofs.Picks.{tested}
 use Rattle.page_rows.specs.Rows.{id_of, kept}

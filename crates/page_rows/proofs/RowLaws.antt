@@ -1,9 +1,7 @@
 -- Laws of the sixteen rows: each identifier has its row, and no other number has one. Assumes nothing.
-use Rattle.std.proofs.Common.{◌≡◌, refl, ap, sym, ◌∙◌, Bool, false, [], ◌∷◌, ℕ, ◌<◌, ◌≤◌, length, Option, Some, None}
+use Rattle.std.proofs.Common.{◌≡◌, refl, ap, sym, ◌∙◌, Bool, false, [], ◌∷◌, ℕ, ◌<◌, ◌≤◌, length, Option, Some, None, T, eqb, ltb, eqb→eq, ltb→lt, eqb-true}
 use Rattle.std.proofs.lemmas.List.Quantifiers.{position-Some}
-use lib.Dec.{T, eqb, ltb, eqb→eq, ltb→lt}
 use lib.ListN.{get_or-eq_default}
-use borrow.Author.Tests.{eqb-true}
 use Rattle.bits.specs.Answer.{Answer}
 use Rattle.bits.proofs.Tables.{below_all}
 use Rattle.page_rows.specs.Rows.{ids, id_of, row_of, placeAnswer}

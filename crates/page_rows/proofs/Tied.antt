@@ -1,8 +1,8 @@
 -- Each public function's own contract: what it says, and that two answers which it allows are equal. Assumes nothing.
+use Rattle.std.proofs.Common.{◌≡◌, refl}
 use Rattle.page_rows.specs.Made11.{page11, countersPage, onRow}
 use Rattle.page_rows.specs.Rows.{keepsBoth, kept, row_of}
 use Rattle.frame_parts.specs.Emit.{WriteGiven}
-use mathlib.Core.Path.{◌≡◌, refl}
 use Rattle.bits.specs.Contract.{Tied}
 use Rattle.bits.proofs.Tying.{say, by, named}
 use Rattle.frame_parts.proofs.EmitLaws.{emitted-once}

@@ -1,6 +1,6 @@
 -- Each public function's own contract: what it says, and that two answers which it allows are equal. Assumes nothing.
+use Rattle.std.proofs.Common.{◌≡◌, refl}
 use Rattle.page_sum.specs.Sum.{sum256, sealed}
-use mathlib.Core.Path.{◌≡◌, refl}
 use Rattle.bits.specs.Contract.{Tied}
 use Rattle.bits.proofs.Tying.{same, say, by, named}
 use Rattle.page_sum.proofs.sums

@@ -1,10 +1,5 @@
 -- How long a page's text is at most. Assumes nothing.
-use Rattle.std.proofs.Common.{◌≡◌, ℕ, ◌+◌, ◌*◌, ◌^◌, ◌<◌, ◌≤◌, Bool, true, false, List, [], ◌∷◌, length, get_or, refl, sym, ap, Option, Some, None, Ok, arith, length-append, decimal, codes}
-use mathlib.Core.Logic.{⊎_elim}
-use native.Mathlib.Nat.{lt_of_lt_of_le}
-use lib.Dec.{ltb}
-use lib.Pow.{pow_mono}
-use borrow.Author.Tests.{ltb-true}
+use Rattle.std.proofs.Common.{◌≡◌, ℕ, ◌+◌, ◌*◌, ◌^◌, ◌<◌, ◌≤◌, Bool, true, false, List, [], ◌∷◌, length, get_or, refl, sym, ap, Option, Some, None, Ok, arith, length-append, decimal, codes, ⊎_elim, lt_of_lt_of_le, ltb, pow_mono, ltb-true}
 use Rattle.std.proofs.lemmas.Fmt.{length-decimal-le}
 use Rattle.std.specs.List.{list_all, count_by, enumerate_from}
 use Rattle.bits.specs.Little.{leAt, Bytes}

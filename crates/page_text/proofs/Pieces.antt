@@ -1,10 +1,6 @@
 -- How long the pieces of a page's text are. Assumes nothing.
-use Rattle.std.proofs.Common.{◌≡◌, ℕ, zero, suc, ◌+◌, ◌/◌, ◌%◌, ◌^◌, ◌<◌, ◌≤◌, true, false, List, [], ◌∷◌, length, refl, Result, Ok, Err, arith, length-append}
-use mathlib.Core.Logic.{⊎_elim}
-use native.Mathlib.Nat.{pow-suc}
-use lib.Dec.{eqb}
+use Rattle.std.proofs.Common.{◌≡◌, ℕ, zero, suc, ◌+◌, ◌/◌, ◌%◌, ◌^◌, ◌<◌, ◌≤◌, true, false, List, [], ◌∷◌, length, refl, Result, Ok, Err, arith, length-append, ⊎_elim, pow-suc, eqb, eq-eqb}
 use lib.ListN.{length-replicate}
-use borrow.Author.Tests.{eq-eqb}
 use Rattle.std.proofs.lemmas.Fmt.{length-decimal-le}
 use Rattle.std.specs.Fmt.{digit_glyph, digits_onto, digits, padded_integral, char_count}
 use Rattle.bits.proofs.Picks.{tested}

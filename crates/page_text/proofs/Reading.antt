@@ -1,8 +1,7 @@
 -- The sixteen numbers of page 11h, asked one after the other. Assumes nothing.
-use Rattle.std.proofs.Common.{◌≡◌, ℕ, ◌+◌, ◌<◌, ◌≤◌, List, [], ◌∷◌, ◌++◌, length, drop, take, map, set, get_or, None, arith, refl, sym, ap, ◌∙◌, append_assoc, append-nil, add-one, drop-cons, Option, Result, Ok, Err}
-use lib.ListN.{drop_of_length-le}
-use lib.Seq.{map-set_same, take_all}
-use Rattle.std.proofs.lemmas.List.{take_more_set, get_or-map, length-map, ext_get_or}
+use Rattle.std.proofs.Common.{◌≡◌, ℕ, ◌+◌, ◌<◌, ◌≤◌, List, [], ◌∷◌, ◌++◌, length, drop, take, map, set, get_or, None, arith, refl, sym, ap, ◌∙◌, append_assoc, append-nil, add-one, drop-cons, Option, Result, Ok, Err, drop_of_length-le, take_all, ext_get_or}
+use lib.Seq.{map-set_same}
+use Rattle.std.proofs.lemmas.List.{take_more_set, get_or-map, length-map}
 use Rattle.refusals.specs.declared.reasons.Refusal.{Refusal}
 use Rattle.page_rows.specs.Rows.{ids}
 use Rattle.page_rows.proofs.RowLaws.{length_ids}

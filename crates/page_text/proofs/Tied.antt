@@ -1,10 +1,9 @@
 -- Each public function's own contract, over any writer: what it says. A write may fail, and then the contract says nothing. Assumes nothing.
-use mathlib.Core.List.{[]}
+use Rattle.std.proofs.Common.{[], ◌≡◌, OnOk, IfOk}
 use denote.Param.Laws.{Laws}
 use denote.RattleType.{RattleType}
 use mir.Syntax.{Dict}
 use Rattle.bits.specs.Contract.{SaysOver}
-use Rattle.std.specs.Prelude.{◌≡◌, OnOk, IfOk}
 use Rattle.std.specs.Io.KnownBytes.{Appends}
 use Rattle.std.specs.declared.io.traits.Write as Writer
 use Rattle.refusals.specs.First.{refusal_in}

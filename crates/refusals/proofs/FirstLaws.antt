@@ -1,9 +1,5 @@
 -- The law of refusals: what `first_of` gives is given exactly when it should be. Assumes nothing.
-use Rattle.std.proofs.Common.{◌≡◌, refl, sym, ap, Bool, true, false, not, List, [], ◌∷◌, ℕ, zero, suc, ◌<◌, length, get_or, Option, Some, None, Result, Ok, Err}
-use Prim.Native.Nat.{suc-le-suc}
-use native.Mathlib.Nat.{not-suc-le-zero, le_of_suc-le-suc, zero-lt-suc}
-use lib.Dec.{T, eqb}
-use borrow.Author.Tests.{eq-eqb}
+use Rattle.std.proofs.Common.{◌≡◌, refl, sym, ap, Bool, true, false, not, List, [], ◌∷◌, ℕ, zero, suc, ◌<◌, length, get_or, Option, Some, None, Result, Ok, Err, suc-le-suc, not-suc-le-zero, le_of_suc-le-suc, zero-lt-suc, T, eqb, eq-eqb}
 use Rattle.bits.specs.Pick.{pick}
 use Rattle.bits.proofs.Picks.{by-test}
 use Rattle.bits.proofs.Tables.{both_left, both_right}

@@ -1,9 +1,5 @@
 -- What each act's replies ask of it, so that every one of them can be written. Assumes nothing.
-use mathlib.Core.Path.{◌≡◌}
-use mathlib.Core.Bool.{true}
-use mathlib.Core.List.{List, [], ◌∷◌}
-use Prim.Native.Nat.{ℕ, ◌^◌, ◌<◌}
-use lib.ListN.{length}
+use Rattle.std.proofs.Common.{◌≡◌, true, List, [], ◌∷◌, ℕ, ◌^◌, ◌<◌, length}
 use Rattle.bits.specs.Little.{Bytes}
 use Rattle.frame_parts.specs.Shared.{taskFits}
 use Rattle.frame_parts.specs.Size.{payloadSize}

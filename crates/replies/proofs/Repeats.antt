@@ -1,9 +1,5 @@
 -- A device register reply repeats bytes 4-10 and 12-13 of the command. Assumes nothing.
-use mathlib.Core.Path.{◌≡◌, refl, ap}
-use mathlib.Core.Bool.{true}
-use mathlib.Core.List.{List, [], ◌∷◌}
-use Rattle.std.proofs.Common.{Option}
-use Prim.Native.Nat.{ℕ}
+use Rattle.std.proofs.Common.{Option, ◌≡◌, refl, ap, true, List, [], ◌∷◌, ℕ}
 use Rattle.frame_parts.specs.Shared.{taskFits}
 use Rattle.frame_parts.specs.declared.shared.Task.{Task}
 use Rattle.frames.specs.Write.{FrameValue}

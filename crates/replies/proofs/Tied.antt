@@ -1,10 +1,7 @@
 -- Each public function's own contract: what it says, and that two answers which it allows are equal. Assumes nothing.
+use Rattle.std.proofs.Common.{leb, length, [], ◌≡◌, refl}
 use Rattle.bits.specs.Pick.{pick}
 use Rattle.replies.specs.Replies.{RepliesGiven, logOf, repliesOf}
-use lib.Dec.{leb}
-use lib.ListN.{length}
-use mathlib.Core.List.{[]}
-use mathlib.Core.Path.{◌≡◌, refl}
 use Rattle.bits.specs.Contract.{Tied}
 use Rattle.bits.proofs.Tying.{same, say, by, named}
 use Rattle.replies.proofs.emitting

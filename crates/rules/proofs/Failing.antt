@@ -1,7 +1,5 @@
 -- The bytes of a command with another LBA. Assumes nothing.
-use mathlib.Core.Path.{◌≡◌, ap₂}
-use Prim.Native.Nat.{ℕ, ◌+◌, ◌*◌, ◌/◌, ◌%◌, ◌<◌}
-use native.Mathlib.Omega.{arith}
+use Rattle.std.proofs.Common.{◌≡◌, ap₂, ℕ, ◌+◌, ◌*◌, ◌/◌, ◌%◌, ◌<◌, arith}
 use Rattle.device_state.specs.State.{taskIn, echoOf}
 use Rattle.device_state.specs.declared.shapes.Echo.{Echo}
 use Rattle.rules.specs.Act.{failing}

@@ -1,6 +1,5 @@
 -- A call is refused by the first of its tests that holds. Assumes nothing.
-use mathlib.Core.Path.{◌≡◌, sym, subst}
-use mathlib.Core.Bool.{true}
+use Rattle.std.proofs.Common.{◌≡◌, sym, subst, true}
 use Rattle.refusals.specs.First.{first_of, FirstExactly, refusal_in}
 use Rattle.refusals.proofs.FirstLaws as firsts
 use Rattle.rules.specs.Call.{Call}

@@ -1,10 +1,6 @@
 -- How a call is decided: the rule that holds, with what it found. A proof about calls goes by these cases. Assumes nothing.
-use mathlib.Core.Path.{◌≡◌, refl}
-use mathlib.Core.Bool.{Bool, true, false, not, ◌&&◌, ◌||◌, true≢false, false≢true}
-use mathlib.Core.List.{List, []}
-use Rattle.std.proofs.Common.{Some, None, is_none, Result, Ok, Err}
-use Prim.Native.Nat.{ℕ, ◌+◌}
-use lib.Dec.{eqb, ltb, leb, lit<}
+use Rattle.std.proofs.Common.{Some, None, is_none, Result, Ok, Err, ◌≡◌, refl, Bool, true, false, not, ◌&&◌, ◌||◌, true≢false, List, [], ℕ, ◌+◌, eqb, ltb, leb, lit<}
+use mathlib.Core.Bool.{false≢true}
 use borrow.Author.Tests.{not-false, not-true}
 use Rattle.bits.specs.Pick.{pick}
 use Rattle.bits.specs.Bit.{bitIn}

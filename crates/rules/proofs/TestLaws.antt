@@ -1,9 +1,5 @@
 -- What holds of every call's row of the refusal table. Assumes nothing.
-use mathlib.Core.Path.{◌≡◌, refl}
-use mathlib.Core.Bool.{Bool, true, false, ◌&&◌, true≢false}
-use mathlib.Core.List.{List, [], ◌∷◌}
-use Rattle.std.proofs.Common.{Some}
-use lib.Dec.{T, ltb}
+use Rattle.std.proofs.Common.{Some, ◌≡◌, refl, Bool, true, false, ◌&&◌, true≢false, List, [], ◌∷◌, T, ltb}
 use Rattle.refusals.specs.First.{Rung, first_of, fresh, apart}
 use Rattle.refusals.specs.Number.{number}
 use Rattle.refusals.specs.declared.reasons.Refusal.TheVariants.{Contradiction, NoFrame}

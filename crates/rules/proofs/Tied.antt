@@ -1,11 +1,11 @@
 -- Each public function's own contract: what it says, and that two answers which it allows are equal. Assumes nothing.
+use Rattle.std.proofs.Common.{◌≡◌, refl}
 use Rattle.rules.specs.Call.{openPhase, sendData, finishTags, mediaError, linkEvent, comReset}
 use Rattle.rules.specs.Tests.{someUnready}
 use Rattle.rules.specs.Act.{act, heardAct}
 use Rattle.rules.specs.Positions.{moveFor}
 use Rattle.rules.specs.Record.{recordOf}
 use Rattle.rules.specs.Medium.{part_of, mediumAfter}
-use mathlib.Core.Path.{◌≡◌, refl}
 use Rattle.bits.specs.Contract.{Tied, Says}
 use Rattle.bits.proofs.Tying.{same, say, by, named}
 use Rattle.rules.proofs.acts

@@ -1,9 +1,9 @@
 -- A read in place: the filled front of a buffer grows by what was read behind it. Assumes nothing.
-use Rattle.std.proofs.Common.{ℕ, ◌+◌, ◌≤◌, List, ◌++◌, Option, length, take, sym, ap, ap₂, subst, ◌∙◌, drop_at, length-take-le}
+use Rattle.std.proofs.Common.{ℕ, ◌+◌, ◌≤◌, List, ◌++◌, Option, length, take, sym, ap, ap₂, subst, ◌∙◌, drop_at, length-take-le, take-add}
 use Rattle.std.specs.Io.KnownBytes.{Consumes}
 use Rattle.std.proofs.KnownBytes.{Consumes-trans}
 use borrow.Rule.Slice.PartMut.{put_mid, post_of, take_put}
-use lib.Seq.{take-add, take-append-le}
+use lib.Seq.{take-append-le}
 
 -- n bytes more, read into the part that begins behind the first f
 pub grows-more : (a b c : Option (List ℕ)) (f k n : ℕ) (l part : List ℕ) → f ≤ length l → n ≤ length part → Consumes a b (take f l) → Consumes b c (take n part) → Consumes a c (take (f + n) (put_mid f k l part))

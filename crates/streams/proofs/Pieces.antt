@@ -1,6 +1,6 @@
 -- A text that is written in pieces: what was written, and the rest that is still to come. Assumes nothing.
-use Rattle.std.proofs.Common.{◌≡◌, ℕ, ◌-◌, List, ◌++◌, Option, length, take, drop, refl, sym, ap, ◌∙◌, subst, append_assoc, take-append-drop}
-use Rattle.std.proofs.lemmas.List.{take_at, take_rest}
+use Rattle.std.proofs.Common.{◌≡◌, ℕ, ◌-◌, List, ◌++◌, Option, length, take, drop, refl, sym, ap, ◌∙◌, subst, append_assoc, take-append-drop, take_at}
+use Rattle.std.proofs.lemmas.List.{take_rest}
 use Rattle.std.specs.Io.KnownBytes.{Appends, Keeps}
 use Rattle.std.proofs.KnownBytes.{Appends-trans, Appends-kept}
 use Rattle.streams.specs.Fronts.{AppendsFront}

@@ -1,10 +1,9 @@
 -- The contracts over any writer and any reader: what they say. A write or a read may go more than one way. Assumes nothing.
-use mathlib.Core.List.{[]}
+use Rattle.std.proofs.Common.{[], ◌≡◌, length, OnOk, OnErr, IfOk}
 use denote.Param.Laws.{Laws}
 use denote.RattleType.{RattleType}
 use mir.Syntax.{Dict}
 use Rattle.bits.specs.Contract.{SaysOver}
-use Rattle.std.specs.Prelude.{◌≡◌, length, OnOk, OnErr, IfOk}
 use Rattle.std.specs.Io.KnownBytes.{Appends}
 use Rattle.std.specs.declared.io.traits.Read as Reader
 use Rattle.std.specs.declared.io.traits.Write as Writer

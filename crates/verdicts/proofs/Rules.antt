@@ -1,7 +1,5 @@
 -- What a verdict tells of its tests. Assumes nothing.
-use mathlib.Core.Path.{◌≡◌, refl, sym, ap, ◌∙◌}
-use mathlib.Core.Bool.{Bool, true, false, true≢false}
-use Rattle.std.proofs.Common.{Option, Some, None, Result, Ok, Err, is_ok}
+use Rattle.std.proofs.Common.{Option, Some, None, Result, Ok, Err, is_ok, ◌≡◌, refl, sym, ap, ◌∙◌, Bool, true, false, true≢false}
 use Rattle.std.specs.Option.{ok_or}
 use Rattle.bits.specs.Pick.{pick}
 use Rattle.verdicts.specs.Queued.{queuedRule}

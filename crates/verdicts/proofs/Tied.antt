@@ -1,11 +1,11 @@
 -- Each public function's own contract: what it says, and that two answers which it allows are equal. Assumes nothing.
+use Rattle.std.proofs.Common.{◌≡◌, refl}
 use Rattle.moves.specs.Amounts.{leftIn}
 use Rattle.moves.specs.Range.{tooFar}
 use Rattle.verdicts.specs.Moved.{longer, notReady}
 use Rattle.verdicts.specs.Errors.{error_byte}
 use Rattle.verdicts.specs.Queued.{tagRefused, queuedRule}
 use Rattle.verdicts.specs.Other.{otherRule, logZeroes}
-use mathlib.Core.Path.{◌≡◌, refl}
 use Rattle.bits.specs.Contract.{Tied}
 use Rattle.bits.proofs.Tying.{say, named}
 use Rattle.verdicts.proofs.commands

@@ -1,12 +1,7 @@
 -- The examples hold: each side computes to the other. Assumes nothing.
-use mathlib.Core.Path.{◌≡◌, refl, sym, ap, subst, ◌∙◌}
-use mathlib.Core.Bool.{Bool, false}
-use mathlib.Core.List.{List, []}
-use Prim.Native.Nat.{ℕ, ◌*◌}
-use lib.ListN.{length, length-replicate}
-use borrow.Author.Tests.{eq-eqb}
+use Rattle.std.proofs.Common.{Result, Ok, Err, ◌≡◌, refl, sym, ap, subst, ◌∙◌, Bool, false, List, [], ℕ, ◌*◌, length, eq-eqb}
+use lib.ListN.{length-replicate}
 use Rattle.bits.specs.Pick.{pick}
-use Rattle.std.proofs.Common.{Result, Ok, Err}
 use Rattle.refusals.specs.First.{first_of}
 use Rattle.refusals.specs.declared.reasons.Refusal.{Refusal}
 use Rattle.frame_parts.specs.Cut.{joined}

@@ -1,5 +1,5 @@
 -- More of what the theorems over every run speak of comes up in two further runs, computed by the definitions. Assumes nothing.
-use mathlib.Core.Path.{refl}
+use Rattle.std.proofs.Common.{refl}
 use Rattle.refusals.specs.First.{first_of}
 use Rattle.bits.specs.Laid.{over}
 use Rattle.bits.specs.Pick.{pick}

@@ -1,11 +1,5 @@
 -- The theorems over every run are not empty: a run in which all that they speak of comes up, computed by the definitions. Assumes nothing.
-use mathlib.Core.Path.{◌≡◌, refl}
-use mathlib.Core.Bool.{Bool, true, ◌&&◌}
-use mathlib.Core.List.{List, [], ◌∷◌}
-use Prim.Native.Nat.{ℕ, zero, suc, ◌^◌}
-use native.Mathlib.Omega.{arith}
-use lib.Dec.{ltb}
-use borrow.Author.Tests.{ltb-true}
+use Rattle.std.proofs.Common.{◌≡◌, refl, Bool, true, ◌&&◌, List, [], ◌∷◌, ℕ, zero, suc, ◌^◌, arith, ltb, ltb-true}
 use Rattle.bits.specs.Little.{Bytes}
 use Rattle.bits.proofs.Picks.{and_left, and_right}
 use Rattle.rules.specs.Call.{Call}

@@ -1,5 +1,4 @@
-use native.Mathlib.Omega.{arith}
-use mathlib.Core.Path.{refl}
+use Rattle.std.proofs.Common.{arith, refl}
 use Rattle.rules.specs.Call.{finishTags}
 use Rattle.device.proofs.Typing.{set_typed}
 use Rattle.caller.proofs.Continuing.{continues-replying}

@@ -1,4 +1,4 @@
-use mathlib.Core.List.{[]}
+use Rattle.std.proofs.Common.{[]}
 use Rattle.caller.proofs.calling.first_link.Goals as goal
 
 pub returns : goal.returns

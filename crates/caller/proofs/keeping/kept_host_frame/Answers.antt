@@ -1,4 +1,4 @@
-use native.Mathlib.Omega.{arith}
+use Rattle.std.proofs.Common.{arith}
 use Rattle.device.proofs.Typing.{frame-typed}
 use Rattle.caller.proofs.Continuing.{continues-given}
 use Rattle.caller.proofs.keeping.kept_host_frame.Goals as goal

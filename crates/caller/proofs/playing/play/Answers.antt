@@ -1,4 +1,4 @@
-use native.Mathlib.Omega.{arith}
+use Rattle.std.proofs.Common.{arith}
 use Rattle.caller.proofs.Plays.{play-continues}
 use Rattle.caller.proofs.playing.play.Goals as goal
 

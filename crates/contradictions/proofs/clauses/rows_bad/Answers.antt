@@ -1,8 +1,7 @@
-use Rattle.std.proofs.Common.{rules, ◌∙◌, refl, ℕ}
+use Rattle.std.proofs.Common.{rules, ◌∙◌, refl, ℕ, tests}
 use Rattle.std.proofs.lemmas.Iterator.{YieldsList-from_slice}
 use Rattle.std.proofs.lemmas.Iterator.Consumers.{YieldsList-from_enumerate}
 use Rattle.std.proofs.lemmas.Iterator.Search.{any_from_yields_List}
-use borrow.Author.Tests.{tests}
 use Rattle.device_state.proofs.Walk.{some-placed}
 use Rattle.contradictions.specs.Clauses.{rowBad, rowBadAt, rowsBad}
 use Rattle.contradictions.proofs.clauses.rows_bad.Goals as goal

@@ -1,5 +1,4 @@
-use mathlib.Core.Path.{◌≡◌}
-use lib.ListN.{length}
+use Rattle.std.proofs.Common.{◌≡◌, length}
 use Rattle.device_state.proofs.TableLaws.{partly, clearedAt}
 use Rattle.device_state.proofs.table.clear_entries.Given as goal
 

@@ -1,7 +1,5 @@
-use mathlib.Core.Path.{◌≡◌}
-use lib.ListN.{length}
+use Rattle.std.proofs.Common.{◌≡◌, length, rules}
 use Rattle.device_state.proofs.TableLaws.{set-placed, none-placed}
-use borrow.Author.Rules.{rules}
 use Rattle.device_state.proofs.table.put_entry.Goals as goal
 
 pub returns-then-place-lt32 : goal.returns-then-place-lt32

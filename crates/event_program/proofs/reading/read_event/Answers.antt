@@ -1,5 +1,4 @@
-use Rattle.std.proofs.Common.{arith, ◌≡◌, ◌+◌, ◌≤◌, sym, List, ℕ, []}
-use Rattle.std.specs.Prelude.{Err}
+use Rattle.std.proofs.Common.{arith, ◌≡◌, ◌+◌, ◌≤◌, sym, List, ℕ, [], Err}
 use Rattle.event_kinds.specs.declared.kinds.InputEnd.TheVariants.{NoEvent}
 use Rattle.event_kinds.specs.Kinds.{next_of}
 use Rattle.event_program.proofs.Fronts.{on_err}

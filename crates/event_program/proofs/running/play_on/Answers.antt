@@ -1,6 +1,5 @@
-use Rattle.std.proofs.Common.{arith, refl}
+use Rattle.std.proofs.Common.{arith, refl, Ok, Err}
 use Rattle.std.proofs.KnownBytes.{Appends-nil}
-use Rattle.std.specs.Prelude.{Ok, Err}
 use Rattle.event_program.specs.declared.errors.RunError.TheVariants.{Input, TooMany}
 use Rattle.event_program.proofs.Played.{none-yet, one-more, some-passed, lost, ended}
 use Rattle.event_program.proofs.Runs.{output-lost}

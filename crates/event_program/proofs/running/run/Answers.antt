@@ -1,6 +1,5 @@
-use Rattle.std.proofs.Common.{[]}
+use Rattle.std.proofs.Common.{[], Ok, Err}
 use Rattle.std.proofs.KnownBytes.{Consumes-nil}
-use Rattle.std.specs.Prelude.{Ok, Err}
 use Rattle.event_program.specs.declared.errors.RunError.TheVariants.{Input}
 use Rattle.event_program.specs.Running.{ReadsOn, Plays, next_behind, run_lines}
 use Rattle.event_program.proofs.Runs.{finished}

@@ -1,4 +1,4 @@
-use mathlib.Core.Path.{refl}
+use Rattle.std.proofs.Common.{refl}
 use Rattle.rules.specs.Call.{openPhase, finishTags, mediaError, comReset, linkEvent}
 use Rattle.device.proofs.Lending.{unlent, unlent-both}
 use Rattle.events.specs.Calls.{call_of}

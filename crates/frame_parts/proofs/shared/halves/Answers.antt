@@ -1,8 +1,5 @@
-use mathlib.Core.Path.{ap₂, ◌∙◌}
-use Prim.Native.Nat.{ℕ, ◌+◌, ◌*◌, ◌/◌, ◌%◌}
-use native.Mathlib.Omega.{arith}
+use Rattle.std.proofs.Common.{ap₂, ◌∙◌, ℕ, ◌+◌, ◌*◌, ◌/◌, ◌%◌, arith, lit<}
 use lib.Bits.{and_mask}
-use lib.Dec.{lit<}
 use Rattle.bits.proofs.Masks.{and-two}
 use Rattle.frame_parts.proofs.shared.halves.Goals as goal
 

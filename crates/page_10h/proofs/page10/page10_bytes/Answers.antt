@@ -1,7 +1,4 @@
-use mathlib.Core.Path.{refl, ap, ◌∙◌}
-use Prim.Native.Nat.{ℕ}
-use mathlib.Core.List.{List}
-use lib.ListN.{replicate}
+use Rattle.std.proofs.Common.{refl, ap, ◌∙◌, ℕ, List, replicate}
 use Rattle.bits.specs.Laid.{over}
 use Rattle.frame_parts.specs.Shared.{registerBytes}
 use Rattle.frame_parts.proofs.Defaults.{default_zeros}

@@ -1,5 +1,5 @@
-use Rattle.std.proofs.Common.{ℕ, ◌+◌, ◌<◌, length, get_or, arith, refl, sym, ap, ◌∙◌, length-append}
-use Rattle.std.proofs.lemmas.List.{length-set, length-take-le, take_more_set}
+use Rattle.std.proofs.Common.{ℕ, ◌+◌, ◌<◌, length, get_or, arith, refl, sym, ap, ◌∙◌, length-append, length-set, length-take-le}
+use Rattle.std.proofs.lemmas.List.{take_more_set}
 use Rattle.page_hex.specs.Text.{digits_in}
 use Rattle.page_hex.proofs.Collecting.{digits_in-white, digits_in-more, length-digits_in-take}
 use Rattle.page_hex.proofs.parsing.digits.Goals as goal

@@ -1,6 +1,5 @@
-use Rattle.std.proofs.Common.{rules, tests, ap, ◌∙◌}
+use Rattle.std.proofs.Common.{rules, tests, ap, ◌∙◌, ◌==◌, ◌%◌, length}
 use Rattle.std.specs.Char.{is_ascii_whitespace}
-use Rattle.std.specs.Prelude.{◌==◌, ◌%◌, length}
 use Rattle.std.proofs.lemmas.Iterator.Search.{all_from_yields_List}
 use Rattle.std.proofs.lemmas.Iterator.Splits.{YieldsList-from_slice_split}
 use Rattle.page_hex.specs.Text.{in_units, digits_each}

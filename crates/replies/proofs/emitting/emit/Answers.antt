@@ -1,8 +1,4 @@
-use native.Mathlib.Omega.{arith}
-use mathlib.Core.List.{[]}
-use lib.Dec.{leb}
-use lib.ListN.{length}
-use borrow.Author.Tests.{le-leb}
+use Rattle.std.proofs.Common.{arith, [], leb, length, le-leb}
 use Rattle.bits.proofs.Picks.{pick_yes}
 use Rattle.replies.specs.Replies.{repliesOf}
 use Rattle.replies.proofs.Room.{replies-room}

@@ -1,4 +1,4 @@
-use mathlib.Core.Path.{ap, ◌∙◌}
+use Rattle.std.proofs.Common.{ap, ◌∙◌}
 use Rattle.page_10h.specs.Page10.{fits10, page10, logPage}
 use Rattle.page_rows.specs.Made11.{page11}
 use Rattle.page_rows.specs.Rows.{keepsBoth}

@@ -1,4 +1,4 @@
-use mathlib.Core.List.{[], ◌∷◌, append_assoc}
+use Rattle.std.proofs.Common.{[], ◌∷◌, append_assoc}
 use Rattle.std.specs.Result.{result_unwrap_or}
 use Rattle.frames.specs.Write.{payload}
 use Rattle.replies.specs.Replies.{sweepIf, pioReply}

@@ -1,5 +1,4 @@
-use Rattle.std.proofs.Common.{ℕ, List, sym, subst}
-use denote.Bor.{Bor}
+use Rattle.std.proofs.Common.{ℕ, List, sym, subst, Bor}
 use Rattle.streams.proofs.Pieces.{Written, written-more, written-kept, written-front}
 use Rattle.streams.proofs.writing.put.Goals.{in-Ok, in-Err}
 use Rattle.streams.proofs.writing.put.Goals as goal

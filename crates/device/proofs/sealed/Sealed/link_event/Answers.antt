@@ -1,4 +1,4 @@
-use mathlib.Core.Path.{refl}
+use Rattle.std.proofs.Common.{refl}
 use Rattle.rules.specs.Call.{linkEvent}
 use Rattle.device.proofs.Doing.{plain_act}
 use Rattle.device.proofs.Lending.{given-silent}

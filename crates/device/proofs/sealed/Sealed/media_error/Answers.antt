@@ -1,4 +1,4 @@
-use mathlib.Core.Path.{refl}
+use Rattle.std.proofs.Common.{refl}
 use Rattle.rules.specs.Call.{mediaError}
 use Rattle.device.proofs.Sound.{sound_plain}
 use Rattle.device.proofs.sealed.Sealed.media_error.Goals as goal

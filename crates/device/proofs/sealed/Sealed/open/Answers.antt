@@ -1,4 +1,4 @@
-use mathlib.Core.Path.{refl}
+use Rattle.std.proofs.Common.{refl}
 use Rattle.rules.specs.Call.{openPhase}
 use Rattle.device.proofs.Sound.{sound_plain}
 use Rattle.device.proofs.sealed.Sealed.open.Goals as goal

@@ -1,5 +1,4 @@
-use native.Mathlib.Omega.{arith}
-use mathlib.Core.Path.{sym, ◌∙◌}
+use Rattle.std.proofs.Common.{arith, sym, ◌∙◌}
 use Rattle.device.proofs.Doing.{given-refused, given-sent}
 use Rattle.device.proofs.NeverCalls.{sound-done}
 use Rattle.device.proofs.sealed.Sealed.send.Goals as goal

@@ -1,5 +1,4 @@
-use mathlib.Core.Path.{sym, ◌∙◌}
-use mathlib.Core.List.{[]}
+use Rattle.std.proofs.Common.{sym, ◌∙◌, []}
 use Rattle.device.specs.Lent.{lent}
 use Rattle.device.proofs.Doing.{given-refused, given-without}
 use Rattle.device.proofs.state.Device.answer.Goals as goal

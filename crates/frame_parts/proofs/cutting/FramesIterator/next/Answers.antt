@@ -1,5 +1,5 @@
-use Rattle.std.proofs.Common.{◌≡◌, ◌∷◌, length, arith, sym, ap, ◌∙◌}
-use borrow.Author.Tests.{eqb-true, eqb-false}
+use Rattle.std.proofs.Common.{◌≡◌, ◌∷◌, length, arith, sym, ap, ◌∙◌, eqb-true}
+use borrow.Author.Tests.{eqb-false}
 use Rattle.frame_parts.specs.Cut.{cut}
 use Rattle.frame_parts.proofs.Cuts.{cut-empty, cut-next, first-length-some}
 use Rattle.frame_parts.proofs.cutting.FramesIterator.next.Goals.{After-split_at}
