@@ -4,16 +4,13 @@ use Rattle.bits.specs.Pick.{pick}
 
 -- what holds of either of two, each under what the test then says, holds of the one that is picked
 pub by-test : {A : Type 0} (P : A → Type 0) (b : Bool) (x y : A) → (b ≡ true → P x) → (b ≡ false → P y) → P (pick b x y)
-unfolding pick
 by-test P true x y t f = t refl
 by-test P false x y t f = f refl
 
 pub pick_yes : {A : Type 0} (b : Bool) (x y : A) → b ≡ true → pick b x y ≡ x
-unfolding pick
 pick_yes b x y e = rw e
 
 pub pick_no : {A : Type 0} (b : Bool) (x y : A) → b ≡ false → pick b x y ≡ y
-unfolding pick
 pick_no b x y e = rw e
 
 -- a test is true or false

@@ -1,7 +1,6 @@
 -- One of two values, by a test. Assumes nothing.
-use Rattle.std.specs.Prelude.{Bool, true, false}
+use Rattle.std.specs.Prelude.{Bool, if◌then◌else◌}
 
 -- the first where the test holds, else the second
-unfoldable pub pick : {A : Type 0} → Bool → A → A → A
-pick true a b = a
-pick false a b = b
+abbrev pub pick : {A : Type 0} → Bool → A → A → A
+pick b x y = if b then x else y

@@ -3,7 +3,7 @@ ghost use Rattle.std.specs.Prelude.{◌≡◌, length, leb};
 ghost use Rattle.bits.specs.Laid.{over};
 
 /// `bytes` laid over the front of `buf`, where it has room: whether it had.
-#[tactic(auto, unfolding(crate::specs::Laid::over, crate::specs::Pick::pick))]
+#[tactic(auto, unfolding(crate::specs::Laid::over))]
 pub fn lay(buf: &mut [u8], bytes: &[u8]) -> bool
     ensures { (result ≡ leb (length bytes.now) (length buf.old)) × (buf.new ≡ over bytes.now buf.old) }
 {

@@ -10,7 +10,6 @@ pub fn bit(mask: u32, index: u32) -> bool
 }
 
 /// The mask with the bit at an index on.
-#[tactic(auto, unfolding(crate::specs::Pick::pick))]
 pub fn with_bit(mask: u32, index: u32) -> u32
     ensures { result ≡ withBitIn 32 mask index }
 {

@@ -51,7 +51,7 @@ fn idle_bad(entry: &Entry) -> bool
     *entry != Entry::default()
 }
 
-#[tactic(auto, unfolding(crate::specs::Clauses::entryBad, bits::specs::Pick::pick))]
+#[tactic(auto, unfolding(crate::specs::Clauses::entryBad))]
 fn entry_bad(settings: Settings, entry: &Entry, tag: u32, status: Status) -> bool
     ensures { result ≡ entryBad settings entry.now tag (bitIn 32 status.outstanding tag) (openFor status.phase tag) }
 {

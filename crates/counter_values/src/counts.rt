@@ -5,7 +5,6 @@ ghost use Rattle.counter_values.specs.Counts.{countedAt};
 use page_rows::Counters;
 
 /// One event more at a row; there are rows 0 to 15 alone.
-#[tactic(auto, unfolding(bits::specs::Pick::pick))]
 pub fn count(values: &mut Counters, row: u8)
     ensures { values.new ≡ countedAt values.old row }
 {

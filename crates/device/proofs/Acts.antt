@@ -1,6 +1,5 @@
 -- SRST, release, a halt and its end, a media error and zeroed counters leave a state that does not contradict itself. Assumes nothing.
 use Rattle.std.proofs.Common.{Option, Some, None, is_none, unwrap_or, ◌≡◌, refl, Bool, true, false, not, ◌&&◌, ◌||◌, ℕ, eqb, ltb}
-use Rattle.bits.specs.Pick.{pick}
 use Rattle.bits.specs.Bit.{bitIn}
 use Rattle.contradictions.specs.Clauses.{statusBad, recordBad, phaseIdle, contradictory}
 use Rattle.bits.proofs.Picks.{by-test, or_right}
@@ -20,7 +19,7 @@ reset-held-good d h = rw (settings-good d h, fresh-table d.settings) (rows-good 
 
 -- zeroed counters
 pub zeroed-good : (d : Device) (on : Bool) → contradictoryDevice d ≡ false → contradictoryDevice (zeroedIf d on) ≡ false
-unfolding contradictoryDevice contradictory zeroedIf pick
+unfolding contradictoryDevice contradictory zeroedIf
 zeroed-good d true h = rw (rest-good d h) (fresh-rows d.settings.mask)
 zeroed-good d false h = h
 

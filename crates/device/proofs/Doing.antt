@@ -51,7 +51,6 @@ Replied d part a b n b' = RepliesGiven (pick (leb 8196 (length b)) (repliesOf (s
 
 -- a taken call has it, or replies nothing
 room-enough : (d : Device) (l : Lent) (a : Act) (part : List ℕ) → Ok a ≡ actOf d l → pick (leb 8196 (length l.buffer)) (repliesOf (shown d) part a) [] ≡ repliesOf (shown d) part a
-unfolding pick
 room-enough d l a part e =
     ⊎_elim (λ (x : (handed l.call).buffer ≡ true). rw (roomy d l a x e) refl)
     (λ (x : (handed l.call).buffer ≡ false). rw (ruled-silent d l.medium l.buffer part x (act-ruled d l a e)) (nothing (leb 8196 (length l.buffer))))

@@ -25,7 +25,7 @@ unhalted-effect d = (refl, refl, refl)
 
 -- all sixteen counters are zeroed
 pub zeroed-effect : (d : Device) → ((zeroedIf d true).values ≡ replicate 16 0) × (zeroedIf d false ≡ d)
-unfolding zeroedIf pick
+unfolding zeroedIf
 zeroed-effect d = (refl, refl)
 
 -- SRST: everything outstanding is dropped, an open phase closes, halt and record cleared, reset held; counters kept
@@ -99,13 +99,12 @@ pub record ActLaws (d : Device) (a : Act) : Type 0 where
 
 -- nor does a media error
 failed-settings : (d : Device) (f : Fault) → (b : Bool) → (haltWith (pick b (withValue d 0) d) f).settings ≡ d.settings
-unfolding haltWith withValue pick
+unfolding haltWith withValue
 failed-settings d f true = refl
 failed-settings d f false = refl
 
 -- what moves closes a phase, or leaves it
 still : (last : Bool) (phase : Option ℕ) → is_none (pick last None phase) ≡ false → is_none phase ≡ false
-unfolding pick
 still true phase e = absurd (true≢false e)
 still false phase e = e
 
@@ -119,7 +118,7 @@ same-record : {d e : Device} → e.errors ≡ d.errors → Wide d → SmallAll e
 same-record q w s = record { sized = record { error = subst (λ (r : ErrorRecord). r.error < 256) (sym q) w.sized.error; echo = subst (λ (r : ErrorRecord). Small r.echo) (sym q) w.sized.echo }; entries = s }
 
 pub act-laws : (d : Device) (a : Act) → ActLaws d a
-unfolding traits after_of haltWith acceptedBy unhalted zeroedIf resetHeld released movedBy openedFor finishedBy failedBy renewed withValue pick
+unfolding traits after_of haltWith acceptedBy unhalted zeroedIf resetHeld released movedBy openedFor finishedBy failedBy renewed withValue
 act-laws d Nothing = record { settings = refl; stays = λ _. refl; opened = λ p _. p; wide = λ w _. w }
 act-laws d (Bad b) = record { settings = refl; stays = λ _. refl; opened = λ p _. p; wide = λ w _. w }
 act-laws d (BadAndHalt f) = record {

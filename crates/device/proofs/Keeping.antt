@@ -1,7 +1,6 @@
 -- A taken link event never makes a state that contradicts itself. Assumes nothing.
 use Rattle.std.proofs.Common.{◌≡◌, true, false, not, ◌||◌, List, ⊎_elim, ℕ, eqb, ltb, leb, get_or, set, get_or-set_other, eqb-true}
 use borrow.Author.Tests.{not-false, eqb-false}
-use Rattle.bits.specs.Pick.{pick}
 use Rattle.bits.proofs.Picks.{tested, and_left, and_right, or_left, or_right}
 use Rattle.page_rows.specs.Rows.{kept, keepsBoth}
 use Rattle.counter_values.specs.Counts.{bumped}
@@ -64,7 +63,7 @@ resets-kept d h = and_right (kept d.settings.mask 0) (kept d.settings.mask 9) (b
 
 -- one more at a row that is kept
 pub counted-good : (d : Device) (row : ℕ) → contradictoryDevice d ≡ false → kept d.settings.mask row ≡ true → contradictoryDevice (withValue d row) ≡ false
-unfolding contradictoryDevice contradictory withValue pick
+unfolding contradictoryDevice contradictory withValue
 counted-good d row h k =
     ⊎_elim
     (λ (x : leb 16 row ≡ true). rw x h)

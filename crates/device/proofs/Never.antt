@@ -2,7 +2,6 @@
 use Rattle.std.proofs.Common.{None, ◌≡◌, refl, Bool, true, false, not, ℕ, lit<, replicate}
 use mathlib.Core.Bool.{and-false}
 use lib.ListN.{get_or-replicate}
-use Rattle.bits.specs.Pick.{pick}
 use Rattle.bits.proofs.Masks.{no-bit}
 use Rattle.page_rows.specs.Rows.{kept}
 use Rattle.device_state.specs.State.{zeroEntry}
@@ -15,7 +14,7 @@ use Rattle.refusals.specs.Ladders.{powerLadder}
 
 -- an idle tag with a zero entry
 pub idle-tag : (s : Settings) (t : ℕ) (b : Bool) → entryBad s zeroEntry t false b ≡ false
-unfolding entryBad idleBad pick
+unfolding entryBad idleBad
 idle-tag s t b = refl
 
 pub fresh-table : (s : Settings) → tableBad s (replicate 32 zeroEntry) 0 None ≡ false

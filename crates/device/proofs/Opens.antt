@@ -3,7 +3,6 @@ use Rattle.std.proofs.Common.{◌≡◌, refl, sym, ap, ◌∙◌, Bool, true, f
 use native.Mathlib.Nat.{zero-div, div-eq_of_lt}
 use lib.Count.{ones, ones-le}
 use borrow.Author.Tests.{not-false, eqb-false}
-use Rattle.bits.specs.Pick.{pick}
 use Rattle.bits.specs.Bit.{bitIn}
 use Rattle.std.proofs.lemmas.Nat.Bits.{bit_at-lt, same_from_bits_below}
 use Rattle.std.proofs.lemmas.Bool.{cases_lt}
@@ -61,7 +60,7 @@ zero_bit n l x = let y = eqb-false n 1 x in omega arith
 
 -- a tag's bit says whether its entry is one of a command
 bit-open : (s : Settings) (e : Entry) (o t : ℕ) (phase : Bool) → t < 32 → entryBad s e t (bitIn 32 o t) phase ≡ false → o / 2 ^ t % 2 ≡ openEntry e
-unfolding entryBad pick
+unfolding entryBad
 bit-open s e o t phase l h =
     ⊎_elim
     (λ (x : eqb (o / 2 ^ t % 2) 1 ≡ true).
@@ -74,7 +73,7 @@ bit-open s e o t phase l h =
 
 -- the bit of a tag at or above the depth is off
 bit-above : (s : Settings) (e : Entry) (o t : ℕ) (phase : Bool) → t < 32 → s.depth ≤ t → entryBad s e t (bitIn 32 o t) phase ≡ false → o / 2 ^ t % 2 ≡ 0
-unfolding entryBad pick
+unfolding entryBad
 bit-above s e o t phase l a h =
     ⊎_elim
     (λ (x : eqb (o / 2 ^ t % 2) 1 ≡ true).

@@ -32,14 +32,12 @@ no-phase phase t e = rw e
 
 -- a phase that closes at the last move: its own tag
 pub phase-same : (last : Bool) (phase : Option ℕ) → is_none phase ≡ false → openFor (pick last None phase) (unwrap_or phase 0) ≡ not last
-unfolding pick
 phase-same last None n = absurd (true≢false n)
 phase-same true (Some u) n = refl
 phase-same false (Some u) n = eq-eqb u u refl
 
 -- and any other tag
 pub phase-other : (last : Bool) (phase : Option ℕ) (t : ℕ) → is_none phase ≡ false → eqb t (unwrap_or phase 0) ≡ false → openFor (pick last None phase) t ≡ false
-unfolding pick
 phase-other last None t n x = absurd (true≢false n)
 phase-other true (Some u) t n x = refl
 phase-other false (Some u) t n x = ne_eqb u t (λ e. eqb-false t u x (sym e))

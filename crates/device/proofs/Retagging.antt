@@ -42,7 +42,7 @@ module _ (s : Settings) (es : List Entry) (o : ℕ) (phase : Option ℕ) where
   -- a command is accepted
   pub accepted-tag : (tag : ℕ) (e : Entry) → phase ≡ None → tag < 32 → busyBad s e tag false ≡ false → (t : ℕ) → t < 32 → tagBad s es o phase t ≡ false
       → tagBad s (placed es tag e) (withBitIn 32 o tag) phase t ≡ false
-  unfolding entryBad pick
+  unfolding entryBad
   accepted-tag tag e p l b t h old =
       rw (getD-placed es tag e t h, bit-with o tag t l h)
       (⊎_elim
@@ -53,7 +53,7 @@ module _ (s : Settings) (es : List Entry) (o : ℕ) (phase : Option ℕ) where
   -- the phase of a tag is opened
   pub opened-tag : (tag : ℕ) → phase ≡ None → bitIn 32 o tag ≡ true → eqb (entry_of es tag).moved (whole_of (entry_of es tag).count) ≡ false
       → ((t : ℕ) → t < 32 → tagBad s es o phase t ≡ false) → (t : ℕ) → t < 32 → tagBad s es o (Some tag) t ≡ false
-  unfolding entryBad pick
+  unfolding entryBad
   opened-tag tag p b m old t h =
       ⊎_elim
       (λ (x : eqb t tag ≡ true).
@@ -68,7 +68,7 @@ module _ (s : Settings) (es : List Entry) (o : ℕ) (phase : Option ℕ) where
   pub moved-tag : (n : ℕ) → is_none phase ≡ false → bitIn 32 o (unwrap_or phase 0) ≡ true → min n (left_of (entry_of es (unwrap_or phase 0))) % 4 ≡ 0
       → ((t : ℕ) → t < 32 → tagBad s es o phase t ≡ false) → (t : ℕ) → t < 32
       → tagBad s (placed es (unwrap_or phase 0) (advancedBy (entry_of es (unwrap_or phase 0)) (min n (left_of (entry_of es (unwrap_or phase 0)))))) o (pick (leb (left_of (entry_of es (unwrap_or phase 0))) n) None phase) t ≡ false
-  unfolding entryBad pick
+  unfolding entryBad
   moved-tag n p b four old t h =
       let last : Bool = leb (left_of (entry_of es (unwrap_or phase 0))) n in
       rw (getD-placed es (unwrap_or phase 0) (advancedBy (entry_of es (unwrap_or phase 0)) (min n (left_of (entry_of es (unwrap_or phase 0))))) t h)
@@ -81,7 +81,6 @@ module _ (s : Settings) (es : List Entry) (o : ℕ) (phase : Option ℕ) where
 
   -- a set of commands is finished
   pub finished-tag : (set : ℕ) → set < 2 ^ 32 → (t : ℕ) → t < 32 → tagBad s es o phase t ≡ false → tagBad s (cleared es set) (clearIn 32 o set) phase t ≡ false
-  unfolding pick
   finished-tag set l t h old =
       rw (getD-cleared es set t h, bit-without o set t l h)
       (⊎_elim

@@ -59,7 +59,6 @@ opened-idle o tag halted held b = rw b
 -- a phase that closes at the last move
 pub moved-idle : (last : Bool) (o : ℕ) (phase : Option ℕ) (halted held : Bool) → phaseIdle (statusWith o phase halted held) ≡ false
     → phaseIdle (statusWith o (pick last None phase) halted held) ≡ false
-unfolding pick
 moved-idle true o phase halted held e = refl
 moved-idle false o phase halted held e = e
 

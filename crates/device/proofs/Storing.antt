@@ -32,17 +32,17 @@ use Rattle.device.proofs.Exactly.{first-exactly}
 
 -- 46h is read as data if its payload has a right size, and else refused
 data-read : (f : List ℕ) → get_or f 0 0 ≡ 0x46 → payloadSize (length f - 4) ≡ true → readFrame f ≡ Ok (Data (length f - 4))
-unfolding readFrame readable frameByKind pick
+unfolding readFrame readable frameByKind
 data-read f k p = rw (k, p)
 
 data-refused : (f : List ℕ) → get_or f 0 0 ≡ 0x46 → payloadSize (length f - 4) ≡ false → readFrame f ≡ Err NoFrame
-unfolding readFrame readable frameByKind pick
+unfolding readFrame readable frameByKind
 data-refused f k p = rw (k, p)
 
 -- where there is room, the payload stands there whole
 stored-whole : (at size : ℕ) (f m : List ℕ) → 4 ≤ length f → length f - 4 ≡ size → at + size ≤ length m
     → stored at f m ≡ take at m ++ (drop 4 f ++ drop (at + size) m)
-unfolding stored pick
+unfolding stored
 stored-whole at size f m h e w =
     let long : length (drop 4 f) ≡ size = length-drop 4 f ∙ e in
     let rest : length (drop at m) ≡ length m - at = length-drop at m in
@@ -105,6 +105,6 @@ module _ (d : Device) (f m b : List ℕ) where
   -- the refusal of a host data frame of a right size, in a write phase, where nothing before 6 is wrong
   pub six-by-left : get_or f 0 0 ≡ 0x46 → payloadSize (length f - 4) ≡ true → contradictoryDevice d ≡ false → mediumWrong d.settings.capacity (length m) ≡ false → ltb (length b) 8196 ≡ false
       → is_none d.status.phase ≡ false → e.write ≡ true → (step d l).refusal ≡ pick (ltb (left_of e) (length f - 4)) (Some TooLong) None
-  unfolding tests wrongKind wrongTime wrongSize first_of pick
+  unfolding tests wrongKind wrongTime wrongSize first_of
   six-by-left kind p c w s o u =
       step-refusal d l ∙ ap (λ (x : Result Frame Refusal). first_of (frameTests (facts_of d l) x)) (data-read f kind p) ∙ rw (c, w, s, o, u) refl

@@ -1,7 +1,6 @@
 -- Tests of single tags: bits of the set outstanding, and entries as they are accepted, move and are opened. Assumes nothing.
 use Rattle.std.proofs.Common.{◌≡◌, refl, sym, ap, ◌∙◌, Bool, true, false, not, ◌&&◌, ◌||◌, ⊎_elim, ℕ, ◌+◌, ◌-◌, ◌/◌, ◌%◌, ◌^◌, ◌<◌, min, arith, ltb, leb, eqb, lt-ltb, le-ltb, eq-eqb, ne_eqb, eqb-true, ltb-true, ltb-false, leb-true, leb-false}
 use borrow.Author.Tests.{eqb-false, not-false}
-use Rattle.bits.specs.Pick.{pick}
 use Rattle.bits.specs.Bit.{bitIn, withBitIn, clearIn}
 use Rattle.std.proofs.lemmas.Nat.Bits.{bit_at-lt}
 use Rattle.bits.proofs.Masks.{bit-set-same, bit-set-other, bit-clear}
@@ -11,7 +10,6 @@ use Rattle.bits.proofs.Picks.{tested, and_left, or_left, or_right}
 
 -- a tag more: its own bit is on, each other as it was
 pub bit-with : (m t k : ℕ) → t < 32 → k < 32 → bitIn 32 (withBitIn 32 m t) k ≡ (eqb k t || bitIn 32 m k)
-unfolding pick
 bit-with m t k ht hk =
     rw (lt-ltb t 32 ht, lt-ltb k 32 hk)
     (⊎_elim

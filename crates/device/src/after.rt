@@ -1,5 +1,5 @@
 // The state after an act.
-#![tactic(auto, unfolding(crate::specs::After::withValue, crate::specs::After::haltWith, crate::specs::After::acceptedBy, crate::specs::After::unhalted, crate::specs::After::zeroedIf, crate::specs::After::resetHeld, crate::specs::After::released, crate::specs::After::movedBy, crate::specs::After::openedFor, crate::specs::After::finishedBy, crate::specs::After::failedBy, crate::specs::After::renewed, crate::specs::After::after_of, bits::specs::Pick::pick))]
+#![tactic(auto, unfolding(crate::specs::After::withValue, crate::specs::After::haltWith, crate::specs::After::acceptedBy, crate::specs::After::unhalted, crate::specs::After::zeroedIf, crate::specs::After::resetHeld, crate::specs::After::released, crate::specs::After::movedBy, crate::specs::After::openedFor, crate::specs::After::finishedBy, crate::specs::After::failedBy, crate::specs::After::renewed, crate::specs::After::after_of))]
 
 ghost use Rattle.std.specs.Prelude.{◌≡◌, true};
 ghost use Rattle.device.specs.After.{withValue, emptied, haltWith, acceptedBy, unhalted, zeroedIf, resetHeld, released, movedBy, openedFor, finishedBy, failedBy, renewed, after_of};

@@ -95,7 +95,7 @@ impl Device {
     }
 
     /// The length of the host data that is due, in bytes; `None` if no write phase is open.
-    #[tactic(auto, unfolding(crate::specs::DataDue::dataDue, bits::specs::Pick::pick))]
+    #[tactic(auto, unfolding(crate::specs::DataDue::dataDue))]
     pub fn data_due(&self) -> Option<usize>
         ensures { result ≡ dataDue self.now }
     {

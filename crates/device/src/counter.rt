@@ -10,7 +10,7 @@ impl Device {
     ///
     /// # Errors
     /// The first that holds of `Contradiction` (1), `NoCounter` (23): a number that is not 1 to FFFh.
-    #[tactic(auto, unfolding(crate::specs::Counter::counterOf, page_rows::specs::Made11::shownFor, refusals::specs::First::first_of, bits::specs::Pick::pick))]
+    #[tactic(auto, unfolding(crate::specs::Counter::counterOf, page_rows::specs::Made11::shownFor, refusals::specs::First::first_of))]
     pub fn counter(&self, number: u16) -> Result<Option<u64>, Refusal>
         ensures { CounterGiven self.now number result }
     {
@@ -26,7 +26,7 @@ impl Device {
     ///
     /// # Errors
     /// `Contradiction` (1): a state that contradicts itself is not read as idle.
-    #[tactic(auto, unfolding(crate::specs::Counter::count_of, refusals::specs::First::first_of, bits::specs::Pick::pick))]
+    #[tactic(auto, unfolding(crate::specs::Counter::count_of, refusals::specs::First::first_of))]
     pub fn outstanding_count(&self) -> Result<u32, Refusal>
         ensures { CountGiven self.now result }
     {

@@ -115,7 +115,7 @@ impl Sealed {
     ///
     /// # Errors
     /// `Contradiction` (1) for settings out of bounds: depth 1 to 32, capacity 1 to 65,536 sectors, rows 0 and 9 kept.
-    #[tactic(auto, unfolding(crate::specs::Sealing::poweredOf, crate::specs::Device::powerOn, crate::specs::Device::freshDevice, refusals::specs::First::first_of, bits::specs::Pick::pick), using(crate::proofs::Defaults::default_zeros, crate::proofs::Kept::fresh_sound))]
+    #[tactic(auto, unfolding(crate::specs::Sealing::poweredOf, crate::specs::Device::powerOn, crate::specs::Device::freshDevice, refusals::specs::First::first_of), using(crate::proofs::Defaults::default_zeros, crate::proofs::Kept::fresh_sound))]
     pub fn power_on(settings: Settings) -> Result<Sealed, Refusal>
         ensures { poweredOf result ≡ powerOn settings }
     {

@@ -88,7 +88,7 @@ getD-cleared es set i h = getD-tab 32 (clearedAt es set) i zeroEntry h
 
 -- a store, and a place where nothing is stored
 pub set-placed : (es : List Entry) (t : ℕ) (e : Entry) → length es ≡ 32 → set es t e ≡ placed es t e
-unfolding placed pick
+unfolding placed
 set-placed es t e h =
     ext_get_or zeroEntry (set es t e) (tab 32 (fresher es t e)) (simp length-set (h ∙ sym (length-tab 32 (fresher es t e))))
     (λ i k.
@@ -99,7 +99,7 @@ set-placed es t e h =
     (tested (eqb i t)))
 
 pub none-placed : (es : List Entry) (t : ℕ) (e : Entry) → length es ≡ 32 → 32 ≤ t → es ≡ placed es t e
-unfolding placed pick
+unfolding placed
 none-placed es t e h l =
     ext_get_or zeroEntry es (tab 32 (fresher es t e)) (h ∙ sym (length-tab 32 (fresher es t e)))
     (λ i k.

@@ -19,7 +19,7 @@ head-take (x ∷ l) (suc n) h = refl
 
 -- settings ask for nothing
 settings-none : (k : ℕ) (e : List ℕ) → eqb k 0x00 ≡ true → is_none (option_and_then (callByKind e) (kindNamed k)) ≡ true
-unfolding callByKind kindNamed pick
+unfolding callByKind kindNamed
 settings-none k e z = rw (eqb-true k 0x00 z) refl
 
 -- what has a body of its length asks for something
@@ -46,11 +46,11 @@ unfolding isEvent
 fits e h = h
 
 broken : (e : List ℕ) → isEvent e ≡ false → is_none (requestOf e) ≡ noCall e
-unfolding requestOf eventKind pick
+unfolding requestOf eventKind
 broken e h = rw h refl
 
 whole : (e : List ℕ) → isEvent e ≡ true → is_none (requestOf e) ≡ noCall e
-unfolding requestOf eventKind bodyLength Asks pick
+unfolding requestOf eventKind bodyLength Asks
 whole e h =
     let k = get_or e 0 0 in
     rw h (⊎_elim (λ (z : eqb k 0x00 ≡ true). settings-none k e z ∙ sym z) (λ (z : eqb k 0x00 ≡ false). has-call k e (length e) z (fits e h) ∙ sym z) (tested (eqb k 0x00)))
@@ -77,7 +77,7 @@ whole_ready kind l f =
 
 -- settings are misplaced here, and every other kind is ready
 kind_ready : (settings : Bool) (o : Option Kind) (l : List ℕ) → isSettings o ≡ settings → (settings ≡ false → FrontAsks l o) → Ready l (nextBy false o (length l))
-unfolding nextBy Ready pick
+unfolding nextBy Ready
 kind_ready settings None l s f = tt
 kind_ready true (Some kind) l s f = rw (placed false kind, s) tt
 kind_ready false (Some kind) l s f = rw (placed false kind, s) (whole_ready kind l (f refl))
@@ -87,7 +87,7 @@ unfolding isEvent
 part-call l n z f h o = nothing-exactly (take n l) ∙ rw (length-take-le n l h) (rw (head-take l n o) (rw f (rw z refl)))
 
 next-ready : (l : List ℕ) → Ready l (next_of false l)
-unfolding next_of bodyLength Ready pick
+unfolding next_of bodyLength Ready
 next-ready l =
     let k = get_or l 0 0 in
     by-test (Ready l) (eqb (length l) 0) (pick false (Err NoEvent) (Err Clean)) (nextBy false (kindNamed k) (length l))

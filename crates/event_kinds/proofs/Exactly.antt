@@ -9,7 +9,7 @@ use Rattle.event_kinds.specs.declared.kinds.InputEnd.TheVariants.{Clean, NoEvent
 use Rattle.event_kinds.proofs.Recording.{isSettings, named-settings, placed}
 
 picked : (b : Bool) (n : ℕ) → isStop (pick b (Ok n) (Err NoEvent)) ≡ not b
-unfolding pick isStop
+unfolding isStop
 picked true n = refl
 picked false n = refl
 
@@ -18,7 +18,7 @@ unfolding nextWhole
 whole-stop n have = picked (leb (n + 1) have) (n + 1)
 
 by_place : (first settings : Bool) (w : Result ℕ InputEnd) → isStop (pick (pick settings (not first) first) (Err NoEvent) w) ≡ (first && not settings) || (not first && settings) || isStop w
-unfolding pick isStop
+unfolding isStop
 by_place true true w = refl
 by_place true false w = refl
 by_place false true w = refl
@@ -38,7 +38,7 @@ kind-stop first (Some kind) n =
 kind-stop first None n = last_true (first && not (isSettings None)) (not first && isSettings None)
 
 by_empty : (first empty : Bool) (w : Result ℕ InputEnd) → isStop (pick empty (pick first (Err NoEvent) (Err Clean)) w) ≡ (first && empty) || (not empty && isStop w)
-unfolding pick isStop
+unfolding isStop
 by_empty true true w = refl
 by_empty true false w = refl
 by_empty false true w = refl

@@ -15,7 +15,7 @@ isSettings o = option_eq (equal.eq-value).it o (Some Settings)
 
 -- by it a kind is in its place or not
 pub placed : (first : Bool) (kind : Kind) → misplaced first kind ≡ pick (isSettings (Some kind)) (not first) first
-unfolding misplaced pick
+unfolding misplaced
 placed first Settings = refl
 placed first OpenPhase = refl
 placed first SendData = refl
@@ -46,10 +46,10 @@ other k z =
 
 -- a byte names the settings exactly if it is 00h
 pub named-settings : (k : ℕ) → isSettings (kindNamed k) ≡ eqb k 0x00
-unfolding Answers kindNamed pick
+unfolding Answers kindNamed
 named-settings k = ⊎_elim (λ (z : eqb k 0x00 ≡ true). rw (eqb-true k 0x00 z) refl) (λ (z : eqb k 0x00 ≡ false). other k z ∙ sym z) (tested (eqb k 0x00))
 
 -- the kind of bytes is the settings' exactly if they are an event that begins with 00h
 pub settings_event : (e : List ℕ) → isSettings (eventKind e) ≡ isEvent e && eqb (get_or e 0 0) 0x00
-unfolding eventKind pick
+unfolding eventKind
 settings_event e = ⊎_elim (λ (h : isEvent e ≡ true). rw h (named-settings (get_or e 0 0))) (λ (h : isEvent e ≡ false). rw h refl) (tested (isEvent e))

@@ -41,7 +41,7 @@ pub enum Kind {
 
 impl Kind {
     /// The kind that a byte names, if it names one.
-    #[tactic(auto, unfolding(crate::specs::Kinds::kindNamed, frame_parts::specs::Size::kindNamed, bits::specs::Pick::pick))]
+    #[tactic(auto, unfolding(crate::specs::Kinds::kindNamed, frame_parts::specs::Size::kindNamed))]
     pub fn from_byte(byte: u8) -> Option<Kind>
         ensures { result ≡ kindNamed byte }
     {
@@ -92,7 +92,7 @@ impl Kind {
 }
 
 /// The kind of bytes that are one event, a kind and a body of its length; `None` for what is no event.
-#[tactic(auto, unfolding(crate::specs::Kinds::eventKind, crate::specs::Kinds::isEvent, crate::specs::Kinds::bodyLength, crate::specs::Kinds::fitsLength, bits::specs::Pick::pick))]
+#[tactic(auto, unfolding(crate::specs::Kinds::eventKind, crate::specs::Kinds::isEvent, crate::specs::Kinds::bodyLength, crate::specs::Kinds::fitsLength))]
 pub fn event_kind(event: &[u8]) -> Option<Kind>
     ensures { result ≡ eventKind event.now }
 {

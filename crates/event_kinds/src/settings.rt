@@ -20,7 +20,7 @@ fn settings_of(event: &[u8]) -> Settings
 pub const RUN_CAPACITY_LIMIT: u32 = 64;
 
 /// The settings that the record asks for; `None` for what is no settings record, and for more sectors than a run may have.
-#[tactic(auto, using(crate::proofs::Recording::settings_event), unfolding(bits::specs::Pick::pick))]
+#[tactic(auto, using(crate::proofs::Recording::settings_event))]
 pub fn settings_asked(event: &[u8]) -> Option<Settings>
     ensures { result ≡ asked_of event.now }
 {

@@ -14,17 +14,16 @@ use Rattle.event_program.specs.Runs.{IsCut, RunsOut, BreaksOff}
 use Rattle.event_program.proofs.Nexts.{some}
 
 kind-next : (first : Bool) (k : ℕ) (l : List ℕ) → next_of first (k ∷ l) ≡ nextBy first (kindNamed k) (length (k ∷ l))
-unfolding next_of pick
+unfolding next_of
 kind-next first k l = rw (some k l) refl
 
 -- what is there of an event is enough, whatever follows
 enough : (b b' : Bool) (j n : ℕ) → (b ≡ true → b' ≡ true) → pick b (Ok j) (Err NoEvent) ≡ Ok n → pick b' (Ok j) (Err NoEvent) ≡ Ok n
-unfolding pick
 enough true b' j n f e = rw (f refl) e
 enough false b' j n f e = absurd (subst Ends e tt)
 
 placed-front : (m : Bool) (j n n' : ℕ) → n ≤ n' → pick m (Err NoEvent) (nextWhole j n) ≡ Ok n → pick m (Err NoEvent) (nextWhole j n') ≡ Ok n
-unfolding pick nextWhole
+unfolding nextWhole
 placed-front true j n n' h e = absurd (subst Ends e tt)
 placed-front false j n n' h e = enough (leb (j + 1) n) (leb (j + 1) n') (j + 1) n (λ t. let l = leb-true (j + 1) n t in le-leb (j + 1) n' (omega (arith, l, h))) e
 
@@ -34,7 +33,7 @@ whole-front first (Some kind) n n' h e = placed-front (misplaced first kind) (bo
 whole-front first None n n' h e = absurd (subst Ends e tt)
 
 none-empty : (first : Bool) → IsEvent first [] → ⊥
-unfolding next_of pick
+unfolding next_of
 none-empty true h = subst Ends h tt
 none-empty false h = subst Ends h tt
 
@@ -77,7 +76,7 @@ later-once (e ∷ es) (e' ∷ es') r r' a a' n n' q =
 -- behind the same settings
 behind-once : (b : Bool) (es es' : List (List ℕ)) (r r' : List ℕ) → (b ≡ true → es ≡ []) → (b ≡ true → es' ≡ []) → AllEvents es → AllEvents es' → Ends (pick b (Err Clean) (next_of false r)) → Ends (pick b (Err Clean) (next_of false r'))
     → joined es ++ r ≡ joined es' ++ r' → (es ≡ es') × (r ≡ r')
-unfolding pick joined
+unfolding joined
 behind-once true es es' r r' f f' a a' n n' q =
     (f refl ∙ sym (f' refl), sym (ap (λ (x : List (List ℕ)). joined x ++ r) (f refl)) ∙ q ∙ ap (λ (x : List (List ℕ)). joined x ++ r') (f' refl))
 behind-once false es es' r r' f f' a a' n n' q = later-once es es' r r' a a' n n' q

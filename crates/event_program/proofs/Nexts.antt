@@ -31,7 +31,7 @@ some k l = ne_eqb (length (k ∷ l)) 0 (λ (e : length (k ∷ l) ≡ 0). omega a
 
 -- where no kind is named, or one that may not stand here, the run stops
 pub stop-unplaced : (first : Bool) (k : ℕ) (l : List ℕ) → placedKind first (kindNamed k) ≡ None → next_of first (k ∷ l) ≡ Err NoEvent
-unfolding next_of nextBy pick placedKind
+unfolding next_of nextBy placedKind
 stop-unplaced first k l h = rw (some k l) (stops (kindNamed k) h)
   where
     no-kind : (m : Bool) (kind : Kind) (r : Result ℕ InputEnd) → then_some (not m) kind ≡ None → pick m (Err NoEvent) r ≡ Err NoEvent
@@ -57,18 +57,18 @@ placed-named first (Some other) kind h =
 -- behind a byte that names a kind
 module _ (first : Bool) (k : ℕ) (l : List ℕ) (kind : Kind) (named : kindNamed k ≡ Some kind) where
   pub stop-short : misplaced first kind ≡ false → length l < bodyOf kind → next_of first (k ∷ l) ≡ Err NoEvent
-  unfolding next_of nextBy pick nextWhole
+  unfolding next_of nextBy nextWhole
   stop-short h s = rw (some k l, named, h, lt-leb (bodyOf kind + 1) (length (k ∷ l)) (omega (arith, s))) refl
 
   pub one-whole : misplaced first kind ≡ false → length l ≡ bodyOf kind → next_of first (k ∷ l) ≡ Ok (length (k ∷ l))
-  unfolding next_of nextBy pick nextWhole
+  unfolding next_of nextBy nextWhole
   one-whole h s =
       let m : bodyOf kind + 1 ≡ length (k ∷ l) = omega (arith, s) in
       rw (some k l, named, h, le-leb (bodyOf kind + 1) (length (k ∷ l)) (omega (arith, s))) (ap Ok m)
 
 -- no event begins in no bytes
 pub ends-empty : (first : Bool) → Ends (next_of first [])
-unfolding next_of pick
+unfolding next_of
 ends-empty true = tt
 ends-empty false = tt
 
@@ -81,7 +81,7 @@ BodyWithin (Some kind) = bodyOf kind ≤ 19
 BodyWithin None = Unit
 
 body-within : (k : ℕ) → BodyWithin (kindNamed k)
-unfolding kindNamed bodyOf pick BodyWithin
+unfolding kindNamed bodyOf BodyWithin
 body-within k =
     by-test BodyWithin (eqb k 0x00) (Some Settings) _ (λ t. omega arith) (λ f.
     by-test BodyWithin (eqb k 0x01) (Some OpenPhase) _ (λ t. omega arith) (λ f.

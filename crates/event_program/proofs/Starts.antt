@@ -20,7 +20,6 @@ use Rattle.device.specs.Sealing.{poweredOf}
 use Rattle.device.specs.declared.sealed.Sealed.{Sealed}
 use Rattle.event_kinds.specs.Kinds.{isEvent}
 use Rattle.event_kinds.specs.Settings.{asked_of, settingsOf, inLimit}
-use Rattle.bits.specs.Pick.{pick}
 use Rattle.frame_parts.specs.Cut.{joined}
 use Rattle.event_program.specs.declared.errors.RunError.{RunError}
 use Rattle.event_program.specs.declared.errors.RunError.TheVariants.{Input, Output, Memory, TooMany}
@@ -43,7 +42,7 @@ unfolding run_lines
 lines-same traced s lines k es p q = ap (λ (l : List ℕ). l ++ lines_from traced 1 k es) p ∙ ap (λ (x : Kept). start_line traced s ++ lines_from traced 1 x es) q
 
 next-same : (s : List ℕ) (es : List (List ℕ)) (rest : List ℕ) → refused s ≡ false → next_of false rest ≡ next_behind (s ∷ es) rest
-unfolding next_behind pick
+unfolding next_behind
 next-same s es rest h = rw h refl
 
 plays-more : (s : List ℕ) (es : List (List ℕ)) → refused s ≡ false → IsEvent true s → AllEvents es → Plays (s ∷ es)
@@ -105,7 +104,7 @@ from-start traced s lines k before known known' w w' (Err TooMany) h i c p q t =
 
 -- refused settings end a run
 next-refused : (s : List ℕ) (rest : List ℕ) → refused s ≡ true → next_behind (s ∷ []) rest ≡ Err Clean
-unfolding next_behind pick
+unfolding next_behind
 next-refused s rest h = rw h refl
 
 plays-refused : (s : List ℕ) → IsEvent true s → Plays (s ∷ [])

@@ -11,7 +11,7 @@ use std::io::Read;
 use streams::fill;
 
 // How an input ends that has no bytes left; `first` says that it had none at all.
-#[tactic(auto, unfolding(event_kinds::specs::Kinds::next_of, bits::specs::Pick::pick))]
+#[tactic(auto, unfolding(event_kinds::specs::Kinds::next_of))]
 fn empty_end(first: bool) -> InputEnd
     ensures { next_of first [] ≡ Err result }
 {

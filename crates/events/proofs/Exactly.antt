@@ -14,7 +14,7 @@ use Rattle.events.specs.Start.{start_by, start_of}
 
 -- out of the limit it is 1, and in it what power-on gives
 by-limit : (b : Bool) (s : Settings) → FirstExactly (powerLadder (not b || settingsOut s)) (start_by (pick b (Some s) None)).refusal
-unfolding pick start_by poweredOf first_of
+unfolding start_by poweredOf first_of
 by-limit true s = first-exactly-power s
 by-limit false s = first-exactly (powerLadder true) tt
 

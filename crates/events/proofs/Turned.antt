@@ -1,6 +1,5 @@
 -- An event is turned down exactly as its call is; 24 is given exactly to what has none. Assumes nothing.
 use Rattle.std.proofs.Common.{◌≡◌, refl, sym, ap, ◌∙◌, true, false, not, true≢false, List, [], ◌∷◌, ⊎_elim, ℕ, zero, suc, ◌<◌, arith, eqb, length, get_or, eqb-true, eq-eqb, Option, Some, None, is_none}
-use Rattle.bits.specs.Pick.{pick}
 use Rattle.bits.proofs.Picks.{tested, and_left, and_right}
 use Rattle.refusals.specs.First.{Rung, first_of, noRung, FirstExactly, fresh}
 use Rattle.refusals.specs.Number.{number, number_told}
@@ -22,7 +21,7 @@ use Rattle.events.proofs.Playable.{no-call-exactly}
 
 -- the call that it makes, whichever that is: each refusal of its row exactly when that test holds and none before it does, none exactly when none holds; and 24 for no call
 pub first-exactly-call : (d : Device) (m b : List ℕ) (c : Option Call) → FirstExactly (testsFor d m b c) (stepFor d m b c).refusal
-unfolding testsFor stepFor first_of pick
+unfolding testsFor stepFor first_of
 first-exactly-call d m b None = firsts.first-exactly (testsFor d m b None) tt
 first-exactly-call d m b (Some c) = first-exactly d (lent c m b)
 

@@ -12,34 +12,31 @@ use Rattle.frame_parts.specs.Emit.{write_refusal, WriteGiven}
 
 -- what a writer gives by what it finds
 pub write_refusal-unfit : (n room : ℕ) → write_refusal false n room ≡ Some Unfit
-unfolding write_refusal first_of pick
+unfolding write_refusal first_of
 write_refusal-unfit n room = refl
 
 pub write_refusal-short : (n room : ℕ) → room < n → write_refusal true n room ≡ Some BufferShort
-unfolding write_refusal first_of pick
+unfolding write_refusal first_of
 write_refusal-short n room h = rw (lt-ltb room n h)
 
 pub write_refusal-none : (n room : ℕ) → n ≤ room → write_refusal true n room ≡ None
-unfolding write_refusal first_of pick
+unfolding write_refusal first_of
 write_refusal-none n room h = rw (le-ltb room n h)
 
 module _ (fit : Bool) (s d : List ℕ) where
   pub emitted-unfit : fit ≡ false → WriteGiven fit s d (Err Unfit) d
-  unfolding pick
   emitted-unfit e = record {
     answer = rw (e, write_refusal-unfit (length s) (length d));
     bytes = rw (e, write_refusal-unfit (length s) (length d));
   }
 
   pub emitted-short : fit ≡ true → length d < length s → WriteGiven fit s d (Err BufferShort) d
-  unfolding pick
   emitted-short e h = record {
     answer = rw (e, write_refusal-short (length s) (length d) h);
     bytes = rw (e, write_refusal-short (length s) (length d) h);
   }
 
   pub emitted-done : (n : ℕ) (d' : List ℕ) → fit ≡ true → length s ≤ length d → n ≡ length s → d' ≡ laid s d → WriteGiven fit s d (Ok n) d'
-  unfolding pick
   emitted-done n d' e h m b = record {
     answer = rw (e, write_refusal-none (length s) (length d) h, m);
     bytes = rw (e, write_refusal-none (length s) (length d) h) b;
@@ -54,7 +51,6 @@ done-fits true n room e =
 -- and then all is written, and nothing else changed
 pub wrote-all : (fit : Bool) (s d : List ℕ) (k : ℕ) (d' : List ℕ) → WriteGiven fit s d (Ok k) d'
     → (fit ≡ true) × (length s ≤ length d) × (k ≡ length s) × (d' ≡ laid s d)
-unfolding pick
 wrote-all fit s d k d' w =
     let a = unless-ok (write_refusal fit (length s) (length d)) (length s) k w.answer in
     let f = done-fits fit (length s) (length d) a.0 in
@@ -63,7 +59,6 @@ wrote-all fit s d k d' w =
 -- a caller that knows that the values fit and how much room there is knows what is written
 pub wrote-room : (fit : Bool) (s d : List ℕ) (r : Result ℕ Refusal) (d' : List ℕ) → WriteGiven fit s d r d' → fit ≡ true → length s ≤ length d
     → (r ≡ Ok (length s)) × (d' ≡ laid s d)
-unfolding pick
 wrote-room fit s d r d' w f h =
     let z : write_refusal fit (length s) (length d) ≡ None = rw f (write_refusal-none (length s) (length d) h) in
     (w.answer ∙ rw z, w.bytes ∙ rw z)
@@ -74,7 +69,6 @@ emitted-once fit s d r r' b b' p q = (same p.answer q.answer, same p.bytes q.byt
 
 -- a writer of bytes that are made by value first: where there are none, the values do not fit, and nothing is written
 pub emitted-unmade : (fit : Bool) (s d : List ℕ) (x : Refusal) (r : Result ℕ Refusal) → pick fit (Ok s) (Err Unfit) ≡ Err x → r ≡ Err x → WriteGiven fit s d r d
-unfolding pick
 emitted-unmade true s d x r e q = absurd (cc)
 emitted-unmade false s d x r e q =
     let z : Unfit ≡ x = cc in
@@ -83,7 +77,6 @@ emitted-unmade false s d x r e q =
 
 -- and where there are some, the values fit, and these are written
 pub emitted_made : (fit : Bool) (s p d : List ℕ) (r : Result ℕ Refusal) (d' : List ℕ) → pick fit (Ok s) (Err Unfit) ≡ Ok p → WriteGiven true (p ++ []) d r d' → WriteGiven fit s d r d'
-unfolding pick
 emitted_made true s p d r d' e w =
     let q : s ≡ p = cc in
     rw (append-nil p, ← q) at w

@@ -1,6 +1,5 @@
 -- Refusals 25 and 26, of every writer: each exactly when its clause holds and none before it; and a refused write keeps everything. Assumes nothing.
 use Rattle.std.proofs.Common.{◌≡◌, ◌∙◌, Bool, List, ℕ, length, Result, Err}
-use Rattle.bits.specs.Pick.{pick}
 use Rattle.refusals.specs.First.{refusal_in, FirstExactly}
 use Rattle.refusals.specs.declared.reasons.Refusal.{Refusal}
 use Rattle.refusals.proofs.FirstLaws as firsts
@@ -13,5 +12,4 @@ first-exactly fit s d r d' w = rw (w.answer, firsts.refusal_in-unless) (firsts.f
 
 -- a refused write changes no byte
 pub refused-keeps : (fit : Bool) (s d : List ℕ) (x : Refusal) (d' : List ℕ) → WriteGiven fit s d (Err x) d' → d' ≡ d
-unfolding pick
 refused-keeps fit s d x d' w = w.bytes ∙ rw (firsts.unless-err (write_refusal fit (length s) (length d)) (length s) x w.answer)

@@ -9,7 +9,7 @@ use refusals::Refusal;
 /// # Errors
 /// `Unfit` (25) where the values do not fit their places, which `fit` tells, and else `BufferShort` (26) where `buf` has
 /// no room for all of the bytes.
-#[tactic(auto, unfolding(crate::specs::Emit::write_refusal, refusals::specs::First::first_of, bits::specs::Pick::pick))]
+#[tactic(auto, unfolding(crate::specs::Emit::write_refusal, refusals::specs::First::first_of))]
 pub fn emit(buf: &mut [u8], fit: bool, head: &[u8], rest: &[u8]) -> Result<usize, Refusal>
     ensures { WriteGiven fit (head.now ++ rest.now) buf.old result buf.new }
 {

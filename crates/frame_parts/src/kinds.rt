@@ -27,7 +27,6 @@ pub enum FrameKind {
 
 impl FrameKind {
     /// The kind that a byte names, if it names one.
-    #[tactic(auto, unfolding(bits::specs::Pick::pick))]
     pub fn from_byte(byte: u8) -> Option<FrameKind>
         ensures { result ≡ kindNamed byte }
     {

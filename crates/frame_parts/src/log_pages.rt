@@ -13,7 +13,6 @@ pub enum LogPage {
 
 impl LogPage {
     /// The page of a number, if it is one of the two.
-    #[tactic(auto, unfolding(bits::specs::Pick::pick))]
     pub fn from_number(number: u8) -> Option<LogPage>
         ensures { result ≡ pageNamed number }
     {

@@ -100,7 +100,7 @@ pub fn tag_of(count: u16) -> u8
 }
 
 /// Features and features high are the sector count (0 = 65,536).
-#[tactic(auto, unfolding(crate::specs::Shared::sectorsOf, bits::specs::Pick::pick))]
+#[tactic(auto, unfolding(crate::specs::Shared::sectorsOf))]
 pub fn sectors_of(features: u8, high: u8) -> u32
     ensures { result ≡ sectorsOf features high }
 {

@@ -1,6 +1,5 @@
 -- Frames that were sent one behind the other come back from the cut. Assumes nothing.
 use Rattle.std.proofs.Common.{◌≡◌, refl, ap, ap₂, ◌∙◌, true, List, [], ◌∷◌, ◌++◌, map, append-nil, ℕ, zero, suc, ◌≤◌, ◌<◌, arith, length, take, drop, length-append, take_at, drop_at}
-use Rattle.bits.specs.Pick.{pick}
 use Rattle.frame_parts.specs.Shared.{registerBytes}
 use Rattle.frame_parts.specs.Size.{fixedSize}
 use Rattle.frame_parts.specs.Cut.{firstLength, cut_to, cut, joined}
@@ -10,7 +9,7 @@ use Rattle.frames.specs.DataLast.{isPayload, DataLast}
 
 -- a frame in front is cut off whole
 pub first-length-of : (f : FrameValue) (rest : List ℕ) → (isPayload f ≡ true → rest ≡ []) → firstLength (encode f ++ rest) ≡ length (encode f)
-unfolding encode registerBytes bitsBytes setupBytes fixedSize pick
+unfolding encode registerBytes bitsBytes setupBytes fixedSize
 first-length-of (host f) rest h = fixed 0x27 20 _ refl refl (omega arith)
 first-length-of (device f) rest h = fixed 0x34 20 _ refl refl (omega arith)
 first-length-of (setBits f) rest h = fixed 0xA1 8 _ refl refl (omega arith)

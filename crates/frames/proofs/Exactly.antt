@@ -13,7 +13,7 @@ use Rattle.frames.specs.Read.{frameOf, frameByKind, readFrame, ladder24, frameAn
 use Rattle.frames.specs.declared.shapes.Frame.{Frame}
 
 refused-24 : (l : List ℕ) → refusal_in (readFrame l) ≡ first_of (ladder24 l)
-unfolding readFrame readable frameByKind first_of pick
+unfolding readFrame readable frameByKind first_of
 refused-24 l = of-kind (kindNamed (get_or l 0 0))
   where
     by-length : (allowed : Bool) (f : Frame) → refusal_in (pick allowed (Ok f) (Err NoFrame)) ≡ pick (not allowed) (Some NoFrame) None

@@ -1,6 +1,5 @@
 -- What a writer wrote, the reader reads again. Assumes nothing.
 use Rattle.std.proofs.Common.{Ok, ◌≡◌, refl, sym, ap, ◌∙◌, Bool, true, false, not, ◌&&◌, ◌||◌, List, ℕ, ◌-◌, ◌<◌, arith, eqb, eqb→eq, length, take, drop, take_at}
-use Rattle.bits.specs.Pick.{pick}
 use Rattle.bits.specs.Bit.{bitIn}
 use Rattle.bits.proofs.Tables.{below_all}
 use Rattle.bits.proofs.Littles.{le-leBytes}
@@ -95,21 +94,21 @@ same-pio p q r s t u v = cc
 -- ---- each kind
 
 read-host : (f : HostReg) → fits (host f) ≡ true → readFrame (encode (host f)) ≡ Ok (Host f)
-unfolding readFrame frameByKind readable pick encode fits registerBytes
+unfolding readFrame frameByKind readable encode fits registerBytes
 read-host f h =
     ap (λ x. Ok (Host x)) (same-host (flag-7 f.command_bit false false) refl refl
     (task-all (hostRegisters f)
     (and_right (below 8 f.command && below 8 f.features && below 8 f.features_high && below 8 f.control) (taskFits f.task) h)) refl refl)
 
 read-device : (f : DevReg) → fits (device f) ≡ true → readFrame (encode (device f)) ≡ Ok (Device f)
-unfolding readFrame frameByKind readable pick encode fits registerBytes
+unfolding readFrame frameByKind readable encode fits registerBytes
 read-device f h =
     ap (λ x. Ok (Device x)) (same-device (flag-6 false f.interrupt false)
     (task-all (deviceRegisters f)
     (and_right (below 8 f.status && below 8 f.error) (taskFits f.task) h)) refl refl)
 
 read-pio : (f : PioSetup) → fits (pio f) ≡ true → readFrame (encode (pio f)) ≡ Ok (Pio f)
-unfolding readFrame frameByKind readable pick encode fits registerBytes
+unfolding readFrame frameByKind readable encode fits registerBytes
 read-pio f h =
     let front = below 8 f.status && below 8 f.error && below 8 f.ending in
     ap (λ x. Ok (Pio x)) (same-pio (flag-6 false f.interrupt f.to_host) (flag-5 false f.interrupt f.to_host)
@@ -118,7 +117,7 @@ read-pio f h =
     (le-leBytes 2 (small 16 f.bytes (and_right front (below 16 f.bytes) (and_left (front && below 16 f.bytes) (taskFits f.task) h)))))
 
 read-bits : (f : SetBits) → fits (setBits f) ≡ true → readFrame (encode (setBits f)) ≡ Ok (Bits f)
-unfolding readFrame frameByKind readable pick encode fits bitsBytes
+unfolding readFrame frameByKind readable encode fits bitsBytes
 read-bits f h =
     let n7 = not (bitIn 8 f.status 7) in
     let n3 = not (bitIn 8 f.status 3) in
@@ -131,7 +130,7 @@ read-bits f h =
     (le-leBytes 4 (small 32 f.active (and_right two (below 32 f.active) three))))
 
 read-setup : (f : DmaSetup) → fits (setup f) ≡ true → readFrame (encode (setup f)) ≡ Ok (Setup f)
-unfolding readFrame frameByKind readable pick encode fits setupBytes
+unfolding readFrame frameByKind readable encode fits setupBytes
 read-setup f h =
     let two = and_left (below 32 f.tag && below 32 f.offset) (below 32 f.count) h in
     ap (λ x. Ok (Setup x)) (same-setup (flag-7 f.auto f.interrupt f.to_host) (flag-6 f.auto f.interrupt f.to_host) (flag-5 f.auto f.interrupt f.to_host)
@@ -141,7 +140,7 @@ read-setup f h =
 
 -- a payload behind four bytes
 read-payload : (p : List ℕ) → fits (payload p) ≡ true → readFrame (encode (payload p)) ≡ Ok (Data (length p))
-unfolding pick encode fits
+unfolding encode fits
 read-payload p h =
     let l = length-payload p in
     let k : length (encode (payload p)) - 4 ≡ length p = omega arith in
@@ -149,7 +148,7 @@ read-payload p h =
 
 -- what was encoded is read as what was sent
 pub read-encoded : (f : FrameValue) → fits f ≡ true → readFrame (encode f) ≡ Ok (readBack f)
-unfolding readFrame frameByKind readable pick encode
+unfolding readFrame frameByKind readable encode
 read-encoded (host f) h = read-host f h
 read-encoded (device f) h = read-device f h
 read-encoded (setBits f) h = read-bits f h

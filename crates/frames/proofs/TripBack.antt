@@ -2,7 +2,6 @@
 use Rattle.std.proofs.Common.{Result, Ok, Err, Some, ◌≡◌, refl, sym, ap, ◌∙◌, Bool, true, false, not, List, [], ◌∷◌, ℕ, zero, suc, ◌+◌, ◌-◌, ◌*◌, ◌/◌, ◌^◌, ◌<◌, mod-eq_of_lt, div-one, le_of_eq, arith, bit_and, shr-shr, T, eqb, ltb, eqb→eq, lit<, length, get_or, drop, drop_of_length-le, length-drop, eqb-true, lt-ltb}
 use native.Mathlib.Nat.{mod-one}
 use lib.Bits.{and_mask}
-use Rattle.bits.specs.Pick.{pick}
 use Rattle.bits.specs.Bit.{bitIn}
 use Rattle.bits.specs.Little.{leAt, byte_of, Bytes}
 use Rattle.bits.proofs.Tables.{below_all}
@@ -123,7 +122,7 @@ module _ (l : List ℕ) (bytes : Bytes l) where
   whole f n e h t z = (t, z, sym (ap length z) ∙ e ∙ sym h)
 
   host-again : get_or l 0 0 ≡ 0x27 → length l ≡ 20 → Back (host (hostOf l))
-  unfolding encode fits namedBits pick registerBytes
+  unfolding encode fits namedBits registerBytes
   host-again e h =
       whole (host (hostOf l)) 20 refl h
       (rw (lt-ltb (get_or l 2 0) 256 (bytes 2), lt-ltb (get_or l 3 0) 256 (bytes 3), lt-ltb (get_or l 11 0) 256 (bytes 11), lt-ltb (get_or l 15 0) 256 (bytes 15)) (task-fits l bytes))
@@ -131,7 +130,7 @@ module _ (l : List ℕ) (bytes : Bytes l) where
       ∙ sym (rw e (simp (keep, drops, drop_of_length-le l (le_of_eq h), e, sym (masks-7 (get_or l 1 0) (bytes 1))))))
 
   device-again : get_or l 0 0 ≡ 0x34 → length l ≡ 20 → Back (device (deviceOf l))
-  unfolding encode fits namedBits pick registerBytes
+  unfolding encode fits namedBits registerBytes
   device-again e h =
       whole (device (deviceOf l)) 20 refl h
       (rw (lt-ltb (get_or l 2 0) 256 (bytes 2), lt-ltb (get_or l 3 0) 256 (bytes 3)) (task-fits l bytes))
@@ -139,7 +138,7 @@ module _ (l : List ℕ) (bytes : Bytes l) where
       ∙ sym (rw e (simp (keep, drops, drop_of_length-le l (le_of_eq h), e, sym (masks-6 (get_or l 1 0) (bytes 1))))))
 
   pio-again : get_or l 0 0 ≡ 0x5F → length l ≡ 20 → Back (pio (pioOf l))
-  unfolding encode fits namedBits pick registerBytes
+  unfolding encode fits namedBits registerBytes
   pio-again e h =
       whole (pio (pioOf l)) 20 refl h
       (rw (lt-ltb (get_or l 2 0) 256 (bytes 2), lt-ltb (get_or l 3 0) 256 (bytes 3), lt-ltb (get_or l 15 0) 256 (bytes 15), lt-ltb (leAt l 16 2) 65536 (le-lt l bytes 16 2)) (task-fits l bytes))
@@ -148,7 +147,7 @@ module _ (l : List ℕ) (bytes : Bytes l) where
       (sym (rw e (simp (keep, drops, drop_of_length-le l (le_of_eq h), e, sym (masks-65 (get_or l 1 0) (bytes 1)))))))
 
   bits-again : get_or l 0 0 ≡ 0xA1 → length l ≡ 8 → Back (setBits (bits_of l))
-  unfolding encode fits bitsBytes namedBits pick
+  unfolding encode fits bitsBytes namedBits
   bits-again e h =
       whole (setBits (bits_of l)) 8 refl h
       (rw (halves-fit (get_or l 2 0) (bytes 2), lt-ltb (get_or l 3 0) 256 (bytes 3), lt-ltb (leAt l 4 4) 4294967296 (le-lt l bytes 4 4), halves-7 (get_or l 2 0) (bytes 2), halves-3 (get_or l 2 0) (bytes 2)))
@@ -156,7 +155,7 @@ module _ (l : List ℕ) (bytes : Bytes l) where
       (sym (rw e (simp (keep, drop_of_length-le l (le_of_eq h), e)))))
 
   setup-again : get_or l 0 0 ≡ 0x41 → length l ≡ 28 → Back (setup (setupOf l))
-  unfolding encode fits setupBytes namedBits pick
+  unfolding encode fits setupBytes namedBits
   setup-again e h =
       whole (setup (setupOf l)) 28 refl h
       (rw (lt-ltb (leAt l 4 4) 4294967296 (le-lt l bytes 4 4), lt-ltb (leAt l 16 4) 4294967296 (le-lt l bytes 16 4), lt-ltb (leAt l 20 4) 4294967296 (le-lt l bytes 20 4)))
@@ -178,15 +177,15 @@ module _ (l : List ℕ) (bytes : Bytes l) where
       (sym (rw e (simp (keep, drops, drop_of_length-le l (le_of_eq h), e)))))
 
   activate-again : get_or l 0 0 ≡ 0x39 → length l ≡ 4 → Back activate
-  unfolding encode fits namedBits pick
+  unfolding encode fits namedBits
   activate-again e h = whole activate 4 refl h refl (sym (rw e (simp (keep, drops, drop_of_length-le l (le_of_eq h), e))))
 
   bist-again : get_or l 0 0 ≡ 0x58 → length l ≡ 12 → Back bist
-  unfolding encode fits namedBits pick
+  unfolding encode fits namedBits
   bist-again e h = whole bist 12 refl h refl (sym (rw e (simp (keep, drops, drop_of_length-le l (le_of_eq h), e))))
 
   payload-again : get_or l 0 0 ≡ 0x46 → payloadSize (length l - 4) ≡ true → Back (payload (drop 4 l))
-  unfolding encode fits namedBits pick
+  unfolding encode fits namedBits
   payload-again e h =
       let four = payload-4 (length l) h in
       whole (payload (drop 4 l)) (length l) (omega (arith, length-payload (drop 4 l), length-drop 4 l)) refl (rw (length-drop 4 l) h) (sym (rw e (simp (keep, drops, e))))

@@ -118,7 +118,7 @@ all-unmap P f (c ∷ cs) a = (a.0, all-unmap P f cs a.1)
 
 -- what holds of all commands of a history holds of those before its last event, that event later
 pub all_back : (P : Command → Type 0) (e : Seen) (h : List Seen) → All P (commands (e ∷ h)) → All (λ c. P (later e c)) (commands h)
-unfolding commands All pick
+unfolding commands All
 all_back P e h a = all-unmap P (later e) (commands h) (go (accepts e) a)
   where
     go : (b : Bool) → All P (pick b (record { accepted = e; after = [] } ∷ map (later e) (commands h)) (map (later e) (commands h))) → All P (map (later e) (commands h))

@@ -94,7 +94,6 @@ seen-back (r ∷ rs) = ap (λ (l : List FrameRead). Ok (trip.readBack r) ∷ l) 
 
 -- an Activate, or none
 activates : (b : Bool) → map trip.readBack (activateIf b) ≡ pick b (fs.Activate ∷ []) []
-unfolding pick
 activates true = refl
 activates false = refl
 
@@ -106,7 +105,6 @@ module _ (d : Device) (h : List Event) (k : Stands d h) where
   -- what is left of the open phase, in its direction
   left-is : contradictoryDevice d ≡ false → is_none d.status.phase ≡ false → (b : Bool) → (phaseEntry d).write ≡ not b
       → leftOf b (underWayAfter h) ≡ left_of (phaseEntry d)
-  unfolding pick
   left-is g p b w =
       let t : ℕ = unwrap_or d.status.phase 0 in
       let o : d.status.phase ≡ Some t = some-open d.status.phase p in
@@ -135,7 +133,7 @@ module _ (d : Device) (h : List Event) (k : Stands d h) where
   -- a command that is not queued
   others : (v : Facts) (f : HostReg) → v.status.halted ≡ d.status.halted → v.status.outstanding ≡ d.status.outstanding → contradictoryDevice d ≡ false → taskFits f.task ≡ true → by.TimelyCommand v f false
       → Reads d [] (frameAct v (Ok (fs.Host f))) ≡ ByHost d h (Ok (fs.Host f))
-  unfolding frameAct registerAct otherAct pick
+  unfolding frameAct registerAct otherAct
   others v f x o g t c =
       rw (c.command, c.kind)
       (by-other v (shown d) [] f (sym x) t (pages g)
@@ -152,7 +150,7 @@ module _ (d : Device) (h : List Event) (k : Stands d h) where
   -- by the rule that holds
   heard-answers : (x m b : List ℕ) {f : FrameRead} {a : Act} → contradictoryDevice d ≡ false → ReadFits f → by.Heard (facts_of d (lent (hostFrame x) m b)) f a → a ≡ frameAct (facts_of d (lent (hostFrame x) m b)) f
       → Reads d [] a ≡ ByHost d h f
-  unfolding repliesOf ReadFits pick
+  unfolding repliesOf ReadFits
   heard-answers x m b g t (by.srst f c s) e = rw (c, s) refl
   heard-answers x m b g t (by.release f c s y) e = rw (c, s, k.known.held, y) refl
   heard-answers x m b g t (by.nothing f c s y) e = rw (c, s, k.known.held, y) refl
@@ -237,7 +235,6 @@ module _ (d : Device) (h : List Event) (k : Stands d h) where
 
   -- every call: a taken one is answered as the history says, a refused one not at all
   pub answers-here : (l : Lent) → Typed l.call → frames (eventOf d l) ≡ map Ok (pick (taken (eventOf d l)) (By d h l.call) [])
-  unfolding pick
   answers-here l t =
       by-turn d l (λ (s : Step). Read (eventBy l s) s.frames → frames (eventBy l s) ≡ map Ok (pick (is_none s.refusal) (By d h l.call) [])) (λ r _ q. read-frames (eventBy l (stepBy d l (Err r))) [] q)
       (λ a o q.

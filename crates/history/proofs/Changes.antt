@@ -32,17 +32,14 @@ same d = record { settings = refl; outstanding = refl; phase = refl; halted = re
 
 -- a table with one entry anew
 pub placed_same : (es : List Entry) (t : ℕ) (e : Entry) → t < 32 → entry_of (placed es t e) t ≡ e
-unfolding pick
 placed_same es t e l = getD-placed es t e t l ∙ rw (eq-eqb t t refl)
 
 -- every other entry stays
 pub placed-other : (es : List Entry) (t : ℕ) (e : Entry) (i : ℕ) → i < 32 → (i ≡ t → ⊥) → entry_of (placed es t e) i ≡ entry_of es i
-unfolding pick
 placed-other es t e i l n = getD-placed es t e i l ∙ rw (ne_eqb i t n)
 
 -- a table without the entries of a set: the others stay
 pub cleared-other : (es : List Entry) (set i : ℕ) → i < 32 → bitIn 32 set i ≡ false → entry_of (cleared es set) i ≡ entry_of es i
-unfolding pick
 cleared-other es set i l n = getD-cleared es set i l ∙ rw n
 
 -- nothing is left exactly if all has moved then

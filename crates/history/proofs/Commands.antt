@@ -15,7 +15,7 @@ isOut t c = eqb (ownTag c) t && outstanding c
 
 -- of one command more, by its tag u and what came after it: an event that ends tag t leaves none of that tag outstanding, any other leaves all
 out_at : (t : ℕ) (e : Seen) (n u : ℕ) (a : List Seen) → one (eqb u t && outstandingAt u (e ∷ a)) + pick (ends t e) 0 n ≡ pick (ends t e) 0 (one (eqb u t && outstandingAt u a) + n)
-unfolding pick outstandingAt
+unfolding outstandingAt
 out_at t e n u a =
     ⊎_elim
     (λ (x : eqb u t ≡ true).
@@ -45,7 +45,7 @@ out-map t e (c ∷ cs) = ap (λ (n : ℕ). one (isOut t (later e c)) + n) (out-m
 
 -- how many are so, of a list that may have a command more
 pub many-pick : (p : Command → Bool) (a : Bool) (c : Command) (cs : List Command) → howMany p (pick a (c ∷ cs) cs) ≡ one (a && p c) + howMany p cs
-unfolding howMany pick
+unfolding howMany
 many-pick p true c cs = refl
 many-pick p false c cs = sym (zero-add (howMany p cs))
 

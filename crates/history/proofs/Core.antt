@@ -48,12 +48,10 @@ inv-start = record {
 -- ---- truth tables, each for one of the kinds below
 
 keep-test : (w : Bool) → pick w true false ≡ w
-unfolding pick
 keep-test true = refl
 keep-test false = refl
 
 gone-test : (w : Bool) → pick w false false ≡ false
-unfolding pick
 gone-test true = refl
 gone-test false = refl
 
@@ -64,7 +62,6 @@ add-test false true f = refl
 add-test false false f = refl
 
 done-test : (a b : Bool) → ◌≡◌ {A = ℕ} (0 + pick (a || false) 0 (one b)) (one (not a && b))
-unfolding pick
 done-test true b = refl
 done-test false true = refl
 done-test false false = refl
@@ -115,7 +112,6 @@ same-tags {k} {b} {h} v e x = tags-step 32 e h (λ y. absurd (false≢true (sym 
 module _ {k : ℕ} {b : Bool} {h : List Seen} (v : Inv k b h) {e : Seen} where
   -- nothing that is read here
   keep-plain : {se br : ℕ} → Is e false false false false false false none none se br → Inv k b (e ∷ h)
-  unfolding pick
   keep-plain i = record {
     bound = v.bound;
     tags = same-tags v e i.accepted;
@@ -131,7 +127,6 @@ module _ {k : ℕ} {b : Bool} {h : List Seen} (v : Inv k b h) {e : Seen} where
 
   -- an error answered while halted
   keep-again : {q : Bool} → Is e q false true false false false none none 0 0 → b ≡ true → Inv k b (e ∷ h)
-  unfolding pick
   keep-again {q} i x = record {
     bound = v.bound;
     tags = same-tags v e i.accepted;
@@ -148,7 +143,6 @@ module _ {k : ℕ} {b : Bool} {h : List Seen} (v : Inv k b h) {e : Seen} where
 
   -- an error answered to a command that is not queued, while nothing is outstanding
   keep-freely : Is e false false true false false false none none 0 0 → b ≡ false → k ≡ 0 → Inv k b (e ∷ h)
-  unfolding pick
   keep-freely i x z = record {
     bound = v.bound;
     tags = same-tags v e i.accepted;
@@ -160,7 +154,6 @@ module _ {k : ℕ} {b : Bool} {h : List Seen} (v : Inv k b h) {e : Seen} where
 
   -- a halt
   keep-halts : {q ba fa : Bool} → Is e q false ba fa false false none none 0 0 → (q ≡ true → fa ≡ false) → b ≡ false → (ba && (q || not (eqb k 0))) || fa ≡ true → Inv 0 true (e ∷ h)
-  unfolding pick
   keep-halts {q} {ba} {fa} i a x c =
       let bad : ba || fa ≡ true = or-both ba (q || not (eqb k 0)) fa c in
       record {
@@ -179,7 +172,6 @@ module _ {k : ℕ} {b : Bool} {h : List Seen} (v : Inv k b h) {e : Seen} where
 
   -- SRST, COMRESET
   keep-resets : Is e false false false false true false none none 0 0 → Inv 0 false (e ∷ h)
-  unfolding pick
   keep-resets i = record {
     bound = lit< tt;
     tags = same-tags v e i.accepted;
@@ -191,7 +183,6 @@ module _ {k : ℕ} {b : Bool} {h : List Seen} (v : Inv k b h) {e : Seen} where
 
   -- the sweep
   keep-sweeps : {cl : ℕ → Bool} → ((t : ℕ) → t < 32 → cl t ≡ true) → Is e false false false false false true none cl 0 0 → b ≡ true → Inv 0 false (e ∷ h)
-  unfolding pick
   keep-sweeps {cl} all i x = record {
     bound = lit< tt;
     tags = same-tags v e i.accepted;
@@ -204,7 +195,6 @@ module _ {k : ℕ} {b : Bool} {h : List Seen} (v : Inv k b h) {e : Seen} where
   -- a command accepted
   keep-takes : Is e true true false false false false none none 0 0 → b ≡ false → e.asks.tag < 32 → bitIn 32 k e.asks.tag ≡ false
       → Inv (withBitIn 32 k e.asks.tag) b (e ∷ h)
-  unfolding pick
   keep-takes i x l free = record {
     bound = rw (lt-ltb e.asks.tag 32 l) (or_lt 32 k (2 ^ e.asks.tag) v.bound (pow-lt l));
     tags = tags-step 32 e h (λ _. l) v.tags;
@@ -228,7 +218,6 @@ module _ {k : ℕ} {b : Bool} {h : List Seen} (v : Inv k b h) {e : Seen} where
 
   -- a set of tags finished
   keep-ends : (set : ℕ) → Is e false false false false false false (bitIn 32 set) (bitIn 32 set) 0 0 → b ≡ false → set < 2 ^ 32 → Inv (clearIn 32 k set) b (e ∷ h)
-  unfolding pick
   keep-ends set i x l = record {
     bound = lt_of_le_of_lt (and_le_l k ((2 ^ 32 - 1) - set)) v.bound;
     tags = same-tags v e i.accepted;

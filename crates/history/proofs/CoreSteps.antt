@@ -44,12 +44,12 @@ blamed t h = givenUpThere t h || badSince t h
 
 -- while it waits
 pub blamed-on : (t : ℕ) (e : Seen) (h : List Seen) → waits h ≡ true → blamed t (e ∷ h) ≡ givenUpThere t h || (asksBad t e || badSince t h)
-unfolding before since some pick
+unfolding before since some
 blamed-on t e h w = rw w
 
 -- at the event that raises it
 pub blamed-new : (t : ℕ) (e : Seen) (h : List Seen) → waits h ≡ false → blamed t (e ∷ h) ≡ ltb 0 (totalWith t h) || (asksBad t e || false)
-unfolding before since some pick
+unfolding before since some
 blamed-new t e h w = rw w
 
 -- ---- sets of tags

@@ -1,7 +1,6 @@
 -- Over every call the counters go on telling the events since their zeroing. Assumes nothing.
 use Rattle.std.proofs.Common.{Ok, Err, ◌≡◌, refl, sym, ap, Bool, false, List, ◌∷◌, ℕ, arith, length, take, ne_eqb}
 use mathlib.Core.Path.{subst⁻¹}
-use Rattle.bits.specs.Pick.{pick}
 use Rattle.bits.specs.Laid.{laid}
 use Rattle.rules.specs.Call.{Call}
 use Rattle.rules.specs.Medium.{part_of}
@@ -43,7 +42,6 @@ ruled-reckons d m b (by.own o) = (own-goes d m b o).reckons
 
 -- every call, refused or taken: the counters go on telling the history
 pub counting-step : (d : Device) (l : Lent) (h : List Event) → Replies d l → Counting d h → Counting (step d l).state (eventOf d l ∷ h)
-unfolding pick
 counting-step d l h q i =
     by-decided d l (λ (s : Step). Read (eventBy l s) s.frames → Counting s.state (eventBy l s ∷ h))
     (λ r _. tells d.values (eventBy l (stepBy d l (Err r))) h i false 16 (record { zeroed = refl; raised = λ k u. sym (ne_eqb 16 k (λ z. omega (arith, u, z))) }))

@@ -1,7 +1,6 @@
 -- Every taken device event comes to one of the ten kinds. Assumes nothing.
 use Rattle.std.proofs.Common.{None, is_none, unwrap_or, ◌≡◌, refl, sym, ap, subst, ◌∙◌, Bool, true, false, not, ◌||◌, true≢false, List, ℕ, ◌+◌, ◌*◌, ◌^◌, ◌≤◌, ◌<◌, min, arith, zero-add, eqb, lit<, length, take, drop, length-take, length-drop, eqb-true}
 use borrow.Author.Tests.{eqb-false, not-false}
-use Rattle.bits.specs.Pick.{pick}
 use Rattle.bits.specs.Bit.{bitIn}
 use Rattle.bits.proofs.Picks.{by-test, or_left, or_right}
 use Rattle.frames.specs.declared.shapes.DmaSetup.{DmaSetup}
@@ -60,7 +59,7 @@ opened-comes d part tag g busy shut left =
 sent-comes : (d : Device) (part : List ℕ) → contradictoryDevice d ≡ false → (p : is_none d.status.phase ≡ false)
     → let e : Entry = entry_of d.entries (unwrap_or d.status.phase 0) in
     e.write ≡ false → length part ≡ min 8192 (left_of e) → Happens d part (Send (move_of d.status e 8192))
-unfolding repliesOf after_of pick
+unfolding repliesOf after_of
 sent-comes d part g p w l =
     let t : ℕ = unwrap_or d.status.phase 0 in
     let e : Entry = entry_of d.entries t in
@@ -142,7 +141,7 @@ failed-comes d part f x =
 
 -- COMRESET
 pub renewed-comes : (d : Device) (part : List ℕ) → Class d (view resetAsks (repliesOf (shown d) part Renew)) (after_of d Renew)
-unfolding repliesOf after_of renewed resetHeld released withValue pick
+unfolding repliesOf after_of renewed resetHeld released withValue
 renewed-comes d part = resets (is-reset _ refl) (answer-unbegun resetAsks _) (record { settings = refl; outstanding = refl; phase = refl; halted = refl })
 
 -- link event

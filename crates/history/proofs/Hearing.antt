@@ -1,7 +1,6 @@
 -- What the history reads of a host frame is what its act does to the counters; and only page 11h is read as such. Assumes nothing.
 use Rattle.std.proofs.Common.{Option, Some, None, Ok, ◌≡◌, refl, sym, ap, ◌∙◌, Bool, true, false, ◌&&◌, true≢false, List, [], ℕ, ◌%◌, arith, eqb, eqb-true}
 use mathlib.Core.Bool.{false≢true, and-false}
-use Rattle.bits.specs.Pick.{pick}
 use Rattle.bits.specs.Bit.{bitIn}
 use Rattle.bits.proofs.Picks.{by-test, and_left}
 use Rattle.frame_parts.specs.declared.shared.Task.{Task}
@@ -124,7 +123,6 @@ ten-zeroes p r x e = rw e (and-false p)
 module _ (d : Device) where
   -- a frame that is answered with no page, and zeroes nothing
   pub none-heard : (f : FrameRead) (a : Act) → frameZeroes false f ≡ false → (after_of d a).values ≡ d.values → Hears d f false a
-  unfolding pick
   none-heard f a z v = record { values = v ∙ ap (λ (b : Bool). counted b 16 d.values) (sym z); shown = λ p _. absurd (false≢true p) }
 
   -- of an act, with the replies that it sends
@@ -133,12 +131,12 @@ module _ (d : Device) where
 
   -- host data, whatever follows it
   pub data-heard : (n : ℕ) (m : Move) → HeardBy (Ok (fs.Data n)) (Store m)
-  unfolding after_of movedBy pick
+  unfolding after_of movedBy
   data-heard n m = record { values = refl; shown = λ _ q. absurd (false≢true q) }
 
   -- page 10h
   pub ten-heard : (h : HostReg) → asksErrors (pageAsked h) ≡ true → HeardBy (Ok (fs.Host h)) (Log10 h.task)
-  unfolding after_of unhalted pick
+  unfolding after_of unhalted
   ten-heard h t = record {
     values = ap (λ (b : Bool). counted b 16 d.values) (sym (ten-zeroes (pioIn (repliesOf (shown d) [] (Log10 h.task))) (readsLog 0x11 h) (bitIn 8 h.features 0) (reads-ten h t)));
     shown = λ _ q. absurd (false≢true (sym (reads-ten h t) ∙ q));
@@ -146,7 +144,7 @@ module _ (d : Device) where
 
   -- page 11h: it zeroes by its bit alone
   pub eleven-heard : (h : HostReg) → h.command_bit ≡ true → asksCounters (pageAsked h) ≡ true → HeardBy (Ok (fs.Host h)) (Log11 (record { zero = bitIn 8 h.features 0; task = h.task }))
-  unfolding after_of repliesOf some pick
+  unfolding after_of repliesOf some
   eleven-heard h c t = record {
     values = zeroed-values d (bitIn 8 h.features 0) ∙ ap (λ (b : Bool). counted (b && bitIn 8 h.features 0) 16 d.values) (sym (reads-counters h c t));
     shown = λ _ _. record { log = record { zero = bitIn 8 h.features 0; task = h.task }; is = refl };
@@ -154,5 +152,5 @@ module _ (d : Device) where
 
   -- BIST
   pub bist-heard : HeardBy (Ok fs.Bist) ZeroCounters
-  unfolding after_of zeroedIf pick
+  unfolding after_of zeroedIf
   bist-heard = record { values = refl; shown = λ _ q. absurd (false≢true q) }

@@ -47,7 +47,7 @@ busy-free d g t b =
 
 -- a host frame that is not turned down
 heard-holds : (d : Device) (v : Facts) {f : FrameRead} {a : Act} → v.status ≡ d.status → by.Heard v f a → next (frameFrees f) (frameAsks f).resets d.status.held ≡ (after_of d a).status.held
-unfolding pick after_of resetHeld released acceptedBy unhalted zeroedIf movedBy haltWith move_of
+unfolding after_of resetHeld released acceptedBy unhalted zeroedIf movedBy haltWith move_of
 heard-holds d v e (by.srst h c s) = rw (c, s)
 heard-holds d v e (by.release h c s y) = rw (c, s)
 heard-holds d v e (by.nothing h c s y) = rw (c, s, ← e, y)
@@ -65,7 +65,7 @@ heard-holds d v e (by.bist y) = refl
 
 -- a device event that is taken
 own-holds : (d : Device) (m b : List ℕ) {c : Call} {a : Act} → by.Own (facts_of d (lent c m b)) c a → next (frees c) (callAsks c).resets d.status.held ≡ (after_of d a).status.held
-unfolding pick after_of openedFor movedBy finishedBy failedBy haltWith renewed released resetHeld withValue move_of
+unfolding after_of openedFor movedBy finishedBy failedBy haltWith renewed released resetHeld withValue move_of
 own-holds d m b (by.opened t g s o p e) = refl
 own-holds d m b (by.sent g w s p r) = refl
 own-holds d m b (by.finished set g s p e r) = refl
@@ -80,7 +80,7 @@ ruled-holds d m b (by.own o) = own-holds d m b o
 
 -- every call
 pub holding-step : (d : Device) (l : Lent) (h : List Event) → holding h ≡ d.status.held → holding (eventOf d l ∷ h) ≡ (step d l).state.status.held
-unfolding holding pick
+unfolding holding
 holding-step d l h k =
     by-decided d l (λ (s : Step). holding (eventBy l s ∷ h) ≡ s.state.status.held) (λ _. k) (λ a r. rw k (ruled-holds d l.medium l.buffer r))
 

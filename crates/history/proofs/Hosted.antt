@@ -1,7 +1,6 @@
 -- All that is proved of a host frame that is not turned down: one row a rule. Assumes nothing.
 use Rattle.std.proofs.Common.{Option, Some, None, Ok, ◌≡◌, refl, sym, subst, Bool, true, false, not, List, [], inl, inr, ℕ, leb, get_or, eqb-true}
 use mathlib.Core.Bool.{false≢true}
-use Rattle.bits.specs.Pick.{pick}
 use Rattle.bits.specs.Bit.{bitIn}
 use Rattle.bits.proofs.Picks.{or_right}
 use Rattle.frames.specs.Read.{readFrame}
@@ -67,17 +66,17 @@ module _ (d : Device) (g : contradictoryDevice d ≡ false) where
 
     -- a command answered bad
     badly : (e : ℕ) → h.command_bit ≡ true → Comes d [] (registerAsks h) (bad h e) → HostGoes d [] (Ok (fs.Host h)) (bad h e)
-    unfolding repliesOf after_of some collect pick touch_of
+    unfolding repliesOf after_of some collect touch_of
     badly e c = mildly (bad h e) refl refl refl refl refl (λ k. k) (to-other h c _ (inl refl) refl refl)
 
     -- a command answered bad that halts the device
     faultily : (t : Option ℕ) (e : ℕ) → h.command_bit ≡ true → Comes d [] (registerAsks h) (fault h t e) → HostGoes d [] (Ok (fs.Host h)) (fault h t e)
-    unfolding repliesOf after_of haltWith some collect pick touch_of
+    unfolding repliesOf after_of haltWith some collect touch_of
     faultily t e c = mildly (fault h t e) refl refl refl refl refl (λ _ _. refl) (to-other h c _ (inl refl) refl refl)
 
   -- by the rule that holds
   heard-goes : (x m b : List ℕ) {f : FrameRead} {a : Act} → DataRead (get_or x 0 0) x f → by.Heard (facts_of d (lent (hostFrame x) m b)) f a → HostGoes d [] f a
-  unfolding repliesOf after_of resetHeld released acceptedBy unhalted zeroedIf movedBy some collect pick touch_of
+  unfolding repliesOf after_of resetHeld released acceptedBy unhalted zeroedIf movedBy some collect touch_of
   heard-goes x m b r (by.srst h c s) = mildly h _ refl refl refl refl refl (λ _ e. absurd (false≢true e)) (unblamed [] c (rw (c, s) (inl refl)) refl refl) (hosts.reset d g h c s)
   heard-goes x m b r (by.release h c s y) = mildly h _ refl refl refl refl refl (λ k. k) (unblamed _ c (rw (c, s) (inr (inl refl))) refl refl) (hosts.freed d g h c s)
   heard-goes x m b r (by.nothing h c s y) = mildly h _ refl refl refl refl refl (λ k. k) (unblamed [] c (rw (c, s) (inl refl)) refl refl) (hosts.idle d g h c s)

@@ -2,7 +2,6 @@
 use Rattle.std.proofs.Common.{Option, Some, None, is_some, is_none, unwrap_or, ◌≡◌, refl, sym, ap, subst, ◌∙◌, Bool, true, false, not, ◌&&◌, ◌||◌, List, [], ℕ, ◌-◌, ◌/◌, ◌%◌, ◌^◌, ◌<◌, min, arith, eqb, ltb, leb, lit<, lt-ltb, ltb-false, leb-true}
 use native.Mathlib.Nat.{zero-div}
 use borrow.Author.Tests.{eqb-false}
-use Rattle.bits.specs.Pick.{pick}
 use Rattle.bits.specs.Bit.{bitIn}
 use Rattle.bits.proofs.Masks.{bit_not}
 use Rattle.bits.proofs.Picks.{and_left}
@@ -101,7 +100,7 @@ module _ (d : Device) (g : contradictoryDevice d ≡ false) where
     -- page 10h: by whether the device was halted
     paged-ten : (b : Bool) → d.status.halted ≡ b → (task : Task) (page : List ℕ) → h.command_bit ≡ true → k.queued ≡ false → is_some d.status.phase ≡ false
         → Class d (view k (logReplies b task page)) (unhalted d)
-    unfolding unhalted pick
+    unfolding unhalted
     paged-ten true x task page c q p =
         sweeps (λ t. bitIn 32 0xFFFF_FFFF t || false) all-bits (is-swept k _ _ _ refl c q (no-reset c) refl) (swept-unbegun k _ _ _) x (halted-empty d g x) (none-open d.status.phase p)
         (record { settings = refl; outstanding = halted-empty d g x; phase = none-open d.status.phase p; halted = refl })
@@ -114,7 +113,7 @@ module _ (d : Device) (g : contradictoryDevice d ≡ false) where
 
     -- page 11h
     pub paged-eleven : h.command_bit ≡ true → k.queued ≡ false → (b : Bool) → Comes d [] k (Log11 (record { zero = b; task = h.task }))
-    unfolding repliesOf after_of zeroedIf pick
+    unfolding repliesOf after_of zeroedIf
     paged-eleven c q b =
         plain (is-page k _ _ q (no-reset c) refl) (page-unbegun k _ _)
         (record { settings = refl; outstanding = refl; phase = refl; halted = refl; entries = refl })
@@ -144,7 +143,7 @@ module _ (d : Device) (g : contradictoryDevice d ≡ false) where
   -- host data: some bytes of what is left have come, in a write phase
   kept-comes : (n : ℕ) → is_none d.status.phase ≡ false → (entry_of d.entries t).write ≡ true → 0 < n → n ≡ min n (left_of (entry_of d.entries t))
       → Comes d [] (dataAsks n) (Store (move_of d.status (entry_of d.entries t) n))
-  unfolding repliesOf after_of move_of pick
+  unfolding repliesOf after_of move_of
   kept-comes n p w pos e =
       let i = is-brought n (not (move_of d.status (entry_of d.entries t) n).last) in
       carries t (min n (left_of (entry_of d.entries t))) (rw (w, ← e) i) (active-unbegun (dataAsks n) (not (move_of d.status (entry_of d.entries t) n).last)) (carried-by d g p n pos)
@@ -161,7 +160,7 @@ module _ (d : Device) (g : contradictoryDevice d ≡ false) where
       (kept-comes n p (subst (λ (x : Entry). x.write ≡ true) q w) (omega arith) (subst (λ (x : Entry). n ≡ min n (left_of x)) q s))
 
   pub bist-comes : (k : Asked) → k.queued ≡ false → k.resets ≡ false → k.brings ≡ 0 → Comes d [] k ZeroCounters
-  unfolding repliesOf after_of zeroedIf pick
+  unfolding repliesOf after_of zeroedIf
   bist-comes k q r b =
       plain (subst (λ (n : ℕ). Is (actSeen d [] k ZeroCounters) false false false false false false none none 0 n) b (subst (λ (x : Bool). Is (actSeen d [] k ZeroCounters) false false false false x false none none 0 k.brings) r (is-silent k q)))
       (silent-unbegun k) (record { settings = refl; outstanding = refl; phase = refl; halted = refl; entries = refl })

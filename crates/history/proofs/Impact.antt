@@ -16,7 +16,7 @@ Reckons d c paged a = (after_of d a).values ≡ counted (callZeroes paged c) (ro
 
 -- one event more at a row
 pub raised-values : (d : Device) (row : ℕ) → (withValue d row).values ≡ counted false row d.values
-unfolding withValue pick
+unfolding withValue
 raised-values d row =
     ⊎_elim (λ (t : ltb row 16 ≡ true). rw (t, lt-leb 16 row (ltb-true row 16 t))) (λ (f : ltb row 16 ≡ false). rw (f, le-leb 16 row (ltb-false row 16 f))) (tested (ltb row 16))
 
@@ -27,11 +27,10 @@ renewed-values d = raised-values (released (resetHeld d)) 9
 
 -- a media error: row 0, if its byte has bit 7
 pub failed-values : (d : Device) (b : Bool) → (pick b (withValue d 0) d).values ≡ counted false (pick b 0 16) d.values
-unfolding pick
 failed-values d true = raised-values d 0
 failed-values d false = refl
 
 -- zeroed, or not
 pub zeroed-values : (d : Device) (b : Bool) → (zeroedIf d b).values ≡ counted b 16 d.values
-unfolding zeroedIf pick
+unfolding zeroedIf
 zeroed-values d b = refl

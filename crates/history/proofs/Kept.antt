@@ -74,7 +74,7 @@ ruled-sent d m b (by.own o) = (own-goes d m b o).sends
 
 -- every call
 pub call-sent : (d : Device) (l : Lent) → SentFrom (place_of (phaseEntry d)) l.medium (sentIn (step d l).frames)
-unfolding some pick
+unfolding some
 call-sent d l =
     by-decided d l (λ (x : Step). SentFrom (place_of (phaseEntry d)) l.medium (sentIn x.frames)) (λ r. sent-none (place_of (phaseEntry d)) l.medium [] refl)
     (λ a r. ruled-sent d l.medium l.buffer r)

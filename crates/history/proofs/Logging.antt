@@ -80,12 +80,10 @@ module _ (d : Device) (h : List Event) (w : waits (map seen h) ≡ d.status.halt
 
   -- nothing is raised or reset
   stays : (q : Asked) (rs : List FrameValue) (r : ErrorLog) → (view q rs).bad ≡ false → (view q rs).fails ≡ false → (view q rs).asks.resets ≡ false → Next q rs r ≡ logOf d.errors
-  unfolding pick
   stays q rs r a b c = rw (a, b, c) k
 
   -- a reset
   reset-logged : (q : Asked) (rs : List FrameValue) (r : ErrorLog) → (view q rs).bad ≡ false → (view q rs).fails ≡ false → (view q rs).asks.resets ≡ true → Next q rs r ≡ blankLog
-  unfolding pick
   reset-logged q rs r a b c = rw (a, b, c) refl
 
   -- host data, with an Activate or without
@@ -103,14 +101,14 @@ module _ (d : Device) (h : List Event) (w : waits (map seen h) ≡ d.status.halt
 
   -- page 10h, with or without the sweep
   paged-logged : (f : HostReg) (on : Bool) (p : List ℕ) (r : ErrorLog) → f.command_bit ≡ true → Next (registerAsks f) (logReplies on f.task p) r ≡ logOf d.errors
-  unfolding view some collect pick
+  unfolding view some collect
   paged-logged f true p r c = stays (registerAsks f) (logReplies true f.task p) r (rw c refl) refl (rw c refl)
   paged-logged f false p r c = stays (registerAsks f) (logReplies false f.task p) r (rw c refl) refl (rw c refl)
 
   -- a host frame that is not turned down
   heard-logged : (x m b : List ℕ) {f : FrameRead} {a : Act} → contradictoryDevice d ≡ false → ReadFits f → by.Heard (facts_of d (lent (hostFrame x) m b)) f a
       → Next (frameAsks f) (repliesOf (shown d) [] a) (frameLog (errorOf (repliesOf (shown d) [] a)) f) ≡ logOf (after_of d a).errors
-  unfolding view some collect pick repliesOf ReadFits after_of haltWith resetHeld released acceptedBy unhalted zeroedIf movedBy move_of
+  unfolding view some collect repliesOf ReadFits after_of haltWith resetHeld released acceptedBy unhalted zeroedIf movedBy move_of
   heard-logged x m b g t (by.srst f c s) = reset-logged (registerAsks f) [] (registerLog 0 f) (rw c refl) refl (rw (c, s) refl)
   heard-logged x m b g t (by.release f c s y) = rw (c, s) k
   heard-logged x m b g t (by.nothing f c s y) = rw (c, s) k
@@ -129,7 +127,7 @@ module _ (d : Device) (h : List Event) (w : waits (map seen h) ≡ d.status.halt
   -- a device event that is taken
   own-logged : (m b : List ℕ) {c : Call} {a : Act} → by.Own (facts_of d (lent c m b)) c a
       → Next (callAsks c) (repliesOf (shown d) (part_of a m) a) (callLog (errorOf (repliesOf (shown d) (part_of a m) a)) h c) ≡ logOf (after_of d a).errors
-  unfolding view some collect pick repliesOf after_of openedFor movedBy finishedBy failedBy haltWith renewed released resetHeld withValue move_of
+  unfolding view some collect repliesOf after_of openedFor movedBy finishedBy failedBy haltWith renewed released resetHeld withValue move_of
   own-logged m b (by.opened t g s o p e) = setup-logged (record { tag = t; entry = entry_of d.entries t }) _
   own-logged m b (by.sent g v s p r) = k
   own-logged m b (by.finished set g s p e r) = k
@@ -153,7 +151,7 @@ module _ (d : Device) (h : List Event) (w : waits (map seen h) ≡ d.status.halt
 
   -- every call
   pub logged-step : (l : Lent) → Typed l.call → SizedRecord d → logBy (eventOf d l ∷ h) ≡ logOf (step d l).state.errors
-  unfolding view some collect pick
+  unfolding view some collect
   logged-step l t s =
       by-decided d l (λ (y : Step). Read (eventBy l y) y.frames → logBy (eventBy l y ∷ h) ≡ logOf y.state.errors)
       (λ r z. told-next (eventBy l (stepBy d l (Err r))) [] z quiet refl ∙ k)
@@ -162,5 +160,5 @@ module _ (d : Device) (h : List Event) (w : waits (map seen h) ≡ d.status.halt
 
 -- power-on: a blank record
 pub logged-power : (s : Settings) → logBy [] ≡ logOf (powerOn s).state.errors
-unfolding logBy freshDevice pick
+unfolding logBy freshDevice
 logged-power s = from-power (λ (d : Device). blankLog ≡ logOf d.errors) s refl refl

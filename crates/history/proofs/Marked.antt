@@ -2,7 +2,6 @@
 use Rattle.std.proofs.Common.{Option, Some, None, Ok, ◌≡◌, refl, ap, ◌∙◌, true, false, List, [], ℕ, length, get_or, eq-eqb}
 use mathlib.Core.Path.{subst⁻¹}
 use mathlib.Core.Bool.{false≢true}
-use Rattle.bits.specs.Pick.{pick}
 use Rattle.bits.proofs.Picks.{pick_yes}
 use Rattle.refusals.specs.First.{first_of}
 use Rattle.refusals.specs.declared.reasons.Refusal.{Refusal}
@@ -44,7 +43,7 @@ marked_start s = powered-marked (powerRefusal s) s
 
 -- page 10h is read as its fields
 fields_read : (f : ErrorLog) → read_log (page10 f) ≡ Ok (fields10 (page10 f))
-unfolding read_log first_of pick
+unfolding read_log first_of
 fields_read f = rw (eq-eqb (length (page10 f)) 512 (length-10 f), eq-eqb (sum256 (page10 f)) 0 (sums-to-zero f))
 
 -- byte 2 is its status
@@ -58,7 +57,6 @@ page-tells f e = subst⁻¹ TellsError (fields_read f) (ap errIn (status-read f)
 
 -- the page of a halted device tells an error
 pub halted-tells : (d : Device) → SizedRecord d → contradictoryDevice d ≡ false → Marked d → d.status.halted ≡ true → TellsError (read_log (page10Of d.errors))
-unfolding pick
 halted-tells d s g k h =
     subst⁻¹ (λ (l : List ℕ). TellsError (read_log l)) (pick_yes (fits10 (logOf d.errors)) (page10 (logOf d.errors)) [] (record-fits d s g))
     (page-tells (logOf d.errors) (rw (k h)))

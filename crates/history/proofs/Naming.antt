@@ -104,7 +104,6 @@ module _ (d : Device) (h : List Event) (n : Named d h) where
 
   -- nothing is accepted
   stays : (q : Asked) (rs : List FrameValue) (task : Task) (d' : Device) → accepts (view q rs) ≡ false → Stay d d' → Names q rs task d'
-  unfolding pick
   stays q rs task d' a s t b = rw a ((s t b).1 ∙ n t (s t b).0)
 
   -- and the state's commands are as they were
@@ -121,14 +120,14 @@ module _ (d : Device) (h : List Event) (n : Named d h) where
 
   -- page 10h, with or without the sweep
   paged-named : (f : HostReg) (on : Bool) (p : List ℕ) (task : Task) (d' : Device) → f.command_bit ≡ true → (eqb f.command 0x60 || eqb f.command 0x61) ≡ false → Stay d d' → Names (registerAsks f) (logReplies on f.task p) task d'
-  unfolding view some collect pick
+  unfolding view some collect
   paged-named f true p task d' c e s = stays (registerAsks f) (logReplies true f.task p) task d' (rw (c, e) refl) s
   paged-named f false p task d' c e s = stays (registerAsks f) (logReplies false f.task p) task d' (rw (c, e) refl) s
 
   -- rule 4
   accepted-named : (f : HostReg) → f.command_bit ≡ true → (eqb f.command 0x60 || eqb f.command 0x61) ≡ true → f.task ≡ taskIn (entryFor f).echo → (rs : List FrameValue) → accepts (view (registerAsks f) rs) ≡ true
       → Names (registerAsks f) rs f.task (acceptedBy d (record { tag = tagAsked f; entry = entryFor f }))
-  unfolding acceptedBy view pick
+  unfolding acceptedBy view
   accepted-named f c e i rs a t b =
       let u : ℕ = tagAsked f in
       let d' : Device = acceptedBy d (record { tag = u; entry = entryFor f }) in
@@ -152,7 +151,7 @@ module _ (d : Device) (h : List Event) (n : Named d h) where
 
   -- a host frame that is not turned down
   heard-named : (x m b : List ℕ) {y : FrameRead} {a : Act} → ReadFits y → by.Heard (facts_of d (lent (hostFrame x) m b)) y a → Names (frameAsks y) (repliesOf (shown d) [] a) (frameTask y) (after_of d a)
-  unfolding view some collect pick repliesOf ReadFits after_of haltWith resetHeld released acceptedBy unhalted zeroedIf
+  unfolding view some collect repliesOf ReadFits after_of haltWith resetHeld released acceptedBy unhalted zeroedIf
   heard-named x m b {y} {a} t (by.srst f c s) = by-act (frameAsks y) [] (frameTask y) a (rw c refl) (empty-stay d (after_of d a) refl)
   heard-named x m b {y} {a} t (by.release f c s z) = by-act (frameAsks y) [] (frameTask y) a (rw c refl) same
   heard-named x m b {y} {a} t (by.nothing f c s z) = by-act (frameAsks y) [] (frameTask y) a (rw c refl) same
@@ -170,7 +169,7 @@ module _ (d : Device) (h : List Event) (n : Named d h) where
 
   -- a device event that is taken
   own-named : (m b : List ℕ) {c : Call} {a : Act} → Typed c → by.Own (facts_of d (lent c m b)) c a → Names (callAsks c) (repliesOf (shown d) (part_of a m) a) (callTask c) (after_of d a)
-  unfolding view some collect pick repliesOf after_of openedFor failedBy haltWith renewed released resetHeld withValue
+  unfolding view some collect repliesOf after_of openedFor failedBy haltWith renewed released resetHeld withValue
   own-named m b {c} {a} y (by.opened t g s o p e) = setup-named (record { tag = t; entry = entry_of d.entries t }) (callTask c) (after_of d a) same
   own-named m b {c} {a} y (by.sent g v s p r) = by-act (callAsks c) (part_of a m) (callTask c) a refl (moved-stay d 8192 p)
   own-named m b {c} {a} y (by.finished set g s p e r) = by-act (callAsks c) (part_of a m) (callTask c) a refl (finished-stay d set y.1)
@@ -191,7 +190,7 @@ module _ (d : Device) (h : List Event) (n : Named d h) where
 
   -- every call
   pub named-step : (l : Lent) → Typed l.call → SizedRecord d → Named (step d l).state (eventOf d l ∷ h)
-  unfolding view some collect pick
+  unfolding view some collect
   named-step l t s =
       by-decided d l (λ (y : Step). Read (eventBy l y) y.frames → Named y.state (eventBy l y ∷ h))
       (λ r k u o. n u o ∙ sym (told-next (eventBy l (stepBy d l (Err r))) [] k quiet refl u))

@@ -43,7 +43,7 @@ module _ (v : Facts) (s : Shown) (part : List ℕ) (h : HostReg) (same : s.halte
   Answer x ten eleven busy = map trip.readBack (repliesOf s part (otherAct v h)) ≡ otherBy x ten eleven busy h.task
 
   by-tests : (x : Bool) (page : Option LogPage) (busy : Bool) → v.status.halted ≡ x → pageAsked h ≡ page → not (eqb v.status.outstanding 0) ≡ busy → Answer x (asksErrors page) (asksCounters page) busy
-  unfolding otherAct repliesOf pick
+  unfolding otherAct repliesOf
   by-tests true None busy x p b = rw (x, p) refl
   by-tests true (Some Counters) busy x p b = rw (x, p) refl
   by-tests true (Some Errors) true x p b = rw (x, p, b, echo-task h.task fit) refl
@@ -81,7 +81,6 @@ and-always false = refl
 
 -- as the device tests it, and as the fields say it
 page-test : (asks : Option LogPage → Bool) (a b c g w : Bool) (page : Option LogPage) → asks None ≡ false → asks page ≡ w → asks (pick (a && (b && c) && g) page None) ≡ a && (w && (b && (c && g)))
-unfolding pick
 page-test asks false b c g w page z e = z
 page-test asks true false c g w page z e = z ∙ sym (and-false w)
 page-test asks true true false g w page z e = z ∙ sym (and-false w)
@@ -90,7 +89,6 @@ page-test asks true true true true w page z e = e ∙ sym (and-always w)
 
 -- byte 4 names page 10h
 ten-named : (n : ℕ) → asksErrors (pageNamed n) ≡ eqb n 0x10
-unfolding pick
 ten-named n = go (eqb n 0x10) (eqb n 0x11)
   where
     go : (p q : Bool) → asksErrors (pick p (Some Errors) (pick q (Some Counters) None)) ≡ p
@@ -100,7 +98,6 @@ ten-named n = go (eqb n 0x10) (eqb n 0x11)
 
 -- and page 11h
 eleven-named : (n : ℕ) → asksCounters (pageNamed n) ≡ eqb n 0x11
-unfolding pick
 eleven-named n = go (eqb n 0x10) (eqb n 0x11) (λ y. rw (eqb-true n 0x10 y) refl)
   where
     go : (p q : Bool) → (p ≡ true → q ≡ false) → asksCounters (pick p (Some Errors) (pick q (Some Counters) None)) ≡ q

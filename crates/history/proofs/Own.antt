@@ -1,7 +1,6 @@
 -- All that is proved of a device event that is taken: one row an event. Assumes nothing.
 use Rattle.std.proofs.Common.{Some, None, is_some, ◌≡◌, refl, Bool, true, false, List, [], ◌∷◌, inl, inr, ℕ}
 use mathlib.Core.Bool.{false≢true}
-use Rattle.bits.specs.Pick.{pick}
 use Rattle.bits.specs.Bit.{bitIn}
 use Rattle.frames.specs.Write.{FrameValue}
 use Rattle.device_state.specs.Table.{entry_of}
@@ -58,7 +57,7 @@ own-replies c rs k o e f p s = record { pageless = p; shaped = unblamed rs k o e
 
 -- DMA Setup, and for a write an Activate
 setup-replies : (tag : ℕ) (q : Queued) (on : Bool) → OwnReplies (openPhase tag) (setupReply q ∷ activateIf on)
-unfolding some collect pick
+unfolding some collect
 setup-replies tag q true = own-replies _ _ refl (inr (inl refl)) refl refl refl (none-finished _ _ refl)
 setup-replies tag q false = own-replies _ _ refl (inl refl) refl refl refl (none-finished _ _ refl)
 
@@ -70,7 +69,7 @@ shut d p = none-open d.status.phase p
 
 -- by the rule that holds
 pub own-goes : (d : Device) (m b : List ℕ) {c : Call} {a : Act} → by.Own (facts_of d (lent c m b)) c a → OwnGoes d m c a
-unfolding touch_of move_of repliesOf some collect pick after_of openedFor movedBy finishedBy failedBy haltWith renewed resetHeld released
+unfolding touch_of move_of repliesOf some collect after_of openedFor movedBy finishedBy failedBy haltWith renewed resetHeld released
 own-goes d m b (by.opened t g s o p e) = record {
   lies = nowhere-lies _ m;
   sends = sent-none (place_of (phaseEntry d)) m _ (setup-none (record { tag = t; entry = entry_of d.entries t }) (entry_of d.entries t).write);

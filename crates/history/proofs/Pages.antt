@@ -90,7 +90,7 @@ pageIn ps = pick (some isPio (map readFrame ps)) (payloads ps) []
 -- a PIO Setup and a data frame behind it: the data is the page
 page-sent : (task : Task) (l : List ℕ) → readFrame (encode (pioReply task)) ≡ readAs (pioReply task) → readFrame (encode (payload l)) ≡ readAs (payload l)
     → pageIn (map encode (pioReply task ∷ payload l ∷ [])) ≡ l
-unfolding some payloads pick encode
+unfolding some payloads encode
 page-sent task l x y = rw (x, y) (append-nil l)
 
 page-is : (e : Event) (task : Task) (l : List ℕ) → repliesIn e ≡ map encode (pioReply task ∷ payload l ∷ []) → frames e ≡ readIn (pioReply task ∷ payload l ∷ []) → page e ≡ l
@@ -113,7 +113,7 @@ PageShows mask e h = sends11 e ≡ true → (number : ℕ) → noNumber number �
 -- the page of a call whose act is a read of page 11h
 shown-page : (d : Device) (e : Event) (part : List ℕ) (h : List Event) (a : Act) → contradictoryDevice d ≡ false → Counting d h → Logs a → Read e (repliesOf (shown d) part a)
     → (number : ℕ) → noNumber number ≡ false → TellsFor d.settings.mask (page e) h number
-unfolding repliesOf pick
+unfolding repliesOf
 shown-page d e part h a g i w r number n =
     let mask = d.settings.mask in
     let k = w.log in

@@ -1,6 +1,5 @@
 -- Data at a place: sent, they are what the medium held there; brought, the medium holds them there and is otherwise as it was. What each reply sends. Assumes nothing.
 use Rattle.std.proofs.Common.{◌≡◌, refl, sym, ap, ◌∙◌, Bool, true, false, List, [], ◌∷◌, ◌++◌, append-nil, ℕ, zero, suc, ◌+◌, ◌≤◌, ◌<◌, add-zero, arith, length, take, drop, take-append-drop}
-use Rattle.bits.specs.Pick.{pick}
 use Rattle.frame_parts.specs.declared.shared.Task.{Task}
 use Rattle.frames.specs.Write.{payload}
 use Rattle.rules.specs.declared.acts.Queued.{Queued}
@@ -65,23 +64,23 @@ take_short (suc n) (x ∷ l) = ap (λ (y : List ℕ). x ∷ y) (take_short n l)
 
 -- a part of the medium as a data frame
 pub payload-sent : (at n : ℕ) (m : List ℕ) → SentFrom at m (sentIn (payload (take n (drop at m)) ∷ []))
-unfolding some pick
+unfolding some
 payload-sent at n m = rw (append-nil (take n (drop at m))) (take_short n (drop at m))
 
 -- a page is no command's data, with a sweep before it or without
 pub log-none : (on : Bool) (task : Task) (page : List ℕ) → sentIn (logReplies on task page) ≡ []
-unfolding some pick
+unfolding some
 log-none true task page = refl
 log-none false task page = refl
 
 -- nor is an Activate
 pub active-none : (on : Bool) → sentIn (activateIf on) ≡ []
-unfolding some pick
+unfolding some
 active-none true = refl
 active-none false = refl
 
 -- nor a DMA Setup
 pub setup-none : (q : Queued) (on : Bool) → sentIn (setupReply q ∷ activateIf on) ≡ []
-unfolding some pick
+unfolding some
 setup-none q true = refl
 setup-none q false = refl

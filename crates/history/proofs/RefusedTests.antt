@@ -69,7 +69,6 @@ power-out s = refl
 
 -- so a power-on that was taken had settings within them
 pub power-taken : (s : Settings) → (powerOn s).refusal ≡ None → outOfBounds s.depth s.capacity s.mask ≡ false
-unfolding pick
 power-taken s z = go (settingsOut s) (bounds-out s) (sym (power-out s) ∙ z)
   where
     go : (b : Bool) → outOfBounds s.depth s.capacity s.mask ≡ b → turnedFor b ≡ None → outOfBounds s.depth s.capacity s.mask ≡ false
@@ -78,7 +77,6 @@ power-taken s z = go (settingsOut s) (bounds-out s) (sym (power-out s) ∙ z)
 
 -- and one that was refused did not
 pub power-refused : (s : Settings) → ((powerOn s).refusal ≡ None → ⊥) → outOfBounds s.depth s.capacity s.mask ≡ true
-unfolding pick
 power-refused s n = go (settingsOut s) (bounds-out s) (power-out s)
   where
     go : (b : Bool) → outOfBounds s.depth s.capacity s.mask ≡ b → (powerOn s).refusal ≡ turnedFor b → outOfBounds s.depth s.capacity s.mask ≡ true
@@ -127,7 +125,6 @@ module _ (d : Device) where
 
     -- 6: what is left of an open write phase
     left-same : not (writeOpen (transferOf d)) ≡ false → left_of (phaseEntry d) ≡ leftOf false (transferOf d)
-    unfolding pick
     left-same y =
         let z : (is_none d.status.phase || not (phaseEntry d).write) ≡ false = write-open-same ∙ y in
         let n = or_left (is_none d.status.phase) (not (phaseEntry d).write) z in
@@ -136,7 +133,6 @@ module _ (d : Device) where
 
     -- 10: no read phase
     pub reading-same : (is_none d.status.phase || (phaseEntry d).write) ≡ eqb (leftOf true (transferOf d)) 0
-    unfolding pick
     reading-same =
         ⊎_elim (λ (x : is_none d.status.phase ≡ true). rw (not-true (is_some d.status.phase) x, transfer-shut d (none-open d.status.phase (not-true (is_some d.status.phase) x))))
         (λ (x : is_none d.status.phase ≡ false). rw (not-false (is_some d.status.phase) x, phase-at x) (go (phaseEntry d).write (phaseEntry d).moved (512 * (phaseEntry d).count) (let m = moves-on d g x in let e = phase-whole x in omega arith)))

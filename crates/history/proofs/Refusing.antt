@@ -28,7 +28,7 @@ use Rattle.history.proofs.RefusedTests.{power-taken, power-refused, row-same, op
 
 -- the same test in front of rows that agree where it does not hold
 cons-same : (n : Refusal) {a b : Bool} (rs ss : List Rung) → a ≡ b → (b ≡ false → first_of rs ≡ first_of ss) → first_of (rung n a ∷ rs) ≡ first_of (rung n b ∷ ss)
-unfolding first_of pick
+unfolding first_of
 cons-same n {a} {b} rs ss e f = rw e (go b f)
   where
     go : (b : Bool) → (b ≡ false → first_of rs ≡ first_of ss) → pick b (Some n) (first_of rs) ≡ pick b (Some n) (first_of ss)
@@ -67,7 +67,7 @@ Turned s e h = e.refusal ≡ first_of (rung Contradiction (outOfBounds s.depth s
 
 -- 1 in front of any row
 first-one : (o : Bool) (rs : List Rung) → o ≡ true → first_of (rung Contradiction o ∷ rs) ≡ Some Contradiction
-unfolding first_of pick
+unfolding first_of
 first-one o rs e = rw e
 
 -- every call after a history that the state follows

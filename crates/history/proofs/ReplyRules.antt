@@ -2,7 +2,6 @@
 use Rattle.std.proofs.Common.{Ok, Err, ◌≡◌, refl, sym, ap, ◌∙◌, Bool, true, false, ◌&&◌, true≢false, List, [], map, ℕ}
 use mathlib.Core.Path.{subst⁻¹}
 use mathlib.Core.Bool.{false≢true}
-use Rattle.bits.specs.Pick.{pick}
 use Rattle.frame_parts.specs.Cut.{joined}
 use Rattle.frames.specs.Write.{FrameValue}
 use Rattle.refusals.specs.declared.reasons.Refusal.{Refusal}
@@ -73,14 +72,12 @@ module _ (d : Device) (l : Lent) where
 
   -- what a refused call says: nothing
   turned-spoken : (r : Refusal) → Read (turned r) [] → (s : Speech) → Spoken (turned r) s
-  unfolding pick
   turned-spoken r q noneFinished = λ u. ap (λ (e : Seen). e.finishes u) (read-seen (turned r) [] q quiet refl) ∙ quiet-finishes u
   turned-spoken r q (setFinished s) = λ y. absurd (false≢true y)
   turned-spoken r q errorTold = (λ y. absurd (false≢true y), λ u. ap (λ (e : Seen). e.finishes u) (read-seen (turned r) [] q quiet refl) ∙ quiet-finishes u)
 
   -- what a taken call says, by its replies
   heeded-spoken : (a : Act) → Read (heeded a) (sends a) → (s : Speech) → SpokenBy s (view (callAsks l.call) (sends a)) → Spoken (heeded a) s
-  unfolding pick
   heeded-spoken a q s k = go s (subst⁻¹ (SpokenBy s) (read-seen (heeded a) (sends a) q (callAsks l.call) refl) k)
     where
       go : (s : Speech) → SpokenBy s (seen (heeded a)) → Spoken (heeded a) s
@@ -90,7 +87,7 @@ module _ (d : Device) (l : Lent) where
 
   -- a refused call
   turned-rules : (r : Refusal) (h : List Seen) → Read (turned r) [] → SeenRules (seen (turned r)) h → ReplyRules (turned r) h
-  unfolding sentAll joined some collect pick seen
+  unfolding sentAll joined some collect seen
   turned-rules r h q p =
       let e : Event = turned r in
       let none : frames e ≡ [] = read-frames e [] q in
@@ -111,7 +108,7 @@ module _ (d : Device) (l : Lent) where
 
   -- a taken one
   heeded-rules : (a : Act) (h : List Seen) → Read (heeded a) (sends a) → SeenRules (seen (heeded a)) h → CallShaped l.call (sends a) → Utters l.call (sends a) → ReplyRules (heeded a) h
-  unfolding some collect pick seen
+  unfolding some collect seen
   heeded-rules a h q p shape utters =
       let e : Event = heeded a in
       let seen_as : frames e ≡ readIn (sends a) = read-frames e (sends a) q in

@@ -3,7 +3,6 @@ use Rattle.std.proofs.Common.{Ok, ◌≡◌, refl, sym, ◌∙◌, Bool, true, f
 use mathlib.Core.Path.{subst⁻¹}
 use mathlib.Core.Bool.{false≢true}
 use Rattle.std.proofs.lemmas.Bool.{or_right}
-use Rattle.bits.specs.Pick.{pick}
 use Rattle.frame_parts.specs.declared.shared.Task.{Task}
 use Rattle.frames.specs.Write.{FrameValue}
 use Rattle.frames.specs.declared.shapes.SetBits.{SetBits}
@@ -42,18 +41,18 @@ Telling s = TellsError (read_log (page10Of s.errors))
 
 -- page 10h, with or without the sweep
 pub ten-said : (h : HostReg) (task : Task) (page : List ℕ) → frameReads 0x10 (Ok (fs.Host h)) ≡ true → (on : Bool) → (on ≡ true → TellsError (read_log page)) → FrameSays (Ok (fs.Host h)) (logReplies on task page)
-unfolding some collect pick
+unfolding some collect
 ten-said h task page t true k = record { swept = λ _. rw t; tells = λ _. subst⁻¹ (λ (l : List ℕ). TellsError (read_log l)) (append-nil page) (k refl); paged = λ _. rw t }
 ten-said h task page t false k = record { swept = λ _. rw t; tells = λ x. absurd (false≢true x); paged = λ _. rw t }
 
 -- page 11h
 pub eleven-said : (h : HostReg) (task : Task) (page : List ℕ) → frameReads 0x11 (Ok (fs.Host h)) ≡ true → FrameSays (Ok (fs.Host h)) (logReplies false task page)
-unfolding some collect pick
+unfolding some collect
 eleven-said h task page t =
     record { swept = λ x. absurd (false≢true x); tells = λ x. absurd (false≢true x); paged = λ _. or_right (frameReads 0x10 (Ok (fs.Host h))) (frameReads 0x11 (Ok (fs.Host h))) t }
 
 -- an Activate or none
 pub kept-said : (f : FrameRead) (on : Bool) → FrameSays f (activateIf on)
-unfolding some collect pick
+unfolding some collect
 kept-said f true = mild _ _ refl refl
 kept-said f false = mild _ _ refl refl

@@ -1,7 +1,6 @@
 -- When replies are of a shape that they may have: one of those that the call may have; a 34h with ERR answers a command, one without it none but a queued one, and a 5Fh has no ERR. Assumes nothing.
 use Rattle.std.proofs.Common.{Ok, ◌≡◌, refl, sym, ◌∙◌, Bool, true, false, not, true≢false, List, [], ◌∷◌, map, inl, inr, ℕ}
 use mathlib.Core.Bool.{false≢true}
-use Rattle.bits.specs.Pick.{pick}
 use Rattle.frame_parts.specs.declared.shared.Task.{Task}
 use Rattle.frames.specs.Write.{FrameValue}
 use Rattle.frames.specs.declared.shapes.HostReg.{HostReg}
@@ -61,22 +60,20 @@ unblamed rs c o e f = record { shape = o; blames = λ y. absurd (false≢true (s
 module _ (h : HostReg) (c : h.command_bit ≡ true) where
   -- that is queued: one 34h
   pub to-queued : isQueued h ≡ true → (rs : List FrameValue) → kindsOf rs ≡ 0x34 ∷ [] → sendsFaulty rs ≡ false → Shaped (frameReplies (Ok (fs.Host h))) (frameAsks (Ok (fs.Host h))) rs
-  unfolding pick
   to-queued q rs o f = record { shape = rw c (inl o); blames = λ _. c; ungranted = λ _ n. absurd (true≢false (sym (rw (c, q)) ∙ n)); faultless = f }
 
   -- that is not
   pub to-other : (rs : List FrameValue) → OneOf (kindsOf rs) commandReplies → granting rs ≡ false → sendsFaulty rs ≡ false → Shaped (frameReplies (Ok (fs.Host h))) (frameAsks (Ok (fs.Host h))) rs
-  unfolding pick
   to-other rs o g f = record { shape = rw c o; blames = λ _. c; ungranted = λ _ _. g; faultless = f }
 
   -- by a page, behind the sweep or not
   pub to-log : (on : Bool) (task : Task) (page : List ℕ) → Shaped (frameReplies (Ok (fs.Host h))) (frameAsks (Ok (fs.Host h))) (logReplies on task page)
-  unfolding pick some collect
+  unfolding some collect
   to-log true task page = to-other _ (inr (inr (inl refl))) refl refl
   to-log false task page = to-other _ (inr (inl refl)) refl refl
 
 -- host data: an Activate if more is left
 pub to-data : (n : ℕ) (on : Bool) → Shaped (frameReplies (Ok (fs.Data n))) (dataAsks n) (activateIf on)
-unfolding pick some collect
+unfolding some collect
 to-data n true = unblamed _ refl (inr (inl refl)) refl refl
 to-data n false = unblamed [] refl (inl refl) refl refl

@@ -1,7 +1,6 @@
 -- Every page 10h that is sent tells the record that the history before it tells. Assumes nothing.
 use Rattle.std.proofs.Common.{Ok, ◌≡◌, refl, sym, ap, subst, ◌∙◌, Bool, true, false, ◌&&◌, List, [], append-nil, ℕ, ◌%◌, arith, eqb, length, drop, take_at, eqb-true}
 use mathlib.Core.Bool.{false≢true}
-use Rattle.bits.specs.Pick.{pick}
 use Rattle.bits.specs.Laid.{laid}
 use Rattle.bits.proofs.Picks.{pick_yes, and_left, and_right}
 use Rattle.frame_parts.proofs.EmitLaws.{emitted-done}
@@ -48,13 +47,13 @@ reads-back f fit =
 
 -- page 10h in its replies, with or without the sweep
 ten-page : (on : Bool) (task : Task) (l : List ℕ) → pageIn (logReplies on task l) ≡ l
-unfolding some pick
+unfolding some
 ten-page true task l = append-nil l
 ten-page false task l = append-nil l
 
 -- an Activate is no page
 active-pageless : (on : Bool) → pioIn (activateIf on) ≡ false
-unfolding some pick
+unfolding some
 active-pageless true = refl
 active-pageless false = refl
 

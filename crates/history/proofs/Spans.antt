@@ -46,7 +46,6 @@ onward-some (suc k) d t a z l = refl
 
 -- truth table: the data of a direction are those of a command of that direction
 pub own-way : (w : Bool) → pick w (not (not w)) (not w) ≡ true
-unfolding pick
 own-way true = refl
 own-way false = refl
 
@@ -61,13 +60,13 @@ belongs-other w d t u n = rw (ne_eqb u t n)
 -- a command's positions, once it is no longer outstanding, stay
 pub carried-after : (start : ℕ) (write : Bool) (tag : ℕ) (e : Seen) (n : List Seen) → outstandingAt tag n ≡ false
     → carriedAt start write tag (e ∷ n) ≡ carriedAt start write tag n
-unfolding carriedAt pick
+unfolding carriedAt
 carried-after start write tag e n o = rw o (append-nil (carriedAt start write tag n))
 
 -- and grow by an event's positions while it is
 pub carried-while : (start : ℕ) (write : Bool) (tag : ℕ) (e : Seen) (n : List Seen) → outstandingAt tag n ≡ true
     → carriedAt start write tag (e ∷ n) ≡ carriedAt start write tag n ++ positions start write tag e (transfer n)
-unfolding carriedAt pick
+unfolding carriedAt
 carried-while start write tag e n o = rw o
 
 -- by nothing at an event that carries nothing

@@ -1,7 +1,6 @@
 -- The state at the end of every run is what its history tells. Assumes nothing.
 use Rattle.std.proofs.Common.{Ok, sym, ap, subst, ◌∙◌, List, ℕ, ◌≤◌, Bool}
 use lib.Count.{ones}
-use Rattle.bits.specs.Pick.{pick}
 use Rattle.refusals.specs.First.{first_of, unless}
 use Rattle.refusals.specs.Ladders.{powerLadder}
 use Rattle.device.specs.Counter.{count_of}
@@ -39,7 +38,7 @@ module _ (s : Settings) (as' : List Lent) (t : AllTyped as') where
 
   -- and so is the answer of `Device::outstanding_count`
   pub told-count : AgreesCount s (run_from s as').state (history s as')
-  unfolding count_of first_of pick
+  unfolding count_of first_of
   told-count z c p =
       let n : ℕ = ones (run_from s as').state.status.outstanding in
       p.answer ∙ ap (λ (b : Bool). unless (first_of (powerLadder b)) n) ((held s as' t).sound.good z) ∙ ap (λ (k : ℕ). Ok k) (sym (inv-total (held s as' t).inv))

@@ -1,6 +1,5 @@
 -- Every call, taken or refused, comes to one of the ten kinds, seen from its call and its reply bytes; and a halt keeps its record. Assumes nothing.
 use Rattle.std.proofs.Common.{None, Ok, is_none, ◌≡◌, refl, sym, ap, subst, ◌∙◌, true, false, List, [], ⊎_elim, ℕ}
-use Rattle.bits.specs.Pick.{pick}
 use Rattle.bits.proofs.Picks.{tested}
 use Rattle.rules.specs.Call.{Call}
 use Rattle.rules.specs.Medium.{part_of}
@@ -32,11 +31,9 @@ use Rattle.history.proofs.Own.{own-goes}
 
 -- what is asked, taken and refused
 pub asks-taken : (x : Event) → x.refusal ≡ None → asks x ≡ callAsks x.call
-unfolding pick
 asks-taken x z = rw z
 
 pub asks-refused : (x : Event) → (x.refusal ≡ None → ⊥) → asks x ≡ quiet
-unfolding pick
 asks-refused x n = rw (is_none-some x.refusal n)
 
 -- nothing happens in a refused call

@@ -22,7 +22,6 @@ due-none e x y = record { sends = λ l. absurd (omega arith); brings = λ l. abs
 -- data of a phase, within what is left of its command
 due-entry : (w : Bool) (e : Seen) (x : Entry) (t n : ℕ) → w ≡ x.write → e.sends ≡ pick w 0 n → e.asks.brings ≡ pick w n 0
     → x.moved + n ≤ 512 * x.count → NoStray e (transferFor x t)
-unfolding pick
 due-entry true e x t n w s b l = record { sends = λ y. absurd (omega arith); brings = λ _. (sym (ap not w), omega arith) }
 due-entry false e x t n w s b l = record { sends = λ _. (sym (ap not w), omega arith); brings = λ y. absurd (omega arith) }
 

@@ -43,12 +43,12 @@ bumped-told n = omega arith
 
 -- a further event that raises a row
 counted-more : (e : Event) (h : List Event) (r : ℕ) → zeroes e ≡ false → raisesRow r e ≡ true → countedIn r (e ∷ h) ≡ 1 + countedIn r h
-unfolding countedIn pick
+unfolding countedIn
 counted-more e h r z u = rw (z, u)
 
 -- a further event that does not
 counted_same : (e : Event) (h : List Event) (r : ℕ) → zeroes e ≡ false → raisesRow r e ≡ false → countedIn r (e ∷ h) ≡ countedIn r h
-unfolding countedIn pick
+unfolding countedIn
 counted_same e h r z u = rw (z, u) (omega arith)
 
 -- an event that zeroes
@@ -85,7 +85,6 @@ module _ (values : List ℕ) (e : Event) (h : List Event) (i : ValuesTell values
 
   -- values that changed as the history reads the event still tell it
   pub tells : (z : Bool) (row : ℕ) → Reads e z row → ValuesTell (counted z row values) (e ∷ h)
-  unfolding pick
   tells true row s = record {
     long = length-replicate {A = ℕ} 16 0;
     value = λ r u. zeros 16 r ∙ ap (min 4294967295) (sym (counted_none e h r s.zeroed));

@@ -60,7 +60,6 @@ phased-same d d' i p o = record { busy = λ t e. ap (λ (m : ℕ). bitIn 32 m t)
 
 -- data moved: the phase is closed, or as it was
 phased-on : (d d' : Device) (b : Bool) → Phased d → d'.status.phase ≡ pick b None d.status.phase → d'.status.outstanding ≡ d.status.outstanding → Phased d'
-unfolding pick
 phased-on d d' true i p o = phased-shut d' p
 phased-on d d' false i p o = phased-same d d' i p o
 
@@ -113,7 +112,6 @@ b-halt q o false false x = absurd (false≢true x)
 
 -- the bytes of an event in the direction of a command, which writes or reads
 pub load-own : (w : Bool) (e : Seen) (k : ℕ) → e.sends ≡ pick w 0 k → e.asks.brings ≡ pick w k 0 → load (not w) e ≡ k
-unfolding pick
 load-own true e k s b = b
 load-own false e k s b = s
 
@@ -121,7 +119,6 @@ load-own false e k s b = s
 on-transfer : (b : Bool) (d' : Device) (x : Entry) (tag : ℕ) (p : Option ℕ) (n : ℕ) → b ≡ leb (512 * x.count) (x.moved + n) → p ≡ Some tag → d'.status.phase ≡ pick b None p
     → (entry_of d'.entries tag).write ≡ x.write → (entry_of d'.entries tag).count ≡ x.count → (entry_of d'.entries tag).moved ≡ x.moved + n
     → transferOf d' ≡ pick (ltb (x.moved + n) (512 * x.count)) (underWay (not x.write) tag (x.moved + n) (512 * x.count)) noTransfer
-unfolding pick
 on-transfer true d' x tag p n b y z w c m =
     let l = leb-true (512 * x.count) (x.moved + n) (sym b) in
     rw (le-ltb (x.moved + n) (512 * x.count) l) (transfer-shut d' z)

@@ -84,7 +84,7 @@ all-payloads (f ∷ fs) h =
 module _ (k : Asked) where
   -- no reply
   pub is-silent : k.queued ≡ false → Is (view k []) false false false false k.resets false none none 0 k.brings
-  unfolding view some collect pick
+  unfolding view some collect
   is-silent q = record {
     queued = q;
     accepted = rw q;
@@ -100,7 +100,7 @@ module _ (k : Asked) where
 
   -- a bad answer
   pub is-bad : (f : DevReg) → errIn f.status ≡ true → k.command ≡ true → k.resets ≡ false → k.brings ≡ 0 → Is (view k (device f ∷ [])) k.queued false true false false false none none 0 0
-  unfolding view some collect pick
+  unfolding view some collect
   is-bad f e c r b = record {
     queued = refl;
     accepted = rw e (and-false k.queued);
@@ -120,7 +120,7 @@ module _ (k : Asked) where
 
   -- a good answer
   pub is-good : (f : DevReg) → errIn f.status ≡ false → k.resets ≡ false → k.brings ≡ 0 → Is (view k (device f ∷ [])) k.queued k.queued false false false false none none 0 0
-  unfolding view some collect pick
+  unfolding view some collect
   is-good f e r b = record {
     queued = refl;
     accepted = rw e (and-always k.queued);
@@ -137,7 +137,7 @@ module _ (k : Asked) where
   -- a page
   pub is-page : (f : PioSetup) (p : List ℕ) → k.queued ≡ false → k.resets ≡ false → k.brings ≡ 0
       → Is (view k (pio f ∷ payload p ∷ [])) false false false false false false none none 0 0
-  unfolding view some collect pick
+  unfolding view some collect
   is-page f p q r b = record {
     queued = q;
     accepted = rw q;
@@ -154,7 +154,7 @@ module _ (k : Asked) where
   -- the sweep, and a page
   pub is-swept : (s : SetBits) (f : PioSetup) (p : List ℕ) → errIn s.status ≡ false → k.command ≡ true → k.queued ≡ false → k.resets ≡ false → k.brings ≡ 0
       → Is (view k (setBits s ∷ pio f ∷ payload p ∷ [])) false false false false false true none (λ t. names t s || false) 0 0
-  unfolding view some collect pick
+  unfolding view some collect
   is-swept s f p e c q r b = record {
     queued = q;
     accepted = rw q;
@@ -174,7 +174,7 @@ or-none false = refl
 
 -- an A1h without ERR that answers no command
 pub is-finish : (s : SetBits) → errIn s.status ≡ false → Is (view quiet (setBits s ∷ [])) false false false false false false (bitIn 32 s.active) (bitIn 32 s.active) 0 0
-unfolding view some collect pick
+unfolding view some collect
 is-finish s e = record {
   queued = refl;
   accepted = refl;
@@ -190,7 +190,7 @@ is-finish s e = record {
 
 -- an A1h with ERR and an empty field
 pub is-failed : (s : SetBits) → errIn s.status ≡ true → s.active ≡ 0 → Is (view quiet (setBits s ∷ [])) false false false true false false none none 0 0
-unfolding view some collect pick
+unfolding view some collect
 is-failed s e z = record {
   queued = refl;
   accepted = refl;
@@ -206,7 +206,7 @@ is-failed s e z = record {
 
 -- COMRESET and its signature
 pub is-reset : (f : DevReg) → errIn f.status ≡ false → Is (view resetAsks (device f ∷ [])) false false false false true false none none 0 0
-unfolding view some collect pick
+unfolding view some collect
 is-reset f e = record {
   queued = refl;
   accepted = refl;
@@ -222,25 +222,25 @@ is-reset f e = record {
 
 -- a DMA Setup, for a write with an Activate
 pub is-setup : (f : DmaSetup) (w : Bool) → Is (view quiet (setup f ∷ activateIf w)) false false false false false false none none 0 0
-unfolding view some collect pick
+unfolding view some collect
 is-setup f true = record { queued = refl; accepted = refl; bad = refl; fails = refl; resets = refl; sweeps = refl; finishes = λ t. refl; clears = λ t. refl; sends = refl; brings = refl }
 is-setup f false = record { queued = refl; accepted = refl; bad = refl; fails = refl; resets = refl; sweeps = refl; finishes = λ t. refl; clears = λ t. refl; sends = refl; brings = refl }
 
 -- and what it begins
 pub setup-begins : (f : DmaSetup) (w : Bool) (x : Transfer) → (view quiet (setup f ∷ activateIf w)).begins x ≡ underWay f.to_host f.tag f.offset (f.offset + f.count)
-unfolding view collect begun pick
+unfolding view collect begun
 setup-begins f true x = refl
 setup-begins f false x = refl
 
 -- host data, with an Activate if more is left
 pub is-brought : (n : ℕ) (on : Bool) → Is (view (dataAsks n) (activateIf on)) false false false false false false none none 0 n
-unfolding view some collect pick
+unfolding view some collect
 is-brought n true = record { queued = refl; accepted = refl; bad = refl; fails = refl; resets = refl; sweeps = refl; finishes = λ t. refl; clears = λ t. refl; sends = refl; brings = refl }
 is-brought n false = record { queued = refl; accepted = refl; bad = refl; fails = refl; resets = refl; sweeps = refl; finishes = λ t. refl; clears = λ t. refl; sends = refl; brings = refl }
 
 -- device data
 pub is-sent : (p : List ℕ) → Is (view quiet (payload p ∷ [])) false false false false false false none none (length p) 0
-unfolding view some collect pick
+unfolding view some collect
 is-sent p = record {
   queued = refl;
   accepted = refl;
@@ -279,7 +279,7 @@ module _ (k : Asked) where
 
   -- an Activate
   pub active-unbegun : (on : Bool) → Unbegun (view k (activateIf on))
-  unfolding view collect begun pick
+  unfolding view collect begun
   active-unbegun true x = refl
   active-unbegun false x = refl
 

@@ -4,12 +4,11 @@ use borrow.Author.Tests.{lt-leb}
 use Rattle.std.proofs.lemmas.Bool.{cases_lt}
 use Rattle.bits.specs.Laid.{over}
 use Rattle.bits.proofs.Fronts.{over_yes}
-use Rattle.bits.specs.Pick.{pick}
 use Rattle.moves.specs.Stored.{stored}
 
 -- a frame shorter than its head has no payload, and to lay no bytes changes nothing
 pub stored_behind : (at : ℕ) (f m : List ℕ) → at ≤ length m → take at m ++ over (drop 4 f) (drop at m) ≡ stored at f m
-unfolding stored pick
+unfolding stored
 stored_behind at f m h =
     ⊎_elim (λ (s : length f < 4).
     let none : drop 4 f ≡ [] = drop_of_length-le f {i = 4} (omega (arith, s)) in

@@ -15,7 +15,7 @@ pub fn place(first: u32, moved: u32) -> usize
 }
 
 /// The payload behind a frame's head goes to its place in the medium; a frame shorter than its head has none.
-#[tactic(auto, using(crate::proofs::Storing::stored_behind), unfolding(crate::specs::Stored::stored, bits::specs::Pick::pick))]
+#[tactic(auto, using(crate::proofs::Storing::stored_behind), unfolding(crate::specs::Stored::stored))]
 pub fn store(medium: &mut [u8], at: usize, frame: &[u8])
     ensures { medium.new ≡ stored at frame.now medium.old }
 {

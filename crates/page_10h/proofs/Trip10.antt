@@ -1,6 +1,5 @@
 -- Page 10h, there and back, and its refusals exactly. Assumes nothing.
 use Rattle.std.proofs.Common.{Ok, ◌≡◌, refl, sym, ap, ◌∙◌, Bool, true, false, not, ◌&&◌, ◌||◌, List, ℕ, ◌+◌, ◌/◌, ◌%◌, ◌^◌, ◌<◌, arith, eqb, length, take, drop, length-set, take_at, ltb-true, eq-eqb, ne_eqb, eqb-true}
-use Rattle.bits.specs.Pick.{pick}
 use Rattle.bits.specs.Bit.{bitIn}
 use Rattle.refusals.specs.First.{first_of}
 use Rattle.frame_parts.specs.Shared.{registerBytes, below, taskFits}
@@ -21,7 +20,6 @@ nq-back true t = eq-eqb ((128 + t % 32) / 2 ^ 7 % 2) 1 (omega arith)
 nq-back false t = ne_eqb ((0 + t % 32) / 2 ^ 7 % 2) 1 (λ e. omega arith)
 
 tag_back : (b : Bool) (t : ℕ) → t < 32 → not b || eqb t 0 ≡ true → tagShown (firstByte b t) b ≡ t
-unfolding pick
 tag_back true t h e = sym (eqb-true t 0 e)
 tag_back false t h e = omega arith
 
@@ -65,7 +63,7 @@ module _ (f : ErrorLog) where
         (task-all (logRegisters f) task-ok)
 
     pub read-page : read_log (page10 f) ≡ Ok f
-    unfolding read_log first_of pick
+    unfolding read_log first_of
     read-page = rw (eq-eqb (length (page10 f)) 512 length-10, eq-eqb (sum256 (page10 f)) 0 sums-to-zero) (ap (λ (x : ErrorLog). Ok x) fields_back)
 
 -- reading the page that was written gives its fields back

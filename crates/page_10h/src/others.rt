@@ -29,7 +29,7 @@ fn count_bytes(page: &[u8; PAGE_SIZE]) -> usize
 
 /// How many bytes of page 10h have a bit set that is no named field's: bits 6:5 of byte 0, and 4:0 under NQ, and all of bytes
 /// 1, 11 and 14 to 510. `PageLength` where the page is not 512 bytes long, else `PageSum` where its sum is wrong.
-#[tactic(auto, unfolding(crate::specs::Others::countOtherBytes, refusals::specs::First::first_of, bits::specs::Pick::pick))]
+#[tactic(auto, unfolding(crate::specs::Others::countOtherBytes, refusals::specs::First::first_of))]
 pub fn count_other_bytes(page: &[u8]) -> Result<usize, Refusal>
     ensures { OtherBytesGiven page.now result }
 {

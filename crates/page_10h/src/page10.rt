@@ -56,7 +56,6 @@ pub(crate) fn page10_bytes(log: ErrorLog) -> [u8; PAGE_SIZE]
 }
 
 // The tag as it stands, and 0 under NQ.
-#[tactic(auto, unfolding(bits::specs::Pick::pick))]
 fn tag_shown(first: u8, nq: bool) -> u8
     ensures { result ≡ tagShown first nq }
 {
@@ -78,7 +77,7 @@ fn read_fields(page: &[u8; PAGE_SIZE]) -> ErrorLog
 }
 
 /// Reads page 10h: its fields; `PageLength` where it is not 512 bytes long, else `PageSum` where its sum is wrong.
-#[tactic(auto, unfolding(crate::specs::Page10::read_log, refusals::specs::First::first_of, bits::specs::Pick::pick))]
+#[tactic(auto, unfolding(crate::specs::Page10::read_log, refusals::specs::First::first_of))]
 pub fn read_log(page: &[u8]) -> Result<ErrorLog, Refusal>
     ensures { LogGiven page.now result }
 {

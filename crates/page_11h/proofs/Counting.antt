@@ -25,7 +25,7 @@ unfoldable pub counted : List CounterEntry → ℕ → Result ℕ Refusal
 counted es n = pick (anyFault es) (Err PageDamaged) (Ok (n + count_by entryOther es))
 
 counted-none : (n : ℕ) → counted [] n ≡ Ok n
-unfolding counted pick
+unfolding counted
 counted-none n = ap Ok (omega arith)
 
 counted-fault : (e : CounterEntry) (es : List CounterEntry) (n : ℕ) → faulty e ≡ true → counted (e ∷ es) n ≡ Err PageDamaged
@@ -141,12 +141,11 @@ module _ {page : List ℕ} {w w' : Walk} {r : Option (Result WalkEntry Refusal)}
 -- ---- the count of a page that is not refused for its length or its sum
 
 last_rung : (fault : Bool) (n : ℕ) → unless (pick fault (Some PageDamaged) None) n ≡ pick fault (Err PageDamaged) (Ok n)
-unfolding pick
 last_rung true n = refl
 last_rung false n = refl
 
 pub counts-total : (page : List ℕ) → length page ≡ 512 → sum256 page ≡ 0 → countOthers page ≡ total page
-unfolding countOthers first_of pick
+unfolding countOthers first_of
 counts-total page l s = rw (eq-eqb (length page) 512 l, eq-eqb (sum256 page) 0 s) (last_rung (anyFault (entries page)) (count_by entryOther (entries page)))
 
 -- ---- how many there can be, and that no page is refused for them alone
@@ -165,7 +164,7 @@ others-most page = omega (arith, count_by-le-length entryOther (entriesFrom page
 
 -- where a counter is told, so is the count
 pub counted-where-read : (page : List ℕ) (number : ℕ) (v : Option CounterValue) → readCounter page number ≡ Ok v → countOthers page ≡ Ok (count_by entryOther (entries page))
-unfolding readCounter countOthers damaged first_of pick
+unfolding readCounter countOthers damaged first_of
 counted-where-read page number v e =
     let u = unless-ok (first_of (ladder11 page number)) (valueIn page number (entries page)) v (sym e) in
     let rungs = (firsts.first-exactly (ladder11 page number) tt).none.0 u.0 in

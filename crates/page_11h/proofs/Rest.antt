@@ -77,7 +77,7 @@ module _ (number : ℕ) (e : CounterEntry) (es : List CounterEntry) where
 
 module _ (page : List ℕ) (number : ℕ) where
   pub rest-none : (found : Option CounterValue) → rest_of page number [] found ≡ Ok found
-  unfolding rest_of damaged spoilt valueIn pick
+  unfolding rest_of damaged spoilt valueIn
   rest-none None = refl
   rest-none (Some v) = refl
 

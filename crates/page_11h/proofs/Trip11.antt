@@ -85,7 +85,7 @@ module _ (mask : ℕ) (values : List ℕ) where
     found_before k h e = found_none k (λ j l s. id_other j k (omega arith) h (λ q. omega arith) (s ∙ sym e))
 
     found_after : (k n : ℕ) → k < n → n ≤ 16 → id_of k ≡ number → foundTo n ≡ pick (kept mask k) (Some (rowValue (get_or values k 0))) None
-    unfolding foundTo pick
+    unfolding foundTo
     found_after k zero h l e = absurd (omega arith)
     found_after k (suc n) h l e =
         ⊎_elim
@@ -102,7 +102,6 @@ module _ (mask : ℕ) (values : List ℕ) where
 
     -- a step at a kept row
     page-turn : (n : ℕ) → n < 16 → kept mask n ≡ true → fromHere page number (behind n) (foundTo n) ≡ fromHere page number (behind (suc n)) (foundTo (suc n))
-    unfolding pick
     page-turn n h e =
         let l = length-kept mask values n e in
         let a : behind n + 2 + 4 ≡ behind (suc n) = omega arith in

@@ -114,7 +114,6 @@ module _ (page : List ℕ) (at : ℕ) where
   step_entry h s = pick_no ends None _ h ∙ ap Some (pick_no (faulty (entry_at page at)) (Err PageDamaged) _ s)
 
 same-tail : (b : Bool) (xs ys : List CounterEntry) → (b ≡ false → xs ≡ ys) → pick b [] xs ≡ pick b [] ys
-unfolding pick
 same-tail true xs ys h = refl
 same-tail false xs ys h = h refl
 
@@ -249,13 +248,11 @@ module _ {page : List ℕ} {number : ℕ} {w w' : Walk} {r : Option (Result Walk
 
     -- one that is not asked for is passed by
     pub miss-ahead : idAsked number e.id.0 ≡ false → Ahead page number w' found
-    unfolding pick
     miss-ahead m = record { same = step-same; rest = step-rest ∙ rw (next-at, q, m) }
 
     -- the first that is asked for is found
     pub hit-ahead : (v : ℕ) → idAsked number e.id.0 ≡ true → is_some found ≡ false → NumberGiven page e.start (min e.bytes 8) v
         → Ahead page number w' (Some (record { value = v; bytes = e.bytes }))
-    unfolding pick
     hit-ahead v h o n =
         let l = entry_lies w.page.now w.at e (sym t.answer ∙ q) in
         record { same = step-same; rest = step-rest ∙ rw (next-at, q, h, value_read page e.start e.bytes v l.most n) (first found o) }
@@ -266,7 +263,6 @@ module _ {page : List ℕ} {number : ℕ} {w w' : Walk} {r : Option (Result Walk
 
     -- and a second is a fault
     pub hit-twice : idAsked number e.id.0 ≡ true → is_some found ≡ true → asked_of page number ≡ Err PageDamaged
-    unfolding pick
     hit-twice h o = step-rest ∙ rw (q, h) (second found o)
       where
         second : (f : Option CounterValue) → is_some f ≡ true → after_hit (fromHere page number) page e f ≡ Err PageDamaged
@@ -275,13 +271,12 @@ module _ {page : List ℕ} {number : ℕ} {w w' : Walk} {r : Option (Result Walk
 
 -- the last rung alone: 22, or what is found
 pub last_rung : (d : Bool) (v : Option CounterValue) → pick d (Err PageDamaged) (Ok v) ≡ unless (pick d (Some PageDamaged) None) v
-unfolding pick
 last_rung true v = refl
 last_rung false v = refl
 
 -- a page that is refused neither for its length, nor for the number, nor for its sum is walked
 pub reads-walk : (page : List ℕ) (number : ℕ) → length page ≡ 512 → 0 < number → number < 4096 → sum256 page ≡ 0 → readCounter page number ≡ fromHere page number 4 None
-unfolding readCounter first_of pick
+unfolding readCounter first_of
 reads-walk page number l p q s =
     simp (eq-eqb (length page) 512 l, le-ltb number 1 p, le-ltb 4095 number (omega arith), eq-eqb (sum256 page) 0 s)
     (sym (last_rung (damaged number (entries page)) (valueIn page number (entries page))) ∙ walk-starts page number)

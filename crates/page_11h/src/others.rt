@@ -25,7 +25,7 @@ fn count_walked(page: &[u8; PAGE_SIZE]) -> Result<usize, Refusal>
 /// How many entries of page 11h are none of the sixteen counters of `page_rows::IDENTIFIERS`: a vendor's, or of a number
 /// outside the sixteen, each as often as it stands there. `PageLength` where the page is not 512 bytes long, else
 /// `PageSum` where its sum is wrong, else `PageDamaged` where it has an entry that no page may have.
-#[tactic(auto, unfolding(crate::specs::Others::countOthers, refusals::specs::First::first_of, bits::specs::Pick::pick))]
+#[tactic(auto, unfolding(crate::specs::Others::countOthers, refusals::specs::First::first_of))]
 pub fn count_others(page: &[u8]) -> Result<usize, Refusal>
     ensures { OthersGiven page.now result }
 {

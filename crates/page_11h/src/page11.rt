@@ -33,7 +33,7 @@ fn find_counter(page: &[u8; PAGE_SIZE], number: u16) -> Result<Option<CounterVal
 /// Reads page 11h for a counter's number: its value, or `None` where the page has no such counter. `PageLength` where it
 /// is not 512 bytes long, else `NoCounter` where the number is not 1 to FFFh, else `PageSum` where its sum is wrong, else
 /// `PageDamaged` where it has an entry that no page may have, or the number twice.
-#[tactic(auto, unfolding(crate::specs::Page11::readCounter, refusals::specs::First::first_of, bits::specs::Pick::pick))]
+#[tactic(auto, unfolding(crate::specs::Page11::readCounter, refusals::specs::First::first_of))]
 pub fn read_counter(page: &[u8], number: u16) -> Result<Option<CounterValue>, Refusal>
     ensures { PageCounterGiven page.now number result }
 {

@@ -19,7 +19,7 @@ pub(crate) struct WalkEntry {
 }
 
 // What stands at a place: an entry, or what no page may have; `None` at 508 or at 0000h, where no more is to come.
-#[tactic(auto, unfolding(crate::specs::WalkStep::stepAt, crate::specs::Entries::id_at, bits::specs::Pick::pick))]
+#[tactic(auto, unfolding(crate::specs::WalkStep::stepAt, crate::specs::Entries::id_at))]
 pub(crate) fn entry_at(page: &[u8], at: usize) -> Option<Result<WalkEntry, Refusal>>
     ensures { result ≡ stepAt page.now at }
 {

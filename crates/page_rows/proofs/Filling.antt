@@ -173,7 +173,6 @@ module _ (mask : ℕ) (values : List ℕ) (l : length values ≡ 16) where
   kept-small n row k e = rw e (All-get_or (λ row. row.1.0 < 4096) (kept_rows mask values) n row k (All-filter (is_kept mask) (λ row. row.1.0 < 4096) (all_rows values) all-small))
 
   one-row : (row : Row) → flat_map bytes_in (filter (is_kept mask) (row ∷ [])) ≡ pick (kept mask row.0) (bytes_in row) []
-  unfolding pick
   one-row row = ⊎_elim (λ (t : kept mask row.0 ≡ true). rw t (append-nil (bytes_in row))) (λ (f : kept mask row.0 ≡ false). rw f refl) (tested (kept mask row.0))
 
   kept-first : (n : ℕ) → n ≤ 16 → flat_map bytes_in (filter (is_kept mask) (take n (all_rows values))) ≡ rows_to mask values n

@@ -5,7 +5,7 @@ ghost use Rattle.page_rows.specs.Made11.{onRow};
 use crate::rows::{Counters, is_kept};
 
 /// The value that the page shows of a row; `None` for a row that is not kept, and where there is no row.
-#[tactic(auto, unfolding(crate::specs::Made11::onRow, bits::specs::Pick::pick))]
+#[tactic(auto, unfolding(crate::specs::Made11::onRow))]
 pub fn shown_at(mask: u16, values: &Counters, row: Option<usize>) -> Option<u64>
     ensures { result ≡ onRow mask values.now row }
 {

@@ -11,7 +11,6 @@ use refusals::Refusal;
 
 /// Page 11h of the counters; `Unfit` where the mask does not keep rows 0 and 9. Values of rows that the mask does not
 /// keep do not stand in it.
-#[tactic(auto, unfolding(bits::specs::Pick::pick))]
 pub fn counters_page(mask: u16, values: &Counters) -> Result<[u8; PAGE_SIZE], Refusal>
     ensures { result ≡ countersPage mask values.now }
 {
@@ -24,7 +23,7 @@ pub fn counters_page(mask: u16, values: &Counters) -> Result<[u8; PAGE_SIZE], Re
 /// Writes page 11h of the counters to the front of `buf`: 512, the bytes written; `Unfit` where the mask does not keep
 /// rows 0 and 9, `BufferShort` where `buf` has no room, and then no byte is changed. Values of rows that the mask does
 /// not keep are not written.
-#[tactic(auto, unfolding(bits::specs::Pick::pick), using(frame_parts::proofs::EmitLaws::emitted_made))]
+#[tactic(auto, using(frame_parts::proofs::EmitLaws::emitted_made))]
 pub fn write_counters(buf: &mut [u8], mask: u16, values: &Counters) -> Result<usize, Refusal>
     ensures { WriteGiven (keepsBoth mask) (page11 mask values.now) buf.old result buf.new }
 {

@@ -1,6 +1,5 @@
 -- The law of refusals: what `first_of` gives is given exactly when it should be. Assumes nothing.
 use Rattle.std.proofs.Common.{◌≡◌, refl, sym, ap, Bool, true, false, not, List, [], ◌∷◌, ℕ, zero, suc, ◌<◌, length, get_or, Option, Some, None, Result, Ok, Err, suc-le-suc, not-suc-le-zero, le_of_suc-le-suc, zero-lt-suc, T, eqb, eq-eqb}
-use Rattle.bits.specs.Pick.{pick}
 use Rattle.bits.proofs.Picks.{by-test}
 use Rattle.bits.proofs.Tables.{both_left, both_right}
 use Rattle.refusals.specs.Number.{number}
@@ -51,7 +50,7 @@ module _ (n : Refusal) (rs : List Rung) where
       (λ g. let p = e.0 g in (p.0, one_more k p.1), λ p. e.1 (p.0, λ j l. p.1 (suc j) (suc-le-suc l)))
 
   one-rung : (b : Bool) → T (fresh n rs) → FirstExactly rs (first_of rs) → FirstExactly (front b) (first_of (front b))
-  unfolding first_of pick
+  unfolding first_of
   one-rung true f i = record {
     each = taken-each f;
     none = (λ e. absurd (none-some n (sym e)), λ p. absurd (true-false (p 0 (zero-lt-suc (length rs)))));

@@ -5,7 +5,7 @@ ghost use Rattle.refusals.specs.First.{first_of, unless};
 use crate::reasons::Refusal;
 
 /// Refused by the first test that holds; taken where none does.
-#[tactic(auto, unfolding(crate::specs::First::first_of, bits::specs::Pick::pick))]
+#[tactic(auto, unfolding(crate::specs::First::first_of))]
 pub fn check(tests: &[(bool, Refusal)]) -> Result<(), Refusal>
     ensures { result ≡ unless (first_of tests.now) tt }
 {

@@ -1,6 +1,5 @@
 -- Every reply that fits is sent, whole and in its place: none is left out. Assumes nothing.
 use Rattle.std.proofs.Common.{◌≡◌, refl, sym, ap, ap₂, ◌∙◌, Bool, true, false, not, true≢false, List, [], ◌∷◌, ◌++◌, map, ℕ, ◌^◌, ◌<◌, arith, length, take, drop, take_at, lt-ltb}
-use Rattle.bits.specs.Pick.{pick}
 use Rattle.bits.specs.Little.{Bytes}
 use Rattle.bits.proofs.Picks.{pick_yes}
 use Rattle.frame_parts.specs.Cut.{cut, joined}
@@ -48,7 +47,7 @@ unfolding fits
 page-fits page e = rw e
 
 log-fits : (on : Bool) (task : Task) (page : List ℕ) → taskFits task ≡ true → length page ≡ 512 → Fitting (logReplies on task page)
-unfolding Fitting pick fits
+unfolding Fitting fits
 log-fits true task page t e = (refl, (pio-fits task t, (page-fits page e, tt)))
 log-fits false task page t e = (pio-fits task t, (page-fits page e, tt))
 
@@ -60,7 +59,7 @@ pub page11-long : (mask : ℕ) (values : List ℕ) → keepsBoth mask ≡ true �
 page11-long mask values h = ap length (pick_yes (keepsBoth mask) (page11 mask values) [] h) ∙ page-length mask values
 
 activate-fits : (on : Bool) → Fitting (activateIf on)
-unfolding Fitting pick fits
+unfolding Fitting fits
 activate-fits true = (refl, tt)
 activate-fits false = tt
 
@@ -69,12 +68,12 @@ off : {A : Type 0} → false ≡ true → A
 off e = absurd (true≢false (sym e))
 
 log-data-last : (on : Bool) (task : Task) (page : List ℕ) → DataLast (logReplies on task page)
-unfolding DataLast pick
+unfolding DataLast
 log-data-last true task page = (off, (off, (λ _. refl, tt)))
 log-data-last false task page = (off, (λ _. refl, tt))
 
 activate-data-last : (on : Bool) → DataLast (activateIf on)
-unfolding DataLast pick
+unfolding DataLast
 activate-data-last true = (off, tt)
 activate-data-last false = tt
 

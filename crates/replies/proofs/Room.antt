@@ -33,7 +33,7 @@ and-never false b = refl
 
 -- a payload that is too long is not sent
 long-unsent : (p : List ℕ) → 8192 < length p → sentBytes (payload p) ≡ []
-unfolding sentBytes fits pick
+unfolding sentBytes fits
 long-unsent p h =
     let z : payloadSize (length p) ≡ false = rw (lt-leb (length p) 8192 h) (and-never (leb 4 (length p)) (eqb (length p % 4) 0)) in
     rw z
@@ -59,7 +59,7 @@ one-room (pio f) = omega (arith, within (pio f) 20 refl)
 
 -- a frame that is sent on a condition
 if-room : (on : Bool) (f : FrameValue) (n : ℕ) → length (encode f) ≡ n → length (sentAll (pick on (f ∷ []) [])) ≤ n
-unfolding pick sentAll joined
+unfolding sentAll joined
 if-room true f n e = within f n e
 if-room false f n e = omega arith
 

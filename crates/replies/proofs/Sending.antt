@@ -44,7 +44,6 @@ sent-within b s d (Err e) d' w = omega arith
 
 -- a writer sends its frame if that fits, and else nothing
 one-fit : (b : Bool) (s d : List ℕ) (r : Result ℕ Refusal) (d' : List ℕ) → WriteGiven b s d r d' → length (pick b s []) ≤ length d → (sent r ≡ length (pick b s [])) × (d' ≡ laid (pick b s []) d)
-unfolding pick
 one-fit true s d r d' w h = let a = wrote-room true s d r d' w refl h in (ap sent a.0, a.1)
 one-fit false s d r d' w h =
     let n = write_refusal-unfit (length s) (length d) in
@@ -97,6 +96,5 @@ sends_then {fs} {gs} {d} {xs} {ys} {n} {m} a b = record {
 
 -- the bytes of a page by value, and none of one that is turned down
 pub page_bytes-pick : (fits : Bool) (page : List ℕ) (r : Refusal) → result_unwrap_or (pick fits (Ok page) (Err r)) [] ≡ pick fits page []
-unfolding pick
 page_bytes-pick true page r = refl
 page_bytes-pick false page r = refl

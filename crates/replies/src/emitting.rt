@@ -35,7 +35,7 @@ fn put(room: &mut [u8], reply: Reply<'_>) -> usize
     reply.write(room).unwrap_or(0)
 }
 
-#[tactic(auto, using(crate::proofs::Sending::sends_nothing), unfolding(bits::specs::Pick::pick))]
+#[tactic(auto, using(crate::proofs::Sending::sends_nothing))]
 fn put_if(room: &mut [u8], on: bool, reply: Reply<'_>) -> usize
     ensures { Sends (pick on (framed reply.entry ∷ []) []) room.old result room.new }
 {
@@ -86,7 +86,7 @@ fn put_all(room: &mut [u8], act: &Act, shown: &Shown<'_>, part: &[u8]) -> usize
 
 /// The replies of an act, in front of `reply`, and how many bytes they are; none where `reply` is under the 8,196 bytes that
 /// every call which replies asks for.
-#[tactic(auto, unfolding(bits::specs::Pick::pick, crate::specs::Replies::sentAll, frame_parts::specs::Cut::joined))]
+#[tactic(auto, unfolding(crate::specs::Replies::sentAll, frame_parts::specs::Cut::joined))]
 pub fn emit(reply: &mut [u8], act: &Act, shown: &Shown<'_>, part: &[u8]) -> usize
     ensures { RepliesGiven (pick (leb 8196 (length reply.old)) (repliesOf shown.now part.now act.now) []) reply.old result reply.new }
 {

@@ -31,7 +31,6 @@ impl<'a> Model for Shown<'a> {
 }
 
 // The record as page 10h shows it.
-#[tactic(auto, unfolding(bits::specs::Pick::pick))]
 pub(crate) fn log_of(errors: &ErrorRecord) -> ErrorLog
     ensures { result ≡ logOf errors.now }
 {

@@ -15,7 +15,6 @@ pub(crate) enum Command {
 
 impl Command {
     /// The command that a byte names, if it is one of the three.
-    #[tactic(auto, unfolding(bits::specs::Pick::pick))]
     pub(crate) fn from_byte(byte: u8) -> Option<Command>
         ensures { result ≡ commandNamed byte }
     {

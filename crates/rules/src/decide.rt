@@ -33,7 +33,7 @@ fn bad_act(host: HostReg, tag: Option<u8>, bad: Bad) -> Act
 }
 
 // The page that a well-formed READ LOG EXT asks for.
-#[tactic(auto, unfolding(crate::specs::Decide::logPage, device_state::specs::State::echoOf, bits::specs::Pick::pick))]
+#[tactic(auto, unfolding(crate::specs::Decide::logPage, device_state::specs::State::echoOf))]
 fn log_page(task: Task) -> Option<LogPage>
     ensures { result ≡ logPage 0x2F (echoOf task) }
 {
@@ -46,7 +46,7 @@ fn log_page(task: Task) -> Option<LogPage>
 
 impl Facts {
     // Rules 1 to 4 of a queued command, a write or a read.
-    #[tactic(auto, unfolding(crate::specs::Decide::queuedAct, bits::specs::Pick::pick))]
+    #[tactic(auto, unfolding(crate::specs::Decide::queuedAct))]
     fn queued_act(&self, host: HostReg, write: bool) -> Act
         requires { write ≡ eqb host.command 0x61 }
         ensures { result ≡ queuedAct self.now host }
@@ -103,7 +103,7 @@ impl Facts {
     }
 
     // A control frame.
-    #[tactic(auto, unfolding(crate::specs::Decide::controlAct, bits::specs::Pick::pick))]
+    #[tactic(auto, unfolding(crate::specs::Decide::controlAct))]
     fn control_act(&self, host: HostReg) -> Act
         ensures { result ≡ controlAct self.now host }
     {
@@ -117,7 +117,7 @@ impl Facts {
     }
 
     // A register frame at its time: a control frame, or a command.
-    #[tactic(auto, unfolding(crate::specs::Decide::registerAct, crate::specs::Decide::logPage, bits::specs::Pick::pick))]
+    #[tactic(auto, unfolding(crate::specs::Decide::registerAct, crate::specs::Decide::logPage))]
     fn register_act(&self, host: HostReg) -> Act
         ensures { result ≡ registerAct self.now host }
     {
@@ -133,7 +133,7 @@ impl Facts {
     }
 
     // 27h.
-    #[tactic(auto, unfolding(crate::specs::Decide::frameAct, crate::specs::Tests::wrongKind, crate::specs::Tests::wrongTime, crate::specs::Tests::wrongSize, refusals::specs::First::first_of, bits::specs::Pick::pick))]
+    #[tactic(auto, unfolding(crate::specs::Decide::frameAct, crate::specs::Tests::wrongKind, crate::specs::Tests::wrongTime, crate::specs::Tests::wrongSize, refusals::specs::First::first_of))]
     fn host_act(&self, host: HostReg) -> Result<Act, Refusal>
         ensures { result ≡ kindAct self.now (Ok (Host host)) }
     {
@@ -144,7 +144,7 @@ impl Facts {
     }
 
     // 46h: host data in a write phase.
-    #[tactic(auto, unfolding(crate::specs::Decide::frameAct, crate::specs::Tests::wrongKind, crate::specs::Tests::wrongTime, crate::specs::Tests::wrongSize, crate::specs::Positions::move_of, refusals::specs::First::first_of, bits::specs::Pick::pick))]
+    #[tactic(auto, unfolding(crate::specs::Decide::frameAct, crate::specs::Tests::wrongKind, crate::specs::Tests::wrongTime, crate::specs::Tests::wrongSize, crate::specs::Positions::move_of, refusals::specs::First::first_of))]
     fn data_act(&self, size: usize) -> Result<Act, Refusal>
         ensures { result ≡ kindAct self.now (Ok (Data size)) }
     {
@@ -158,7 +158,7 @@ impl Facts {
     }
 
     // 58h.
-    #[tactic(auto, unfolding(crate::specs::Decide::frameAct, crate::specs::Tests::wrongKind, crate::specs::Tests::wrongTime, crate::specs::Tests::wrongSize, refusals::specs::First::first_of, bits::specs::Pick::pick))]
+    #[tactic(auto, unfolding(crate::specs::Decide::frameAct, crate::specs::Tests::wrongKind, crate::specs::Tests::wrongTime, crate::specs::Tests::wrongSize, refusals::specs::First::first_of))]
     fn bist_act(&self) -> Result<Act, Refusal>
         ensures { result ≡ kindAct self.now (Ok Bist) }
     {
@@ -169,7 +169,7 @@ impl Facts {
     }
 
     // A host frame for which what is lent is right.
-    #[tactic(auto, unfolding(crate::specs::Tests::wrongKind, refusals::specs::First::first_of, bits::specs::Pick::pick))]
+    #[tactic(auto, unfolding(crate::specs::Tests::wrongKind, refusals::specs::First::first_of))]
     fn kind_act(&self, frame: Result<Frame, Refusal>) -> Result<Act, Refusal>
         ensures { result ≡ kindAct self.now frame }
     {
@@ -190,7 +190,7 @@ impl Facts {
     /// # Errors
     /// The first that holds of `Contradiction` (1), `MediumLength` (2), `ReplyShort` (3), `NoHostFrame` (4: the reader
     /// turned it down, or its kind is no host's), `WrongTime` (5), `TooLong` (6).
-    #[tactic(auto, unfolding(refusals::specs::First::first_of, bits::specs::Pick::pick))]
+    #[tactic(auto, unfolding(refusals::specs::First::first_of))]
     pub fn frame_act(&self, frame: Result<Frame, Refusal>) -> Result<Act, Refusal>
         ensures { result ≡ heardAct self.now frame }
     {

@@ -27,7 +27,6 @@ pub struct Facts {
 
 impl Facts {
     /// The tag of the open phase, if one is open whose command moves data that way. `write`: from the host.
-    #[tactic(auto, unfolding(bits::specs::Pick::pick))]
     pub(crate) fn open_phase(&self, write: bool) -> Option<u32>
         ensures { result ≡ phaseTo self.now.status self.now.entry write }
     {

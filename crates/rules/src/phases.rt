@@ -35,7 +35,7 @@ impl Facts {
     ///
     /// # Errors
     /// The first that holds of `Contradiction` (1), `MediumLength` (2), `ReplyShort` (3), `NoReadPhase` (10).
-    #[tactic(auto, unfolding(crate::specs::Act::act, crate::specs::Act::does, crate::specs::Tests::tests, crate::specs::Positions::move_of, refusals::specs::First::first_of, bits::specs::Pick::pick))]
+    #[tactic(auto, unfolding(crate::specs::Act::act, crate::specs::Act::does, crate::specs::Tests::tests, crate::specs::Positions::move_of, refusals::specs::First::first_of))]
     pub fn send_act(&self) -> Result<Act, Refusal>
         ensures { result ≡ act self.now sendData }
     {

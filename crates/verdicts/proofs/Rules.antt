@@ -1,7 +1,6 @@
 -- What a verdict tells of its tests. Assumes nothing.
 use Rattle.std.proofs.Common.{Option, Some, None, Result, Ok, Err, is_ok, ◌≡◌, refl, sym, ap, ◌∙◌, Bool, true, false, true≢false}
 use Rattle.std.specs.Option.{ok_or}
-use Rattle.bits.specs.Pick.{pick}
 use Rattle.verdicts.specs.Queued.{queuedRule}
 use Rattle.verdicts.specs.Other.{asksErrors, asksCounters}
 use Rattle.frame_parts.specs.declared.log_pages.LogPage.{LogPage}
@@ -12,7 +11,6 @@ use Rattle.verdicts.specs.declared.commands.Bad.TheVariants.{Only}
 
 -- a good queued command ends at or below capacity
 pub good-near : (r : Result Unit Bad) (halted tag far : Bool) → r ≡ Ok tt → r ≡ queuedRule halted tag far → far ≡ false
-unfolding pick
 good-near r true tag far g e = absurd (true≢false (ap is_ok (sym g ∙ e)))
 good-near r false true far g e = absurd (true≢false (ap is_ok (sym g ∙ e)))
 good-near r false false true g e = absurd (true≢false (ap is_ok (sym g ∙ e)))

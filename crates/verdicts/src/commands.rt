@@ -36,7 +36,6 @@ impl TagNamed {
 }
 
 /// Rules 1 to 4 of a queued command: bad, or good.
-#[tactic(auto, unfolding(bits::specs::Pick::pick))]
 pub fn queued_rule(
     halted: bool,
     depth: u32,
@@ -59,7 +58,6 @@ pub fn queued_rule(
 }
 
 /// Any other command: bad, or the log page that is sent. `page`: the one that it asks for, if it asks for one. `busy`: something is outstanding.
-#[tactic(auto, unfolding(bits::specs::Pick::pick))]
 pub fn other_rule(halted: bool, page: Option<LogPage>, busy: bool) -> Result<LogPage, Bad>
     ensures { result ≡ otherRule halted page busy }
 {

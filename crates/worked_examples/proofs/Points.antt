@@ -1,7 +1,6 @@
 -- The examples hold: each side computes to the other. Assumes nothing.
 use Rattle.std.proofs.Common.{Result, Ok, Err, ◌≡◌, refl, sym, ap, subst, ◌∙◌, Bool, false, List, [], ℕ, ◌*◌, length, eq-eqb}
 use lib.ListN.{length-replicate}
-use Rattle.bits.specs.Pick.{pick}
 use Rattle.refusals.specs.First.{first_of}
 use Rattle.refusals.specs.declared.reasons.Refusal.{Refusal}
 use Rattle.frame_parts.specs.Cut.{joined}
@@ -36,7 +35,7 @@ use Rattle.device.specs.Step.{Step, shown, stepBy, actOf, step}
 use Rattle.worked_examples.specs.Points.{Hold, examples as all, room, replyTo}
 
 pub examples : Hold all
-unfolding Hold all pick first_of joined registerBytes fixedSize readable frameByKind readFrame bitsBytes setupBytes encode sum256 sealed ids id_at entriesFrom entries page10 fits10 damaged valueIn readCounter counterAnswer rowBytes rows_to openTo page11 taskIn echoOf someBelow tab placed cleared settingsOut busyBad idleBad entryBad tableBad statusBad recordBad rowsBad contradictory advancedBy move_of queuedAct logPage otherAct controlAct registerAct frameAct wrongKind wrongTime wrongSize tests does act someUnready failing touch_of actOf repliesOf contradictoryDevice freshDevice withValue haltWith acceptedBy unhalted movedBy openedFor finishedBy failedBy after_of movedBad
+unfolding Hold all first_of joined registerBytes fixedSize readable frameByKind readFrame bitsBytes setupBytes encode sum256 sealed ids id_at entriesFrom entries page10 fits10 damaged valueIn readCounter counterAnswer rowBytes rows_to openTo page11 taskIn echoOf someBelow tab placed cleared settingsOut busyBad idleBad entryBad tableBad statusBad recordBad rowsBad contradictory advancedBy move_of queuedAct logPage otherAct controlAct registerAct frameAct wrongKind wrongTime wrongSize tests does act someUnready failing touch_of actOf repliesOf contradictoryDevice freshDevice withValue haltWith acceptedBy unhalted movedBy openedFor finishedBy failedBy after_of movedBad
 examples = (refl, (refl, (refl, (refl, (refl, (refl, (refl, (refl, (refl, (refl, (refl, (refl, (refl, (refl, (refl, tt)))))))))))))))
 
 -- what decides it there is what decides it with such a medium

@@ -2,7 +2,6 @@
 use Rattle.std.proofs.Common.{refl}
 use Rattle.refusals.specs.First.{first_of}
 use Rattle.bits.specs.Laid.{over}
-use Rattle.bits.specs.Pick.{pick}
 use Rattle.frame_parts.specs.Cut.{joined, cut, cut_to, firstLength}
 use Rattle.frame_parts.specs.Shared.{registerBytes}
 use Rattle.frame_parts.specs.Size.{readable, fixedSize}
@@ -45,7 +44,7 @@ typed_long = all_typed longCalls refl
 
 -- the run of resets and errors
 pub second-not-empty : SecondShows
-unfolding first_of over pick joined cut cut_to firstLength registerBytes readable fixedSize readFrame frameByKind fits encode bitsBytes fits10 page10 sealed sum256 contradictory statusBad settingsOut recordBad rowsBad tableBad entryBad busyBad idleBad echoOf taskIn someBelow placed tab cleared registerAct queuedAct otherAct logPage sentAll sentBytes repliesOf after_of resetHeld unhalted haltWith released acceptedBy contradictoryDevice powerOn freshDevice second tagsFrom lines_of commands outstandingAt finishedAt givenUpAt droppedAt total totalWith howMany collect some payloads run seen waits sactive before since movedBad wrongKind wrongTime wrongSize tests frameAct does act touch_of actOf read_log holding controlAct
+unfolding first_of over joined cut cut_to firstLength registerBytes readable fixedSize readFrame frameByKind fits encode bitsBytes fits10 page10 sealed sum256 contradictory statusBad settingsOut recordBad rowsBad tableBad entryBad busyBad idleBad echoOf taskIn someBelow placed tab cleared registerAct queuedAct otherAct logPage sentAll sentBytes repliesOf after_of resetHeld unhalted haltWith released acceptedBy contradictoryDevice powerOn freshDevice second tagsFrom lines_of commands outstandingAt finishedAt givenUpAt droppedAt total totalWith howMany collect some payloads run seen waits sactive before since movedBad wrongKind wrongTime wrongSize tests frameAct does act touch_of actOf read_log holding controlAct
 second-not-empty = record {
   typed = typed;
   lines = refl;
@@ -65,7 +64,7 @@ second-not-empty = record {
 
 -- the run of long commands
 pub long-not-empty : LongShows
-unfolding first_of over pick joined cut cut_to firstLength registerBytes readable fixedSize readFrame frameByKind fits encode setupBytes bitsBytes contradictory statusBad settingsOut recordBad rowsBad tableBad entryBad busyBad idleBad echoOf taskIn someBelow placed tab registerAct queuedAct someUnready move_of advancedBy stored sentAll sentBytes repliesOf after_of movedBy finishedBy openedFor acceptedBy contradictoryDevice powerOn freshDevice carriedAt span transfer long tagsFrom lines_of commands outstandingAt finishedAt givenUpAt droppedAt total collect some payloads run seen begun waits sactive movedBad wrongKind wrongTime wrongSize tests frameAct does act touch_of actOf
+unfolding first_of over joined cut cut_to firstLength registerBytes readable fixedSize readFrame frameByKind fits encode setupBytes bitsBytes contradictory statusBad settingsOut recordBad rowsBad tableBad entryBad busyBad idleBad echoOf taskIn someBelow placed tab registerAct queuedAct someUnready move_of advancedBy stored sentAll sentBytes repliesOf after_of movedBy finishedBy openedFor acceptedBy contradictoryDevice powerOn freshDevice carriedAt span transfer long tagsFrom lines_of commands outstandingAt finishedAt givenUpAt droppedAt total collect some payloads run seen begun waits sactive movedBad wrongKind wrongTime wrongSize tests frameAct does act touch_of actOf
 long-not-empty = record {
   powered = refl;
   typed = typed_long;

@@ -6,7 +6,6 @@ use Rattle.rules.specs.Call.{Call}
 use Rattle.rules.specs.Handed.{Handed, handed}
 use Rattle.refusals.specs.First.{first_of}
 use Rattle.bits.specs.Laid.{over}
-use Rattle.bits.specs.Pick.{pick}
 use Rattle.frame_parts.specs.Cut.{joined, cut, cut_to, firstLength}
 use Rattle.frame_parts.specs.Shared.{registerBytes}
 use Rattle.frame_parts.specs.Size.{readable, fixedSize}
@@ -85,7 +84,7 @@ typed = all_typed calls refl
 
 -- the run: all four fates, an error that waits and is read, a tag used three times, a page that shows counters
 pub not-empty : ExampleShows
-unfolding first_of over pick joined cut cut_to firstLength registerBytes readable fixedSize readFrame frameByKind fits encode setupBytes bitsBytes entries entriesFrom id_at page11 openTo rows_to rowBytes fits10 page10 readCounter damaged valueIn ids row_of sealed sum256 contradictory statusBad settingsOut recordBad rowsBad tableBad entryBad busyBad idleBad echoOf taskIn someBelow placed tab cleared registerAct queuedAct otherAct logPage failing someUnready move_of advancedBy stored sentAll sentBytes repliesOf after_of zeroedIf resetHeld movedBy unhalted finishedBy failedBy haltWith released openedFor acceptedBy contradictoryDevice powerOn freshDevice withValue renewed carriedAt span transfer countedIn story tagsFrom lines_of commands outstandingAt finishedAt givenUpAt droppedAt total totalWith howMany collect some payloads run seen begun waits sactive before since movedBad wrongKind wrongTime wrongSize tests frameAct does act touch_of actOf
+unfolding first_of over joined cut cut_to firstLength registerBytes readable fixedSize readFrame frameByKind fits encode setupBytes bitsBytes entries entriesFrom id_at page11 openTo rows_to rowBytes fits10 page10 readCounter damaged valueIn ids row_of sealed sum256 contradictory statusBad settingsOut recordBad rowsBad tableBad entryBad busyBad idleBad echoOf taskIn someBelow placed tab cleared registerAct queuedAct otherAct logPage failing someUnready move_of advancedBy stored sentAll sentBytes repliesOf after_of zeroedIf resetHeld movedBy unhalted finishedBy failedBy haltWith released openedFor acceptedBy contradictoryDevice powerOn freshDevice withValue renewed carriedAt span transfer countedIn story tagsFrom lines_of commands outstandingAt finishedAt givenUpAt droppedAt total totalWith howMany collect some payloads run seen begun waits sactive before since movedBad wrongKind wrongTime wrongSize tests frameAct does act touch_of actOf
 not-empty = record {
   powered = refl;
   typed = typed;
