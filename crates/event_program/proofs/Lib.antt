@@ -6,5 +6,6 @@ pub mod Parts
 pub mod Played
 pub mod Runs
 pub mod Starts
+pub mod Statuses
 pub mod Steps
 pub mod Tied

@@ -8,17 +8,11 @@ use Rattle.bits.proofs.Tying.{named, say}
 use Rattle.std.specs.declared.io.traits.Read as Reader
 use Rattle.std.specs.declared.io.traits.Write as Writer
 use Rattle.page_program.specs.declared.shelf.Shelf as Shelves
-use Rattle.page_program.specs.Answers.{status_of}
 use Rattle.page_program.specs.Runs.{Ran, exit_status_of}
-use Rattle.page_program.proofs.answers
 use Rattle.page_program.proofs.ends
 use Rattle.page_program.proofs.queries
-use Rattle.page_program.specs.contracts.answers as answers-said
 use Rattle.page_program.specs.contracts.ends as ends-said
 use Rattle.page_program.specs.contracts.queries as queries-said
-
-pub tied-status : Tied answers-said.Answer.status.ended answers.Answer.status.Reads.Asked answers.Answer.status.Reads.Post (λ κs a r ws. r ≡ status_of a.0)
-tied-status = named (say (λ κs a. tt) (λ κs a r ws p. p)) (λ κs a ws ws'. refl)
 
 pub tied-exit-status : Tied ends-said.exit_status.ended ends.exit_status.Reads.Asked ends.exit_status.Reads.Post (λ κs a r ws. r ≡ exit_status_of a.0)
 tied-exit-status = named (say (λ κs a. tt) (λ κs a r ws p. p)) (λ κs a ws ws'. refl)

@@ -7,7 +7,7 @@ use Rattle.frame_parts.specs.declared.log_pages.LogPage.TheVariants.{Errors, Cou
 use Rattle.page_text.specs.Fields.{log_told, fields_text}
 use Rattle.page_text.specs.Counters.{counters_told, counters_text}
 use Rattle.page_program.specs.declared.answers.Answer.{Answer}
-use Rattle.page_program.specs.declared.answers.Answer.TheVariants.{Told, Refused, NoHex, Stopped, Unopened}
+use Rattle.page_program.specs.declared.answers.Answer.TheVariants.{Told, Refused, NotAPage, Stopped, Unopened}
 
 -- what is printed of either page
 unfoldable pub text_of : LogPage → List ℕ → List ℕ
@@ -28,7 +28,7 @@ answer_by (Some refusal) = Refused
 abbrev pub status_of : Answer → ℕ
 status_of Told = 0
 status_of Refused = 1
-status_of NoHex = 3
+status_of NotAPage = 3
 status_of Stopped = 3
 status_of Unopened = 3
 

@@ -2,7 +2,7 @@
 use Rattle.std.specs.Prelude.{◌≡◌, ℕ, List, take, IfSome, Option, Some, None}
 use Rattle.frame_parts.specs.declared.log_pages.LogPage.{LogPage}
 use Rattle.page_program.specs.declared.answers.Answer.{Answer}
-use Rattle.page_program.specs.declared.answers.Answer.TheVariants.{NoHex, Stopped}
+use Rattle.page_program.specs.declared.answers.Answer.TheVariants.{NotAPage, Stopped}
 use Rattle.page_program.specs.declared.queries.Query.{Query}
 use Rattle.page_program.specs.Answers.{text_of, refusal_of, answer_by, unread_text, stop_text}
 use Rattle.page_program.specs.Inputs.{read_limit, page_in}
@@ -10,7 +10,7 @@ use Rattle.page_program.specs.Inputs.{read_limit, page_in}
 -- a page is told or refused; what holds no page is unread
 abbrev pub owed_page : LogPage → Option (List ℕ) → Answer × List ℕ
 owed_page which (Some page) = (answer_by (refusal_of which page), text_of which page)
-owed_page which None = (NoHex, unread_text)
+owed_page which None = (NotAPage, unread_text)
 
 -- the answer to what was read, and its text
 unfoldable pub owed : Query → List ℕ → Answer × List ℕ

@@ -10,7 +10,7 @@ use Rattle.page_program.specs.declared.queries.Query.{Query}
 use Rattle.page_program.specs.Answers.{status_of}
 use Rattle.page_program.specs.Owed.{Owes}
 use Rattle.page_program.specs.Sections.{OwesFiles}
-use Rattle.page_program.specs.Written.{TellsFront}
+use Rattle.page_program.specs.Written.{Tells, TellsFront}
 
 -- the sections of all files are written
 abbrev pub WritesFiles : Query → (List ℕ → Option (Option (List ℕ))) → List (List ℕ) → Option (List ℕ) → Option (List ℕ) → ℕ → Type 0
@@ -24,7 +24,7 @@ LosesFiles query holds names old new =
 
 -- all is written: the page that was read (known) where no file is named, else the files' sections
 abbrev pub Writes : Query → (List ℕ → Option (Option (List ℕ))) → List (List ℕ) → (known old new : Option (List ℕ)) → ℕ → Type 0
-Writes query holds [] known old new status = (answer : Answer) × (text : List ℕ) × Owes query known answer text × (status ≡ status_of answer) × Appends old new text
+Writes query holds [] known old new status = (answer : Answer) × (status ≡ status_of answer) × Tells (Owes query known) old new answer
 Writes query holds names known old new status = WritesFiles query holds names old new status
 
 -- a front of it is written

@@ -1,16 +1,16 @@
-// How the telling of a page went.
+// What came of a page, and the status that a program ends with for it.
 ghost use Rattle.std.specs.Prelude.{◌≡◌};
 ghost use Rattle.page_program.specs.Answers.{status_of};
 
 /// How the telling of a page went.
 #[derive(Clone, Copy, Debug, PartialEq, Eq)]
-pub enum Answer {
+pub(crate) enum Answer {
     /// The page is told in full.
     Told,
     /// The page is refused: its refusal is told, and nothing else.
     Refused,
-    /// The input is text, and not that of a page: it is unread.
-    NoHex,
+    /// The input does not tell just 512 bytes in hex: it is unread.
+    NotAPage,
     /// A read failed: the page is unread.
     Stopped,
     /// The file was not opened: it is unread.
@@ -19,13 +19,13 @@ pub enum Answer {
 
 impl Answer {
     /// The exit status of a program that has told a page so: 0 in full, 1 refused, 3 unread.
-    pub fn status(self) -> u8
+    pub(crate) fn status(self) -> u8
         ensures { result ≡ status_of self }
     {
         match self {
             Answer::Told => 0,
             Answer::Refused => 1,
-            Answer::NoHex | Answer::Stopped | Answer::Unopened => 3,
+            Answer::NotAPage | Answer::Stopped | Answer::Unopened => 3,
         }
     }
 }

@@ -11,10 +11,13 @@ pub enum Lost {
     Unsaid,
 }
 
+/// The exit status where lines are missing.
+pub const LINES_MISSING: u8 = 4;
+
 /// The exit status of a run: 0 all pages told in full, 1 one was refused, 3 one is unread, 4 lines are missing; the greatest
 /// of those that hold.
 pub fn exit_status(ended: Result<u8, Lost>) -> u8
     ensures { result ≡ exit_status_of ended }
 {
-    ended.unwrap_or(4)
+    ended.unwrap_or(LINES_MISSING)
 }

@@ -59,7 +59,7 @@ impl Query {
         };
         let Some(page) = text_page(input, notation) else {
             out.write_all(b"unread\n")?;
-            return Ok(Answer::NoHex);
+            return Ok(Answer::NotAPage);
         };
         write_page(out, self.page, &page)
     }

@@ -11,7 +11,6 @@ mod running;
 mod shelf;
 mod telling;
 
-pub use answers::Answer;
-pub use ends::{Lost, exit_status};
+pub use ends::{LINES_MISSING, Lost, exit_status};
 pub use queries::Query;
 pub use shelf::Shelf;

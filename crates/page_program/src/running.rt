@@ -46,7 +46,7 @@ impl Query {
     }
 
     /// Tells the page of each named file, or that of `reader` where none is named, and says on `errors` where lines are
-    /// missing. Hands back the greatest of the answers' statuses ([`crate::Answer::status`]).
+    /// missing. Hands back the greatest of the pages' statuses: 0 told in full, 1 refused, 3 unread.
     ///
     /// # Errors
     /// Where not all could be written.

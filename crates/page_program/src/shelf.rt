@@ -1,4 +1,4 @@
-// Where the pages that are named lie.
+// A shelf of pages that have names, as a folder is.
 ghost use Rattle.std.specs.Prelude.{Option, List, ℕ, IfSome};
 ghost use Rattle.page_program.specs.Opened.{opened, Agrees};
 

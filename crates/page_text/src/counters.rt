@@ -29,7 +29,7 @@ impl fmt::Display for CounterText {
     }
 }
 
-// What the page says of each of the sixteen numbers, unless it refuses one: such a page is an unread page.
+// What the page says of each of the sixteen numbers, unless it refuses one: such a page tells nothing.
 fn read_counters(page: &[u8]) -> Result<[(u16, Option<CounterValue>); ROWS], Refusal>
     ensures { result ≡ counters_in page.now ids }
 {

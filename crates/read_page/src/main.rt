@@ -7,7 +7,7 @@ ghost use Rattle.std.specs.Prelude.{None};
 mod options;
 
 use options::{command, query};
-use page_program::{Lost, Shelf, exit_status};
+use page_program::{LINES_MISSING, Shelf, exit_status};
 use std::process::ExitCode;
 use std::{env, fs, io};
 
@@ -27,7 +27,7 @@ impl<'a> Shelf for Disk<'a> {
     }
 }
 
-// The exit status of a command line that is none, as clap has it.
+// The exit status that clap gives an error of usage.
 const USAGE: u8 = 2;
 
 // Help, and what is wrong with the words, is printed by clap. An `Err` is of memory, or of a word that is no text.
@@ -39,7 +39,7 @@ fn run(rt: &HostRuntime) -> anyhow::Result<u8> {
         Err(error) => {
             return Ok(match error.print(rt) {
                 Ok(()) => error.exit_code() as u8,
-                Err(_) => exit_status(Err(Lost::Unsaid)),
+                Err(_) => LINES_MISSING,
             });
         }
     };

@@ -37,7 +37,7 @@ pub(crate) fn command<'a>(alloc: Global) -> Result<Command<'a>, AllocError> {
         .arg(files)
 }
 
-/// What they ask; `None` where they name no page, as no words do that the command has let through.
+/// What they ask. `None` cannot come: the command asks for a page.
 pub(crate) fn query(alloc: Global, matches: &ArgMatches) -> Option<Query> {
     let page = match matches.get_str("page") {
         Some("10") => LogPage::Errors,
