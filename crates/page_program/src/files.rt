@@ -1,6 +1,5 @@
 // Pages of named files, told to a writer.
-ghost use Rattle.std.specs.Prelude.{◌≡◌, ◌++◌, ◌<◌, List, ℕ, Bool, IfOk, OnOk, OnErr, length, map, nat_lt};
-ghost use Rattle.std.specs.Io.KnownBytes.{Appends};
+ghost use Rattle.std.specs.Prelude.{◌≡◌, ◌++◌, List, ℕ, IfOk, OnOk, OnErr};
 ghost use Rattle.page_program.specs.Written.{Tells, TellsFront};
 ghost use Rattle.page_program.specs.Sections.{OwesFile};
 

@@ -1,7 +1,7 @@
 // The page that was read.
-ghost use Rattle.std.specs.Prelude.{◌≡◌, ◌++◌, OnOk, IfOk};
+ghost use Rattle.std.specs.Prelude.{◌≡◌, OnOk, IfOk};
 ghost use Rattle.std.specs.Io.KnownBytes.{Appends};
-ghost use Rattle.page_program.specs.Answers.{text_of, refusal_of, answer_by, unread_text};
+ghost use Rattle.page_program.specs.Answers.{text_of, refusal_of, answer_by};
 ghost use Rattle.page_program.specs.Inputs.{text_page};
 ghost use Rattle.page_program.specs.Owed.{owed, told};
 

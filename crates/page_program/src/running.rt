@@ -1,5 +1,5 @@
 // A run: the page of standard input, or those of named files.
-ghost use Rattle.std.specs.Prelude.{List, ℕ, IfOk, OnErr, map};
+ghost use Rattle.std.specs.Prelude.{IfOk, OnErr, map};
 ghost use Rattle.page_program.specs.Runs.{WritesFiles, LosesFiles, Writes, Loses, Ran};
 
 use crate::ends::Lost;

@@ -1,5 +1,5 @@
 // A shelf of pages that have names, as a folder is.
-ghost use Rattle.std.specs.Prelude.{Option, List, ℕ, IfSome};
+ghost use Rattle.std.specs.Prelude.{Option, List, ℕ};
 ghost use Rattle.page_program.specs.Opened.{opened, Agrees};
 
 use std::io;

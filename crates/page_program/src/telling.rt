@@ -1,7 +1,5 @@
 // A page from a reader, told to a writer.
 ghost use Rattle.std.specs.Prelude.{◌≡◌, ◌++◌, List, ℕ, IfOk, OnErr};
-ghost use Rattle.std.specs.Io.KnownBytes.{Appends};
-ghost use Rattle.streams.specs.Fronts.{AppendsFront};
 ghost use Rattle.page_program.specs.Owed.{Owes};
 ghost use Rattle.page_program.specs.Written.{Tells, TellsFront};
 
