@@ -13,16 +13,15 @@ use Rattle.device.specs.Step.{Given}
 use Rattle.history.specs.Follows.{FollowsBy, final, lents, historyOf}
 use Rattle.history.proofs.Allowed.{Allowed}
 use Rattle.history.proofs.Contracts.{allowed-given}
-use Rattle.history.proofs.Demand3.{demand3-given, told-given}
+use Rattle.history.proofs.Demand3.{promised-given}
 use Rattle.caller.specs.Continued.{Reached, Holds, Continues, ContinuesReplying, ContinuesAlone, Begins}
-use Rattle.history.specs.StateAgrees.{StateAgrees}
+use Rattle.history.specs.Promised.{Promised}
 
 -- of what is reached, all holds
 pub holds : (s : Settings) (r : Outcome) (xs : List Done) (d : Device) → Reached s r xs d → Holds s r xs d
 holds s r xs d h = record {
   reached = h;
-  demand3 = demand3-given s r xs h.began h.typed;
-  told = subst (λ (e : Device). StateAgrees s e (historyOf xs)) h.last (told-given s r xs h.began h.typed);
+  promised = subst (λ (e : Device). Promised s r e (historyOf xs)) h.last (promised-given s r xs h.began h.typed);
 }
 
 -- power-on, and no call yet

@@ -1,5 +1,5 @@
 -- What the event program plays is a history in the sense of demand 3. Assumes nothing.
-use Rattle.std.proofs.Common.{◌≡◌, refl, sym, ap, subst, ◌∙◌, Bool, true, false, true≢false, List, [], ◌∷◌, ℕ, ◌+◌, length, take, drop, Option, Some, None, is_none, option_map}
+use Rattle.std.proofs.Common.{◌≡◌, refl, sym, ap, subst, ◌∙◌, Bool, true, false, true≢false, List, [], ◌∷◌, ◌++◌, map, option_to_list, ℕ, ◌+◌, length, take, drop, Option, Some, None, is_none, option_map}
 use lib.Seq.{take-append_seam, take-length}
 use Rattle.bits.specs.Laid.{laid}
 use Rattle.bits.specs.Little.{Bytes}
@@ -19,8 +19,9 @@ use Rattle.events.proofs.Playable.{run-plays}
 use Rattle.event_program.specs.Lines.{line_of}
 use Rattle.event_program.specs.Reading.{IsEvent}
 use Rattle.event_program.specs.Running.{Kept, kept, after, told, started, refused, kept_after, AllEvents, Plays}
-use Rattle.history.specs.Run.{result, done, run_from}
-use Rattle.history.specs.Follows.{newestFirst, lents}
+use Rattle.history.specs.Run.{result, Done, done, event, run_from}
+use Rattle.history.specs.Follows.{newestFirst, lents, historyOf}
+use Rattle.history.specs.Lasting.{mediumBy, HandedOn, Lasting}
 use Rattle.history.proofs.Contracts.{began-run}
 use Rattle.caller.specs.Continued.{Holds}
 use Rattle.caller.specs.Playing.{donesAll, endState, PlayGiven, EachPlay}
@@ -106,9 +107,47 @@ held s asked es b w =
     subst (λ (d : Device). Holds asked (powerOn asked) xs d) (end-kept (started s) es)
     (subst (λ (r : Outcome). Holds asked r xs (endState (started s).device ps)) b (held-by (Some asked) (start_of s) ps b (each-played (started s) es w)))
 
+-- ---- one medium
+
+-- calls that are handed a medium on, the oldest first
+unfoldable Handed : List ℕ → List Done → Type 0
+Handed m [] = Unit
+Handed m (x ∷ xs) = (x.lent.medium ≡ m) × Handed x.gave.medium xs
+
+-- and with the newest first
+handed-newest : (m : List ℕ) (h xs : List Done) → HandedOn m (map event h) → Handed (mediumBy m (map event h)) xs → HandedOn m (map event (newestFirst h xs))
+unfolding Handed HandedOn newestFirst
+handed-newest m h [] k l = k
+handed-newest m h (x ∷ xs) k l = handed-newest m (x ∷ h) xs (l.0, k) l.1
+
+-- so are those of a run
+handed-plays : (k : Kept) (es : List (List ℕ)) → Handed k.medium (donesAll k.device (playsIn k es))
+unfolding Handed donesAll playsIn after stepFor
+handed-plays k [] = tt
+handed-plays k (e ∷ es) = go (callFor k.device e) refl (handed-plays (after k e) es)
+  where
+    rest : List Done
+    rest = donesAll (after k e).device (playsIn (after k e) es)
+
+    go : (c : Option Call) → callFor k.device e ≡ c → Handed (after k e).medium rest
+        → Handed k.medium (option_to_list (option_map (λ x. done (lent x k.medium k.reply) (playIn k e).gave) c) ++ rest)
+    go None u l = subst (λ (x : Option Call). Handed (stepFor k.device k.medium k.reply x).medium rest) u l
+    go (Some c) u l = (refl, l)
+
+-- of which the history tells every byte
+media : (s : List ℕ) (asked : Settings) (es : List (List ℕ)) → Holds asked (powerOn asked) (donesAll (started s).device (playsIn (started s) es)) (kept_after (started s) es).device
+    → Lasting (started s).medium (historyOf (donesAll (started s).device (playsIn (started s) es)))
+unfolding HandedOn
+media s asked es h =
+    let xs = donesAll (started s).device (playsIn (started s) es) in
+    h.promised.lasting (started s).medium (handed-newest (started s).medium [] xs tt (handed-plays (started s) es))
+
 -- the events behind a settings record
 behind-settings : (traced : Bool) (s : List ℕ) (asked : Settings) (es : List (List ℕ)) → asked_of s ≡ Some asked → AllBytes es → AllEvents es → IsHistory traced s asked es
-behind-settings traced s asked es a w q = let b = begun s asked a in record { begins = powered traced s asked b; shown = shown-run traced 1 (started s) es q; holds = held s asked es b w }
+behind-settings traced s asked es a w q =
+    let b = begun s asked a in
+    let h = held s asked es b w in
+    record { begins = powered traced s asked b; shown = shown-run traced 1 (started s) es q; holds = h; media = media s asked es h }
 
 -- where it asks for none, there are no events
 none-starts : (traced : Bool) (s : List ℕ) (es : List (List ℕ)) → asked_of s ≡ None → (refused s ≡ true → es ≡ []) → NoneStarts traced s es

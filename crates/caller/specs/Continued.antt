@@ -1,4 +1,4 @@
--- What a caller of the device is told: demand 3 (docs/DEMAND3.md: fates, data, SActive, replies, counters and refusals) of the history that its call continues. Assumes nothing.
+-- What a caller of the device is told: all that is promised (docs/DEMAND3.md) of the history that its call continues. Assumes nothing.
 use Rattle.std.specs.Prelude.{◌≡◌, List, [], ◌∷◌, ◌++◌, ℕ}
 use Rattle.device_state.specs.declared.shapes.Settings.{Settings}
 use Rattle.device.specs.declared.state.Device.{Device}
@@ -7,8 +7,7 @@ use Rattle.rules.specs.Call.{Call}
 use Rattle.device.specs.Lent.{Lent, lent, Gave, gave}
 use Rattle.history.specs.Run.{Done, done, AllTyped}
 use Rattle.history.specs.Follows.{final, lents, historyOf, Began}
-use Rattle.history.specs.Demand3.{Demand3}
-use Rattle.history.specs.StateAgrees.{StateAgrees}
+use Rattle.history.specs.Promised.{Promised}
 
 -- d is the state that the last call of xs returned: calls from power-on with the settings s, which gave r
 pub record Reached (s : Settings) (r : Outcome) (xs : List Done) (d : Device) : Type 0 where
@@ -16,11 +15,10 @@ pub record Reached (s : Settings) (r : Outcome) (xs : List Done) (d : Device) : 
   pub typed : AllTyped (lents xs)
   pub last : final r.state xs ≡ d
 
--- then demand 3 holds of their history, and d is what it tells
+-- then all that is promised holds of their history, and of d behind it
 pub record Holds (s : Settings) (r : Outcome) (xs : List Done) (d : Device) : Type 0 where
   pub reached : Reached s r xs d
-  pub demand3 : Demand3 s.depth s.mask (historyOf xs)
-  pub told : StateAgrees s d (historyOf xs)
+  pub promised : Promised s r d (historyOf xs)
 
 -- whatever the calls were that led to the state d: with this one more, all that holds
 abbrev pub Continues : Device → Lent → Gave → Type 0

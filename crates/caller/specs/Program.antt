@@ -12,7 +12,10 @@ use Rattle.streams.specs.Fronts.{AppendsFront}
 use Rattle.event_program.specs.Running.{Kept, kept, stepIn, after, told, started, start_line, run_lines, kept_after, ending, Plays}
 use Rattle.frame_parts.specs.Cut.{joined}
 use Rattle.events.specs.Calls.{callFor}
+use Rattle.history.specs.Event.{replied}
 use Rattle.history.specs.Run.{result, Done, done, event}
+use Rattle.history.specs.Follows.{historyOf}
+use Rattle.history.specs.Lasting.{Lasting}
 use Rattle.caller.specs.Continued.{Holds}
 use Rattle.caller.specs.Playing.{Play, play, donesAll}
 
@@ -33,7 +36,7 @@ callIn k e = option_map (λ c. done (lent c k.medium k.reply) (result k.device (
 -- behind an event the run keeps the state, medium and reply buffer that its call left, and its line shows that state, the refusal and the reply
 pub record Shows (traced : Bool) (number : ℕ) (k : Kept) (e : List ℕ) (x : Done) : Type 0 where
   pub kept : after k e ≡ kept x.gave.outcome.state x.gave.medium x.gave.buffer
-  pub line : told traced number k e ≡ line_of traced number (event x).refusal x.gave.outcome.state.status.outstanding (event x).reply
+  pub line : told traced number k e ≡ line_of traced number (event x).refusal x.gave.outcome.state.status.outstanding (replied (event x))
 
 -- it made a call, and shows that
 unfoldable pub ShowsCall : Bool → ℕ → Kept → List ℕ → Option Done → Type 0
@@ -50,11 +53,12 @@ pub record StartShown (traced : Bool) (s : List ℕ) (asked : Settings) : Type 0
   pub state : (started s).device ≡ (powerOn asked).state
   pub line : start_line traced s ≡ line_of traced 0 (powerOn asked).refusal (powerOn asked).state.status.outstanding []
 
--- what is played behind the settings record s is a history in the sense of demand 3: from power-on its calls are as the device answers them, each event shows its own of them, and demand 3 holds of their history
+-- what is played behind the settings record s is a history in the sense of demand 3: from power-on its calls are as the device answers them, each event shows its own of them, demand 3 holds of their history, and of the one medium that they share it tells every byte
 pub record IsHistory (traced : Bool) (s : List ℕ) (asked : Settings) (es : List (List ℕ)) : Type 0 where
   pub begins : StartShown traced s asked
   pub shown : EachShown traced 1 (started s) es
   pub holds : Holds asked (powerOn asked) (donesAll (started s).device (playsIn (started s) es)) (kept_after (started s) es).device
+  pub media : Lasting (started s).medium (historyOf (donesAll (started s).device (playsIn (started s) es)))
 
 -- there is no device, and nothing is played: the one line is that of refusal 1
 pub record NoneStarts (traced : Bool) (s : List ℕ) (es : List (List ℕ)) : Type 0 where

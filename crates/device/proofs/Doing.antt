@@ -109,7 +109,7 @@ ruled-left : (v : Facts) (m : List ℕ) {a : Act} → by.Ruled v sendData (Ok a)
 unfolding touch_of
 ruled-left v m (by.own (by.sent g w s p r)) = refl
 
-send-left : (d : Device) (m b : List ℕ) (a : Act) → Ok a ≡ actOf d (lent sendData m b) → m ≡ mediumAfter a [] m
+pub send-left : (d : Device) (m b : List ℕ) (a : Act) → Ok a ≡ actOf d (lent sendData m b) → m ≡ mediumAfter a [] m
 send-left d m b a e = ruled-left (facts_of d (lent sendData m b)) m (act-ruled d (lent sendData m b) a e)
 
 -- ---- what each call comes to reads no more than it is handed

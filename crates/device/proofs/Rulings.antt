@@ -109,7 +109,7 @@ sized : (k : ℕ) → 1 ≤ k → k ≤ 8192 → k % 4 ≡ 0 → payloadSize k �
 sized k a b z = rw (le-leb 4 k (omega arith), le-leb k 8192 b, eq-eqb (k % 4) 0 z)
 
 -- what is sent of the medium is a data frame's payload
-part-sized : (d : Device) (m : List ℕ) → contradictoryDevice d ≡ false → mediumWrong d.settings.capacity (length m) ≡ false → is_none d.status.phase ≡ false
+pub part-sized : (d : Device) (m : List ℕ) → contradictoryDevice d ≡ false → mediumWrong d.settings.capacity (length m) ≡ false → is_none d.status.phase ≡ false
     → let k = move_of d.status (phaseEntry d) 8192 in payloadSize (length (take k.size (drop k.at m))) ≡ true
 unfolding move_of
 part-sized d m good w phase =

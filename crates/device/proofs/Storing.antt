@@ -5,7 +5,8 @@ use Rattle.refusals.specs.First.{first_of, unless}
 use Rattle.refusals.specs.declared.reasons.Refusal.{Refusal}
 use Rattle.refusals.specs.declared.reasons.Refusal.TheVariants.{NoFrame, TooLong}
 use Rattle.bits.proofs.Fronts.{over_yes}
-use Rattle.bits.proofs.Picks.{tested, and_left, or_left}
+use borrow.Author.Tests.{not-false}
+use Rattle.bits.proofs.Picks.{tested, and_left, or_left, or_right}
 use Rattle.frame_parts.specs.Size.{readable, payloadSize}
 use Rattle.frames.specs.Read.{frameByKind, readFrame}
 use Rattle.frames.specs.declared.shapes.Frame.{Frame}
@@ -63,6 +64,7 @@ module _ (d : Device) (f m b : List ℕ) where
     pub good : contradictoryDevice d ≡ false
     pub medium : mediumWrong d.settings.capacity (length m) ≡ false
     pub phase : is_none d.status.phase ≡ false
+    pub write : e.write ≡ true
     pub some : 4 ≤ length f - 4
     pub most : length f - 4 ≤ left_of e
     pub act : actOf d l ≡ Ok (Store (move_of d.status e (length f - 4)))
@@ -82,6 +84,7 @@ module _ (d : Device) (f m b : List ℕ) where
         good = none 0 (lit< tt);
         medium = none 1 (lit< tt);
         phase = or_left (is_none d.status.phase) (not v.entry.write) time;
+        write = not-false v.entry.write (or_right (is_none d.status.phase) (not v.entry.write) time);
         some = leb-true 4 k (and_left (leb 4 k) (leb k 8192) (and_left (leb 4 k && leb k 8192) (eqb (k % 4) 0) p));
         most = ltb-false (left_of v.entry) k size;
         act = ap (λ (o : Option Refusal). unless o (frameAct v (readFrame f))) (sym (step-refusal d l) ∙ z) ∙ ap (λ (x : Result Frame Refusal). Ok (frameAct v x)) r;

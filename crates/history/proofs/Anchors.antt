@@ -53,7 +53,7 @@ raises-errs e h x = go e.bad (e.asks.queued || ltb 0 (total h)) e.fails x
 -- the first event of an error that waits answers an error
 waits-new : (e : Seen) (h : List Seen) → waits (e ∷ h) ≡ true → waits h ≡ false → errs e ≡ true
 unfolding waits
-waits-new e h w x = raises-errs e h (sym (pick_no (waits h) (not e.sweeps && not e.asks.resets) (raises e h) x) ∙ w)
+waits-new e h w x = raises-errs e h (sym (pick_no (waits h) _ (raises e h) x) ∙ w)
 
 -- given up at an error that came
 up-test : (g o a : Bool) → a ≡ true → g || (o && a) ≡ g || o

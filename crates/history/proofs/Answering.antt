@@ -1,15 +1,18 @@
--- Every taken call is answered what the history before it says, over every run from power-on. Assumes nothing.
-use Rattle.std.proofs.Common.{is_none, Ok, Err, Some, unwrap_or, ◌≡◌, refl, sym, ap, ap₂, subst, ◌∙◌, Bool, true, false, not, ◌&&◌, ◌||◌, List, [], ◌∷◌, map, ⊎_elim, ℕ, ◌-◌, ◌*◌, min, eqb, ltb, leb, length, eqb-true}
+-- Every taken call is answered what the history before it says: its replies, and the bytes of them in the reply buffer. Assumes nothing.
+use Rattle.std.proofs.Common.{is_none, Ok, Some, unwrap_or, ◌≡◌, refl, sym, ap, ap₂, subst, ◌∙◌, Bool, true, false, not, ◌&&◌, ◌||◌, List, [], ◌∷◌, ◌++◌, map, append-nil, ⊎_elim, ℕ, suc, ◌+◌, ◌-◌, ◌*◌, ◌<◌, min, arith, eqb, ltb, leb, length, get_or, take, drop, eqb-true}
 use mathlib.Core.Bool.{false≢true}
 use Rattle.bits.specs.Pick.{pick}
 use Rattle.bits.specs.Bit.{bitIn}
+use Rattle.bits.specs.Laid.{laid}
 use Rattle.bits.proofs.Picks.{tested, not-leb, pick_yes, pick_no, and_left, and_right}
+use Rattle.frame_parts.specs.Cut.{joined}
 use Rattle.frame_parts.specs.Shared.{taskFits}
+use Rattle.page_10h.specs.Page10.{page10, fits10}
+use Rattle.page_rows.specs.Rows.{keepsBoth}
+use Rattle.page_rows.specs.Made11.{page11}
 use Rattle.frames.specs.Read.{readFrame}
-use Rattle.frames.specs.RoundTrip as trip
-use Rattle.frames.specs.Write.{FrameValue}
+use Rattle.frames.specs.Write.{FrameValue, setup, payload, encode}
 use Rattle.frames.specs.declared.shapes.HostReg.{HostReg}
-use Rattle.frames.specs.declared.shapes.Frame.{Frame}
 use Rattle.frames.specs.declared.shapes.Frame.TheVariants as fs
 use Rattle.device_state.specs.Table.{entry_of}
 use Rattle.device_state.specs.declared.shapes.Entry.{Entry}
@@ -27,13 +30,12 @@ use Rattle.rules.specs.declared.facts.Facts.{Facts}
 use Rattle.rules.specs.declared.acts.Act.{Act}
 use Rattle.rules.specs.declared.acts.Act.TheVariants.{Store, Open}
 use Rattle.rules.proofs.Ruled as by
-use Rattle.replies.specs.Replies.{repliesOf, activateIf}
-use Rattle.replies.proofs.Fits.{page10-long, page11-long}
-use Rattle.device.specs.Device.{powerOn, contradictoryDevice}
+use Rattle.replies.specs.Replies.{repliesOf, activateIf, logOf, page10Of, page11Of, sentAll}
+use Rattle.device.specs.Device.{contradictoryDevice}
 use Rattle.device.specs.Lent.{Lent, lent, Typed}
 use Rattle.device.specs.DataDue.{phaseEntry}
 use Rattle.device.specs.FactsOf.{facts_of}
-use Rattle.device.specs.Step.{Step, shown, stepBy, actOf, step}
+use Rattle.device.specs.Step.{Step, shown, actOf, step}
 use Rattle.device.specs.declared.state.Device.{Device}
 use Rattle.device.proofs.Sized.{SizedRecord}
 use Rattle.device.proofs.Busy.{whole_is}
@@ -43,25 +45,29 @@ use Rattle.device.proofs.Keeping.{both-kept}
 use Rattle.device.proofs.Rooms.{move-within}
 use Rattle.device.proofs.Turns.{by-turn, act-ruled}
 use Rattle.device.proofs.Zeros.{zeros}
+use Rattle.device.proofs.Sending.{whole}
 use Rattle.history.specs.Event.{Event, taken}
-use Rattle.history.specs.Replied.{FrameRead, frames, some}
+use Rattle.history.specs.Replied.{FrameRead, some, sent}
 use Rattle.history.specs.Seen.{seen}
 use Rattle.history.specs.Fates.{Command, commands, ownTag, outstanding, total, All}
-use Rattle.history.specs.Run.{Done, result, done, event, AllTyped, run, run_from, history}
 use Rattle.history.specs.ByHistory.{isOut, underWayAfter, leftOf}
-use Rattle.history.specs.Answered.{hostReplies, openedBy, openedReplies, repliesBy, Answers}
-use Rattle.history.proofs.Counts.{eventBy, eventOf}
-use Rattle.history.proofs.Views.{readIn}
-use Rattle.history.proofs.Frames.{Read, read-frames, read_step}
+use Rattle.history.specs.Placed.{placeOf}
+use Rattle.history.specs.Counted.{told, counts}
+use Rattle.history.specs.Carried.{span}
+use Rattle.history.specs.Logged.{logBy}
+use Rattle.history.specs.Answered.{hostReplies, openedBy, openedReplies, sentReply, repliesBy, answer, AnsweredBy}
+use Rattle.history.proofs.Counts.{eventOf}
+use Rattle.history.proofs.Views.{sentIn}
+use Rattle.history.proofs.Frames.{read-sent, read_step}
 use Rattle.history.proofs.Events.{part-long}
 use Rattle.history.proofs.CoreSteps.{ones-some}
 use Rattle.history.proofs.Core.{Inv, inv-total}
 use Rattle.history.proofs.Table.{Standing, Following, Tracked}
 use Rattle.history.proofs.Transfers.{transfer-open}
-use Rattle.history.proofs.Runs.{Held, held-step, held-power}
-use Rattle.history.proofs.Soundness.{by-power}
+use Rattle.history.proofs.Tally.{ValuesTell, Counting}
+use Rattle.history.proofs.Soundness.{by-power, Sound}
 use Rattle.history.proofs.Knows.{Known}
-use Rattle.history.proofs.Otherwise.{same-other, Paged, by-other, names-ten, names-eleven}
+use Rattle.history.proofs.Otherwise.{same-other, by-other, names-ten, names-eleven}
 use Rattle.device.proofs.Phases.{some-open, open-entry}
 
 -- a state and the history before it, as every run has them
@@ -70,32 +76,44 @@ pub record Stands (d : Device) (h : List Event) : Type 0 where
   pub known : Known d h
   pub inv : Inv d.status.outstanding d.status.halted (map seen h)
   pub tracked : Tracked d (map seen h)
+  pub logged : logBy h ≡ logOf d.errors
+  pub counting : Counting d h
 
--- the replies of an act, as the host reads them
-abbrev Reads : Device → List ℕ → Act → List Frame
-Reads d part a = map trip.readBack (repliesOf (shown d) part a)
+-- the replies of an act
+abbrev Replies : Device → List ℕ → Act → List FrameValue
+Replies d part a = repliesOf (shown d) part a
 
--- what a call is answered after h, with the settings of d
-abbrev By : Device → List Event → Call → List Frame
-By d h c = repliesBy d.settings.depth d.settings.capacity h c
+-- what a call is answered after h, with the settings of d and the medium lent to it
+abbrev By : Device → List Event → List ℕ → Call → List FrameValue
+By d h m c = repliesBy d.settings.depth d.settings.capacity d.settings.mask h m c
 
 -- and a host frame
-abbrev ByHost : Device → List Event → FrameRead → List Frame
-ByHost d h f = hostReplies d.settings.depth d.settings.capacity h f
+abbrev ByHost : Device → List Event → FrameRead → List FrameValue
+ByHost d h f = hostReplies d.settings.depth d.settings.capacity d.settings.mask h f
 
--- frames, each as the reader answers it
-abbrev asRead : List Frame → List FrameRead
-asRead fs = map Ok fs
+-- data sent are of the medium where the next byte of what is under way stands
+abbrev pub Lies : List Event → List ℕ → List ℕ → Type 0
+Lies h m l = l ≡ take (length l) (drop (placeOf h) m)
 
--- what the reader sees of frames that are sent: each is read, and as it was sent
-seen-back : (rs : List FrameValue) → readIn rs ≡ asRead (map trip.readBack rs)
-seen-back [] = refl
-seen-back (r ∷ rs) = ap (λ (l : List FrameRead). Ok (trip.readBack r) ∷ l) (seen-back rs)
+-- a list by its places
+by-places : (f : ℕ → ℕ) (l : List ℕ) (a : ℕ) → ((r : ℕ) → r < length l → get_or l r 0 ≡ f (a + r)) → l ≡ map f (span a (length l))
+unfolding span
+by-places f [] a h = refl
+by-places f (x ∷ xs) a h = ap₂ (λ (y : ℕ) (ys : List ℕ). y ∷ ys) (h 0 (omega arith) ∙ ap f (plus-none a)) (by-places f xs (suc a) (λ r u. h (suc r) (omega (arith, u)) ∙ ap f (plus-one a r)))
+  where
+    plus-none : (a : ℕ) → a + 0 ≡ a
+    plus-none a = omega arith
 
--- an Activate, or none
-activates : (b : Bool) → map trip.readBack (activateIf b) ≡ pick b (fs.Activate ∷ []) []
-activates true = refl
-activates false = refl
+    plus-one : (a r : ℕ) → a + suc r ≡ suc a + r
+    plus-one a r = omega arith
+
+-- sixteen counters that tell a history are what it counted
+counts-told : (values : List ℕ) (h : List Event) → ValuesTell values h → values ≡ counts h
+counts-told values h i =
+    by-places (λ r. told r h) values 0 (λ r u. i.value r (subst (λ (n : ℕ). r < n) i.long u) ∙ ap (λ (n : ℕ). told n h) (nothing-before r)) ∙ ap (λ (n : ℕ). map (λ r. told r h) (span 0 n)) i.long
+  where
+    nothing-before : (r : ℕ) → r ≡ 0 + r
+    nothing-before r = omega arith
 
 module _ (d : Device) (h : List Event) (k : Stands d h) where
   -- something is outstanding
@@ -103,7 +121,7 @@ module _ (d : Device) (h : List Event) (k : Stands d h) where
   busy_is = ap (ltb 0) (inv-total k.inv) ∙ ones-some d.status.outstanding
 
   -- what is left of the open phase, in its direction
-  left-is : contradictoryDevice d ≡ false → is_none d.status.phase ≡ false → (b : Bool) → (phaseEntry d).write ≡ not b
+  pub left-is : contradictoryDevice d ≡ false → is_none d.status.phase ≡ false → (b : Bool) → (phaseEntry d).write ≡ not b
       → leftOf b (underWayAfter h) ≡ left_of (phaseEntry d)
   left-is g p b w =
       let t : ℕ = unwrap_or d.status.phase 0 in
@@ -122,9 +140,12 @@ module _ (d : Device) (h : List Event) (k : Stands d h) where
 
   -- ---- host frames
 
-  -- what a page answers is 512 bytes
-  pages : contradictoryDevice d ≡ false → Paged (shown d)
-  pages g = record { ten = page10-long d.errors (record-fits d k.sized g); eleven = page11-long d.settings.mask d.values (both-kept d g) }
+  -- the pages
+  errors-page : contradictoryDevice d ≡ false → page10Of d.errors ≡ page10 (logBy h)
+  errors-page g = pick_yes (fits10 (logOf d.errors)) (page10 (logOf d.errors)) [] (record-fits d k.sized g) ∙ ap page10 (sym k.logged)
+
+  counters-page : contradictoryDevice d ≡ false → page11Of d.settings.mask d.values ≡ page11 d.settings.mask (counts h)
+  counters-page g = pick_yes (keepsBoth d.settings.mask) (page11 d.settings.mask d.values) [] (both-kept d g) ∙ ap (page11 d.settings.mask) (counts-told d.values h k.counting)
 
   -- a tag that is outstanding, by the history and by the state
   used_is : (f : HostReg) → leb d.settings.depth (tagAsked f) || isOut (tagAsked f) h ≡ leb d.settings.depth (tagAsked f) || bitIn 32 d.status.outstanding (tagAsked f)
@@ -132,24 +153,24 @@ module _ (d : Device) (h : List Event) (k : Stands d h) where
 
   -- a command that is not queued
   others : (v : Facts) (f : HostReg) → v.status.halted ≡ d.status.halted → v.status.outstanding ≡ d.status.outstanding → contradictoryDevice d ≡ false → taskFits f.task ≡ true → by.TimelyCommand v f false
-      → Reads d [] (frameAct v (Ok (fs.Host f))) ≡ ByHost d h (Ok (fs.Host f))
+      → Replies d [] (frameAct v (Ok (fs.Host f))) ≡ ByHost d h (Ok (fs.Host f))
   unfolding frameAct registerAct otherAct
   others v f x o g t c =
       rw (c.command, c.kind)
-      (by-other v (shown d) [] f (sym x) t (pages g)
-      ∙ same-other v.status.halted _ f.task (x ∙ sym k.known.halted) (names-ten f t) (names-eleven f t) (ap (λ (n : ℕ). not (eqb n 0)) o ∙ sym busy_is))
+      (by-other v (shown d) [] f (sym x) t
+      ∙ same-other v.status.halted _ f.task (x ∙ sym k.known.halted) (names-ten f t) (names-eleven f t) (ap (λ (n : ℕ). not (eqb n 0)) o ∙ sym busy_is) (errors-page g) (counters-page g))
 
   -- host data
   due-answers : (n : ℕ) → contradictoryDevice d ≡ false → is_none d.status.phase ≡ false → (phaseEntry d).write ≡ true
-      → Reads d [] (Store (move_of d.status (phaseEntry d) n)) ≡ ByHost d h (Ok (fs.Data n))
+      → Replies d [] (Store (move_of d.status (phaseEntry d) n)) ≡ ByHost d h (Ok (fs.Data n))
   unfolding repliesOf move_of
   due-answers n g p w =
       let l : ℕ = left_of (phaseEntry d) in
-      activates (not (leb l n)) ∙ ap (λ (b : Bool). pick b (fs.Activate ∷ []) []) (not-leb l n ∙ ap (ltb n) (sym (left-is g p false w)))
+      ap activateIf (not-leb l n ∙ ap (ltb n) (sym (left-is g p false w)))
 
   -- by the rule that holds
   heard-answers : (x m b : List ℕ) {f : FrameRead} {a : Act} → contradictoryDevice d ≡ false → ReadFits f → by.Heard (facts_of d (lent (hostFrame x) m b)) f a → a ≡ frameAct (facts_of d (lent (hostFrame x) m b)) f
-      → Reads d [] a ≡ ByHost d h f
+      → Replies d [] a ≡ ByHost d h f
   unfolding repliesOf ReadFits
   heard-answers x m b g t (by.srst f c s) e = rw (c, s) refl
   heard-answers x m b g t (by.release f c s y) e = rw (c, s, k.known.held, y) refl
@@ -158,28 +179,28 @@ module _ (d : Device) (h : List Event) (k : Stands d h) where
   heard-answers x m b g t (by.rule2 f c y u) e = rw (c.command, c.kind, k.known.halted, y, used_is f, u, echo-task f.task t) refl
   heard-answers x m b g t (by.rule3 f c y u z) e = rw (c.command, c.kind, k.known.halted, y, used_is f, u, z, echo-task f.task t) refl
   heard-answers x m b g t (by.rule4 f c y u z) e = rw (c.command, c.kind, k.known.halted, y, used_is f, u, z, echo-task f.task t) refl
-  heard-answers x m b g t (by.other-halted f c y) e = ap (Reads d []) e ∙ others _ f refl refl g t c
-  heard-answers x m b g t (by.other-busy f c y) e = ap (Reads d []) e ∙ others _ f refl refl g t c
-  heard-answers x m b g t (by.page10 f c y p) e = ap (Reads d []) e ∙ others _ f refl refl g t c
-  heard-answers x m b g t (by.page11 f c y z p) e = ap (Reads d []) e ∙ others _ f refl refl g t c
-  heard-answers x m b g t (by.other-bad f c y z) e = ap (Reads d []) e ∙ others _ f refl refl g t c
+  heard-answers x m b g t (by.other-halted f c y) e = ap (Replies d []) e ∙ others _ f refl refl g t c
+  heard-answers x m b g t (by.other-busy f c y) e = ap (Replies d []) e ∙ others _ f refl refl g t c
+  heard-answers x m b g t (by.page10 f c y p) e = ap (Replies d []) e ∙ others _ f refl refl g t c
+  heard-answers x m b g t (by.page11 f c y z p) e = ap (Replies d []) e ∙ others _ f refl refl g t c
+  heard-answers x m b g t (by.other-bad f c y z) e = ap (Replies d []) e ∙ others _ f refl refl g t c
   heard-answers x m b g t (by.due n p w y) e = due-answers n g p w
   heard-answers x m b g t (by.bist y) e = refl
 
   -- ---- device events
 
   -- what opens a phase for tag t
-  abbrev opening : ℕ → List Frame
+  abbrev opening : ℕ → List FrameValue
   opening t =
       let e : Entry = entry_of d.entries t in
-      fs.Setup (record { auto = false; interrupt = false; to_host = not e.write; tag = t; offset = 0; count = 512 * e.count }) ∷ pick e.write (fs.Activate ∷ []) []
+      setup (record { auto = false; interrupt = false; to_host = not e.write; tag = t; offset = 0; count = 512 * e.count }) ∷ activateIf e.write
 
   -- the outstanding command of tag t asks for what its entry says
   opened-by : (t : ℕ) (c : Command) → ownTag c ≡ t → Standing d c → openedBy t c ≡ opening t
   opened-by t c e s =
       let w : c.accepted.asks.write ≡ (entry_of d.entries t).write = sym s.write ∙ ap (λ (u : ℕ). (entry_of d.entries u).write) e in
       let n : c.accepted.asks.count ≡ (entry_of d.entries t).count = sym s.count ∙ ap (λ (u : ℕ). (entry_of d.entries u).count) e in
-      ap₂ (λ (x : Bool) (m : ℕ). fs.Setup (record { auto = false; interrupt = false; to_host = not x; tag = t; offset = 0; count = 512 * m }) ∷ pick x (fs.Activate ∷ []) []) w n
+      ap₂ (λ (x : Bool) (m : ℕ). setup (record { auto = false; interrupt = false; to_host = not x; tag = t; offset = 0; count = 512 * m }) ∷ activateIf x) w n
 
   -- and is found
   found : (t : ℕ) (cs : List Command) → some (λ c. eqb (ownTag c) t && (outstanding c && true)) cs ≡ true → All (Following d) cs → openedReplies t cs ≡ opening t
@@ -201,32 +222,36 @@ module _ (d : Device) (h : List Event) (k : Stands d h) where
       in-rest false y r n e = e
 
   -- open
-  open-answers : (t : ℕ) → contradictoryDevice d ≡ false → bitIn 32 d.status.outstanding t ≡ true → Reads d [] (Open (record { tag = t; entry = entry_of d.entries t })) ≡ openedReplies t (commands (map seen h))
+  open-answers : (t : ℕ) → contradictoryDevice d ≡ false → bitIn 32 d.status.outstanding t ≡ true → Replies d [] (Open (record { tag = t; entry = entry_of d.entries t })) ≡ openedReplies t (commands (map seen h))
   unfolding repliesOf
   open-answers t g o =
       let e : Entry = entry_of d.entries t in
-      ap₂ (λ (n : ℕ) (l : List Frame). fs.Setup (record { auto = false; interrupt = false; to_host = not e.write; tag = t; offset = 0; count = n }) ∷ l) (whole_is d t g o) (activates e.write)
+      ap (λ (n : ℕ). setup (record { auto = false; interrupt = false; to_host = not e.write; tag = t; offset = 0; count = n }) ∷ activateIf e.write) (whole_is d t g o)
       ∙ sym (found t (commands (map seen h)) (k.known.out t ∙ o) k.tracked.commands)
 
+  -- send
+  send-answers : (m l : List ℕ) → Lies h m (l ++ []) → length l ≡ min 8192 (leftOf true (underWayAfter h)) → payload l ≡ sentReply h m
+  send-answers m l p n = ap payload (subst (Lies h m) (append-nil l) p ∙ ap (λ (k : ℕ). take k (drop (placeOf h) m)) n)
+
   -- by the event
-  own-answers : (m b : List ℕ) {c : Call} {a : Act} → by.Own (facts_of d (lent c m b)) c a → Reads d (part_of a m) a ≡ By d h c
-  unfolding repliesOf repliesBy touch_of move_of
-  own-answers m b (by.opened t g s o p e) = open-answers t g o
-  own-answers m b (by.sent g w s p r) =
-      let e : Entry = phaseEntry d in
-      let y = move_of d.status e 8192 in
-      ap (λ (n : ℕ). fs.Data n ∷ []) (part-long m y.at y.size (move-within d g p 8192 (length m) w) ∙ ap (min 8192) (sym (left-is g p true r)))
-  own-answers m b (by.finished u g s p e r) = refl
-  own-answers m b (by.failed t e x g s o y w) = refl
-  own-answers m b (by.linked r g x) = refl
-  own-answers m b (by.renewed g s) = refl
+  own-answers : (m b : List ℕ) {c : Call} {a : Act} → by.Own (facts_of d (lent c m b)) c a → Lies h m (sentIn (Replies d (part_of a m) a)) → Replies d (part_of a m) a ≡ By d h m c
+  unfolding repliesOf repliesBy touch_of move_of some
+  own-answers m b (by.opened t g s o p e) l = open-answers t g o
+  own-answers m b (by.sent g w s p r) l =
+      let y = move_of d.status (phaseEntry d) 8192 in
+      ap (λ (f : FrameValue). f ∷ []) (send-answers m (take y.size (drop y.at m)) l (part-long m y.at y.size (move-within d g p 8192 (length m) w) ∙ ap (min 8192) (sym (left-is g p true r))))
+  own-answers m b (by.finished u g s p e r) l = refl
+  own-answers m b (by.failed t e x g s o y w) l = refl
+  own-answers m b (by.linked r g x) l = refl
+  own-answers m b (by.renewed g s) l = refl
 
   -- a call that is taken
-  ruled-answers : (m b : List ℕ) {c : Call} {a : Act} → Typed c → by.Ruled (facts_of d (lent c m b)) c (Ok a) → a ≡ does (facts_of d (lent c m b)) c → Reads d (part_of a m) a ≡ By d h c
+  ruled-answers : (m b : List ℕ) {c : Call} {a : Act} → Typed c → by.Ruled (facts_of d (lent c m b)) c (Ok a) → a ≡ does (facts_of d (lent c m b)) c → Lies h m (sentIn (Replies d (part_of a m) a))
+      → Replies d (part_of a m) a ≡ By d h m c
   unfolding does repliesBy
-  ruled-answers m b {c} {a} t (by.host f _ g w s y) i =
-      subst (λ (p : List ℕ). Reads d p a ≡ ByHost d h (readFrame f)) (heard-unsent (facts_of d (lent (hostFrame f) m b)) m y) (heard-answers f m b g (read_fits f t.0) y i)
-  ruled-answers m b t (by.own o) i = own-answers m b o
+  ruled-answers m b {c} {a} t (by.host f _ g w s y) i l =
+      subst (λ (p : List ℕ). Replies d p a ≡ ByHost d h (readFrame f)) (heard-unsent (facts_of d (lent (hostFrame f) m b)) m y) (heard-answers f m b g (read_fits f t.0) y i)
+  ruled-answers m b t (by.own o) i l = own-answers m b o l
 
   -- what it does
   act-done : (l : Lent) (a : Act) → Ok a ≡ actOf d l → a ≡ does (facts_of d l) l.call
@@ -234,41 +259,28 @@ module _ (d : Device) (h : List Event) (k : Stands d h) where
   act-done l a o = (unless-ok (first_of (tests (facts_of d l) l.call)) (does (facts_of d l) l.call) a o).1
 
   -- every call: a taken one is answered as the history says, a refused one not at all
-  pub answers-here : (l : Lent) → Typed l.call → frames (eventOf d l) ≡ map Ok (pick (taken (eventOf d l)) (By d h l.call) [])
-  answers-here l t =
-      by-turn d l (λ (s : Step). Read (eventBy l s) s.frames → frames (eventBy l s) ≡ map Ok (pick (is_none s.refusal) (By d h l.call) [])) (λ r _ q. read-frames (eventBy l (stepBy d l (Err r))) [] q)
-      (λ a o q.
-      let s : Step = stepBy d l (Ok a) in
-      read-frames (eventBy l s) s.frames q ∙ seen-back s.frames ∙ ap asRead (ruled-answers l.medium l.buffer t (act-ruled d l a o) (act-done l a o)))
-      (read_step d l t k.sized)
+  frames-here : (l : Lent) → Typed l.call → Lies h l.medium (sentIn (step d l).frames) → (step d l).frames ≡ pick (taken (eventOf d l)) (By d h l.medium l.call) []
+  frames-here l t =
+      by-turn d l (λ (s : Step). Lies h l.medium (sentIn s.frames) → s.frames ≡ pick (is_none s.refusal) (By d h l.medium l.call) []) (λ r _ q. refl)
+      (λ a o q. ruled-answers l.medium l.buffer t (act-ruled d l a o) (act-done l a o) q)
 
--- ---- runs
+  -- and its bytes stand in front of the reply buffer, the rest as it was
+  pub answers-here : (l : Lent) → Typed l.call → Lies h l.medium (sent (eventOf d l)) → AnsweredBy (answer d.settings.depth d.settings.capacity d.settings.mask h (eventOf d l)) (eventOf d l)
+  answers-here l t p =
+      let e : Event = eventOf d l in
+      let bytes : sentAll (step d l).frames ≡ answer d.settings.depth d.settings.capacity d.settings.mask h e =
+      (whole d l t k.sized).all ∙ ap (λ (fs : List FrameValue). joined (map encode fs)) (frames-here l t (subst (Lies h l.medium) (read-sent e _ (read_step d l t k.sized)) p)) in
+      record { len = ap length bytes; filled = ap (λ (x : List ℕ). laid x l.buffer) bytes }
 
--- what is known at the end of every run that goes on from here
-abbrev KnownOn : Device → List Done → Type 0
-KnownOn d h = (as' : List Lent) → AllTyped as' → Known (run d h as').state (map event (run d h as').calls)
-
--- every call of a run, with the settings of power-on: after a refused one every call is refused
-run-answers : (s : Settings) (d : Device) (h : List Event) (a : Lent) → Typed a.call → Held s d h → Known d h
-    → frames (eventOf d a) ≡ map Ok (pick (taken (eventOf d a)) (repliesBy s.depth s.capacity h a.call) [])
-run-answers s d h a t i w =
+-- with the settings of power-on: after a refused one every call is refused
+pub answers-step : (s : Settings) (d : Device) (h : List Event) (a : Lent) → Typed a.call → Sound s d → Stands d h → Lies h a.medium (sent (eventOf d a)) → AnsweredBy (answer s.depth s.capacity s.mask h (eventOf d a)) (eventOf d a)
+answers-step s d h a t i k p =
     let e : Event = eventOf d a in
-    let told : ℕ → ℕ → List FrameRead = λ deep cap. asRead (pick (taken e) (repliesBy deep cap h a.call) []) in
-    let here = answers-here d h (record { sized = i.wide.sized; known = w; inv = i.inv; tracked = i.tracked }) a t in
-    by-power s (λ z. here ∙ ap (λ (q : Settings). told q.depth q.capacity) (i.sound.settings z))
+    let here = answers-here d h k a t p in
+    by-power s (λ z. subst (λ (q : Settings). AnsweredBy (answer q.depth q.capacity q.mask h e) e) (i.settings z) here)
     (λ n.
-    let never : taken e ≡ false = ap (λ (q : Device). is_none (step q a).refusal) (i.sound.zeros n) ∙ ap is_none (zeros a) in
-    here ∙ ap asRead (pick_no (taken e) (By d h a.call) [] never ∙ sym (pick_no (taken e) (repliesBy s.depth s.capacity h a.call) [] never)))
-
--- a run
-answered-run : (s : Settings) (d : Device) (h : List Done) (as' : List Lent) → AllTyped as' → KnownOn d h → Held s d (map event h) → Answers s.depth s.capacity (map event h)
-    → Answers s.depth s.capacity (map event (run d h as').calls)
-unfolding run AllTyped Answers
-answered-run s d h [] t w i r = r
-answered-run s d h (a ∷ as') t w i r =
-    answered-run s (result d a).outcome.state (done a (result d a) ∷ h) as' t.1 (λ bs u. w (a ∷ bs) (t.0, u)) (held-step s d a (map event h) t.0 i) (run-answers s d (map event h) a t.0 i (w [] tt), r)
-
--- every call of every run from power-on is answered what the history before it says
-pub answered : (s : Settings) (as' : List Lent) → AllTyped as' → ((bs : List Lent) → AllTyped bs → Known (run_from s bs).state (history s bs)) → Answers s.depth s.capacity (history s as')
-unfolding Answers
-answered s as' t w = answered-run s (powerOn s).state [] as' t w (held-power s) tt
+    let never : taken e ≡ false = ap (λ (q : Device). is_none (step q a).refusal) (i.zeros n) ∙ ap is_none (zeros a) in
+    subst (λ (x : List ℕ). AnsweredBy x e) (by-refused (By d h a.medium a.call) (repliesBy s.depth s.capacity s.mask h a.medium a.call) (taken e) never) here)
+  where
+    by-refused : (x y : List FrameValue) (b : Bool) → b ≡ false → joined (map encode (pick b x [])) ≡ joined (map encode (pick b y []))
+    by-refused x y b n = rw n refl

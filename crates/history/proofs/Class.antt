@@ -1,4 +1,4 @@
--- What a call can do, as demand 3 reads it: ten kinds of effect. A new call or command comes to one of them. Assumes nothing.
+-- What a call can do, as demand 3 reads it: eleven kinds of effect. A new call or command comes to one of them. Assumes nothing.
 use Rattle.std.proofs.Common.{Some, None, ◌≡◌, Bool, true, false, not, ◌&&◌, ◌||◌, ℕ, ◌+◌, ◌*◌, ◌^◌, ◌≤◌, ◌<◌, eqb, leb}
 use Rattle.bits.specs.Pick.{pick}
 use Rattle.bits.specs.Bit.{bitIn, withBitIn, clearIn}
@@ -10,14 +10,15 @@ use Rattle.history.specs.Seen.{Seen, Transfer, underWay, accepts}
 abbrev pub none : ℕ → Bool
 none t = false
 
--- what is seen of an event: queued, accepted, bad, fails, resets, sweeps; the tags that it finishes and clears; the bytes that it sends and brings
-pub record Is (e : Seen) (qu ac ba fa re sw : Bool) (fi cl : ℕ → Bool) (se br : ℕ) : Type 0 where
+-- what is seen of an event: queued, accepted, bad, fails, resets, sweeps, delivers page 10h; the tags that it finishes and clears; the bytes that it sends and brings
+pub record Is (e : Seen) (qu ac ba fa re sw de : Bool) (fi cl : ℕ → Bool) (se br : ℕ) : Type 0 where
   pub queued : e.asks.queued ≡ qu
   pub accepted : accepts e ≡ ac
   pub bad : e.bad ≡ ba
   pub fails : e.fails ≡ fa
   pub resets : e.asks.resets ≡ re
   pub sweeps : e.sweeps ≡ sw
+  pub delivers : e.delivers 0x10 ≡ de
   pub finishes : (t : ℕ) → e.finishes t ≡ fi t
   pub clears : (t : ℕ) → e.clears t ≡ cl t
   pub sends : e.sends ≡ se
@@ -99,26 +100,28 @@ pub record Ended (set : ℕ) (d d' : Device) : Type 0 where
   pub halted : d'.status.halted ≡ d.status.halted
   pub others : (t : ℕ) → t < 32 → bitIn 32 set t ≡ false → entry_of d'.entries t ≡ entry_of d.entries t
 
--- the ten kinds
+-- the eleven kinds
 pub data Class (d : Device) (e : Seen) (d' : Device) : Type 0 where
-  -- nothing that demand 3 reads: a refused call, a page without sweep, a signature after release, BIST, a link event
-  plain : Is e false false false false false false none none 0 0 → Unbegun e → Same d d' → Class d e d'
+  -- nothing that demand 3 reads: a refused call, a signature after release, BIST, a link event
+  plain : Is e false false false false false false false none none 0 0 → Unbegun e → Same d d' → Class d e d'
+  -- a page, of the two logs, while not halted
+  pages : (de : Bool) → Is e false false false false false false de none none 0 0 → Unbegun e → d.status.halted ≡ false → Same d d' → Class d e d'
   -- an error answered while halted
-  again : (q : Bool) → Is e q false true false false false none none 0 0 → Unbegun e → d.status.halted ≡ true → d.status.outstanding ≡ 0 → Same d d' → Class d e d'
+  again : (q : Bool) → Is e q false true false false false false none none 0 0 → Unbegun e → d.status.halted ≡ true → d.status.outstanding ≡ 0 → Same d d' → Class d e d'
   -- an error answered to a command that is not queued, while nothing is outstanding
-  freely : Is e false false true false false false none none 0 0 → Unbegun e → d.status.halted ≡ false → d.status.outstanding ≡ 0 → Same d d' → Class d e d'
+  freely : Is e false false true false false false false none none 0 0 → Unbegun e → d.status.halted ≡ false → d.status.outstanding ≡ 0 → Same d d' → Class d e d'
   -- a halt: a bad answer to a queued command, or to another while something is outstanding; or an A1h with ERR, which answers no queued command
-  halts : (q bad fails : Bool) → Is e q false bad fails false false none none 0 0 → Unbegun e → (q ≡ true → fails ≡ false) → d.status.halted ≡ false
+  halts : (q bad fails : Bool) → Is e q false bad fails false false false none none 0 0 → Unbegun e → (q ≡ true → fails ≡ false) → d.status.halted ≡ false
       → (bad && (q || not (eqb d.status.outstanding 0))) || fails ≡ true → Emptied true d d' → Class d e d'
   -- SRST, COMRESET
-  resets : Is e false false false false true false none none 0 0 → Unbegun e → Emptied false d d' → Class d e d'
+  resets : Is e false false false false true false false none none 0 0 → Unbegun e → Emptied false d d' → Class d e d'
   -- the sweep clears every bit, and the halt ends
-  sweeps : (clears : ℕ → Bool) → ((t : ℕ) → t < 32 → clears t ≡ true) → Is e false false false false false true none clears 0 0 → Unbegun e
+  sweeps : (clears : ℕ → Bool) → ((t : ℕ) → t < 32 → clears t ≡ true) → Is e false false false false false true true none clears 0 0 → Unbegun e
       → d.status.halted ≡ true → d.status.outstanding ≡ 0 → d.status.phase ≡ None → Emptied false d d' → Class d e d'
-  takes : Is e true true false false false false none none 0 0 → Unbegun e → Took d e d' → Class d e d'
-  opens : (tag : ℕ) → Is e false false false false false false none none 0 0 → Opened tag d e d' → Class d e d'
+  takes : Is e true true false false false false false none none 0 0 → Unbegun e → Took d e d' → Class d e d'
+  opens : (tag : ℕ) → Is e false false false false false false false none none 0 0 → Opened tag d e d' → Class d e d'
   -- a read sends, a write brings
   carries : (tag n : ℕ)
-      → Is e false false false false false false none none (pick (entry_of d.entries tag).write 0 n) (pick (entry_of d.entries tag).write n 0)
+      → Is e false false false false false false false none none (pick (entry_of d.entries tag).write 0 n) (pick (entry_of d.entries tag).write n 0)
       → Unbegun e → Carried tag n d d' → Class d e d'
-  ends : (set : ℕ) → Is e false false false false false false (bitIn 32 set) (bitIn 32 set) 0 0 → Unbegun e → Ended set d d' → Class d e d'
+  ends : (set : ℕ) → Is e false false false false false false false (bitIn 32 set) (bitIn 32 set) 0 0 → Unbegun e → Ended set d d' → Class d e d'

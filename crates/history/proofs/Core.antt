@@ -1,4 +1,4 @@
--- The set outstanding and the halt of a device, held together with its history: kept by each of the ten kinds of effect. Assumes nothing.
+-- The set outstanding and the halt of a device, held together with its history: kept by each of the eleven kinds of effect. Assumes nothing.
 use Rattle.std.proofs.Common.{◌≡◌, refl, sym, ap, ap₂, ◌∙◌, Bool, true, false, not, ◌&&◌, ◌||◌, true≢false, List, [], ◌∷◌, ⊎_elim, ℕ, ◌+◌, ◌-◌, ◌^◌, ◌<◌, zero-add, lt_of_le_of_lt, eqb, ltb, lit<, eqb-true, eq-eqb, ne_eqb, lt-ltb}
 use mathlib.Core.Bool.{and-true, and-false, false≢true}
 use lib.Bits.{or_lt, and_le_l}
@@ -110,13 +110,13 @@ same-tags : {k : ℕ} {b : Bool} {h : List Seen} → Inv k b h → (e : Seen) �
 same-tags {k} {b} {h} v e x = tags-step 32 e h (λ y. absurd (false≢true (sym x ∙ y))) v.tags
 
 module _ {k : ℕ} {b : Bool} {h : List Seen} (v : Inv k b h) {e : Seen} where
-  -- nothing that is read here
-  keep-plain : {se br : ℕ} → Is e false false false false false false none none se br → Inv k b (e ∷ h)
-  keep-plain i = record {
+  -- nothing that is read here; a page, if no error waits
+  keep-plain : {de : Bool} {se br : ℕ} → Is e false false false false false false de none none se br → pick b (not de && true) false ≡ b → Inv k b (e ∷ h)
+  keep-plain {de} i w = record {
     bound = v.bound;
     tags = same-tags v e i.accepted;
     number = λ t u. number_is h i t ∙ zero-add (totalWith t h) ∙ v.number t u;
-    waiting = waits-is h i ∙ keep-test (waits h) ∙ v.waiting;
+    waiting = waits-is h i ∙ ap (λ (x : Bool). pick x (not de && true) false) v.waiting ∙ w;
     calm = λ x t u. sactive-is h i t ∙ and-true (sactive t h) ∙ v.calm x t u;
     stop = λ x. (
       (v.stop x).0,
@@ -126,7 +126,7 @@ module _ {k : ℕ} {b : Bool} {h : List Seen} (v : Inv k b h) {e : Seen} where
   }
 
   -- an error answered while halted
-  keep-again : {q : Bool} → Is e q false true false false false none none 0 0 → b ≡ true → Inv k b (e ∷ h)
+  keep-again : {q : Bool} → Is e q false true false false false false none none 0 0 → b ≡ true → Inv k b (e ∷ h)
   keep-again {q} i x = record {
     bound = v.bound;
     tags = same-tags v e i.accepted;
@@ -142,7 +142,7 @@ module _ {k : ℕ} {b : Bool} {h : List Seen} (v : Inv k b h) {e : Seen} where
   }
 
   -- an error answered to a command that is not queued, while nothing is outstanding
-  keep-freely : Is e false false true false false false none none 0 0 → b ≡ false → k ≡ 0 → Inv k b (e ∷ h)
+  keep-freely : Is e false false true false false false false none none 0 0 → b ≡ false → k ≡ 0 → Inv k b (e ∷ h)
   keep-freely i x z = record {
     bound = v.bound;
     tags = same-tags v e i.accepted;
@@ -153,7 +153,7 @@ module _ {k : ℕ} {b : Bool} {h : List Seen} (v : Inv k b h) {e : Seen} where
   }
 
   -- a halt
-  keep-halts : {q ba fa : Bool} → Is e q false ba fa false false none none 0 0 → (q ≡ true → fa ≡ false) → b ≡ false → (ba && (q || not (eqb k 0))) || fa ≡ true → Inv 0 true (e ∷ h)
+  keep-halts : {q ba fa : Bool} → Is e q false ba fa false false false none none 0 0 → (q ≡ true → fa ≡ false) → b ≡ false → (ba && (q || not (eqb k 0))) || fa ≡ true → Inv 0 true (e ∷ h)
   keep-halts {q} {ba} {fa} i a x c =
       let bad : ba || fa ≡ true = or-both ba (q || not (eqb k 0)) fa c in
       record {
@@ -171,7 +171,7 @@ module _ {k : ℕ} {b : Bool} {h : List Seen} (v : Inv k b h) {e : Seen} where
       }
 
   -- SRST, COMRESET
-  keep-resets : Is e false false false false true false none none 0 0 → Inv 0 false (e ∷ h)
+  keep-resets : Is e false false false false true false false none none 0 0 → Inv 0 false (e ∷ h)
   keep-resets i = record {
     bound = lit< tt;
     tags = same-tags v e i.accepted;
@@ -182,7 +182,7 @@ module _ {k : ℕ} {b : Bool} {h : List Seen} (v : Inv k b h) {e : Seen} where
   }
 
   -- the sweep
-  keep-sweeps : {cl : ℕ → Bool} → ((t : ℕ) → t < 32 → cl t ≡ true) → Is e false false false false false true none cl 0 0 → b ≡ true → Inv 0 false (e ∷ h)
+  keep-sweeps : {cl : ℕ → Bool} → ((t : ℕ) → t < 32 → cl t ≡ true) → Is e false false false false false true true none cl 0 0 → b ≡ true → Inv 0 false (e ∷ h)
   keep-sweeps {cl} all i x = record {
     bound = lit< tt;
     tags = same-tags v e i.accepted;
@@ -193,7 +193,7 @@ module _ {k : ℕ} {b : Bool} {h : List Seen} (v : Inv k b h) {e : Seen} where
   }
 
   -- a command accepted
-  keep-takes : Is e true true false false false false none none 0 0 → b ≡ false → e.asks.tag < 32 → bitIn 32 k e.asks.tag ≡ false
+  keep-takes : Is e true true false false false false false none none 0 0 → b ≡ false → e.asks.tag < 32 → bitIn 32 k e.asks.tag ≡ false
       → Inv (withBitIn 32 k e.asks.tag) b (e ∷ h)
   keep-takes i x l free = record {
     bound = rw (lt-ltb e.asks.tag 32 l) (or_lt 32 k (2 ^ e.asks.tag) v.bound (pow-lt l));
@@ -217,7 +217,7 @@ module _ {k : ℕ} {b : Bool} {h : List Seen} (v : Inv k b h) {e : Seen} where
       with-is t u = bit-with k e.asks.tag t l u ∙ ap (λ (s : Bool). s || bitIn 32 k t) (turn t)
 
   -- a set of tags finished
-  keep-ends : (set : ℕ) → Is e false false false false false false (bitIn 32 set) (bitIn 32 set) 0 0 → b ≡ false → set < 2 ^ 32 → Inv (clearIn 32 k set) b (e ∷ h)
+  keep-ends : (set : ℕ) → Is e false false false false false false false (bitIn 32 set) (bitIn 32 set) 0 0 → b ≡ false → set < 2 ^ 32 → Inv (clearIn 32 k set) b (e ∷ h)
   keep-ends set i x l = record {
     bound = lt_of_le_of_lt (and_le_l k ((2 ^ 32 - 1) - set)) v.bound;
     tags = same-tags v e i.accepted;
@@ -232,15 +232,16 @@ module _ {k : ℕ} {b : Bool} {h : List Seen} (v : Inv k b h) {e : Seen} where
 -- every kind of effect keeps it
 pub keeps : (d d' : Device) (e : Seen) (h : List Seen) → Inv d.status.outstanding d.status.halted h → Class d e d'
     → Inv d'.status.outstanding d'.status.halted (e ∷ h)
-keeps d d' e h v (kinds.plain i u s) = rw (s.outstanding, s.halted) (keep-plain v i)
+keeps d d' e h v (kinds.plain i u s) = rw (s.outstanding, s.halted) (keep-plain v i (keep-test d.status.halted))
+keeps d d' e h v (kinds.pages de i u x s) = rw (s.outstanding, s.halted) (keep-plain v i (rw x))
 keeps d d' e h v (kinds.again q i u x z s) = rw (s.outstanding, s.halted) (keep-again v i x)
 keeps d d' e h v (kinds.freely i u x z s) = rw (s.outstanding, s.halted) (keep-freely v i x z)
 keeps d d' e h v (kinds.halts q ba fa i u a x c s) = rw (s.outstanding, s.halted) (keep-halts v i a x c)
 keeps d d' e h v (kinds.resets i u s) = rw (s.outstanding, s.halted) (keep-resets v i)
 keeps d d' e h v (kinds.sweeps cl all i u x z p s) = rw (s.outstanding, s.halted) (keep-sweeps v all i x)
 keeps d d' e h v (kinds.takes i u s) = rw (s.outstanding, s.halted) (keep-takes v i s.calm s.small s.free)
-keeps d d' e h v (kinds.opens tag i s) = rw (s.outstanding, s.halted) (keep-plain v i)
-keeps d d' e h v (kinds.carries tag n i u s) = rw (s.outstanding, s.halted) (keep-plain v i)
+keeps d d' e h v (kinds.opens tag i s) = rw (s.outstanding, s.halted) (keep-plain v i (keep-test d.status.halted))
+keeps d d' e h v (kinds.carries tag n i u s) = rw (s.outstanding, s.halted) (keep-plain v i (keep-test d.status.halted))
 keeps d d' e h v (kinds.ends set i u s) = rw (s.outstanding, s.halted) (keep-ends v set i s.calm s.width)
 
 -- ---- what it says

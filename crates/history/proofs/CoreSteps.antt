@@ -16,11 +16,11 @@ use Rattle.history.proofs.Commands.{with-step, sumBelow, sum-ext, TagsBelow, tot
 
 -- ---- one more event
 
-module _ {e : Seen} {qu ac ba fa re sw : Bool} {fi cl : ℕ → Bool} {se br : ℕ} (h : List Seen) (i : Is e qu ac ba fa re sw fi cl se br) where
+module _ {e : Seen} {qu ac ba fa re sw de : Bool} {fi cl : ℕ → Bool} {se br : ℕ} (h : List Seen) (i : Is e qu ac ba fa re sw de fi cl se br) where
   -- whether an error waits
-  pub waits-is : waits (e ∷ h) ≡ pick (waits h) (not sw && not re) ((ba && (qu || ltb 0 (total h))) || fa)
+  pub waits-is : waits (e ∷ h) ≡ pick (waits h) (not de && not re) ((ba && (qu || ltb 0 (total h))) || fa)
   unfolding waits
-  waits-is = rw (i.sweeps, i.resets, i.bad, i.queued, i.fails)
+  waits-is = rw (i.delivers, i.resets, i.bad, i.queued, i.fails)
 
   -- SActive
   pub sactive-is : (t : ℕ) → sactive t (e ∷ h) ≡ ((qu && eqb e.asks.tag t) || sactive t h) && (not (cl t) && not re)

@@ -1,5 +1,5 @@
 -- Over every call the counters go on telling the events since their zeroing. Assumes nothing.
-use Rattle.std.proofs.Common.{Ok, Err, ◌≡◌, refl, sym, ap, Bool, false, List, ◌∷◌, ℕ, arith, length, take, ne_eqb}
+use Rattle.std.proofs.Common.{Ok, Err, ◌≡◌, refl, sym, ap, Bool, false, List, ◌∷◌, ℕ, arith, length, ne_eqb}
 use mathlib.Core.Path.{subst⁻¹}
 use Rattle.bits.specs.Laid.{laid}
 use Rattle.rules.specs.Call.{Call}
@@ -25,7 +25,7 @@ use Rattle.history.proofs.Own.{own-goes}
 
 -- what the outside sees of a call that leaves s behind
 abbrev pub eventBy : Lent → Step → Event
-eventBy l s = record { call = l.call; medium = l.medium; room = length l.buffer; refusal = s.refusal; reply = take (length (bytes_of s)) (laid (bytes_of s) l.buffer); left = s.medium }
+eventBy l s = record { call = l.call; medium = l.medium; buffer = l.buffer; refusal = s.refusal; len = length (bytes_of s); filled = laid (bytes_of s) l.buffer; left = s.medium }
 
 -- and of a call of the definitions
 abbrev pub eventOf : Device → Lent → Event

@@ -1,5 +1,5 @@
--- Demand 3 whole: over every run of the definitions from power-on, and over every sequence of results that the public calls' contracts allow. Assumes nothing.
-use Rattle.std.proofs.Common.{Option, None, Result, Ok, List, ℕ, ◌≡◌, map}
+-- All that is promised: over every run of the definitions from power-on, and over every sequence of results that the public calls' contracts allow. Assumes nothing.
+use Rattle.std.proofs.Common.{Option, Result, List, ℕ, ◌≡◌, sym, subst}
 use Rattle.device_state.specs.declared.shapes.Settings.{Settings}
 use Rattle.device.specs.declared.state.Device.{Device}
 use Rattle.device.specs.declared.state.Outcome.{Outcome}
@@ -9,20 +9,22 @@ use Rattle.history.specs.StateAgrees.{StateAgrees}
 use Rattle.history.specs.Refused.{Refusals}
 use Rattle.history.specs.Answered.{Answers}
 use Rattle.history.specs.Logged.{LogTold}
-use Rattle.history.proofs.Answering.{answered}
 use Rattle.device.specs.Lent.{Lent}
 use Rattle.history.specs.Run.{Done, AllTyped, run_from, history}
-use Rattle.device.specs.Device.{powerOn}
-use Rattle.refusals.specs.First.{refusal_in}
 use Rattle.refusals.specs.declared.reasons.Refusal.{Refusal}
-use Rattle.history.specs.Seen.{seen}
-use Rattle.history.specs.Fates.{total}
-use Rattle.history.specs.Counted.{toldFor}
+use Rattle.history.specs.Powered.{Powered}
+use Rattle.history.specs.Polled.{counterPolled, countPolled}
+use Rattle.history.specs.ReplyRules.{AllReplyRules}
+use Rattle.history.specs.Promised.{Promised}
+use Rattle.history.specs.Lasting.{HandedOn, Lasting}
+use Rattle.device.specs.Device.{powerOn}
 use Rattle.history.specs.Follows.{final, lents, historyOf, Began}
 use Rattle.history.proofs.Allowed.{BeganCode, CounterCode, CountCode}
 use Rattle.history.proofs.Counters.{counters-tell}
-use Rattle.history.proofs.Runs.{demand3-fates, demand3-data, demand3-sactive, demand3-waiting, demand3-depth, demand3-single, demand3-reply-rules, refused-exactly, known, log-told}
-use Rattle.history.proofs.StateAgrees.{told-outstanding, told-waits, told-counters, told-asked, told-depth, told-count, told-consistent}
+use Rattle.history.proofs.RefusedTests.{powered}
+use Rattle.history.proofs.Runs.{demand3-fates, demand3-data, demand3-sactive, demand3-waiting, demand3-depth, demand3-single, demand3-reply-rules, refused-exactly, log-told, held}
+use Rattle.history.proofs.StateAgrees.{told-outstanding, told-waits, told-counters, told-asked, told-depth, told-count, told-due, told-consistent}
+use Rattle.history.proofs.Lasting.{lasting}
 use Rattle.history.proofs.Contracts.{for-all, began-code, counter-code, count-code}
 
 -- any settings, any calls with anything lent to them, refused ones included
@@ -35,7 +37,6 @@ demand3 s as' t = record {
   waiting = demand3-waiting s as' t;
   depth = demand3-depth s as' t;
   single = demand3-single s as' t;
-  reply-rules = demand3-reply-rules s as' t;
   counters = counters-tell s as' t;
 }
 
@@ -48,57 +49,71 @@ told s as' t = record {
   asked = told-asked s as' t;
   depth = told-depth s as' t;
   count = told-count s as' t;
+  due = told-due s as' t;
   consistent = told-consistent s as' t;
 }
 
--- the same of every sequence of results that are as the one contract promises them, each call given the state that the last one returned
-pub demand3-given : (s : Settings) (r : Outcome) (xs : List Done) → Began s r xs → AllTyped (lents xs) → Demand3 s.depth s.mask (historyOf xs)
-demand3-given s r xs b t = for-all s r xs b (λ (d : Device) (h : List Event). Demand3 s.depth s.mask h) (demand3 s (lents xs) t)
+-- all that is promised, over every run
+pub promised : (s : Settings) (as' : List Lent) → AllTyped as' → Promised s (powerOn s) (run_from s as').state (history s as')
+promised s as' t = record {
+  power = powered s;
+  refusals = refused-exactly s as' t;
+  answers = (held s as' t).answers;
+  errors = log-told s as' t;
+  demand3 = demand3 s as' t;
+  lasting = λ m. lasting m (history s as') (demand3-data s as' t).1 (demand3-data s as' t).0;
+  state = told s as' t;
+}
 
--- and their last state is what their history tells
-pub told-given : (s : Settings) (r : Outcome) (xs : List Done) → Began s r xs → AllTyped (lents xs) → StateAgrees s (final r.state xs) (historyOf xs)
-told-given s r xs b t = for-all s r xs b (StateAgrees s) (told s (lents xs) t)
+-- of every sequence of results that are as the one contract promises them, each call given the state that the last one returned
+pub promised-given : (s : Settings) (r : Outcome) (xs : List Done) → Began s r xs → AllTyped (lents xs) → Promised s r (final r.state xs) (historyOf xs)
+promised-given s r xs b t =
+    subst (λ (o : Outcome). Promised s o (final r.state xs) (historyOf xs)) (sym b.power) (for-all s r xs b (λ (d : Device) (h : List Event). Promised s (powerOn s) d h) (promised s (lents xs) t))
 
--- the same of the code: of every sequence of results that the contracts of power-on and of the calls allow
-pub demand3-code : (s : Settings) (r : Outcome) (xs : List Done) → BeganCode s r xs → AllTyped (lents xs) → Demand3 s.depth s.mask (historyOf xs)
-demand3-code s r xs b = demand3-given s r xs (began-code s r xs b)
+-- and of the code: all that is promised, and so every answer that the contracts of `Device::counter` and `Device::outstanding_count` allow of the state
+pub record PromisedCode (s : Settings) (r : Outcome) (d : Device) (h : List Event) : Type 0 where
+  pub all : Promised s r d h
+  pub asked : (number : ℕ) (c : Result (Option ℕ) Refusal) → CounterCode d number c → c ≡ counterPolled s.depth s.capacity s.mask h number
+  pub count : (c : Result ℕ Refusal) → CountCode d c → c ≡ countPolled s.depth s.capacity s.mask h
 
--- every event is turned down for just what the table of refusals says, by the history before it: of such a sequence of results
-pub refused-given : (s : Settings) (r : Outcome) (xs : List Done) → Began s r xs → AllTyped (lents xs) → Refusals s.depth s.capacity s.mask (historyOf xs)
-refused-given s r xs b t = for-all s r xs b (λ (d : Device) (h : List Event). Refusals s.depth s.capacity s.mask h) (refused-exactly s (lents xs) t)
+-- of every sequence of results that the contracts of power-on and of the calls allow
+pub promised-code : (s : Settings) (r : Outcome) (xs : List Done) → BeganCode s r xs → AllTyped (lents xs) → PromisedCode s r (final r.state xs) (historyOf xs)
+promised-code s r xs b t =
+    let a = promised-given s r xs (began-code s r xs b) t in
+    record { all = a; asked = λ number c p. a.state.asked number c (counter-code _ number c p); count = λ c p. a.state.count c (count-code _ c p) }
 
--- and of the code
-pub refused-code : (s : Settings) (r : Outcome) (xs : List Done) → BeganCode s r xs → AllTyped (lents xs) → Refusals s.depth s.capacity s.mask (historyOf xs)
-refused-code s r xs b = refused-given s r xs (began-code s r xs b)
+-- ---- each part of it, of the code
 
--- every taken call is answered, frame by frame, as the history before it says: over every run
-pub answers : (s : Settings) (as' : List Lent) → AllTyped as' → Answers s.depth s.capacity (history s as')
-answers s as' t = answered s as' t (known s)
+module _ (s : Settings) (r : Outcome) (xs : List Done) (b : BeganCode s r xs) where
+  -- power-on is refused with 1 exactly where the settings are out of bounds, and replies nothing
+  pub powered-code : Powered s.depth s.capacity s.mask r.refusal r.len
+  powered-code = subst (λ (o : Outcome). Powered s.depth s.capacity s.mask o.refusal o.len) (sym b.power) (powered s)
 
--- of a sequence of results that are as the one contract promises them
-pub answers-given : (s : Settings) (r : Outcome) (xs : List Done) → Began s r xs → AllTyped (lents xs) → Answers s.depth s.capacity (historyOf xs)
-answers-given s r xs b t = for-all s r xs b (λ (d : Device) (h : List Event). Answers s.depth s.capacity h) (answers s (lents xs) t)
+  module _ (t : AllTyped (lents xs)) where
+    -- demand 3 and the truth of the counters
+    pub demand3-code : Demand3 s.depth s.mask (historyOf xs)
+    demand3-code = (promised-code s r xs b t).all.demand3
 
--- and of the code
-pub answers-code : (s : Settings) (r : Outcome) (xs : List Done) → BeganCode s r xs → AllTyped (lents xs) → Answers s.depth s.capacity (historyOf xs)
-answers-code s r xs b = answers-given s r xs (began-code s r xs b)
+    -- every event is turned down for just what the table of refusals says, by the history before it
+    pub refused-code : Refusals s.depth s.capacity s.mask (historyOf xs)
+    refused-code = (promised-code s r xs b t).all.refusals
 
--- every page 10h ever sent tells the last error since the last reset, as the history before it has it: of a sequence of results that are as the one contract promises them
-pub log-given : (s : Settings) (r : Outcome) (xs : List Done) → Began s r xs → AllTyped (lents xs) → LogTold (historyOf xs)
-log-given s r xs b t = for-all s r xs b (λ (d : Device) (h : List Event). LogTold h) (log-told s (lents xs) t)
+    -- every taken call is answered, byte for byte, as the history before it says
+    pub answers-code : Answers s.depth s.capacity s.mask (historyOf xs)
+    answers-code = (promised-code s r xs b t).all.answers
 
--- and of the code
-pub log-code : (s : Settings) (r : Outcome) (xs : List Done) → BeganCode s r xs → AllTyped (lents xs) → LogTold (historyOf xs)
-log-code s r xs b = log-given s r xs (began-code s r xs b)
+    -- every page 10h ever delivered tells the last error since the last reset, as the history before it has it
+    pub log-code : LogTold (historyOf xs)
+    log-code = (promised-code s r xs b t).all.errors
 
--- what the history h tells of the state d, and of each answer about it that the contracts of `Device::counter` and `Device::outstanding_count` allow
-pub record CodeAgrees (s : Settings) (d : Device) (h : List Event) : Type 0 where
-  pub agrees : StateAgrees s d h
-  pub asked : (number : ℕ) (c : Result (Option ℕ) Refusal) → CounterCode d number c → refusal_in c ≡ None → c ≡ Ok (toldFor s.mask h number)
-  pub count : (powerOn s).refusal ≡ None → (c : Result ℕ Refusal) → CountCode d c → c ≡ Ok (total (map seen h))
+    -- what the host wrote last stands in the medium, where each call is lent it as the last one left it
+    pub media-code : (m : List ℕ) → HandedOn m (historyOf xs) → Lasting m (historyOf xs)
+    media-code = (promised-code s r xs b t).all.lasting
 
--- and their last state, and every answer about it, is what their history tells
-pub told-code : (s : Settings) (r : Outcome) (xs : List Done) → BeganCode s r xs → AllTyped (lents xs) → CodeAgrees s (final r.state xs) (historyOf xs)
-told-code s r xs b t =
-    let a = told-given s r xs (began-code s r xs b) t in
-    record { agrees = a; asked = λ number c p z. a.asked number c (counter-code _ number c p) z; count = λ z c p. a.count z c (count-code _ c p) }
+    -- and their last state is what their history tells
+    pub told-code : StateAgrees s (final r.state xs) (historyOf xs)
+    told-code = (promised-code s r xs b t).all.state
+
+    -- what each reply may say follows
+    pub reply-rules-code : AllReplyRules (historyOf xs)
+    reply-rules-code = for-all s r xs (began-code s r xs b) (λ (d : Device) (h : List Event). AllReplyRules h) (demand3-reply-rules s (lents xs) t)

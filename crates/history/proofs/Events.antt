@@ -1,4 +1,4 @@
--- Every taken device event comes to one of the ten kinds. Assumes nothing.
+-- Every taken device event comes to one of the eleven kinds. Assumes nothing.
 use Rattle.std.proofs.Common.{None, is_none, unwrap_or, ◌≡◌, refl, sym, ap, subst, ◌∙◌, Bool, true, false, not, ◌||◌, true≢false, List, ℕ, ◌+◌, ◌*◌, ◌^◌, ◌≤◌, ◌<◌, min, arith, zero-add, eqb, lit<, length, take, drop, length-take, length-drop, eqb-true}
 use borrow.Author.Tests.{eqb-false, not-false}
 use Rattle.bits.specs.Bit.{bitIn}

@@ -21,7 +21,7 @@ AllLone [] = Unit
 AllLone (e ∷ h) = Lone e × AllLone h
 
 -- of what is seen of an event, where its flags say so
-alone : {e : Seen} {qu ac ba fa re sw : Bool} {fi cl : ℕ → Bool} {se br : ℕ} → Is e qu ac ba fa re sw fi cl se br
+alone : {e : Seen} {qu ac ba fa re sw de : Bool} {fi cl : ℕ → Bool} {se br : ℕ} → Is e qu ac ba fa re sw de fi cl se br
     → ((t : ℕ) → (fi t && ((ba || fa) || re)) || ((ba || fa) && re) ≡ false) → Lone e
 alone i f = λ t. rw (i.bad, i.fails, i.resets, i.finishes t) (f t)
 
@@ -39,6 +39,7 @@ only-ends false = refl
 -- each kind of effect does at most one of the three
 pub lone : {d d' : Device} {e : Seen} → Class d e d' → Lone e
 lone (kinds.plain i u s) = alone i (λ t. refl)
+lone (kinds.pages de i u x s) = alone i (λ t. refl)
 lone (kinds.again q i u x z s) = alone i (λ t. refl)
 lone (kinds.freely i u x z s) = alone i (λ t. refl)
 lone (kinds.halts q ba fa i u a x c s) = alone i (λ t. only-errs ba fa)

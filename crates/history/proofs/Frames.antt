@@ -10,7 +10,7 @@ use Rattle.device.specs.Lent.{Lent, Typed}
 use Rattle.device.specs.Step.{step}
 use Rattle.device.specs.declared.state.Device.{Device}
 use Rattle.device.proofs.Sending.{whole}
-use Rattle.history.specs.Event.{Event}
+use Rattle.history.specs.Event.{Event, replied}
 use Rattle.history.specs.FrameAsks.{Asked}
 use Rattle.history.specs.Asked.{asks}
 use Rattle.history.specs.Replied.{FrameRead, frames, repliesIn, some, isPio, payloads, page, sent}
@@ -20,7 +20,7 @@ use Rattle.history.proofs.Views.{readIn, view, all_read, all-payloads, payloadsO
 
 -- the reply bytes of an event are those of the frames fs, each of which can be written
 pub record Read (x : Event) (fs : List FrameValue) : Type 0 where
-  pub cuts : cut x.reply ≡ map encode fs
+  pub cuts : cut (replied x) ≡ map encode fs
   pub fitting : Fitting fs
 
 module _ (x : Event) (fs : List FrameValue) (r : Read x fs) where

@@ -24,7 +24,7 @@ use Rattle.device.specs.Step.{shown}
 use Rattle.device.specs.declared.state.Device.{Device}
 use Rattle.history.specs.Replied.{FrameRead, some, isPio}
 use Rattle.history.specs.Logs.{readsLog}
-use Rattle.history.specs.FrameReading.{frameReads, frameZeroes}
+use Rattle.history.specs.FrameReading.{frameAsks, frameZeroes}
 use Rattle.history.proofs.Views.{readIn}
 use Rattle.history.proofs.Tally.{counted}
 use Rattle.history.proofs.Impact.{zeroed-values}
@@ -41,7 +41,7 @@ pub record Logs (a : Act) : Type 0 where
 -- of a frame that is read as f: the counters after its act are zero if it zeroes them, and else as they were; and a page that answers a read of 11h is page 11h
 pub record Hears (d : Device) (f : FrameRead) (paged : Bool) (a : Act) : Type 0 where
   pub values : (after_of d a).values ≡ counted (frameZeroes paged f) 16 d.values
-  pub shown : paged ≡ true → frameReads 0x11 f ≡ true → Logs a
+  pub shown : paged ≡ true → (frameAsks f).reads 0x11 ≡ true → Logs a
 
 -- ---- the page that a command names
 

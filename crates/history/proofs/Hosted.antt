@@ -95,7 +95,7 @@ module _ (d : Device) (g : contradictoryDevice d ≡ false) where
     unsent = log-none d.status.halted h.task (page10Of d.errors);
     heard = ten-heard d h p;
     marked = λ _ e. absurd (false≢true e);
-    comes = hosts.ten-comes d g h c.command (hosts.other d g h c.command c.kind) c.calm;
+    comes = hosts.ten-comes d g h c.command (reads-errors h c.command p) (hosts.other d g h c.command c.kind) c.calm;
   }
   heard-goes x m b r (by.page11 h c y e p) = record {
     medium = untouched _ _ refl (λ _. refl);
@@ -104,7 +104,7 @@ module _ (d : Device) (g : contradictoryDevice d ≡ false) where
     unsent = refl;
     heard = eleven-heard d h c.command p;
     marked = λ k. k;
-    comes = hosts.paged-eleven d g h c.command (hosts.other d g h c.command c.kind) (bitIn 8 h.features 0);
+    comes = hosts.paged-eleven d g h c.command (hosts.other d g h c.command c.kind) y (bitIn 8 h.features 0);
   }
   heard-goes x m b r (by.other-bad h c y e) = badly h 0x04 c.command (hosts.answered-free d g h 0x04 c.command (hosts.other d g h c.command c.kind) y (eqb-true d.status.outstanding 0 e))
   heard-goes x m b r (by.due n p w y) =

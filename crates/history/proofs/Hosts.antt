@@ -1,4 +1,4 @@
--- What a host frame asks for and its act, where it is not turned down, come to one of the ten kinds. Assumes nothing.
+-- What a host frame asks for and its act, where it is not turned down, come to one of the eleven kinds. Assumes nothing.
 use Rattle.std.proofs.Common.{Option, Some, None, is_some, is_none, unwrap_or, ◌≡◌, refl, sym, ap, subst, ◌∙◌, Bool, true, false, not, ◌&&◌, ◌||◌, List, [], ℕ, ◌-◌, ◌/◌, ◌%◌, ◌^◌, ◌<◌, min, arith, eqb, ltb, leb, lit<, lt-ltb, ltb-false, leb-true}
 use native.Mathlib.Nat.{zero-div}
 use borrow.Author.Tests.{eqb-false}
@@ -21,9 +21,10 @@ use Rattle.device.specs.DataDue.{phaseEntry}
 use Rattle.device.specs.After.{after_of, haltWith, unhalted, zeroedIf, resetHeld, released}
 use Rattle.device.specs.Step.{shown}
 use Rattle.device.specs.declared.state.Device.{Device}
+use Rattle.history.specs.Logs.{readsLog}
 use Rattle.history.specs.FrameAsks.{Asked, registerAsks, dataAsks}
 use Rattle.history.specs.Seen.{Seen}
-use Rattle.history.proofs.Class.{none, Is, Class, plain, again, freely, halts, resets, sweeps, takes, carries}
+use Rattle.history.proofs.Class.{none, Is, Class, plain, pages, again, freely, halts, resets, sweeps, takes, carries}
 use Rattle.history.proofs.Views.{view, is-silent, is-bad, is-good, is-page, is-swept, is-brought, silent-unbegun, answer-unbegun, page-unbegun, swept-unbegun, active-unbegun}
 use Rattle.history.proofs.Changes.{same, halted-empty, took_by, carried-by}
 use Rattle.device.proofs.Phases.{none-open, open-entry}
@@ -73,7 +74,7 @@ module _ (d : Device) (g : contradictoryDevice d ≡ false) where
     accepted c y x p f =
         let q : k.queued ≡ true = rw (c, y) in
         let e : Seen = actSeen d [] k (Accept (record { tag = tagAsked h; entry = entryFor h })) in
-        takes (subst (λ (b : Bool). Is e b b false false false false none none 0 0) q (is-good k _ refl (no-reset c) refl)) (answer-unbegun k _) (took_by d g h e refl x p f)
+        takes (subst (λ (b : Bool). Is e b b false false false false false none none 0 0) q (is-good k _ refl (no-reset c) refl)) (answer-unbegun k _) (took_by d g h e refl x p f)
 
     -- not queued
     pub other : h.command_bit ≡ true → isQueued h ≡ false → k.queued ≡ false
@@ -95,47 +96,47 @@ module _ (d : Device) (g : contradictoryDevice d ≡ false) where
     pub answered-free : (e : ℕ) → h.command_bit ≡ true → k.queued ≡ false → d.status.halted ≡ false → d.status.outstanding ≡ 0 → Comes d [] k (bad h e)
     unfolding repliesOf after_of
     answered-free e c q x z =
-        freely (subst (λ (b : Bool). Is (actSeen d [] k (bad h e)) b false true false false false none none 0 0) q (is-bad k _ refl c (no-reset c) refl)) (answer-unbegun k _) x z (same d)
+        freely (subst (λ (b : Bool). Is (actSeen d [] k (bad h e)) b false true false false false false none none 0 0) q (is-bad k _ refl c (no-reset c) refl)) (answer-unbegun k _) x z (same d)
 
     -- page 10h: by whether the device was halted
-    paged-ten : (b : Bool) → d.status.halted ≡ b → (task : Task) (page : List ℕ) → h.command_bit ≡ true → k.queued ≡ false → is_some d.status.phase ≡ false
+    paged-ten : (b : Bool) → d.status.halted ≡ b → (task : Task) (page : List ℕ) → h.command_bit ≡ true → readsLog 0x10 h ≡ true → k.queued ≡ false → is_some d.status.phase ≡ false
         → Class d (view k (logReplies b task page)) (unhalted d)
     unfolding unhalted
-    paged-ten true x task page c q p =
-        sweeps (λ t. bitIn 32 0xFFFF_FFFF t || false) all-bits (is-swept k _ _ _ refl c q (no-reset c) refl) (swept-unbegun k _ _ _) x (halted-empty d g x) (none-open d.status.phase p)
+    paged-ten true x task page c n q p =
+        sweeps (λ t. bitIn 32 0xFFFF_FFFF t || false) all-bits (is-swept k _ _ _ refl c n q (no-reset c) refl) (swept-unbegun k _ _ _) x (halted-empty d g x) (none-open d.status.phase p)
         (record { settings = refl; outstanding = halted-empty d g x; phase = none-open d.status.phase p; halted = refl })
-    paged-ten false x task page c q p =
-        plain (is-page k _ _ q (no-reset c) refl) (page-unbegun k _ _) (record { settings = refl; outstanding = refl; phase = refl; halted = sym x; entries = refl })
+    paged-ten false x task page c n q p =
+        pages (k.reads 0x10) (is-page k _ _ q (no-reset c) refl) (page-unbegun k _ _) x (record { settings = refl; outstanding = refl; phase = refl; halted = sym x; entries = refl })
 
-    pub ten-comes : h.command_bit ≡ true → k.queued ≡ false → is_some d.status.phase ≡ false → Comes d [] k (Log10 h.task)
+    pub ten-comes : h.command_bit ≡ true → readsLog 0x10 h ≡ true → k.queued ≡ false → is_some d.status.phase ≡ false → Comes d [] k (Log10 h.task)
     unfolding repliesOf after_of
     ten-comes = paged-ten d.status.halted refl h.task (page10Of d.errors)
 
-    -- page 11h
-    pub paged-eleven : h.command_bit ≡ true → k.queued ≡ false → (b : Bool) → Comes d [] k (Log11 (record { zero = b; task = h.task }))
+    -- page 11h, while not halted
+    pub paged-eleven : h.command_bit ≡ true → k.queued ≡ false → d.status.halted ≡ false → (b : Bool) → Comes d [] k (Log11 (record { zero = b; task = h.task }))
     unfolding repliesOf after_of zeroedIf
-    paged-eleven c q b =
-        plain (is-page k _ _ q (no-reset c) refl) (page-unbegun k _ _)
+    paged-eleven c q x b =
+        pages (k.reads 0x10) (is-page k _ _ q (no-reset c) refl) (page-unbegun k _ _) x
         (record { settings = refl; outstanding = refl; phase = refl; halted = refl; entries = refl })
 
     -- SRST
     pub reset : h.command_bit ≡ false → srstOf h.control ≡ true → Comes d [] k Reset
     unfolding repliesOf after_of resetHeld
     reset c s =
-        resets (subst (λ (b : Bool). Is (actSeen d [] k Reset) false false false false b false none none 0 0) (let r : k.resets ≡ true = rw (c, s) in r) (is-silent k (rw c))) (silent-unbegun k)
+        resets (subst (λ (b : Bool). Is (actSeen d [] k Reset) false false false false b false false none none 0 0) (let r : k.resets ≡ true = rw (c, s) in r) (is-silent k (rw c))) (silent-unbegun k)
         (record { settings = refl; outstanding = refl; phase = refl; halted = refl })
 
     -- release
     pub freed : h.command_bit ≡ false → srstOf h.control ≡ false → Comes d [] k Release
     unfolding repliesOf after_of released
     freed c s =
-        plain (subst (λ (b : Bool). Is (actSeen d [] k Release) b b false false false false none none 0 0) (let q : k.queued ≡ false = rw c in q) (is-good k _ refl (rw (c, s)) refl)) (answer-unbegun k _)
+        plain (subst (λ (b : Bool). Is (actSeen d [] k Release) b b false false false false false none none 0 0) (let q : k.queued ≡ false = rw c in q) (is-good k _ refl (rw (c, s)) refl)) (answer-unbegun k _)
         (record { settings = refl; outstanding = refl; phase = refl; halted = refl; entries = refl })
 
     -- nothing
     pub idle : h.command_bit ≡ false → srstOf h.control ≡ false → Comes d [] k Nothing
     unfolding repliesOf after_of
-    idle c s = plain (subst (λ (b : Bool). Is (actSeen d [] k Nothing) false false false false b false none none 0 0) (let r : k.resets ≡ false = rw (c, s) in r) (is-silent k (rw c))) (silent-unbegun k) (same d)
+    idle c s = plain (subst (λ (b : Bool). Is (actSeen d [] k Nothing) false false false false b false false none none 0 0) (let r : k.resets ≡ false = rw (c, s) in r) (is-silent k (rw c))) (silent-unbegun k) (same d)
 
   abbrev t : ℕ
   t = unwrap_or d.status.phase 0
@@ -162,5 +163,5 @@ module _ (d : Device) (g : contradictoryDevice d ≡ false) where
   pub bist-comes : (k : Asked) → k.queued ≡ false → k.resets ≡ false → k.brings ≡ 0 → Comes d [] k ZeroCounters
   unfolding repliesOf after_of zeroedIf
   bist-comes k q r b =
-      plain (subst (λ (n : ℕ). Is (actSeen d [] k ZeroCounters) false false false false false false none none 0 n) b (subst (λ (x : Bool). Is (actSeen d [] k ZeroCounters) false false false false x false none none 0 k.brings) r (is-silent k q)))
+      plain (subst (λ (n : ℕ). Is (actSeen d [] k ZeroCounters) false false false false false false false none none 0 n) b (subst (λ (x : Bool). Is (actSeen d [] k ZeroCounters) false false false false x false false none none 0 k.brings) r (is-silent k q)))
       (silent-unbegun k) (record { settings = refl; outstanding = refl; phase = refl; halted = refl; entries = refl })

@@ -17,9 +17,8 @@ use Rattle.rules.specs.Call.{hostFrame, openPhase, sendData, finishTags, mediaEr
 use Rattle.device.specs.Lent.{Lent, lent, Gave, gave, answered}
 use Rattle.history.specs.Run.{Done, done, AllTyped}
 use Rattle.history.specs.Follows.{FollowsBy, final, lents, historyOf, Began}
-use Rattle.history.specs.Demand3.{Demand3}
-use Rattle.history.specs.StateAgrees.{StateAgrees}
-use Rattle.history.proofs.Demand3.{demand3-given, told-given}
+use Rattle.history.specs.Promised.{Promised}
+use Rattle.history.proofs.Demand3.{promised-given}
 
 -- one call of a kept device, as it may go, and what is kept then: each case is a public function of `Sealed`, and what it holds is that function's own contract
 pub data Keeps : Sealed → Lent → Gave → Sealed → Type 0 where
@@ -78,10 +77,6 @@ unfolding poweredOf
 kept-began (began-kept k last p q) = let f = keeps-follows q in record { power = poweredOf (Ok k); began = record { power = p; follows = f.0 }; last = f.1 }
 
 module _ (s : Settings) (xs : List Done) (end : Sealed) (b : BeganKept s xs end) (t : AllTyped (lents xs)) where
-  -- demand 3 of its history
-  pub demand3-kept : Demand3 s.depth s.mask (historyOf xs)
-  demand3-kept = let f = kept-began b in demand3-given s f.power xs f.began t
-
-  -- and the device that is kept is what it tells
-  pub told-kept : StateAgrees s end.device (historyOf xs)
-  told-kept = let f = kept-began b in subst (λ d. StateAgrees s d (historyOf xs)) f.last (told-given s f.power xs f.began t)
+  -- all that is promised of it, and the device that is kept is what it tells
+  pub promised-kept : Promised s (kept-began b).power end.device (historyOf xs)
+  promised-kept = let f = kept-began b in subst (λ d. Promised s f.power d (historyOf xs)) f.last (promised-given s f.power xs f.began t)

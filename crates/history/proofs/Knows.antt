@@ -89,7 +89,7 @@ in-out true b = refl
 in-out false b = refl
 
 -- a sector from `first` on and below its end is not outside
-covers-not : (first count sector : ℕ) → leb first sector && ltb sector (first + count) ≡ not (ltb sector first || leb (first + count) sector)
+pub covers-not : (first count sector : ℕ) → leb first sector && ltb sector (first + count) ≡ not (ltb sector first || leb (first + count) sector)
 covers-not first count sector = rw (below-not sector (first + count), below-not sector first) (in-out (leb first sector) (leb (first + count) sector))
 
 -- a span has its length

@@ -35,12 +35,14 @@ pub mod Strays
 pub mod Owners
 pub mod Kept
 pub mod Contents
+pub mod Lying
+pub mod Bytes
+pub mod OwnBytes
+pub mod Lasting
 -- counters
 pub mod Counts
 pub mod Pages
 pub mod Shown
-pub mod Counters
-pub mod Asked11
 -- replies: what each call may say, and what it must
 pub mod SeenRules
 pub mod ReplyRules
@@ -51,16 +53,27 @@ pub mod Naming
 pub mod Logging
 pub mod Showing
 pub mod Knows
+pub mod HeardKinds
 pub mod RefusedTests
 pub mod Refusing
+-- what each call is answered, byte for byte
+pub mod Otherwise
+pub mod Answering
 -- demand 3: over every run from power-on, against the state, and of the code
 pub mod Runs
+pub mod Counters
+pub mod Asked11
 pub mod StateAgrees
 pub mod Allowed
 pub mod Contracts
--- what a history says of answers, and of refused calls
+pub mod Allowing
+-- the tables leave no choice
+pub mod NoChoice
+pub mod Closed
+-- refused calls struck out
 pub mod Striking
-pub mod Otherwise
-pub mod Answering
 pub mod Demand3
 pub mod KeptCalls
+-- whatever state is handed in
+pub mod Outstanding
+pub mod Serves

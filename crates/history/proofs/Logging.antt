@@ -2,7 +2,6 @@
 use Rattle.std.proofs.Common.{Ok, Err, ◌≡◌, refl, ap, ap₂, subst, ◌∙◌, Bool, true, false, not, List, [], ◌∷◌, map, ⊎_elim, ℕ, ◌+◌, ◌<◌, ◌^◌, arith, eqb, ltb, leb, leb-false}
 use mathlib.Core.Bool.{and-false}
 use borrow.Author.Tests.{eqb-false}
-use Rattle.bits.specs.Pick.{pick}
 use Rattle.bits.specs.Bit.{bitIn}
 use Rattle.bits.proofs.Picks.{tested, or_right}
 use Rattle.frame_parts.specs.declared.shared.Task.{Task}
@@ -45,7 +44,7 @@ use Rattle.history.specs.Replied.{FrameRead, some, registerIn, collect}
 use Rattle.history.specs.Seen.{Seen, seen}
 use Rattle.history.specs.Fates.{total}
 use Rattle.history.specs.Waits.{waits}
-use Rattle.history.specs.Logged.{registerLog, firstError, frameLog, callLog, haltsAt, blankLog, logBy}
+use Rattle.history.specs.Logged.{registerLog, firstError, frameLog, callLog, logNext, blankLog, logBy}
 use Rattle.history.proofs.Views.{readIn, view, is-setup, is-brought}
 use Rattle.history.proofs.Frames.{Read, read-frames, read-seen, read_step}
 use Rattle.history.proofs.Changes.{halted-empty, busy-calm}
@@ -76,7 +75,7 @@ errorOf rs = firstError (collect registerIn (readIn rs))
 module _ (d : Device) (h : List Event) (w : waits (map seen h) ≡ d.status.halted) (u : ltb 0 (total (map seen h)) ≡ not (eqb d.status.outstanding 0)) (n : Named d h) (k : logBy h ≡ logOf d.errors) where
   -- the record next, from what was asked and sent, and what the call leaves to be read if it raises an error
   abbrev Next : Asked → List FrameValue → ErrorLog → ErrorLog
-  Next q rs r = pick (haltsAt (view q rs) (map seen h)) r (pick (view q rs).asks.resets blankLog (logBy h))
+  Next q rs r = logNext (view q rs) (map seen h) r (logBy h)
 
   -- nothing is raised or reset
   stays : (q : Asked) (rs : List FrameValue) (r : ErrorLog) → (view q rs).bad ≡ false → (view q rs).fails ≡ false → (view q rs).asks.resets ≡ false → Next q rs r ≡ logOf d.errors
@@ -147,7 +146,7 @@ module _ (d : Device) (h : List Event) (w : waits (map seen h) ≡ d.status.halt
   told-next : (x : Event) (rs : List FrameValue) → Read x rs → (q : Asked) → asks x ≡ q → logBy (x ∷ h) ≡ Next q rs (callLog (errorOf rs) h x.call)
   unfolding logBy
   told-next x rs r q e =
-      ap₂ (λ (y : Seen) (fs : List FrameRead). pick (haltsAt y (map seen h)) (callLog (firstError (collect registerIn fs)) h x.call) (pick y.asks.resets blankLog (logBy h))) (read-seen x rs r q e) (read-frames x rs r)
+      ap₂ (λ (y : Seen) (fs : List FrameRead). logNext y (map seen h) (callLog (firstError (collect registerIn fs)) h x.call) (logBy h)) (read-seen x rs r q e) (read-frames x rs r)
 
   -- every call
   pub logged-step : (l : Lent) → Typed l.call → SizedRecord d → logBy (eventOf d l ∷ h) ≡ logOf (step d l).state.errors

@@ -183,6 +183,7 @@ gone d d' e y a f s = record { stay = s; over = λ t x. y; done = no-done d e f;
 -- of each kind of effect
 pub moving : (d d' : Device) (e : Seen) → Class d e d' → Moving d e d'
 moving d d' e (K.plain s u k) = gone d d' e (empty_of s) s.accepted s.finishes (λ t b x. kept d d' e t (empty_of s) k.outstanding k.entries b)
+moving d d' e (K.pages de s u y k) = gone d d' e (empty_of s) s.accepted s.finishes (λ t b x. kept d d' e t (empty_of s) k.outstanding k.entries b)
 moving d d' e (K.again q s u ha o k) = gone d d' e (empty_of s) s.accepted s.finishes (λ t b x. never d d' e (closing s) t x)
 moving d d' e (K.freely s u ha o k) = gone d d' e (empty_of s) s.accepted s.finishes (λ t b x. never d d' e (closing s) t x)
 moving d d' e (K.halts q ba fa s u a ha w k) =

@@ -1,5 +1,5 @@
 -- What a command that is not queued is answered, by the tests of its rules; and those tests by the fields that were read. Assumes nothing.
-use Rattle.std.proofs.Common.{Option, Some, None, ◌≡◌, refl, sym, ◌∙◌, Bool, true, false, not, ◌&&◌, ◌||◌, List, [], ◌∷◌, ◌++◌, map, ⊎_elim, ℕ, ◌%◌, ◌^◌, ◌<◌, arith, eqb, length, eqb-true, ltb-true}
+use Rattle.std.proofs.Common.{Option, Some, None, ◌≡◌, refl, sym, ◌∙◌, Bool, true, false, not, ◌&&◌, List, [], ◌∷◌, ◌++◌, ⊎_elim, ℕ, ◌%◌, ◌^◌, ◌<◌, arith, eqb, eqb-true, ltb-true}
 use mathlib.Core.Bool.{and-false}
 use borrow.Author.Tests.{eqb-false}
 use Rattle.bits.specs.Pick.{pick}
@@ -7,9 +7,8 @@ use Rattle.bits.specs.Little.{byte_of}
 use Rattle.bits.proofs.Picks.{tested, and_left, and_right}
 use Rattle.frame_parts.specs.Shared.{taskFits, below}
 use Rattle.frame_parts.specs.declared.shared.Task.{Task}
-use Rattle.frames.specs.RoundTrip as trip
 use Rattle.frames.specs.declared.shapes.HostReg.{HostReg}
-use Rattle.frames.specs.declared.shapes.Frame.{Frame}
+use Rattle.frames.specs.Write.{FrameValue}
 use Rattle.device_state.specs.State.{echoOf}
 use Rattle.device_state.specs.declared.shapes.Echo.{Echo}
 use Rattle.device_state.proofs.EchoLaws.{echo-task}
@@ -23,34 +22,30 @@ use Rattle.replies.specs.Replies.{repliesOf, page10Of, page11Of}
 use Rattle.replies.specs.declared.shown.Shown.{Shown}
 use Rattle.history.specs.Answered.{answeredBad, sweepReply, pageReplies, wellFormed}
 
--- what it is answered: an error waits, or not; it is a well-formed READ LOG EXT of page 10h, of 11h; something is outstanding
-abbrev pub otherBy : Bool → Bool → Bool → Bool → Task → List Frame
-otherBy waiting ten eleven busy task =
+-- what it is answered: an error waits, or not; it is a well-formed READ LOG EXT of page 10h, of 11h; something is outstanding; and the two pages
+abbrev pub otherBy : Bool → Bool → Bool → Bool → Task → List ℕ → List ℕ → List FrameValue
+otherBy waiting ten eleven busy task errors counters =
     pick (waiting && not ten) (answeredBad 0x04 task ∷ [])
-    (pick busy (answeredBad 0x04 task ∷ []) (pick (ten || eleven) (pick waiting (sweepReply ∷ []) [] ++ pageReplies task) (answeredBad 0x04 task ∷ [])))
+    (pick busy (answeredBad 0x04 task ∷ [])
+    (pick ten (pick waiting (sweepReply ∷ []) [] ++ pageReplies task errors) (pick eleven (pageReplies task counters) (answeredBad 0x04 task ∷ []))))
 
--- the same tests, the same answer
-pub same-other : (x y : Bool) {a b c d e f : Bool} (task : Task) → x ≡ y → a ≡ b → c ≡ d → e ≡ f → otherBy x a c e task ≡ otherBy y b d f task
-same-other x y task p q r s = rw (p, q, r, s) refl
+-- the same tests and pages, the same answer
+pub same-other : (x y : Bool) {a b c d e f : Bool} {k l m n : List ℕ} (task : Task) → x ≡ y → a ≡ b → c ≡ d → e ≡ f → k ≡ l → m ≡ n → otherBy x a c e task k m ≡ otherBy y b d f task l n
+same-other x y task p q r s t u = rw (p, q, r, s, t, u) refl
 
--- a page is 512 bytes
-pub record Paged (s : Shown) : Type 0 where
-  pub ten : length (page10Of s.errors) ≡ 512
-  pub eleven : length (page11Of s.mask s.values) ≡ 512
-
-module _ (v : Facts) (s : Shown) (part : List ℕ) (h : HostReg) (same : s.halted ≡ v.status.halted) (fit : taskFits h.task ≡ true) (pages : Paged s) where
+module _ (v : Facts) (s : Shown) (part : List ℕ) (h : HostReg) (same : s.halted ≡ v.status.halted) (fit : taskFits h.task ≡ true) where
   abbrev Answer : Bool → Bool → Bool → Bool → Type 0
-  Answer x ten eleven busy = map trip.readBack (repliesOf s part (otherAct v h)) ≡ otherBy x ten eleven busy h.task
+  Answer x ten eleven busy = repliesOf s part (otherAct v h) ≡ otherBy x ten eleven busy h.task (page10Of s.errors) (page11Of s.mask s.values)
 
   by-tests : (x : Bool) (page : Option LogPage) (busy : Bool) → v.status.halted ≡ x → pageAsked h ≡ page → not (eqb v.status.outstanding 0) ≡ busy → Answer x (asksErrors page) (asksCounters page) busy
   unfolding otherAct repliesOf
   by-tests true None busy x p b = rw (x, p) refl
   by-tests true (Some Counters) busy x p b = rw (x, p) refl
   by-tests true (Some Errors) true x p b = rw (x, p, b, echo-task h.task fit) refl
-  by-tests true (Some Errors) false x p b = rw (x, p, b, same, x, pages.ten) refl
+  by-tests true (Some Errors) false x p b = rw (x, p, b, same, x) refl
   by-tests false page true x p b = rw (x, b, echo-task h.task fit) refl
-  by-tests false (Some Errors) false x p b = rw (x, p, b, same, x, pages.ten) refl
-  by-tests false (Some Counters) false x p b = rw (x, p, b, pages.eleven) refl
+  by-tests false (Some Errors) false x p b = rw (x, p, b, same, x) refl
+  by-tests false (Some Counters) false x p b = rw (x, p, b) refl
   by-tests false None false x p b = rw (x, p, b) refl
 
   -- as the device tests: by the page that it asks for

@@ -25,9 +25,10 @@ use Rattle.device.proofs.Keeping.{settings-good, both-kept}
 use Rattle.rules.specs.Call.{Call}
 use Rattle.history.specs.Event.{Event}
 use Rattle.history.specs.Replied.{repliesIn, frames, some, isPio, payloads, page}
-use Rattle.history.specs.Reading.{callReads}
+use Rattle.history.specs.Reading.{callAsks}
 use Rattle.history.specs.Replied.{paged}
-use Rattle.history.specs.Counted.{sends11, toldAt, toldFor}
+use Rattle.history.specs.Seen.{seen}
+use Rattle.history.specs.Counted.{toldAt, toldFor}
 use Rattle.device.specs.Lent.{Lent, lent}
 use Rattle.device.specs.FactsOf.{facts_of}
 use Rattle.device.specs.Step.{Step, shown, stepBy}
@@ -108,7 +109,7 @@ Masked mask d = settingsOut d.settings ≡ false → d.settings.mask ≡ mask
 
 -- page 11h, if it was sent, read for every number, gives what the history before it tells
 abbrev pub PageShows : ℕ → Event → List Event → Type 0
-PageShows mask e h = sends11 e ≡ true → (number : ℕ) → noNumber number ≡ false → TellsFor mask (page e) h number
+PageShows mask e h = (seen e).delivers 0x11 ≡ true → (number : ℕ) → noNumber number ≡ false → TellsFor mask (page e) h number
 
 -- the page of a call whose act is a read of page 11h
 shown-page : (d : Device) (e : Event) (part : List ℕ) (h : List Event) (a : Act) → contradictoryDevice d ≡ false → Counting d h → Logs a → Read e (repliesOf (shown d) part a)
@@ -123,18 +124,19 @@ shown-page d e part h a g i w r number n =
     ∙ page-tells mask d.values h i number n
 
 -- a taken call that reads page 11h and is answered with a page: its act is such a read
-ruled-logs : (d : Device) (m b : List ℕ) {c : Call} {a : Act} → by.Ruled (facts_of d (lent c m b)) c (Ok a) → pioIn (repliesOf (shown d) (part_of a m) a) ≡ true → callReads 0x11 c ≡ true
+ruled-logs : (d : Device) (m b : List ℕ) {c : Call} {a : Act} → by.Ruled (facts_of d (lent c m b)) c (Ok a) → pioIn (repliesOf (shown d) (part_of a m) a) ≡ true → (callAsks c).reads 0x11 ≡ true
     → (contradictoryDevice d ≡ false) × Logs a
 ruled-logs d m b (by.host f a g w s h) p q = (g, (host-goes d f m b g h).heard.shown p q)
 ruled-logs d m b (by.own o) p q = absurd (false≢true (sym (own-goes d m b o).replies.pageless ∙ p))
 
 -- every call: a page 11h in its replies shows what the history before it tells
 pub counters-step : (mask : ℕ) (d : Device) (l : Lent) (h : List Event) → Masked mask d → Counting d h → Replies d l → PageShows mask (eventOf d l) h
+unfolding seen
 counters-step mask d l h k i =
     by-decided d l (λ (s : Step). Read (eventBy l s) s.frames → PageShows mask (eventBy l s) h) (λ r _ s. absurd (false≢true s))
     (λ a y r s number n.
     let t : Step = stepBy d l (Ok a) in
     let e : Event = eventBy l t in
     let w = ruled-logs d l.medium l.buffer y
-    (sym (ap (some isPio) (read-frames e t.frames r)) ∙ and_left (paged e) (callReads 0x11 l.call) s) (and_right (paged e) (callReads 0x11 l.call) s) in
+    (sym (ap (some isPio) (read-frames e t.frames r)) ∙ and_right ((callAsks l.call).reads 0x11) (paged e) s) (and_left ((callAsks l.call).reads 0x11) (paged e) s) in
     shown-page d e (part_of a l.medium) h a w.0 i w.1 r number n ∙ ap (λ (x : ℕ). counterRead (toldFor x h number)) (k (settings-good d w.0)))

@@ -7,6 +7,7 @@ use Rattle.replies.specs.Replies.{setupReply, logReplies, activateIf}
 use Rattle.history.specs.Event.{Event}
 use Rattle.history.specs.Asked.{brought}
 use Rattle.history.specs.Replied.{some, sent}
+use Rattle.history.specs.Placed.{written}
 use Rattle.history.proofs.Views.{sentIn}
 
 -- the bytes l are what the medium m holds from a place on
@@ -15,7 +16,7 @@ SentFrom at m l = l ≡ take (length l) (drop at m)
 
 -- `left` holds the bytes l from a place on, and is otherwise as the medium m
 abbrev pub LeftAt : ℕ → List ℕ → List ℕ → List ℕ → Type 0
-LeftAt at m left l = left ≡ take at m ++ (l ++ drop (at + length l) m)
+LeftAt at m left l = left ≡ written at l m
 
 -- if there are any, the bytes l end within the medium m from a place on
 abbrev pub EndsIn : ℕ → List ℕ → List ℕ → Type 0
@@ -40,7 +41,7 @@ sent-none at m l e = rw e
 
 -- the medium as it was
 left-none : (at : ℕ) (m left l : List ℕ) → l ≡ [] → left ≡ m → LeftAt at m left l
-left-none at m left l e k = k ∙ sym (ap (λ (y : List ℕ). take at m ++ (y ++ drop (at + length y) m)) e ∙ ap (λ (n : ℕ). take at m ++ drop n m) (add-zero at) ∙ take-append-drop at m)
+left-none at m left l e k = k ∙ sym (ap (λ (y : List ℕ). written at y m) e ∙ ap (λ (n : ℕ). take at m ++ drop n m) (add-zero at) ∙ take-append-drop at m)
 
 -- no data end nowhere
 ends-none : (at : ℕ) (m l : List ℕ) → l ≡ [] → EndsIn at m l

@@ -1,12 +1,12 @@
 -- Each test of the table of refusals, by the history (Refused) and by the state. Assumes nothing.
-use Rattle.std.proofs.Common.{Option, Some, None, Ok, is_some, is_none, unwrap_or, ◌≡◌, refl, sym, ap, ap₂, ◌∙◌, Bool, true, false, not, ◌&&◌, ◌||◌, List, ⊎_elim, ℕ, zero, suc, ◌-◌, ◌*◌, ◌<◌, arith, eqb, ltb, leb, ne_eqb}
+use Rattle.std.proofs.Common.{Option, None, Ok, is_some, is_none, unwrap_or, ◌≡◌, refl, sym, ap, ap₂, ◌∙◌, Bool, true, false, not, ◌&&◌, ◌||◌, List, [], ◌∷◌, ⊎_elim, ℕ, zero, suc, ◌-◌, ◌*◌, ◌<◌, arith, eqb, ltb, leb, ne_eqb}
 use mathlib.Core.Bool.{not-not}
 use borrow.Author.Tests.{not-false, not-true}
 use Rattle.bits.specs.Pick.{pick}
 use Rattle.bits.specs.Bit.{bitIn}
 use Rattle.bits.proofs.Picks.{tested, or_left, or_right}
 use Rattle.frames.specs.declared.shapes.Frame.TheVariants as fs
-use Rattle.refusals.specs.First.{first_of}
+use Rattle.refusals.specs.First.{rung, first_of}
 use Rattle.refusals.specs.declared.reasons.Refusal.{Refusal}
 use Rattle.refusals.specs.declared.reasons.Refusal.TheVariants.{Contradiction}
 use Rattle.device_state.specs.State.{whole_of}
@@ -15,7 +15,7 @@ use Rattle.device_state.specs.declared.shapes.Settings.{Settings}
 use Rattle.contradictions.specs.Clauses.{settingsOut, rowRefused}
 use Rattle.rules.specs.Call.{hostFrame}
 use Rattle.rules.specs.Positions.{left_of}
-use Rattle.rules.specs.Tests.{wrongKind, wrongTime, wrongSize, allMoved, unreadyAt, someUnready, outside}
+use Rattle.rules.specs.Tests.{wrongTime, wrongSize, allMoved, unreadyAt, someUnready, outside}
 use Rattle.device.specs.Device.{contradictoryDevice, powerOn}
 use Rattle.device.specs.DataDue.{phaseEntry}
 use Rattle.device_state.specs.UnderWay.{linkBusy}
@@ -30,7 +30,8 @@ use Rattle.history.specs.Event.{Event}
 use Rattle.history.specs.Replied.{FrameRead}
 use Rattle.history.specs.Seen.{Transfer, underWay}
 use Rattle.history.specs.ByHistory.{isOut, outstandingWith, whole, covers, isOpen, leftOf}
-use Rattle.history.specs.Refused.{outOfBounds, notHeard, writeOpen, untimely, tooLong, someTag, unfit, noRow}
+use Rattle.history.specs.Powered.{Powered}
+use Rattle.history.specs.Refused.{outOfBounds, writeOpen, untimely, tooLong, someTag, unfit, noRow}
 use Rattle.history.proofs.Transfers.{transferOf, transfer-shut, transfer-open}
 use Rattle.history.proofs.Moving.{deviceEntry, busyAt}
 use Rattle.history.proofs.Knows.{Known, below-not}
@@ -47,7 +48,7 @@ bounds-test false false false true k = refl
 bounds-test false false false false k = refl
 
 -- a number is at most another where that is not below it
-most-not : (a b : ℕ) → leb a b ≡ not (ltb b a)
+pub most-not : (a b : ℕ) → leb a b ≡ not (ltb b a)
 most-not a b = sym (not-not (leb a b)) ∙ ap not (sym (below-not b a))
 
 -- 1, of settings
@@ -58,30 +59,32 @@ bounds-out s =
     (ap₂ (λ (a b : Bool). not (a && b) || not (bitIn 16 s.mask 0 && bitIn 16 s.mask 9)) (most-not 1 s.capacity) (most-not s.capacity 65536))
     ∙ bounds-test (ltb s.depth 1) (ltb 32 s.depth) (ltb s.capacity 1) (ltb 65536 s.capacity) (bitIn 16 s.mask 0 && bitIn 16 s.mask 9)
 
--- what the settings are refused with
+-- what power-on is refused with, by whether its settings are out of bounds
 abbrev turnedFor : Bool → Option Refusal
-turnedFor out = pick out (Some Contradiction) None
+turnedFor out = first_of (rung Contradiction out ∷ [])
 
--- power-on is refused where the settings are out of bounds
-power-out : (s : Settings) → (powerOn s).refusal ≡ turnedFor (settingsOut s)
-unfolding powerOn first_of
-power-out s = refl
+-- power-on is refused exactly where they are, and replies nothing
+pub powered : (s : Settings) → Powered s.depth s.capacity s.mask (powerOn s).refusal (powerOn s).len
+unfolding powerOn
+powered s = record { refusal = ap turnedFor (sym (bounds-out s)); silent = refl }
 
 -- so a power-on that was taken had settings within them
 pub power-taken : (s : Settings) → (powerOn s).refusal ≡ None → outOfBounds s.depth s.capacity s.mask ≡ false
-power-taken s z = go (settingsOut s) (bounds-out s) (sym (power-out s) ∙ z)
+unfolding first_of
+power-taken s z = go (outOfBounds s.depth s.capacity s.mask) (sym (powered s).refusal ∙ z)
   where
-    go : (b : Bool) → outOfBounds s.depth s.capacity s.mask ≡ b → turnedFor b ≡ None → outOfBounds s.depth s.capacity s.mask ≡ false
-    go true e y = absurd (none-some Contradiction y)
-    go false e y = e
+    go : (b : Bool) → turnedFor b ≡ None → b ≡ false
+    go true y = absurd (none-some Contradiction y)
+    go false y = refl
 
 -- and one that was refused did not
 pub power-refused : (s : Settings) → ((powerOn s).refusal ≡ None → ⊥) → outOfBounds s.depth s.capacity s.mask ≡ true
-power-refused s n = go (settingsOut s) (bounds-out s) (power-out s)
+unfolding first_of
+power-refused s n = go (outOfBounds s.depth s.capacity s.mask) (powered s).refusal
   where
-    go : (b : Bool) → outOfBounds s.depth s.capacity s.mask ≡ b → (powerOn s).refusal ≡ turnedFor b → outOfBounds s.depth s.capacity s.mask ≡ true
-    go true e y = e
-    go false e y = absurd (n y)
+    go : (b : Bool) → (powerOn s).refusal ≡ turnedFor b → b ≡ true
+    go true e = refl
+    go false e = absurd (n e)
 
 -- 13
 pub row-same : (mask r : ℕ) → rowRefused mask r ≡ noRow mask r
@@ -143,14 +146,6 @@ module _ (d : Device) where
         go false m a l = sym (ne_eqb (a - m) 0 (λ e. absurd (omega arith)))
 
 -- ---- each call
-
--- 4
-pub kind-same : (f : FrameRead) → wrongKind f ≡ notHeard f
-unfolding wrongKind
-kind-same (Ok (fs.Host f)) = refl
-kind-same (Ok (fs.Data n)) = refl
-kind-same (Ok fs.Bist) = refl
-kind-same _ = refl
 
 -- some tag is so, whichever end it is looked for from
 some-same : (n : ℕ) (p q : ℕ → Bool) → ((t : ℕ) → p t ≡ q t) → someBelow n p ≡ someTag n q

@@ -22,7 +22,8 @@ use Rattle.history.specs.ByHistory.{isOpen, leftOf}
 use Rattle.history.specs.Refused.{outOfBounds, ownTests}
 use Rattle.history.proofs.Soundness.{by-power, Sound}
 use Rattle.history.proofs.Knows.{Known}
-use Rattle.history.proofs.RefusedTests.{power-taken, power-refused, row-same, open-same, reading-same, kind-same, time-same, size-same, passed, moved-same, sector-same, set-same}
+use Rattle.history.proofs.HeardKinds.{kind-same}
+use Rattle.history.proofs.RefusedTests.{power-taken, power-refused, row-same, open-same, reading-same, time-same, size-same, passed, moved-same, sector-same, set-same}
 
 -- ---- rows of tests
 
@@ -47,7 +48,7 @@ module _ (d : Device) (h : List Event) (k : Known d h) (g : contradictoryDevice 
   unfolding tests ownTests
   row (hostFrame x) =
       let f = readFrame x in
-      cons-same Contradiction _ _ g (λ _. cons-same MediumLength _ _ refl (λ _. cons-same ReplyShort _ _ refl (λ _. cons-same NoHostFrame _ _ (kind-same f) (λ _. cons-same WrongTime _ _ (time-same d h k m b x f) (λ t. cons-same TooLong _ _ (size-same d h k g m b x f t) (λ _. refl))))))
+      cons-same Contradiction _ _ g (λ _. cons-same MediumLength _ _ refl (λ _. cons-same ReplyShort _ _ refl (λ _. cons-same NoHostFrame _ _ (kind-same x) (λ _. cons-same WrongTime _ _ (time-same d h k m b x f) (λ t. cons-same TooLong _ _ (size-same d h k g m b x f t) (λ _. refl))))))
   row (openPhase t) =
       cons-same Contradiction _ _ g (λ _. cons-same ReplyShort _ _ refl (λ _. cons-same TagIdle _ _ (ap not (sym (k.out t)))
       (λ o. cons-same PhaseOpen _ _ (sym (ap isOpen k.phase ∙ open-same d)) (λ _. cons-same AllMoved _ _ (moved-same d h k g t (passed d h k t o)) (λ _. refl)))))

@@ -19,7 +19,7 @@ use Rattle.device.specs.declared.state.Device.{Device}
 use Rattle.device.proofs.Sized.{SizedRecord}
 use Rattle.history.specs.Event.{Event}
 use Rattle.history.specs.FrameAsks.{quiet}
-use Rattle.history.specs.Reading.{Speech, noneFinished, setFinished, errorTold, callAsks, callReads, callSays, callReplies}
+use Rattle.history.specs.Reading.{Speech, noneFinished, setFinished, errorTold, callAsks, callSays, callReplies}
 use Rattle.history.specs.Replied.{FrameRead, frames, some, isPio, setBitsIn, collect, faultyIn, paged}
 use Rattle.history.specs.Seen.{Seen, seen}
 use Rattle.history.specs.Shapes.{kind_of, OneOf}
@@ -101,6 +101,7 @@ module _ (d : Device) (l : Lent) where
         named = p.named;
         spoken = turned-spoken r q (callSays l.call);
         swept = λ y. absurd (false≢true y);
+        behind = p.behind;
         answered = p.answered;
         alone = p.alone;
         shut = p.shut;
@@ -126,10 +127,11 @@ module _ (d : Device) (l : Lent) where
             let u = utters.swept (ap (λ (k : List FrameRead). (callAsks l.call).command && some (λ f. true) (collect setBitsIn k)) (sym seen_as) ∙ y) in
             record {
               waiting = (p.swept y).0;
-              answers = ap (λ (b : Bool). callReads 0x10 l.call && b) pages ∙ u.0;
+              answers = ap (λ (b : Bool). (callAsks l.call).reads 0x10 && b) pages ∙ u.0;
               clean = (p.swept y).1;
               tells = subst⁻¹ (λ (k : List ℕ). TellsError (read_log k)) (read-page e (sends a) q) u.1;
             };
+        behind = p.behind;
         answered = p.answered;
         alone = p.alone;
         shut = p.shut;

@@ -9,9 +9,11 @@ use Rattle.device.proofs.Opens.{ones-most}
 use Rattle.history.specs.Event.{Event}
 use Rattle.history.specs.Seen.{seen}
 use Rattle.history.specs.Fates.{one, total}
-use Rattle.history.specs.Demand3.{Fates, Ranges, Contents, Sactive, Waiting, Depth, OnePerTag, AllReplyRules}
+use Rattle.history.specs.Demand3.{Fates, Ranges, Moves, Contents, Sactive, Waiting, Depth, OnePerTag, Counters}
+use Rattle.history.specs.ReplyRules.{AllReplyRules}
 use Rattle.history.specs.Refused.{Refusals}
 use Rattle.history.specs.Logged.{logBy, LogTold}
+use Rattle.history.specs.Answered.{Answers}
 use Rattle.replies.specs.Replies.{logOf}
 use Rattle.device.specs.Lent.{Lent, Typed}
 use Rattle.history.specs.Run.{Done, done, event, result, AllTyped, run, run_from, history}
@@ -31,6 +33,13 @@ use Rattle.history.proofs.Refusing.{refusing}
 use Rattle.history.proofs.Naming.{Named, named-step, named-power}
 use Rattle.history.proofs.Logging.{logged-step, logged-power}
 use Rattle.history.proofs.Showing.{told-step}
+use Rattle.history.proofs.Frames.{read_step}
+use Rattle.history.proofs.Tally.{Counting, counting-start}
+use Rattle.history.proofs.Counts.{Replies, counting-step}
+use Rattle.history.proofs.Pages.{Masked, counters-step}
+use Rattle.history.proofs.Shown.{masked-start, masked-step}
+use Rattle.history.proofs.Answering.{answers-step}
+use Rattle.history.proofs.Lying.{sent-lies}
 use Rattle.history.proofs.CoreSteps.{ones-some}
 use Rattle.history.proofs.Soundness.{by-power, from-power, Sound, sound-power, sound-step}
 
@@ -49,16 +58,22 @@ pub record Held (s : Settings) (d : Device) (h : List Event) : Type 0 where
   pub named : Named d h
   pub logged : logBy h ≡ logOf d.errors
   pub log-told : LogTold h
+  pub masked : Masked s.mask d
+  pub counting : Counting d h
+  pub counters : Counters s.mask h
+  pub answers : Answers s.depth s.capacity s.mask h
 
 -- one call more
 pub held-step : (s : Settings) (d : Device) (a : Lent) (h : List Event) → Typed a.call → Held s d h → Held s (result d a).outcome.state (event (done a (result d a)) ∷ h)
-unfolding Contents AllReplyRules Refusals LogTold
+unfolding Contents AllReplyRules Refusals LogTold Counters Answers
 held-step s d a h t i =
     let d' : Device = (result d a).outcome.state in
     let x : Event = event (done a (result d a)) in
     let c : Class d (seen x) d' = comes d a t i.wide.sized in
     let v : Inv d'.status.outstanding d'.status.halted (seen x ∷ map seen h) = keeps d d' (seen x) (map seen h) i.inv c in
     let k : Tracked d' (seen x ∷ map seen h) = tracked-step d d' (seen x) (map seen h) i.tracked c in
+    let r : Replies d a = read_step d a t i.wide.sized in
+    let m : Moves x (map seen h) = moves d a (map seen h) t i.wide.sized i.tracked (inv-number i.inv) in
     record {
       wide = wide_step d a t i.wide;
       marked = marked_step d a i.marked;
@@ -66,18 +81,22 @@ held-step s d a h t i =
       inv = v;
       lone = lone-step (seen x) (map seen h) (lone c) i.lone;
       tracked = k;
-      contents = (moves d a (map seen h) t i.wide.sized i.tracked (inv-number i.inv), i.contents);
+      contents = (m, i.contents);
       reply-rules = (reply-rules d a (map seen h) t i.wide.sized i.marked i.inv, i.reply-rules);
       knows = knows d' (x ∷ h) v k (holding-step d a h i.knows.held);
       refusals = (refusing s d a h i.sound i.knows, i.refusals);
       named = named-step d h i.named a t i.wide.sized;
       logged = logged-step d h i.knows.halted (ap (ltb 0) (inv-total i.inv) ∙ ones-some d.status.outstanding) i.named i.logged a t i.wide.sized;
       log-told = (told-step d a h t i.wide.sized i.logged, i.log-told);
+      masked = masked-step s.mask d a i.masked;
+      counting = counting-step d a h r i.counting;
+      counters = (counters-step s.mask d a h i.masked i.counting r, i.counters);
+      answers = (answers-step s d h a t i.sound (record { sized = i.wide.sized; known = i.knows; inv = i.inv; tracked = i.tracked; logged = i.logged; counting = i.counting }) (sent-lies x h m), i.answers);
     }
 
 -- power-on
 pub held-power : (s : Settings) → Held s (powerOn s).state []
-unfolding freshDevice Contents AllReplyRules Refusals LogTold
+unfolding freshDevice Contents AllReplyRules Refusals LogTold Counters Answers
 held-power s =
     let d : Device = (powerOn s).state in
     let v : Inv d.status.outstanding d.status.halted [] = from-power (λ (d : Device). Inv d.status.outstanding d.status.halted []) s inv-start inv-start in
@@ -96,6 +115,10 @@ held-power s =
       named = named-power s;
       logged = logged-power s;
       log-told = tt;
+      masked = masked-start s;
+      counting = counting-start s;
+      counters = tt;
+      answers = tt;
     }
 
 -- a run

@@ -11,7 +11,7 @@ use Rattle.frames.specs.declared.shapes.Frame.TheVariants as fs
 use Rattle.page_10h.specs.Page10.{read_log}
 use Rattle.replies.specs.Replies.{logReplies, activateIf, page10Of}
 use Rattle.replies.specs.declared.shown.Shown.{Shown}
-use Rattle.history.specs.FrameReading.{frameReads}
+use Rattle.history.specs.FrameReading.{frameAsks}
 use Rattle.history.specs.Replied.{FrameRead, some, setBitsIn, collect}
 use Rattle.history.specs.ReplyRules.{TellsError}
 use Rattle.history.proofs.Views.{readIn, pageIn}
@@ -27,9 +27,9 @@ someBits rs = some (λ f. true) (bitsIn rs)
 
 -- of a host frame that is read as f, and its replies
 pub record FrameSays (f : FrameRead) (rs : List FrameValue) : Type 0 where
-  pub swept : someBits rs ≡ true → frameReads 0x10 f && pioIn rs ≡ true
+  pub swept : someBits rs ≡ true → (frameAsks f).reads 0x10 && pioIn rs ≡ true
   pub tells : someBits rs ≡ true → TellsError (read_log (pageIn rs))
-  pub paged : pioIn rs ≡ true → frameReads 0x10 f || frameReads 0x11 f ≡ true
+  pub paged : pioIn rs ≡ true → (frameAsks f).reads 0x10 || (frameAsks f).reads 0x11 ≡ true
 
 -- no A1h and no page
 pub mild : (f : FrameRead) (rs : List FrameValue) → someBits rs ≡ false → pioIn rs ≡ false → FrameSays f rs
@@ -40,16 +40,16 @@ abbrev pub Telling : Shown → Type 0
 Telling s = TellsError (read_log (page10Of s.errors))
 
 -- page 10h, with or without the sweep
-pub ten-said : (h : HostReg) (task : Task) (page : List ℕ) → frameReads 0x10 (Ok (fs.Host h)) ≡ true → (on : Bool) → (on ≡ true → TellsError (read_log page)) → FrameSays (Ok (fs.Host h)) (logReplies on task page)
+pub ten-said : (h : HostReg) (task : Task) (page : List ℕ) → (frameAsks (Ok (fs.Host h))).reads 0x10 ≡ true → (on : Bool) → (on ≡ true → TellsError (read_log page)) → FrameSays (Ok (fs.Host h)) (logReplies on task page)
 unfolding some collect
 ten-said h task page t true k = record { swept = λ _. rw t; tells = λ _. subst⁻¹ (λ (l : List ℕ). TellsError (read_log l)) (append-nil page) (k refl); paged = λ _. rw t }
 ten-said h task page t false k = record { swept = λ _. rw t; tells = λ x. absurd (false≢true x); paged = λ _. rw t }
 
 -- page 11h
-pub eleven-said : (h : HostReg) (task : Task) (page : List ℕ) → frameReads 0x11 (Ok (fs.Host h)) ≡ true → FrameSays (Ok (fs.Host h)) (logReplies false task page)
+pub eleven-said : (h : HostReg) (task : Task) (page : List ℕ) → (frameAsks (Ok (fs.Host h))).reads 0x11 ≡ true → FrameSays (Ok (fs.Host h)) (logReplies false task page)
 unfolding some collect
 eleven-said h task page t =
-    record { swept = λ x. absurd (false≢true x); tells = λ x. absurd (false≢true x); paged = λ _. or_right (frameReads 0x10 (Ok (fs.Host h))) (frameReads 0x11 (Ok (fs.Host h))) t }
+    record { swept = λ x. absurd (false≢true x); tells = λ x. absurd (false≢true x); paged = λ _. or_right ((frameAsks (Ok (fs.Host h))).reads 0x10) ((frameAsks (Ok (fs.Host h))).reads 0x11) t }
 
 -- an Activate or none
 pub kept-said : (f : FrameRead) (on : Bool) → FrameSays f (activateIf on)

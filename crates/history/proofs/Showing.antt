@@ -26,11 +26,12 @@ use Rattle.device.proofs.Fitting.{record-fits}
 use Rattle.device.proofs.Sized.{SizedRecord}
 use Rattle.verdicts.specs.Other.{asksCounters}
 use Rattle.history.specs.Event.{Event}
-use Rattle.history.specs.FrameReading.{frameReads}
+use Rattle.history.specs.FrameReading.{frameAsks}
 use Rattle.history.specs.Logs.{readsLog}
-use Rattle.history.specs.Reading.{callReads}
+use Rattle.history.specs.Reading.{callAsks}
 use Rattle.history.specs.Replied.{FrameRead, some, isPio, paged, page}
-use Rattle.history.specs.Logged.{logBy, sends10, TellsHalt}
+use Rattle.history.specs.Seen.{seen}
+use Rattle.history.specs.Logged.{logBy, TellsHalt}
 use Rattle.history.proofs.Counts.{eventBy, eventOf}
 use Rattle.history.proofs.Decided.{by-decided}
 use Rattle.history.proofs.Views.{pageIn}
@@ -68,7 +69,7 @@ not-ten h c p r =
 
 module _ (d : Device) where
   -- the page sent to a host frame that reads page 10h is the record's
-  heard-page : (x m b : List ℕ) {f : FrameRead} {a : Act} → by.Heard (facts_of d (lent (hostFrame x) m b)) f a → pioIn (repliesOf (shown d) [] a) ≡ true → frameReads 0x10 f ≡ true
+  heard-page : (x m b : List ℕ) {f : FrameRead} {a : Act} → by.Heard (facts_of d (lent (hostFrame x) m b)) f a → pioIn (repliesOf (shown d) [] a) ≡ true → (frameAsks f).reads 0x10 ≡ true
       → pageIn (repliesOf (shown d) [] a) ≡ page10Of d.errors
   unfolding repliesOf some
   heard-page x m b (by.srst f c s) p q = absurd (false≢true p)
@@ -87,7 +88,7 @@ module _ (d : Device) where
   heard-page x m b (by.bist y) p q = absurd (false≢true p)
 
   -- a taken call that reads page 10h and is answered with a page
-  ruled-page : (m b : List ℕ) {c : Call} {a : Act} → by.Ruled (facts_of d (lent c m b)) c (Ok a) → pioIn (repliesOf (shown d) (part_of a m) a) ≡ true → callReads 0x10 c ≡ true
+  ruled-page : (m b : List ℕ) {c : Call} {a : Act} → by.Ruled (facts_of d (lent c m b)) c (Ok a) → pioIn (repliesOf (shown d) (part_of a m) a) ≡ true → (callAsks c).reads 0x10 ≡ true
       → (contradictoryDevice d ≡ false) × (pageIn (repliesOf (shown d) (part_of a m) a) ≡ page10Of d.errors)
   ruled-page m b {c} {a} (by.host f _ g v s y) p q = (
     g,
@@ -96,14 +97,15 @@ module _ (d : Device) where
   ruled-page m b (by.own o) p q = absurd (false≢true (sym (own-goes d m b o).replies.pageless ∙ p))
 
 -- every call: a page 10h in its replies tells the record
-pub told-step : (d : Device) (l : Lent) (h : List Event) → Typed l.call → SizedRecord d → logBy h ≡ logOf d.errors → sends10 (eventOf d l) ≡ true → TellsHalt (eventOf d l) h
+pub told-step : (d : Device) (l : Lent) (h : List Event) → Typed l.call → SizedRecord d → logBy h ≡ logOf d.errors → (seen (eventOf d l)).delivers 0x10 ≡ true → TellsHalt (eventOf d l) h
+unfolding seen
 told-step d l h t s k =
-    by-decided d l (λ (y : Step). Read (eventBy l y) y.frames → sends10 (eventBy l y) ≡ true → TellsHalt (eventBy l y) h) (λ r _ z. absurd (false≢true z))
+    by-decided d l (λ (y : Step). Read (eventBy l y) y.frames → (seen (eventBy l y)).delivers 0x10 ≡ true → TellsHalt (eventBy l y) h) (λ r _ z. absurd (false≢true z))
     (λ a o r u.
     let x : Event = eventBy l (stepBy d l (Ok a)) in
     let rs : List FrameValue = (stepBy d l (Ok a)).frames in
     let v = ruled-page d l.medium l.buffer o
-    (sym (ap (some isPio) (read-frames x rs r)) ∙ and_left (paged x) (callReads 0x10 l.call) u) (and_right (paged x) (callReads 0x10 l.call) u) in
+    (sym (ap (some isPio) (read-frames x rs r)) ∙ and_right ((callAsks l.call).reads 0x10) (paged x) u) (and_left ((callAsks l.call).reads 0x10) (paged x) u) in
     let fit : fits10 (logOf d.errors) ≡ true = record-fits d s v.0 in
     let e : page x ≡ page10 (logBy h) =
     frames.read-page x rs r ∙ v.1 ∙ pick_yes (fits10 (logOf d.errors)) (page10 (logOf d.errors)) [] fit ∙ ap page10 (sym k) in

@@ -10,8 +10,8 @@ use Rattle.frames.specs.declared.shapes.Frame.TheVariants as fs
 use Rattle.page_10h.specs.Page10.{read_log}
 use Rattle.rules.specs.Call.{Call, hostFrame}
 use Rattle.history.specs.FrameAsks.{Asked}
-use Rattle.history.specs.FrameReading.{frameAsks, frameReads}
-use Rattle.history.specs.Reading.{Speech, noneFinished, setFinished, errorTold, callAsks, callReads, callSays}
+use Rattle.history.specs.FrameReading.{frameAsks}
+use Rattle.history.specs.Reading.{Speech, noneFinished, setFinished, errorTold, callAsks, callSays}
 use Rattle.history.specs.Replied.{FrameRead, some}
 use Rattle.history.specs.Seen.{Seen}
 use Rattle.history.specs.ReplyRules.{TellsError}
@@ -41,7 +41,7 @@ some-none p [] e = refl
 some-none p (f ∷ l) e = absurd (true≢false e)
 
 -- a frame that reads a page is a command
-reads-command : (n : ℕ) (f : FrameRead) → frameReads n f ≡ true → (frameAsks f).command ≡ true
+reads-command : (n : ℕ) (f : FrameRead) → (frameAsks f).reads n ≡ true → (frameAsks f).command ≡ true
 reads-command n (Ok (fs.Host h)) e = and_left h.command_bit (eqb h.command 0x2F && eqb (h.task.lba % 256) n) e
 reads-command n _ e = absurd (false≢true e)
 
@@ -50,7 +50,7 @@ pub host-finishes : (f : FrameRead) (rs : List FrameValue) → FrameSays f rs �
 unfolding view
 host-finishes f rs y t =
     ⊎_elim
-    (λ (a : someBits rs ≡ true). let c = reads-command 0x10 f (and_left (frameReads 0x10 f) (pioIn rs) (y.swept a)) in rw c)
+    (λ (a : someBits rs ≡ true). let c = reads-command 0x10 f (and_left ((frameAsks f).reads 0x10) (pioIn rs) (y.swept a)) in rw c)
     (λ (a : someBits rs ≡ false). ap (λ (b : Bool). not (frameAsks f).command && b) (some-none _ (bitsIn rs) a) ∙ and-false (not (frameAsks f).command))
     (tested (someBits rs))
 
@@ -58,8 +58,8 @@ host-finishes f rs y t =
 
 -- what a taken call's replies rs say: an A1h that answers a command comes with page 10h, which tells an error; a page answers a read of one; and what is finished is what the call may finish
 pub record Utters (c : Call) (rs : List FrameValue) : Type 0 where
-  pub swept : (callAsks c).command && someBits rs ≡ true → (callReads 0x10 c && pioIn rs ≡ true) × TellsError (read_log (pageIn rs))
-  pub paged : pioIn rs ≡ true → callReads 0x10 c || callReads 0x11 c ≡ true
+  pub swept : (callAsks c).command && someBits rs ≡ true → ((callAsks c).reads 0x10 && pioIn rs ≡ true) × TellsError (read_log (pageIn rs))
+  pub paged : pioIn rs ≡ true → (callAsks c).reads 0x10 || (callAsks c).reads 0x11 ≡ true
   pub spoken : SpokenBy (callSays c) (view (callAsks c) rs)
 
 -- of a host frame

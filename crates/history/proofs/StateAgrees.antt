@@ -1,17 +1,52 @@
 -- The state at the end of every run is what its history tells. Assumes nothing.
-use Rattle.std.proofs.Common.{Ok, sym, ap, subst, ◌∙◌, List, ℕ, ◌≤◌, Bool}
-use lib.Count.{ones}
+use Rattle.std.proofs.Common.{Ok, ◌≡◌, refl, sym, ap, ap₂, subst, ◌∙◌, Bool, true, false, not, ◌&&◌, ◌||◌, List, ℕ, ◌≤◌, ltb, Option, Some, None, is_none, is_some, min, ⊎_elim}
+use Rattle.page_11h.specs.Page11.{noNumber}
 use Rattle.refusals.specs.First.{first_of, unless}
-use Rattle.refusals.specs.Ladders.{powerLadder}
-use Rattle.device.specs.Counter.{count_of}
+use Rattle.refusals.specs.Ladders.{powerLadder, counterLadder}
+use Rattle.device.specs.Counter.{counterOf, count_of}
+use Rattle.device.specs.Device.{contradictoryDevice, freshDevice}
+use Rattle.device.proofs.Never.{zeros-contradict}
 use Rattle.device_state.specs.declared.shapes.Settings.{Settings}
 use Rattle.device.specs.Lent.{Lent}
+use mathlib.Core.Bool.{false≢true}
+use Rattle.bits.proofs.Picks.{tested, pick_yes, pick_no, and_left, and_right}
+use Rattle.rules.specs.Positions.{left_of}
+use Rattle.device_state.specs.Table.{entry_of}
+use Rattle.device.specs.DataDue.{phaseEntry, writing, dataDue}
+use Rattle.device.specs.declared.state.Device.{Device}
+use Rattle.device.proofs.Due.{due-none}
+use Rattle.history.proofs.Answering.{Stands, left-is}
+use Rattle.history.proofs.Transfers.{transfer-shut, transfer-open}
+use Rattle.history.specs.ByHistory.{underWayAfter}
 use Rattle.history.specs.Run.{AllTyped, run_from, history}
-use Rattle.history.specs.StateAgrees.{AgreesOutstanding, AgreesWaits, AgreesCounters, AgreesAsked, AgreesDepth, AgreesCount, AgreesConsistent}
+use Rattle.history.specs.Refused.{outOfBounds, writeOpen}
+use Rattle.history.specs.Polled.{noCounter}
+use Rattle.history.specs.StateAgrees.{AgreesOutstanding, AgreesWaits, AgreesCounters, AgreesAsked, AgreesDepth, AgreesCount, AgreesConsistent, AgreesDue}
 use Rattle.history.proofs.Core.{inv-waits, inv-number, inv-total}
 use Rattle.history.proofs.Counters.{counting-true}
 use Rattle.history.proofs.Asked11.{counter-true}
+use Rattle.history.proofs.Soundness.{by-power}
+use Rattle.history.proofs.RefusedTests.{most-not, power-taken, power-refused}
 use Rattle.history.proofs.Runs.{held, demand3-depth}
+
+-- 23, by the state's rules and the history's
+number-same : (number : ℕ) → noNumber number ≡ noCounter number
+number-same number = sym (ap₂ (λ (a b : Bool). not (a && b)) (most-not 1 number) (most-not number 0xFFF) ∙ either (ltb number 1) (ltb 0xFFF number))
+  where
+    either : (a b : Bool) → not (not a && not b) ≡ a || b
+    either true b = refl
+    either false true = refl
+    either false false = refl
+
+-- the same answer of rows that agree, and values that do where 1 does not hold
+asked-same : {A : Type 0} {c o n m : Bool} {x y : A} → c ≡ o → n ≡ m → (o ≡ false → x ≡ y) → unless (first_of (counterLadder c n)) x ≡ unless (first_of (counterLadder o m)) y
+unfolding first_of
+asked-same {A} {c} {o} {n} {m} {x} {y} e f g = rw (e, f) (go o m g)
+  where
+    go : (o m : Bool) → (o ≡ false → x ≡ y) → unless (first_of (counterLadder o m)) x ≡ unless (first_of (counterLadder o m)) y
+    go true m g = refl
+    go false true g = refl
+    go false false g = ap (λ (a : A). Ok a) (g refl)
 
 module _ (s : Settings) (as' : List Lent) (t : AllTyped as') where
   -- bit t of the mask is set exactly when a command with tag t is outstanding by the history, and there is at most one
@@ -26,9 +61,20 @@ module _ (s : Settings) (as' : List Lent) (t : AllTyped as') where
   pub told-counters : AgreesCounters (run_from s as').state (history s as')
   told-counters = (counting-true s as' t).value
 
+  -- refusal 1 of the state, by the settings
+  one-same : contradictoryDevice (run_from s as').state ≡ outOfBounds s.depth s.capacity s.mask
+  one-same =
+      let i = (held s as' t).sound in
+      by-power s (λ z. i.good z ∙ sym (power-taken s z)) (λ n. ap contradictoryDevice (i.zeros n) ∙ zeros-contradict ∙ sym (power-refused s n))
+
+  -- so where that is none the state does not contradict itself
+  within : outOfBounds s.depth s.capacity s.mask ≡ false → contradictoryDevice (run_from s as').state ≡ false
+  within e = one-same ∙ e
+
   -- and so is the answer of `Device::counter`
-  pub told-asked : AgreesAsked s.mask (run_from s as').state (history s as')
-  told-asked number c p z = p.answer ∙ counter-true s as' t number (sym p.refusal ∙ z)
+  pub told-asked : AgreesAsked s (run_from s as').state (history s as')
+  unfolding counterOf first_of
+  told-asked number c p = p.answer ∙ asked-same one-same (number-same number) (λ e. counter-true s as' t number (within e))
 
   -- the ones of the mask are the commands outstanding, at most the depth
   pub told-depth : AgreesDepth s.depth (run_from s as').state (history s as')
@@ -39,10 +85,40 @@ module _ (s : Settings) (as' : List Lent) (t : AllTyped as') where
   -- and so is the answer of `Device::outstanding_count`
   pub told-count : AgreesCount s (run_from s as').state (history s as')
   unfolding count_of first_of
-  told-count z c p =
-      let n : ℕ = ones (run_from s as').state.status.outstanding in
-      p.answer ∙ ap (λ (b : Bool). unless (first_of (powerLadder b)) n) ((held s as' t).sound.good z) ∙ ap (λ (k : ℕ). Ok k) (sym (inv-total (held s as' t).inv))
+  told-count c p = p.answer ∙ ap₂ (λ (b : Bool) (n : ℕ). unless (first_of (powerLadder b)) n) one-same (sym (inv-total (held s as' t).inv))
 
   -- the state does not contradict itself
   pub told-consistent : AgreesConsistent s (run_from s as').state
   told-consistent = record { good = (held s as' t).sound.good; zeros = (held s as' t).sound.zeros }
+
+  -- a write phase is open by the history exactly where one is by the state
+  write-same : (phase : Option ℕ) → (run_from s as').state.status.phase ≡ phase → writeOpen (underWayAfter (history s as')) ≡ writing (run_from s as').state
+  write-same None e = ap writeOpen ((held s as' t).knows.phase ∙ transfer-shut (run_from s as').state e) ∙ rw e refl
+  write-same (Some u) e = ap writeOpen ((held s as' t).knows.phase ∙ transfer-open (run_from s as').state u e) ∙ rw e (not-not (entry_of (run_from s as').state.entries u).write)
+    where
+      not-not : (b : Bool) → not (not b) ≡ b
+      not-not true = refl
+      not-not false = refl
+
+  -- the length that is due in an open write phase is what is left by the history
+  due-open : contradictoryDevice (run_from s as').state ≡ false → writing (run_from s as').state ≡ true → AgreesDue (run_from s as').state (history s as')
+  unfolding dataDue
+  due-open g w =
+      let i = held s as' t in
+      let d : Device = (run_from s as').state in
+      let k : Stands d (history s as') = record { sized = i.wide.sized; known = i.knows; inv = i.inv; tracked = i.tracked; logged = i.logged; counting = i.counting } in
+      let p : is_none d.status.phase ≡ false = ap not (and_left (is_some d.status.phase) (phaseEntry d).write w) in
+      pick_yes (writing d) (Some (min 8192 (left_of (phaseEntry d)))) None w
+      ∙ ap (λ (n : ℕ). Some (min 8192 n)) (sym (left-is d (history s as') k g p false (and_right (is_some d.status.phase) (phaseEntry d).write w)))
+      ∙ sym (pick_yes (writeOpen (underWayAfter (history s as'))) _ None (write-same d.status.phase refl ∙ w))
+
+  -- and so is the answer of `Device::data_due`
+  pub told-due : AgreesDue (run_from s as').state (history s as')
+  unfolding freshDevice
+  told-due =
+      let i = (held s as' t).sound in
+      let d : Device = (run_from s as').state in
+      ⊎_elim
+      (λ (w : writing d ≡ true). due-open (by-power s (λ z. i.good z) (λ n. absurd (false≢true (ap writing (sym (i.zeros n)) ∙ w)))) w)
+      (λ (w : writing d ≡ false). due-none d w ∙ sym (pick_no (writeOpen (underWayAfter (history s as'))) _ None (write-same d.status.phase refl ∙ w)))
+      (tested (writing d))

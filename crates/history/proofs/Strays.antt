@@ -28,6 +28,7 @@ due-entry false e x t n w s b l = record { sends = λ _. (sym (ap not w), omega 
 -- of each kind of effect, after a history that the state follows
 pub due : (d d' : Device) (e : Seen) (h : List Seen) → transfer h ≡ transferOf d → Class d e d' → NoStray e (transfer h)
 due d d' e h f (K.plain s u k) = due-none e (transfer h) (empty_of s)
+due d d' e h f (K.pages de s u x k) = due-none e (transfer h) (empty_of s)
 due d d' e h f (K.again q s u ha o k) = due-none e (transfer h) (empty_of s)
 due d d' e h f (K.freely s u ha o k) = due-none e (transfer h) (empty_of s)
 due d d' e h f (K.halts q ba fa s u a ha w k) = due-none e (transfer h) (empty_of s)

@@ -1,14 +1,18 @@
 -- Refused calls struck out of a sequence change no later refusal, reply, medium or state. Assumes nothing.
-use Rattle.std.proofs.Common.{is_none, ◌≡◌, refl, sym, ap, ◌∙◌, true, false, List, [], ◌∷◌, ⊎_elim}
+use Rattle.std.proofs.Common.{is_none, ◌≡◌, refl, sym, ap, subst, ◌∙◌, true, false, List, [], ◌∷◌, ⊎_elim}
 use Rattle.bits.proofs.Picks.{tested, pick_yes, pick_no}
 use Rattle.device_state.specs.declared.shapes.Settings.{Settings}
 use Rattle.device.specs.Device.{powerOn}
-use Rattle.device.specs.Lent.{Lent}
+use Rattle.device.specs.Lent.{Lent, Gave}
 use Rattle.device.specs.Step.{step}
 use Rattle.device.specs.declared.state.Device.{Device}
+use Rattle.device.specs.declared.state.Outcome.{Outcome}
 use Rattle.device.proofs.Refusals.{refused-keeps}
-use Rattle.history.specs.Run.{Done, done, result, Run, run, run_from}
-use Rattle.history.specs.Struck.{takenOf, lentTaken}
+use Rattle.history.specs.Run.{Done, done, result, Run, run}
+use Rattle.history.specs.Struck.{takenOf, lentTaken, StruckRun}
+use Rattle.history.specs.Follows.{FollowsBy, final}
+use Rattle.history.proofs.Allowed.{Allowed, BeganCode}
+use Rattle.history.proofs.Contracts.{only}
 use Rattle.history.proofs.Sets.{is_none-false}
 
 abbrev ran : Device → List Done → Run
@@ -47,6 +51,37 @@ struck-run (a ∷ as') d h =
     (tested b)
 
 -- from power-on
-pub refused-struck : (s : Settings) (as' : List Lent) → run_from s (lentTaken (powerOn s).state as') ≡ ran (run_from s as').state (takenOf (run_from s as').calls)
+pub refused-struck : (s : Settings) (as' : List Lent) → StruckRun s as'
 unfolding takenOf
 refused-struck s as' = struck-run as' (powerOn s).state []
+
+-- what the contracts allow of a refused call leaves the state too
+keeps-code : (d : Device) (x : Done) → Allowed d x.lent x.gave → is_none x.gave.outcome.refusal ≡ false → x.gave.outcome.state ≡ d
+keeps-code d x a n =
+    let e : x.gave ≡ result d x.lent = only a in
+    ap (λ (g : Gave). g.outcome.state) e ∙ keeps d x.lent (sym (ap (λ (g : Gave). is_none g.outcome.refusal) e) ∙ n)
+
+-- the taken calls of a sequence, as they went, are a sequence that goes on from d and ends where it ended
+abbrev Goes : Device → List Done → List Done → Type 0
+Goes d xs ys = FollowsBy Allowed d ys × (final d ys ≡ final d xs)
+
+struck-follows : (xs : List Done) (d : Device) → FollowsBy Allowed d xs → Goes d xs (takenOf xs)
+unfolding FollowsBy takenOf final
+struck-follows [] d f = (tt, refl)
+struck-follows (x ∷ xs) d f =
+    let b = is_none x.gave.outcome.refusal in
+    let d' : Device = x.gave.outcome.state in
+    let more = struck-follows xs d' f.1 in
+    ⊎_elim
+    (λ (y : b ≡ true). subst (λ (ys : List Done). Goes d (x ∷ xs) ys) (sym (pick_yes b (x ∷ takenOf xs) (takenOf xs) y)) ((f.0, more.0), more.1))
+    (λ (n : b ≡ false).
+    let e : d' ≡ d = keeps-code d x f.0 n in
+    subst (λ (ys : List Done). Goes d (x ∷ xs) ys) (sym (pick_no b (x ∷ takenOf xs) (takenOf xs) n))
+    (subst (λ (z : Device). FollowsBy Allowed z (takenOf xs)) e more.0, ap (λ (z : Device). final z (takenOf xs)) (sym e) ∙ more.1))
+    (tested b)
+
+-- of the code: without its refused calls a sequence of results that the contracts allow is still one, every other result as it was, and ends in the same state
+pub struck-code : (s : Settings) (r : Outcome) (xs : List Done) → BeganCode s r xs → BeganCode s r (takenOf xs) × (final r.state (takenOf xs) ≡ final r.state xs)
+struck-code s r xs b =
+    let k = struck-follows xs r.state b.follows in
+    (record { power = b.power; follows = k.0 }, k.1)

@@ -9,7 +9,7 @@ use Rattle.device_state.specs.declared.shapes.Entry.{Entry}
 use Rattle.device.specs.declared.state.Device.{Device}
 use Rattle.history.specs.Seen.{Seen, Transfer, noTransfer, underWay, errs}
 use Rattle.history.specs.Carried.{load, onward, advanced, transfer}
-use Rattle.history.proofs.Class.{Is, Unbegun, Same, Carried, Class, plain, again, freely, halts, resets, sweeps, takes, opens, carries, ends}
+use Rattle.history.proofs.Class.{Is, Unbegun, Same, Carried, Class, plain, pages, again, freely, halts, resets, sweeps, takes, opens, carries, ends}
 use Rattle.history.proofs.Spans.{Empty, advanced-none, onward-some}
 use Rattle.history.proofs.Sets.{no-busy}
 
@@ -70,6 +70,7 @@ opened-tag t u phase x y = ap (λ (p : Option ℕ). unwrap_or p 0) (sym x ∙ y)
 -- each kind of effect keeps it so
 pub phased-step : (d d' : Device) (e : Seen) → Phased d → Class d e d' → Phased d'
 phased-step d d' e i (plain s u k) = phased-same d d' i k.phase k.outstanding
+phased-step d d' e i (pages de s u x k) = phased-same d d' i k.phase k.outstanding
 phased-step d d' e i (again q s u ha o k) = phased-same d d' i k.phase k.outstanding
 phased-step d d' e i (freely s u ha o k) = phased-same d d' i k.phase k.outstanding
 phased-step d d' e i (halts q ba fa s u a ha w k) = phased-shut d' k.phase
@@ -97,11 +98,11 @@ pub transfer-stays : (e : Seen) (n : List Seen) → errs e || e.asks.resets ≡ 
 transfer-stays e n x u y = transfer-on e n x ∙ u (advanced e (transfer n)) ∙ advanced-none e (transfer n) y
 
 -- nothing is sent and nothing brought
-pub empty_of : {e : Seen} {qu ac ba fa re sw : Bool} {fi cl : ℕ → Bool} → Is e qu ac ba fa re sw fi cl 0 0 → Empty e
+pub empty_of : {e : Seen} {qu ac ba fa re sw de : Bool} {fi cl : ℕ → Bool} → Is e qu ac ba fa re sw de fi cl 0 0 → Empty e
 empty_of s = record { sends = s.sends; brings = s.brings }
 
 -- whether an event is an error or a reset
-pub closing : {e : Seen} {qu ac ba fa re sw : Bool} {fi cl : ℕ → Bool} {se br : ℕ} → Is e qu ac ba fa re sw fi cl se br → errs e || e.asks.resets ≡ (ba || fa) || re
+pub closing : {e : Seen} {qu ac ba fa re sw de : Bool} {fi cl : ℕ → Bool} {se br : ℕ} → Is e qu ac ba fa re sw de fi cl se br → errs e || e.asks.resets ≡ (ba || fa) || re
 closing s = rw (s.bad, s.fails, s.resets)
 
 -- a halt is an error
@@ -143,6 +144,7 @@ transfer-whole x t z = rw z
 -- each kind of effect: what is under way by a history is what the state's phase stands for
 pub whole-transfer-step : (d d' : Device) (e : Seen) (n : List Seen) → Phased d → transfer n ≡ transferOf d → Class d e d' → transfer (e ∷ n) ≡ transferOf d'
 whole-transfer-step d d' e n i f (plain s u k) = transfer-stays e n (closing s) u (empty_of s) ∙ f ∙ sym (transfer-same d d' k)
+whole-transfer-step d d' e n i f (pages de s u x k) = transfer-stays e n (closing s) u (empty_of s) ∙ f ∙ sym (transfer-same d d' k)
 whole-transfer-step d d' e n i f (again q s u ha o k) = transfer-closed e n (closing s) ∙ sym (transfer-shut d' (k.phase ∙ phase-none d i o))
 whole-transfer-step d d' e n i f (freely s u ha o k) = transfer-closed e n (closing s) ∙ sym (transfer-shut d' (k.phase ∙ phase-none d i o))
 whole-transfer-step d d' e n i f (halts q ba fa s u a ha w k) =

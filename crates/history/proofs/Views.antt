@@ -83,7 +83,7 @@ all-payloads (f ∷ fs) h =
 
 module _ (k : Asked) where
   -- no reply
-  pub is-silent : k.queued ≡ false → Is (view k []) false false false false k.resets false none none 0 k.brings
+  pub is-silent : k.queued ≡ false → Is (view k []) false false false false k.resets false false none none 0 k.brings
   unfolding view some collect
   is-silent q = record {
     queued = q;
@@ -92,6 +92,7 @@ module _ (k : Asked) where
     fails = refl;
     resets = refl;
     sweeps = and-false k.command;
+    delivers = and-false (k.reads 0x10);
     finishes = λ t. and-false (not k.command);
     clears = λ t. refl;
     sends = refl;
@@ -99,7 +100,7 @@ module _ (k : Asked) where
   }
 
   -- a bad answer
-  pub is-bad : (f : DevReg) → errIn f.status ≡ true → k.command ≡ true → k.resets ≡ false → k.brings ≡ 0 → Is (view k (device f ∷ [])) k.queued false true false false false none none 0 0
+  pub is-bad : (f : DevReg) → errIn f.status ≡ true → k.command ≡ true → k.resets ≡ false → k.brings ≡ 0 → Is (view k (device f ∷ [])) k.queued false true false false false false none none 0 0
   unfolding view some collect
   is-bad f e c r b = record {
     queued = refl;
@@ -108,6 +109,7 @@ module _ (k : Asked) where
     fails = refl;
     resets = r;
     sweeps = and-false k.command;
+    delivers = and-false (k.reads 0x10);
     finishes = λ t. and-false (not k.command);
     clears = λ t. refl;
     sends = refl;
@@ -119,7 +121,7 @@ module _ (k : Asked) where
   and-always false = refl
 
   -- a good answer
-  pub is-good : (f : DevReg) → errIn f.status ≡ false → k.resets ≡ false → k.brings ≡ 0 → Is (view k (device f ∷ [])) k.queued k.queued false false false false none none 0 0
+  pub is-good : (f : DevReg) → errIn f.status ≡ false → k.resets ≡ false → k.brings ≡ 0 → Is (view k (device f ∷ [])) k.queued k.queued false false false false false none none 0 0
   unfolding view some collect
   is-good f e r b = record {
     queued = refl;
@@ -128,6 +130,7 @@ module _ (k : Asked) where
     fails = refl;
     resets = r;
     sweeps = and-false k.command;
+    delivers = and-false (k.reads 0x10);
     finishes = λ t. and-false (not k.command);
     clears = λ t. refl;
     sends = refl;
@@ -136,7 +139,7 @@ module _ (k : Asked) where
 
   -- a page
   pub is-page : (f : PioSetup) (p : List ℕ) → k.queued ≡ false → k.resets ≡ false → k.brings ≡ 0
-      → Is (view k (pio f ∷ payload p ∷ [])) false false false false false false none none 0 0
+      → Is (view k (pio f ∷ payload p ∷ [])) false false false false false false (k.reads 0x10) none none 0 0
   unfolding view some collect
   is-page f p q r b = record {
     queued = q;
@@ -145,6 +148,7 @@ module _ (k : Asked) where
     fails = refl;
     resets = r;
     sweeps = and-false k.command;
+    delivers = and-always (k.reads 0x10);
     finishes = λ t. and-false (not k.command);
     clears = λ t. refl;
     sends = refl;
@@ -152,16 +156,17 @@ module _ (k : Asked) where
   }
 
   -- the sweep, and a page
-  pub is-swept : (s : SetBits) (f : PioSetup) (p : List ℕ) → errIn s.status ≡ false → k.command ≡ true → k.queued ≡ false → k.resets ≡ false → k.brings ≡ 0
-      → Is (view k (setBits s ∷ pio f ∷ payload p ∷ [])) false false false false false true none (λ t. names t s || false) 0 0
+  pub is-swept : (s : SetBits) (f : PioSetup) (p : List ℕ) → errIn s.status ≡ false → k.command ≡ true → k.reads 0x10 ≡ true → k.queued ≡ false → k.resets ≡ false → k.brings ≡ 0
+      → Is (view k (setBits s ∷ pio f ∷ payload p ∷ [])) false false false false false true true none (λ t. names t s || false) 0 0
   unfolding view some collect
-  is-swept s f p e c q r b = record {
+  is-swept s f p e c n q r b = record {
     queued = q;
     accepted = rw q;
     bad = and-false k.command;
     fails = rw e;
     resets = r;
     sweeps = rw c;
+    delivers = rw n;
     finishes = λ t. rw c;
     clears = λ t. refl;
     sends = refl;
@@ -173,7 +178,7 @@ or-none true = refl
 or-none false = refl
 
 -- an A1h without ERR that answers no command
-pub is-finish : (s : SetBits) → errIn s.status ≡ false → Is (view quiet (setBits s ∷ [])) false false false false false false (bitIn 32 s.active) (bitIn 32 s.active) 0 0
+pub is-finish : (s : SetBits) → errIn s.status ≡ false → Is (view quiet (setBits s ∷ [])) false false false false false false false (bitIn 32 s.active) (bitIn 32 s.active) 0 0
 unfolding view some collect
 is-finish s e = record {
   queued = refl;
@@ -182,6 +187,7 @@ is-finish s e = record {
   fails = rw e;
   resets = refl;
   sweeps = refl;
+  delivers = refl;
   finishes = λ t. rw e (or-none (bitIn 32 s.active t));
   clears = λ t. or-none (bitIn 32 s.active t);
   sends = refl;
@@ -189,7 +195,7 @@ is-finish s e = record {
 }
 
 -- an A1h with ERR and an empty field
-pub is-failed : (s : SetBits) → errIn s.status ≡ true → s.active ≡ 0 → Is (view quiet (setBits s ∷ [])) false false false true false false none none 0 0
+pub is-failed : (s : SetBits) → errIn s.status ≡ true → s.active ≡ 0 → Is (view quiet (setBits s ∷ [])) false false false true false false false none none 0 0
 unfolding view some collect
 is-failed s e z = record {
   queued = refl;
@@ -198,6 +204,7 @@ is-failed s e z = record {
   fails = rw e;
   resets = refl;
   sweeps = refl;
+  delivers = refl;
   finishes = λ t. rw e;
   clears = λ t. or-none (bitIn 32 s.active t) ∙ ap (λ (n : ℕ). bitIn 32 n t) z ∙ no-bit t;
   sends = refl;
@@ -205,26 +212,15 @@ is-failed s e z = record {
 }
 
 -- COMRESET and its signature
-pub is-reset : (f : DevReg) → errIn f.status ≡ false → Is (view resetAsks (device f ∷ [])) false false false false true false none none 0 0
+pub is-reset : (f : DevReg) → errIn f.status ≡ false → Is (view resetAsks (device f ∷ [])) false false false false true false false none none 0 0
 unfolding view some collect
-is-reset f e = record {
-  queued = refl;
-  accepted = refl;
-  bad = refl;
-  fails = refl;
-  resets = refl;
-  sweeps = refl;
-  finishes = λ t. refl;
-  clears = λ t. refl;
-  sends = refl;
-  brings = refl;
-}
+is-reset f e = record { queued = refl; accepted = refl; bad = refl; fails = refl; resets = refl; sweeps = refl; delivers = refl; finishes = λ t. refl; clears = λ t. refl; sends = refl; brings = refl }
 
 -- a DMA Setup, for a write with an Activate
-pub is-setup : (f : DmaSetup) (w : Bool) → Is (view quiet (setup f ∷ activateIf w)) false false false false false false none none 0 0
+pub is-setup : (f : DmaSetup) (w : Bool) → Is (view quiet (setup f ∷ activateIf w)) false false false false false false false none none 0 0
 unfolding view some collect
-is-setup f true = record { queued = refl; accepted = refl; bad = refl; fails = refl; resets = refl; sweeps = refl; finishes = λ t. refl; clears = λ t. refl; sends = refl; brings = refl }
-is-setup f false = record { queued = refl; accepted = refl; bad = refl; fails = refl; resets = refl; sweeps = refl; finishes = λ t. refl; clears = λ t. refl; sends = refl; brings = refl }
+is-setup f true = record { queued = refl; accepted = refl; bad = refl; fails = refl; resets = refl; sweeps = refl; delivers = refl; finishes = λ t. refl; clears = λ t. refl; sends = refl; brings = refl }
+is-setup f false = record { queued = refl; accepted = refl; bad = refl; fails = refl; resets = refl; sweeps = refl; delivers = refl; finishes = λ t. refl; clears = λ t. refl; sends = refl; brings = refl }
 
 -- and what it begins
 pub setup-begins : (f : DmaSetup) (w : Bool) (x : Transfer) → (view quiet (setup f ∷ activateIf w)).begins x ≡ underWay f.to_host f.tag f.offset (f.offset + f.count)
@@ -233,13 +229,13 @@ setup-begins f true x = refl
 setup-begins f false x = refl
 
 -- host data, with an Activate if more is left
-pub is-brought : (n : ℕ) (on : Bool) → Is (view (dataAsks n) (activateIf on)) false false false false false false none none 0 n
+pub is-brought : (n : ℕ) (on : Bool) → Is (view (dataAsks n) (activateIf on)) false false false false false false false none none 0 n
 unfolding view some collect
-is-brought n true = record { queued = refl; accepted = refl; bad = refl; fails = refl; resets = refl; sweeps = refl; finishes = λ t. refl; clears = λ t. refl; sends = refl; brings = refl }
-is-brought n false = record { queued = refl; accepted = refl; bad = refl; fails = refl; resets = refl; sweeps = refl; finishes = λ t. refl; clears = λ t. refl; sends = refl; brings = refl }
+is-brought n true = record { queued = refl; accepted = refl; bad = refl; fails = refl; resets = refl; sweeps = refl; delivers = refl; finishes = λ t. refl; clears = λ t. refl; sends = refl; brings = refl }
+is-brought n false = record { queued = refl; accepted = refl; bad = refl; fails = refl; resets = refl; sweeps = refl; delivers = refl; finishes = λ t. refl; clears = λ t. refl; sends = refl; brings = refl }
 
 -- device data
-pub is-sent : (p : List ℕ) → Is (view quiet (payload p ∷ [])) false false false false false false none none (length p) 0
+pub is-sent : (p : List ℕ) → Is (view quiet (payload p ∷ [])) false false false false false false false none none (length p) 0
 unfolding view some collect
 is-sent p = record {
   queued = refl;
@@ -248,6 +244,7 @@ is-sent p = record {
   fails = refl;
   resets = refl;
   sweeps = refl;
+  delivers = refl;
   finishes = λ t. refl;
   clears = λ t. refl;
   sends = ap length (append-nil p);

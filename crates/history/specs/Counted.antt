@@ -1,14 +1,11 @@
 -- The events that a counter has counted since its zeroing, from calls and replies alone. Assumes nothing.
-use Rattle.std.specs.Prelude.{Bool, ◌&&◌, List, [], ◌∷◌, ℕ, ◌+◌, min, eqb, Option, Some, None}
+use Rattle.std.specs.Prelude.{Bool, ◌&&◌, List, [], ◌∷◌, map, ℕ, ◌+◌, min, eqb, Option, Some, None}
 use Rattle.bits.specs.Pick.{pick}
 use Rattle.page_rows.specs.Rows.{kept, row_of}
 use Rattle.history.specs.Event.{Event, taken}
 use Rattle.history.specs.Replied.{paged}
-use Rattle.history.specs.Reading.{rowRaised, callZeroes, callReads}
-
--- page 11h was sent
-abbrev pub sends11 : Event → Bool
-sends11 e = taken e && (paged e && callReads 0x11 e.call)
+use Rattle.history.specs.Carried.{span}
+use Rattle.history.specs.Reading.{rowRaised, callZeroes}
 
 -- an event zeroes the counters: taken BIST, or a good read of page 11h with bit 0
 abbrev pub zeroes : Event → Bool
@@ -26,6 +23,10 @@ countedIn r (e ∷ h) = pick (zeroes e) 0 (pick (raisesRow r e) 1 0 + countedIn 
 -- held at the top
 abbrev pub told : ℕ → List Event → ℕ
 told r h = min 4294967295 (countedIn r h)
+
+-- the sixteen rows, each as it was counted
+abbrev pub counts : List Event → List ℕ
+counts h = map (λ row. told row h) (span 0 16)
 
 -- what a page must show of a row: for a kept one its count; absent for one that is not kept, and where there is no row
 abbrev pub toldAt : ℕ → List Event → Option ℕ → Option ℕ

@@ -1,5 +1,5 @@
 -- Demand 3 and the truth of the counters, said of a history: of calls, refusals and bytes. The newest event stands first. Assumes nothing.
-use Rattle.std.specs.Prelude.{◌≡◌, Bool, true, false, ◌&&◌, ◌||◌, List, [], ◌∷◌, ◌++◌, map, ℕ, ◌+◌, ◌≤◌, ◌<◌, ltb, length, take, drop, Ok}
+use Rattle.std.specs.Prelude.{◌≡◌, Bool, true, false, ◌||◌, List, [], ◌∷◌, ◌++◌, map, ℕ, ◌+◌, ◌≤◌, ◌<◌, ltb, length, take, drop, Ok}
 use Rattle.std.specs.Option.{option_map}
 use Rattle.page_11h.specs.Page11.{readCounter, rowValue, noNumber}
 use Rattle.history.specs.Event.{Event}
@@ -9,8 +9,8 @@ use Rattle.history.specs.Seen.{Seen, seen, Transfer, noTransfer, underWay}
 use Rattle.history.specs.Fates.{Command, commands, ownTag, outstandingAt, finishedAt, givenUpAt, droppedAt, outstanding, finished, givenUp, dropped, one, howMany, All, total, totalWith}
 use Rattle.history.specs.Waits.{sactive, waits, givenUpThere, badSince}
 use Rattle.history.specs.Carried.{transfer, span, base, size, belongs, carried, NoStray}
-use Rattle.history.specs.ReplyRules.{ReplyRules}
-use Rattle.history.specs.Counted.{sends11, toldFor}
+use Rattle.history.specs.Counted.{toldFor}
+use Rattle.history.specs.Placed.{owns, written}
 
 -- exactly one of four
 abbrev pub exactlyOne : Bool → Bool → Bool → Bool → Type 0
@@ -45,7 +45,7 @@ Ranges h = All (λ c. (finished c ≡ true → carried c ≡ span (base c) (size
 -- and none of it stands behind the medium's end
 pub record Moved (e : Event) (toHost : Bool) (at : ℕ) : Type 0 where
   pub read : toHost ≡ true → sent e ≡ take (length (sent e)) (drop at e.medium)
-  pub written : toHost ≡ false → e.left ≡ take at e.medium ++ (brought e ++ drop (at + length (brought e)) e.medium)
+  pub written : toHost ≡ false → e.left ≡ written at (brought e) e.medium
   pub within : toHost ≡ false → 0 < length (brought e) → at + length (brought e) ≤ length e.medium
 
 -- the data of an event that belongs to a command
@@ -56,7 +56,7 @@ MovedOf e c (underWay d t a z) = belongs c.accepted.asks.write (ownTag c) d t �
 -- what is under way is the data of exactly one command, which is outstanding
 abbrev pub Owned : Transfer → List Command → Type 0
 Owned noTransfer cs = Unit
-Owned (underWay d t a z) cs = howMany (λ c. outstanding c && belongs c.accepted.asks.write (ownTag c) d t) cs ≡ 1
+Owned (underWay d t a z) cs = howMany (owns d t) cs ≡ 1
 
 -- a Setup under way ends where the command's range ends
 abbrev pub Reaches : Command → Transfer → Type 0
@@ -94,15 +94,10 @@ Depth depth h = total h ≤ depth
 abbrev pub OnePerTag : List Seen → Type 0
 OnePerTag h = (t : ℕ) → t < 32 → totalWith t h ≤ 1
 
--- every event says no more than it may after those before it, and what it must
-unfoldable pub AllReplyRules : List Event → Type 0
-AllReplyRules [] = Unit
-AllReplyRules (e ∷ h) = ReplyRules e (map seen h) × AllReplyRules h
-
--- every page 11h ever sent, read by the reader's definition, gives for each kept row its events since its zeroing, held at the top, and absent for every other number
+-- every page 11h ever delivered, read by the reader's definition, gives for each kept row its events since its zeroing, held at the top, and absent for every other number
 unfoldable pub Counters : ℕ → List Event → Type 0
 Counters mask [] = Unit
-Counters mask (e ∷ h) = (sends11 e ≡ true → (number : ℕ) → noNumber number ≡ false → readCounter (page e) number ≡ Ok (option_map rowValue (toldFor mask h number))) × Counters mask h
+Counters mask (e ∷ h) = ((seen e).delivers 0x11 ≡ true → (number : ℕ) → noNumber number ≡ false → readCounter (page e) number ≡ Ok (option_map rowValue (toldFor mask h number))) × Counters mask h
 
 -- demand 3 whole, and the truth of the counters
 pub record Demand3 (deep mask : ℕ) (h : List Event) : Type 0 where
@@ -113,5 +108,4 @@ pub record Demand3 (deep mask : ℕ) (h : List Event) : Type 0 where
   pub waiting : Waiting (map seen h)
   pub depth : Depth deep (map seen h)
   pub single : OnePerTag (map seen h)
-  pub reply-rules : AllReplyRules h
   pub counters : Counters mask h

@@ -2,8 +2,9 @@
 use Rattle.std.specs.Prelude.{Bool, true, false, not, ◌&&◌, ◌||◌, ℕ, eqb}
 use Rattle.frame_parts.specs.Shared.{tag_of, sectorsOf, srstOf}
 use Rattle.frames.specs.declared.shapes.HostReg.{HostReg}
+use Rattle.history.specs.Logs.{readsLog}
 
--- a command; a queued one, whether it writes, its tag, first sector and count; a reset; the bytes of host data
+-- a command; a queued one, whether it writes, its tag, first sector and count; whether it reads a page of the logs, by the page's number; a reset; the bytes of host data
 pub record Asked : Type 0 where
   pub command : Bool
   pub queued : Bool
@@ -11,14 +12,15 @@ pub record Asked : Type 0 where
   pub tag : ℕ
   pub first : ℕ
   pub count : ℕ
+  pub reads : ℕ → Bool
   pub resets : Bool
   pub brings : ℕ
 
 -- nothing of all that
 abbrev pub quiet : Asked
-quiet = record { command = false; queued = false; write = false; tag = 0; first = 0; count = 0; resets = false; brings = 0 }
+quiet = record { command = false; queued = false; write = false; tag = 0; first = 0; count = 0; reads = λ page. false; resets = false; brings = 0 }
 
--- 27h: C 1 is a command, 60h and 61h are queued, 61h writes; C 0 with SRST is a reset
+-- 27h: C 1 is a command, 60h and 61h are queued, 61h writes, 2Fh reads a page; C 0 with SRST is a reset
 abbrev pub registerAsks : HostReg → Asked
 registerAsks h = record {
   command = h.command_bit;
@@ -27,14 +29,15 @@ registerAsks h = record {
   tag = tag_of h.task.count;
   first = h.task.lba;
   count = sectorsOf h.features h.features_high;
+  reads = λ page. readsLog page h;
   resets = not h.command_bit && srstOf h.control;
   brings = 0;
 }
 
 -- 46h brings its payload
 abbrev pub dataAsks : ℕ → Asked
-dataAsks n = record { command = false; queued = false; write = false; tag = 0; first = 0; count = 0; resets = false; brings = n }
+dataAsks n = record { command = false; queued = false; write = false; tag = 0; first = 0; count = 0; reads = λ page. false; resets = false; brings = n }
 
 -- COMRESET is a reset
 abbrev pub resetAsks : Asked
-resetAsks = record { command = false; queued = false; write = false; tag = 0; first = 0; count = 0; resets = true; brings = 0 }
+resetAsks = record { command = false; queued = false; write = false; tag = 0; first = 0; count = 0; reads = λ page. false; resets = true; brings = 0 }

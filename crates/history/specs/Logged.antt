@@ -9,10 +9,9 @@ use Rattle.frames.specs.declared.shapes.Frame.TheVariants.{Host}
 use Rattle.page_10h.specs.Page10.{page10, read_log}
 use Rattle.page_10h.specs.declared.page10.ErrorLog.{ErrorLog}
 use Rattle.rules.specs.Call.{Call, hostFrame, mediaError}
-use Rattle.history.specs.Event.{Event, taken}
+use Rattle.history.specs.Event.{Event}
 use Rattle.history.specs.FrameAsks.{registerAsks}
-use Rattle.history.specs.Reading.{callReads}
-use Rattle.history.specs.Replied.{FrameRead, frames, registerIn, collect, paged, page}
+use Rattle.history.specs.Replied.{FrameRead, frames, registerIn, collect, page}
 use Rattle.history.specs.Seen.{Seen, seen, accepts}
 use Rattle.history.specs.Waits.{raises, waits}
 
@@ -77,21 +76,21 @@ callLog answered h _ = blankLog
 abbrev pub haltsAt : Seen → List Seen → Bool
 haltsAt e h = raises e h && not (waits h)
 
--- it stays until the next halt, or SRST or COMRESET; reading leaves it
+-- it stays until the next halt, which sets it to what was raised, or SRST or COMRESET, which clear it; reading leaves it
+abbrev pub logNext : Seen → List Seen → ErrorLog → ErrorLog → ErrorLog
+logNext e h raised log = pick (haltsAt e h) raised (pick e.asks.resets blankLog log)
+
+-- what it is after a history, blank at power-on
 unfoldable pub logBy : List Event → ErrorLog
 logBy [] = blankLog
-logBy (e ∷ h) = pick (haltsAt (seen e) (map seen h)) (callLog (errorIn e) h e.call) (pick (seen e).asks.resets blankLog (logBy h))
-
--- page 10h was sent
-abbrev pub sends10 : Event → Bool
-sends10 e = taken e && (paged e && callReads 0x10 e.call)
+logBy (e ∷ h) = logNext (seen e) (map seen h) (callLog (errorIn e) h e.call) (logBy h)
 
 -- it tells the record, byte for byte, and its reader gives each field
 pub record TellsHalt (e : Event) (h : List Event) : Type 0 where
   pub bytes : page e ≡ page10 (logBy h)
   pub fields : read_log (page e) ≡ Ok (logBy h)
 
--- of every page 10h, however often it is read
+-- of every page 10h delivered, however often it is read
 unfoldable pub LogTold : List Event → Type 0
 LogTold [] = Unit
-LogTold (e ∷ h) = (sends10 e ≡ true → TellsHalt e h) × LogTold h
+LogTold (e ∷ h) = ((seen e).delivers 0x10 ≡ true → TellsHalt e h) × LogTold h

@@ -6,7 +6,7 @@ use Rattle.frames.specs.Read.{readFrame}
 use Rattle.rules.specs.Call.{Call, hostFrame, openPhase, sendData, finishTags, mediaError, linkEvent, comReset}
 use Rattle.history.specs.Replied.{FrameRead, dataIn}
 use Rattle.history.specs.FrameAsks.{Asked, quiet, resetAsks}
-use Rattle.history.specs.FrameReading.{frameAsks, frameZeroes, frameReads, frameReplies}
+use Rattle.history.specs.FrameReading.{frameAsks, frameZeroes, frameReplies}
 
 -- what a taken call says of commands: none is finished; just a set of tags is finished, without ERR; an error, by an A1h with ERR, and none is finished
 pub data Speech : Type 0 where
@@ -15,23 +15,22 @@ pub data Speech : Type 0 where
   errorTold : Speech
 
 -- of a call: what it asks for; its host data; the row whose counter it raises once it is taken, 16 for none;
--- whether it zeroes the counters, by whether a page answers it; whether it asks for a page; what it says; the replies that it may have, by their kinds in their order
+-- whether it zeroes the counters, by whether a page answers it; what it says; the replies that it may have, by their kinds in their order
 pub record Reading : Type 0 where
   pub asks : Asked
   pub hostData : List ℕ
   pub row : ℕ
   pub zeroes : Bool → Bool
-  pub reads : ℕ → Bool
   pub says : Speech
   pub replies : List (List ℕ)
 
 -- a host frame, read by the frame reader's own definition
 abbrev pub hostReading : List ℕ → FrameRead → Reading
-hostReading p f = record { asks = frameAsks f; hostData = dataIn p f; row = 16; zeroes = λ on. frameZeroes on f; reads = λ page. frameReads page f; says = noneFinished; replies = frameReplies f }
+hostReading p f = record { asks = frameAsks f; hostData = dataIn p f; row = 16; zeroes = λ on. frameZeroes on f; says = noneFinished; replies = frameReplies f }
 
--- a device event brings no host data, zeroes nothing and asks for no page
+-- a device event brings no host data and zeroes nothing
 abbrev pub deviceEvent : Asked → ℕ → Speech → List (List ℕ) → Reading
-deviceEvent k r s rs = record { asks = k; hostData = []; row = r; zeroes = λ on. false; reads = λ page. false; says = s; replies = rs }
+deviceEvent k r s rs = record { asks = k; hostData = []; row = r; zeroes = λ on. false; says = s; replies = rs }
 
 -- open: DMA Setup, and for a write an Activate; send: one data frame; finish and media error: one A1h; link event: none; COMRESET: the signature.
 -- A media error whose byte has bit 7 raises row 0 (001h), COMRESET row 9 (00Ah), a link event its row.
@@ -62,10 +61,6 @@ rowRaised c = (reading_of c).row
 -- it zeroes the counters
 abbrev pub callZeroes : Bool → Call → Bool
 callZeroes on c = (reading_of c).zeroes on
-
--- it asks for a page
-abbrev pub callReads : ℕ → Call → Bool
-callReads page c = (reading_of c).reads page
 
 -- what it says
 abbrev pub callSays : Call → Speech

@@ -1,5 +1,6 @@
 -- What every event is turned down for, by the history before it: the table of refusals, from settings, calls, lengths, and the refusals and frames of the calls before it. Assumes nothing.
-use Rattle.std.specs.Prelude.{◌≡◌, Bool, true, false, not, ◌&&◌, ◌||◌, List, [], ◌∷◌, ℕ, zero, suc, ◌*◌, eqb, leb, ltb, length, Ok}
+use Rattle.std.specs.Prelude.{◌≡◌, Bool, true, false, not, ◌&&◌, ◌||◌, List, [], ◌∷◌, ℕ, zero, suc, ◌*◌, ◌%◌, eqb, leb, ltb, length, get_or, Ok}
+use Rattle.bits.specs.Pick.{pick}
 use Rattle.bits.specs.Bit.{bitIn}
 use Rattle.refusals.specs.First.{Rung, rung, first_of}
 use Rattle.refusals.specs.declared.reasons.Refusal.TheVariants.{Contradiction, MediumLength, ReplyShort, NoHostFrame, WrongTime, TooLong, TagIdle, PhaseOpen, AllMoved, NoReadPhase, SetUnready, OutsideCommand, NoRow}
@@ -21,14 +22,15 @@ wrongMedium capacity e = not (eqb (length e.medium) (512 * capacity))
 
 -- 3: reply buffer under 8,196
 abbrev pub shortBuffer : Event → Bool
-shortBuffer e = ltb e.room 8196
+shortBuffer e = ltb (length e.buffer) 8196
 
--- 4: frame type not 27h, 46h, 58h; or not read at all, for its length
-abbrev pub notHeard : FrameRead → Bool
-notHeard (Ok (Host h)) = false
-notHeard (Ok (Data n)) = false
-notHeard (Ok Bist) = false
-notHeard _ = true
+-- a frame that a host sends has its kind's length: 27h 20 bytes, 58h 12, and 46h 8 to 8,196 in steps of 4
+abbrev pub hostLength : ℕ → ℕ → Bool
+hostLength kind n = pick (eqb kind 0x27) (eqb 20 n) (pick (eqb kind 0x58) (eqb 12 n) (eqb kind 0x46 && (leb 8 n && leb n 8196 && eqb (n % 4) 0)))
+
+-- 4: frame type not 27h, 46h, 58h; wrong length
+abbrev pub notHeard : List ℕ → Bool
+notHeard f = not (hostLength (get_or f 0 0) (length f))
 
 -- a write phase is open
 abbrev pub writeOpen : Transfer → Bool
@@ -67,7 +69,7 @@ noRow mask r = eqb r 0 || (eqb r 9 || (ltb 15 r || not (bitIn 16 mask r)))
 -- 2 to 13 of each call, in the order of their numbers, after a history h
 unfoldable pub ownTests : ℕ → ℕ → Event → List Event → Call → List Rung
 ownTests capacity mask e h (hostFrame f) =
-    rung MediumLength (wrongMedium capacity e) ∷ rung ReplyShort (shortBuffer e) ∷ rung NoHostFrame (notHeard (readFrame f)) ∷ rung WrongTime (untimely (readFrame f) h) ∷ rung TooLong (tooLong (readFrame f) h) ∷ []
+    rung MediumLength (wrongMedium capacity e) ∷ rung ReplyShort (shortBuffer e) ∷ rung NoHostFrame (notHeard f) ∷ rung WrongTime (untimely (readFrame f) h) ∷ rung TooLong (tooLong (readFrame f) h) ∷ []
 ownTests capacity mask e h (openPhase t) =
     rung ReplyShort (shortBuffer e) ∷ rung TagIdle (not (isOut t h)) ∷ rung PhaseOpen (isOpen (underWayAfter h)) ∷ rung AllMoved (outstandingWith t whole h) ∷ []
 ownTests capacity mask e h sendData = rung MediumLength (wrongMedium capacity e) ∷ rung ReplyShort (shortBuffer e) ∷ rung NoReadPhase (eqb (leftOf true (underWayAfter h)) 0) ∷ []

@@ -11,7 +11,7 @@ use Rattle.frames.specs.declared.shapes.PioSetup.{PioSetup}
 use Rattle.frames.specs.declared.shapes.Frame.{Frame}
 use Rattle.frames.specs.declared.shapes.Frame.TheVariants.{Device, Bits, Setup, Data, Pio}
 use Rattle.refusals.specs.declared.reasons.Refusal.{Refusal}
-use Rattle.history.specs.Event.{Event}
+use Rattle.history.specs.Event.{Event, replied}
 
 -- a frame as its reader answers it: what it reads, or a refusal
 abbrev pub FrameRead : Type 0
@@ -19,7 +19,7 @@ FrameRead = Result Frame Refusal
 
 -- the replies, each as its bytes
 abbrev pub repliesIn : Event → List (List ℕ)
-repliesIn e = cut e.reply
+repliesIn e = cut (replied e)
 
 -- the replies as the reader sees them
 abbrev pub frames : Event → List FrameRead

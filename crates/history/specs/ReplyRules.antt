@@ -1,13 +1,13 @@
 -- What an event may say after those before it: which replies, in which order, and which tags, errors and pages they may tell of.
--- Of what stands in a reply besides, such as an error byte or the command's bytes, nothing is said here: the calls' contracts do. Assumes nothing.
-use Rattle.std.specs.Prelude.{◌≡◌, true, false, ◌&&◌, ◌||◌, List, [], ℕ, ◌+◌, ◌<◌, Result, Ok, Err}
+-- All of it follows from the tables (`reply-rules-follow`): Answered says every byte. Here it stands in the words of the rules, for whoever reads an archive frame by frame. Assumes nothing.
+use Rattle.std.specs.Prelude.{◌≡◌, true, false, ◌||◌, List, [], ◌∷◌, map, ℕ, ◌+◌, ◌<◌, Result, Ok, Err}
 use Rattle.bits.specs.Bit.{bitIn}
 use Rattle.page_10h.specs.Page10.{read_log}
 use Rattle.refusals.specs.declared.reasons.Refusal.{Refusal}
 use Rattle.page_10h.specs.declared.page10.ErrorLog.{ErrorLog}
-use Rattle.history.specs.Event.{Event, taken}
+use Rattle.history.specs.Event.{Event, taken, replied}
 use Rattle.history.specs.Asked.{asks}
-use Rattle.history.specs.Reading.{Speech, noneFinished, setFinished, errorTold, callReads, callSays, callReplies}
+use Rattle.history.specs.Reading.{Speech, noneFinished, setFinished, errorTold, callSays, callReplies}
 use Rattle.history.specs.Replied.{frames, some, errIn, registerIn, collect, faultyIn, paged, page}
 use Rattle.history.specs.Shapes.{kinds, OneOf}
 use Rattle.history.specs.Seen.{Seen, seen, Transfer, errs, accepts}
@@ -29,17 +29,17 @@ abbrev pub TellsError : Result ErrorLog Refusal → Type 0
 TellsError (Ok f) = errIn f.status ≡ true
 TellsError (Err r) = ⊥
 
--- the sweep in an event e after a history h: sent only while an error waits, to a read of page 10h and with the page; it has no ERR itself, and the page behind it has
+-- the sweep in an event e after a history h: sent only while an error waits, with page 10h, to a host that asked for it; it has no ERR itself, and the page behind it has
 pub record Swept (e : Event) (h : List Seen) : Type 0 where
   pub waiting : waits h ≡ true
-  pub answers : callReads 0x10 e.call && paged e ≡ true
+  pub answers : (seen e).delivers 0x10 ≡ true
   pub clean : (seen e).fails ≡ false
   pub tells : TellsError (read_log (page e))
 
 -- an event e after a history h
 pub record ReplyRules (e : Event) (h : List Seen) : Type 0 where
   -- a refused call replies nothing; a taken one has one of the replies that it may have, so that each can be read
-  pub silent : taken e ≡ false → e.reply ≡ []
+  pub silent : taken e ≡ false → replied e ≡ []
   pub shaped : taken e ≡ true → OneOf (kinds e) (callReplies e.call)
   -- a 34h with ERR answers a command: the signature has none
   pub blames : some (λ r. errIn r.status) (collect registerIn (frames e)) ≡ true → (asks e).command ≡ true
@@ -48,13 +48,15 @@ pub record ReplyRules (e : Event) (h : List Seen) : Type 0 where
   -- a 5Fh has no ERR: it announces a good answer
   pub faultless : faultyIn (frames e) ≡ false
   -- a page answers a taken read of page 10h or 11h
-  pub asked : paged e ≡ true → taken e && (callReads 0x10 e.call || callReads 0x11 e.call) ≡ true
+  pub asked : paged e ≡ true → (asks e).reads 0x10 || (asks e).reads 0x11 ≡ true
   -- what is named finished is outstanding: no dead command is called finished
   pub named : (t : ℕ) → t < 32 → (seen e).finishes t ≡ true → totalWith t h ≡ 1
   -- and is what was asked for
   pub spoken : Spoken e (callSays e.call)
   -- a command is answered by no A1h but the sweep
   pub swept : (seen e).sweeps ≡ true → Swept e h
+  -- and while an error waits page 10h is delivered only behind it
+  pub behind : waits h ≡ true → (seen e).delivers 0x10 ≡ true → (seen e).sweeps ≡ true
   -- the rest follows from silent, shaped and asked, and is said for those who read on
   -- a taken queued command is answered, and good or bad, not both
   pub answered : (seen e).asks.queued ≡ true → one (accepts (seen e)) + one (seen e).bad ≡ 1
@@ -62,3 +64,8 @@ pub record ReplyRules (e : Event) (h : List Seen) : Type 0 where
   pub alone : 0 < (seen e).sends + (seen e).asks.brings → ((x : Transfer) → (seen e).begins x ≡ x) × ((t : ℕ) → ends t (seen e) ≡ false)
   -- with an error or a reset nothing begins
   pub shut : errs (seen e) || (seen e).asks.resets ≡ true → (x : Transfer) → (seen e).begins x ≡ x
+
+-- every event
+unfoldable pub AllReplyRules : List Event → Type 0
+AllReplyRules [] = Unit
+AllReplyRules (e ∷ h) = ReplyRules e (map seen h) × AllReplyRules h

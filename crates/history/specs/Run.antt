@@ -1,5 +1,5 @@
 -- Runs of the definitions: any sequence of calls of the device, each given the state that the last one returned. Assumes nothing.
-use Rattle.std.specs.Prelude.{List, [], ◌∷◌, map, length, take}
+use Rattle.std.specs.Prelude.{List, [], ◌∷◌, map, length}
 use Rattle.bits.specs.Laid.{laid}
 use Rattle.device_state.specs.declared.shapes.Settings.{Settings}
 use Rattle.device.specs.Device.{powerOn}
@@ -27,9 +27,10 @@ abbrev pub event : Done → Event
 event x = record {
   call = x.lent.call;
   medium = x.lent.medium;
-  room = length x.lent.buffer;
+  buffer = x.lent.buffer;
   refusal = x.gave.outcome.refusal;
-  reply = take x.gave.outcome.len x.gave.buffer;
+  len = x.gave.outcome.len;
+  filled = x.gave.buffer;
   left = x.gave.medium;
 }
 

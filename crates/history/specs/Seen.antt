@@ -6,7 +6,7 @@ use Rattle.frames.specs.declared.shapes.DmaSetup.{DmaSetup}
 use Rattle.history.specs.Event.{Event}
 use Rattle.history.specs.FrameAsks.{Asked}
 use Rattle.history.specs.Asked.{asks}
-use Rattle.history.specs.Replied.{FrameRead, frames, some, errIn, registerIn, setBitsIn, setupIn, collect, sent}
+use Rattle.history.specs.Replied.{FrameRead, frames, some, isPio, errIn, registerIn, setBitsIn, setupIn, collect, sent}
 
 -- what seems to be under way: nothing; or the data of a tag to the host (D 1) or from it (D 0), at its next byte, up to its end
 pub data Transfer : Type 0 where
@@ -27,6 +27,8 @@ pub record Seen : Type 0 where
   pub fails : Bool
   -- an A1h that answers a host command: the sweep
   pub sweeps : Bool
+  -- a page of the logs, by its number, was delivered to a host that asked for it: a 5Fh, with its page, answers a command that reads it
+  pub delivers : ℕ → Bool
   -- the tags that an A1h without ERR, not the sweep, names
   pub finishes : ℕ → Bool
   -- the bits of every A1h's field
@@ -48,6 +50,7 @@ seenIn a fs n = record {
   bad = a.command && some (λ r. errIn r.status) (collect registerIn fs);
   fails = some (λ f. errIn f.status) (collect setBitsIn fs);
   sweeps = a.command && some (λ f. true) (collect setBitsIn fs);
+  delivers = λ page. a.reads page && some isPio fs;
   finishes = λ t. not a.command && some (λ f. not (errIn f.status) && names t f) (collect setBitsIn fs);
   clears = λ t. some (names t) (collect setBitsIn fs);
   sends = n;

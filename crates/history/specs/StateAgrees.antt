@@ -1,18 +1,19 @@
 -- The state against the history: what the device keeps is what its calls, refusals and reply bytes tell. Assumes nothing.
-use Rattle.std.specs.Prelude.{◌≡◌, false, List, map, ℕ, ◌≤◌, ◌<◌, get_or, Option, None, Result, Ok}
+use Rattle.std.specs.Prelude.{◌≡◌, false, List, map, ℕ, ◌≤◌, ◌<◌, get_or, Option, None, Result}
 use Rattle.std.specs.Int.Count.{ones}
 use Rattle.bits.specs.Bit.{bitIn}
-use Rattle.refusals.specs.First.{refusal_in}
 use Rattle.refusals.specs.declared.reasons.Refusal.{Refusal}
 use Rattle.device_state.specs.declared.shapes.Settings.{Settings}
 use Rattle.device.specs.Counter.{CounterGiven, CountGiven}
+use Rattle.device.specs.DataDue.{dataDue}
 use Rattle.device.specs.Device.{contradictoryDevice, powerOn, zeroDevice}
 use Rattle.device.specs.declared.state.Device.{Device}
 use Rattle.history.specs.Event.{Event}
 use Rattle.history.specs.Seen.{seen}
 use Rattle.history.specs.Fates.{one, total, totalWith}
 use Rattle.history.specs.Waits.{waits}
-use Rattle.history.specs.Counted.{told, toldFor}
+use Rattle.history.specs.Counted.{told}
+use Rattle.history.specs.Polled.{counterPolled, countPolled, duePolled}
 
 -- bit t of the mask is set exactly when a command with tag t, accepted in the history, is outstanding by the history; and there is at most one
 abbrev pub AgreesOutstanding : Device → List Event → Type 0
@@ -26,18 +27,22 @@ AgreesWaits d h = waits (map seen h) ≡ d.status.halted
 abbrev pub AgreesCounters : Device → List Event → Type 0
 AgreesCounters d h = (row : ℕ) → row < 16 → get_or d.values row 0 ≡ told row h
 
--- and so is every answer that `Device::counter` promises for its number, where it is not refused
-abbrev pub AgreesAsked : ℕ → Device → List Event → Type 0
-AgreesAsked mask d h = (number : ℕ) (c : Result (Option ℕ) Refusal) → CounterGiven d number c → refusal_in c ≡ None → c ≡ Ok (toldFor mask h number)
+-- every answer that `Device::counter` promises is what settings and history tell of its number, or its refusal
+abbrev pub AgreesAsked : Settings → Device → List Event → Type 0
+AgreesAsked s d h = (number : ℕ) (c : Result (Option ℕ) Refusal) → CounterGiven d number c → c ≡ counterPolled s.depth s.capacity s.mask h number
 
 -- the ones of the mask are the commands outstanding, at most the depth
 pub record AgreesDepth (depth : ℕ) (d : Device) (h : List Event) : Type 0 where
   pub counted : ones d.status.outstanding ≡ total (map seen h)
   pub most : ones d.status.outstanding ≤ depth
 
--- and so is every answer that `Device::outstanding_count` promises, after a power-on that was taken
+-- and so is every answer that `Device::outstanding_count` promises
 abbrev pub AgreesCount : Settings → Device → List Event → Type 0
-AgreesCount s d h = (powerOn s).refusal ≡ None → (c : Result ℕ Refusal) → CountGiven d c → c ≡ Ok (total (map seen h))
+AgreesCount s d h = (c : Result ℕ Refusal) → CountGiven d c → c ≡ countPolled s.depth s.capacity s.mask h
+
+-- and so is the answer of `Device::data_due`
+abbrev pub AgreesDue : Device → List Event → Type 0
+AgreesDue d h = dataDue d ≡ duePolled h
 
 -- after a power-on that was taken the state does not contradict itself; after a refused one it is all zeros
 pub record AgreesConsistent (s : Settings) (d : Device) : Type 0 where
@@ -49,7 +54,8 @@ pub record StateAgrees (s : Settings) (d : Device) (h : List Event) : Type 0 whe
   pub outstanding : AgreesOutstanding d h
   pub waits : AgreesWaits d h
   pub counters : AgreesCounters d h
-  pub asked : AgreesAsked s.mask d h
+  pub asked : AgreesAsked s d h
   pub depth : AgreesDepth s.depth d h
   pub count : AgreesCount s d h
+  pub due : AgreesDue d h
   pub consistent : AgreesConsistent s d

@@ -1,9 +1,11 @@
 -- Refused calls struck out of a sequence: a refused event counts as not having happened. Each call keeps what was lent to it. Assumes nothing.
-use Rattle.std.specs.Prelude.{List, [], ◌∷◌, is_none}
+use Rattle.std.specs.Prelude.{◌≡◌, List, [], ◌∷◌, is_none}
 use Rattle.bits.specs.Pick.{pick}
+use Rattle.device_state.specs.declared.shapes.Settings.{Settings}
+use Rattle.device.specs.Device.{powerOn}
 use Rattle.device.specs.Lent.{Lent}
 use Rattle.device.specs.declared.state.Device.{Device}
-use Rattle.history.specs.Run.{Done, result}
+use Rattle.history.specs.Run.{Done, result, run_from}
 
 -- of calls as they went, those that were taken
 unfoldable pub takenOf : List Done → List Done
@@ -14,3 +16,7 @@ takenOf (x ∷ xs) = pick (is_none x.gave.outcome.refusal) (x ∷ takenOf xs) (t
 unfoldable pub lentTaken : Device → List Lent → List Lent
 lentTaken d [] = []
 lentTaken d (a ∷ as') = pick (is_none (result d a).outcome.refusal) (a ∷ lentTaken (result d a).outcome.state as') (lentTaken (result d a).outcome.state as')
+
+-- a sequence from power-on without its refused calls goes as before: it ends in the same state, and its calls are those that were taken, as they went
+abbrev pub StruckRun : Settings → List Lent → Type 0
+StruckRun s as' = run_from s (lentTaken (powerOn s).state as') ≡ record { state = (run_from s as').state; calls = takenOf (run_from s as').calls }

@@ -14,10 +14,10 @@ sactive t (e ∷ h) = (asksFor t e || sactive t h) && (not (e.clears t) && not e
 abbrev pub raises : Seen → List Seen → Bool
 raises e h = (e.bad && (e.asks.queued || ltb 0 (total h))) || e.fails
 
--- if none waits; it ends at the sweep, at a taken SRST and at a taken COMRESET
+-- if none waits; it waits to be read, until page 10h is delivered to a host that asked for it, or to a taken SRST or COMRESET
 unfoldable pub waits : List Seen → Bool
 waits [] = false
-waits (e ∷ h) = pick (waits h) (not e.sweeps && not e.asks.resets) (raises e h)
+waits (e ∷ h) = pick (waits h) (not (e.delivers 0x10) && not e.asks.resets) (raises e h)
 
 -- of a history in which an error waits: the events before the one that raised it
 unfoldable pub before : List Seen → List Seen

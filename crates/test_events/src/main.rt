@@ -1,9 +1,11 @@
-// Runs each event file that an argument names under its name: by the run of run_events, by that of trace_events, and by the first again
-// with its input in pieces that hardly hold an event.
+// Runs each event file that an argument names under its name: by the run of run_events, by that of trace_events, by the first again
+// with its input in pieces that hardly hold an event; and last its events by the public calls of a device by value, beside a device that is kept.
 #![tactic(auto)]
 
+mod by_value;
+
 use event_program::{Format, PIECE, run_in_pieces};
-use std::io::Write;
+use std::io::{Read, Write};
 use std::{env, fs, io};
 
 // A file that cannot be opened is told from one whose run stops.
@@ -19,12 +21,35 @@ fn run_file(rt: HostRuntime, path: &str, traced: bool, piece: usize) -> io::Resu
     Ok(())
 }
 
+// All of a file.
+fn read_all(rt: HostRuntime, path: &str) -> io::Result<Vec<u8>> {
+    let mut file = fs::open(&rt, path)?;
+    let mut bytes = Vec::new(rt.alloc());
+    file.read_to_end(&mut bytes)?;
+    Ok(bytes)
+}
+
+// How many events came to the same by value and kept; of a file that cannot be read, none.
+fn compare_file(rt: HostRuntime, path: &str) -> io::Result<()> {
+    let compared = match read_all(rt, path) {
+        Ok(events) => by_value::compare(&events),
+        Err(_) => by_value::compare(&[]),
+    };
+    let outcome = if compared.same {
+        "the same"
+    } else {
+        "NOT THE SAME"
+    };
+    println!(rt; "by value: {}, {outcome}", compared.played)
+}
+
 fn main(rt: HostRuntime) -> io::Result<()> {
     for path in env::args(&rt)?.skip(1) {
         println!(rt; "{path}")?;
         run_file(rt, &path, false, PIECE)?;
         run_file(rt, &path, true, PIECE)?;
         run_file(rt, &path, false, 23)?;
+        compare_file(rt, &path)?;
     }
     Ok(())
 }

@@ -31,6 +31,7 @@ use Rattle.device.specs.Step.{actOf}
 use Rattle.device.specs.Device.{contradictoryDevice, powerOn, freshDevice}
 use Rattle.history.specs.Carried.{carriedAt, span, transfer}
 use Rattle.history.specs.Counted.{countedIn}
+use Rattle.history.specs.Lasting.{HandedOn, newest}
 use Rattle.worked_examples.specs.Story.{story, tagsFrom, lines_of, calls, ExampleShows}
 use Rattle.history.specs.Fates.{commands, outstandingAt, finishedAt, givenUpAt, droppedAt, total, totalWith, howMany}
 use Rattle.history.specs.Replied.{collect, some, payloads}
@@ -84,7 +85,7 @@ typed = all_typed calls refl
 
 -- the run: all four fates, an error that waits and is read, a tag used three times, a page that shows counters
 pub not-empty : ExampleShows
-unfolding first_of over joined cut cut_to firstLength registerBytes readable fixedSize readFrame frameByKind fits encode setupBytes bitsBytes entries entriesFrom id_at page11 openTo rows_to rowBytes fits10 page10 readCounter damaged valueIn ids row_of sealed sum256 contradictory statusBad settingsOut recordBad rowsBad tableBad entryBad busyBad idleBad echoOf taskIn someBelow placed tab cleared registerAct queuedAct otherAct logPage failing someUnready move_of advancedBy stored sentAll sentBytes repliesOf after_of zeroedIf resetHeld movedBy unhalted finishedBy failedBy haltWith released openedFor acceptedBy contradictoryDevice powerOn freshDevice withValue renewed carriedAt span transfer countedIn story tagsFrom lines_of commands outstandingAt finishedAt givenUpAt droppedAt total totalWith howMany collect some payloads run seen begun waits sactive before since movedBad wrongKind wrongTime wrongSize tests frameAct does act touch_of actOf
+unfolding first_of over joined cut cut_to firstLength registerBytes readable fixedSize readFrame frameByKind fits encode setupBytes bitsBytes entries entriesFrom id_at page11 openTo rows_to rowBytes fits10 page10 readCounter damaged valueIn ids row_of sealed sum256 contradictory statusBad settingsOut recordBad rowsBad tableBad entryBad busyBad idleBad echoOf taskIn someBelow placed tab cleared registerAct queuedAct otherAct logPage failing someUnready move_of advancedBy stored sentAll sentBytes repliesOf after_of zeroedIf resetHeld movedBy unhalted finishedBy failedBy haltWith released openedFor acceptedBy contradictoryDevice powerOn freshDevice withValue renewed carriedAt span transfer countedIn story tagsFrom lines_of commands outstandingAt finishedAt givenUpAt droppedAt total totalWith howMany collect some payloads run seen begun waits sactive before since HandedOn newest movedBad wrongKind wrongTime wrongSize tests frameAct does act touch_of actOf
 not-empty = record {
   powered = refl;
   typed = typed;
@@ -99,6 +100,9 @@ not-empty = record {
   written = refl;
   stored = refl;
   rest = refl;
+  handed = (refl, (refl, (refl, (refl, (refl, (refl, (refl, (refl, (refl, (refl, (refl, (refl, (refl, (refl, (refl, (refl, (refl, tt)))))))))))))))));
+  stands = refl;
+  stood = refl;
   blamed = refl;
   bad = refl;
   paged = refl;

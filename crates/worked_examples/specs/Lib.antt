@@ -1,3 +1,4 @@
 pub mod Points
+pub mod Whole
 pub mod Story
 pub mod Second

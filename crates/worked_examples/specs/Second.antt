@@ -1,16 +1,17 @@
 -- Two more runs of the device from power-on. One, of twelve calls, has a held reset and its release, and three errors that each wait and are read:
 -- at a command that is not queued, at a queued one past the capacity, and at one of a tag in use. The other, of nine, moves a read and a write of 17 sectors, each in two data frames. Assumes nothing.
-use Rattle.std.specs.Prelude.{◌≡◌, Bool, true, false, List, [], ◌∷◌, ◌++◌, map, reverse, ℕ, ◌-◌, ◌*◌, length, get_or, drop, replicate, Some, None, Result, Ok}
+use Rattle.std.specs.Prelude.{◌≡◌, Bool, true, false, List, [], ◌∷◌, ◌++◌, map, reverse, ℕ, ◌-◌, ◌*◌, length, get_or, drop, replicate, Some, None, Ok}
 use Rattle.frame_parts.specs.declared.shared.Task.{Task}
 use Rattle.device_state.specs.declared.shapes.Settings.{Settings}
-use Rattle.page_10h.specs.Page10.{read_log}
+use Rattle.frame_parts.specs.Cut.{joined}
+use Rattle.frames.specs.Write.{encode}
+use Rattle.page_10h.specs.Page10.{page10, read_log}
 use Rattle.page_10h.specs.declared.page10.ErrorLog.{ErrorLog}
-use Rattle.refusals.specs.declared.reasons.Refusal.{Refusal}
 use Rattle.refusals.specs.declared.reasons.Refusal.TheVariants.{Contradiction}
 use Rattle.device.specs.Device.{powerOn}
 use Rattle.rules.specs.Call.{Call, hostFrame, openPhase, sendData, finishTags, comReset}
-use Rattle.history.specs.Event.{Event}
-use Rattle.history.specs.Replied.{frames, page, sent}
+use Rattle.history.specs.Event.{Event, replied}
+use Rattle.history.specs.Replied.{page, sent}
 use Rattle.history.specs.Asked.{brought}
 use Rattle.history.specs.Seen.{Seen, seen, Transfer, noTransfer, underWay}
 use Rattle.history.specs.Fates.{Command, commands, ownTag}
@@ -47,7 +48,7 @@ seenTo n h = map seen (upTo n h)
 
 -- its n-th call, from 1 on; of any other number one that nothing was seen of
 abbrev pub call_of : ℕ → List Event → Event
-call_of n h = get_or (upTo n h) 0 (record { call = comReset; medium = []; room = 0; refusal = Some Contradiction; reply = []; left = [] })
+call_of n h = get_or (upTo n h) 0 (record { call = comReset; medium = []; buffer = []; refusal = Some Contradiction; len = 0; filled = []; left = [] })
 
 -- its commands, the oldest first
 abbrev pub commandsOf : List Event → List Command
@@ -97,9 +98,9 @@ logAsked = asked 0x10 0 1
 abbrev pub queuedAsked : ℕ → Task
 queuedAsked t = asked 0 0x40 (8 * t)
 
--- page 10h of an error: NQ, the tag, the error byte, and the bytes of the command that was answered with it
-abbrev pub pageOf : Bool → ℕ → ℕ → Task → Result ErrorLog Refusal
-pageOf n t e k = Ok (record { nq = n; tag = t; status = 0x41; error = e; task = k })
+-- an error as page 10h tells it: NQ, the tag, the error byte, and the bytes of the command that was answered with it
+abbrev pub errorOf : Bool → ℕ → ℕ → Task → ErrorLog
+errorOf n t e k = record { nq = n; tag = t; status = 0x41; error = e; task = k }
 
 -- of an error that waits after the first n calls: the tags given up at it
 abbrev pub givenUpAfter : ℕ → List ℕ
@@ -118,17 +119,17 @@ pub record SecondShows : Type 0 where
   pub tags : map ownTag (commandsOf second) ≡ 0 ∷ 1 ∷ 2 ∷ 4 ∷ []
   -- reset is held from SRST on, which is not answered, until its release, which is answered with the signature
   pub held : map (λ n. holding (upTo n second)) (1 ∷ 2 ∷ 3 ∷ []) ≡ false ∷ true ∷ false ∷ []
-  pub released : frames (call_of 3 second) ≡ Ok signatureReply ∷ []
+  pub released : replied (call_of 3 second) ≡ encode signatureReply
   -- READ LOG EXT of page 10h while a write is outstanding: answered with ERR and 04h; once more: the sweep and the page, which has NQ
-  pub logBad : frames (call_of 5 second) ≡ Ok (answeredBad 0x04 logAsked) ∷ []
-  pub logGood : frames (call_of 6 second) ≡ map Ok (sweepReply ∷ pageReplies logAsked)
-  pub logPage : read_log (page (call_of 6 second)) ≡ pageOf true 0 0x04 logAsked
+  pub logBad : replied (call_of 5 second) ≡ encode (answeredBad 0x04 logAsked)
+  pub logGood : replied (call_of 6 second) ≡ joined (map encode (sweepReply ∷ pageReplies logAsked (page10 (errorOf true 0 0x04 logAsked))))
+  pub logPage : read_log (page (call_of 6 second)) ≡ Ok (errorOf true 0 0x04 logAsked)
   -- two sectors of one, tag 3, while tag 2 is outstanding: ERR and 10h, and so says the page
-  pub farBad : frames (call_of 8 second) ≡ Ok (answeredBad 0x10 (queuedAsked 3)) ∷ []
-  pub farPage : read_log (page (call_of 9 second)) ≡ pageOf false 3 0x10 (queuedAsked 3)
+  pub farBad : replied (call_of 8 second) ≡ encode (answeredBad 0x10 (queuedAsked 3))
+  pub farPage : read_log (page (call_of 9 second)) ≡ Ok (errorOf false 3 0x10 (queuedAsked 3))
   -- a write of tag 4 while a read of tag 4 is outstanding: ERR and 04h, and so says the page
-  pub sameBad : frames (call_of 11 second) ≡ Ok (answeredBad 0x04 (queuedAsked 4)) ∷ []
-  pub samePage : read_log (page (call_of 12 second)) ≡ pageOf false 4 0x04 (queuedAsked 4)
+  pub sameBad : replied (call_of 11 second) ≡ encode (answeredBad 0x04 (queuedAsked 4))
+  pub samePage : read_log (page (call_of 12 second)) ≡ Ok (errorOf false 4 0x04 (queuedAsked 4))
   -- while each of the three waits: the tags given up at it, and those of queued commands answered with an error, the raiser's own
   pub blamed : map givenUpAfter (5 ∷ 8 ∷ 11 ∷ []) ≡ (1 ∷ []) ∷ (2 ∷ []) ∷ (4 ∷ []) ∷ []
   pub bad : map badAfter (5 ∷ 8 ∷ 11 ∷ []) ≡ [] ∷ (3 ∷ []) ∷ (4 ∷ []) ∷ []

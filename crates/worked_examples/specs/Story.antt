@@ -14,7 +14,8 @@ use Rattle.history.specs.Seen.{Seen, seen, underWay}
 use Rattle.history.specs.Fates.{Command, commands, ownTag, outstanding, finished, givenUp, dropped, total}
 use Rattle.history.specs.Waits.{sactive, waits, givenUpThere, badSince}
 use Rattle.history.specs.Carried.{transfer, span, carried}
-use Rattle.history.specs.Counted.{sends11, toldFor}
+use Rattle.history.specs.Counted.{toldFor}
+use Rattle.history.specs.Lasting.{HandedOn, lastWritten}
 use Rattle.device.specs.Lent.{Lent, lent}
 use Rattle.history.specs.Run.{AllTyped, history}
 
@@ -75,7 +76,7 @@ seenAfter n = map seen (after n)
 
 -- the n-th call, from 1 on; of any other number one that nothing was seen of
 abbrev pub nth : ℕ → Event
-nth n = get_or (after n) 0 (record { call = comReset; medium = []; room = 0; refusal = Some Contradiction; reply = []; left = [] })
+nth n = get_or (after n) 0 (record { call = comReset; medium = []; buffer = []; refusal = Some Contradiction; len = 0; filled = []; left = [] })
 
 -- every command of the run, the oldest first
 abbrev pub accepted : List Command
@@ -205,10 +206,14 @@ pub record ExampleShows : Type 0 where
   pub written : brought (nth 9) ≡ replicate 256 7
   pub stored : (nth 9).left ≡ halves 7 5
   pub rest : (nth 10).left ≡ halves 7 8
+  -- each call is lent the medium as the last one left it: of the written halves 7 and 8 stand by the history, and before the second frame still 5 in its half
+  pub handed : HandedOn (sector 5) story
+  pub stands : map (λ p. lastWritten (sector 5) p story) (0 ∷ 255 ∷ 256 ∷ 511 ∷ 512 ∷ []) ≡ Some 7 ∷ Some 7 ∷ Some 8 ∷ Some 8 ∷ None ∷ []
+  pub stood : map (λ p. lastWritten (sector 5) p (after 9)) (0 ∷ 255 ∷ 256 ∷ 511 ∷ []) ≡ Some 7 ∷ Some 7 ∷ Some 5 ∷ Some 5 ∷ []
   -- while the error waits, tags 0 and 3 were given up at it and tag 4 was answered with an error since
   pub blamed : tagsSo (λ t. givenUpThere t (seenAfter 12)) ≡ 0 ∷ 3 ∷ []
   pub bad : tagsSo (λ t. badSince t (seenAfter 12)) ≡ 4 ∷ []
-  -- page 11h was sent; it shows one event of 001h and of 00Ah, and 002h is absent; so says the history before it
-  pub paged : sends11 (nth 16) ≡ true
+  -- page 11h was delivered; it shows one event of 001h and of 00Ah, and 002h is absent; so says the history before it
+  pub paged : (seen (nth 16)).delivers 0x11 ≡ true
   pub shows : threeOf (readCounter (page (nth 16))) ≡ Ok (Some (rowValue 1)) ∷ Ok (Some (rowValue 1)) ∷ Ok None ∷ []
   pub tells : threeOf (toldFor settings.mask (after 15)) ≡ Some 1 ∷ Some 1 ∷ None ∷ []

@@ -1,0 +1,71 @@
+-- Laws of the byte of a position: of what is written at a place, and of what was sent from it. Assumes nothing.
+use Rattle.std.proofs.Common.{Option, Some, None, ◌≡◌, refl, sym, ap, ◌∙◌, Bool, true, false, ⊎_elim, List, [], ◌∷◌, ◌++◌, ℕ, zero, suc, ◌+◌, ◌-◌, ◌≤◌, ◌<◌, suc-add, zero-add, arith, leb, le-leb, leb-true, get_or, length, take, drop, slice_get}
+use Rattle.std.specs.Option.{option_or}
+use Rattle.std.proofs.Math.Nat.{suc-sub-suc}
+use Rattle.std.proofs.Math.Dec.{leb-suc-zero, leb-suc-suc}
+use Rattle.std.proofs.lemmas.Option.{none-some, slice_get-get_or, slice_get_within}
+use Rattle.bits.specs.Pick.{pick}
+use Rattle.bits.proofs.Picks.{tested, pick_yes, pick_no}
+use Rattle.history.specs.Placed.{written, byteAt}
+use Rattle.history.proofs.Placed.{SentFrom, EndsIn, left-same}
+
+-- of a beginning
+get_take : (n : ℕ) (l : List ℕ) (i : ℕ) → i < n → slice_get (take n l) i ≡ slice_get l i
+get_take zero l i k = absurd (omega (arith, k))
+get_take (suc n) [] i k = refl
+get_take (suc n) (x ∷ l) zero k = refl
+get_take (suc n) (x ∷ l) (suc i) k = get_take n l i (omega (arith, k))
+
+-- of what follows
+get_drop : (n : ℕ) (l : List ℕ) (i : ℕ) → slice_get (drop n l) i ≡ slice_get l (n + i)
+get_drop zero l i = rw (zero-add i) refl
+get_drop (suc n) [] i = refl
+get_drop (suc n) (x ∷ l) i = rw (suc-add n i) (get_drop n l i)
+
+-- of bytes laid over the front of others
+get_front : (l m : List ℕ) (p : ℕ) → length l ≤ length m → slice_get (l ++ drop (length l) m) p ≡ option_or (slice_get l p) (slice_get m p)
+get_front [] m p k = refl
+get_front (y ∷ l) [] p k = absurd (omega (arith, k))
+get_front (y ∷ l) (x ∷ m) zero k = refl
+get_front (y ∷ l) (x ∷ m) (suc p) k = get_front l m p (omega (arith, k))
+
+-- of bytes written at a place: these where they stand, elsewhere those of the medium
+get-there : (at : ℕ) (l m : List ℕ) (p : ℕ) → at + length l ≤ length m → slice_get (written at l m) p ≡ option_or (byteAt at l p) (slice_get m p)
+get-there zero l m p k =
+    let s : p - 0 ≡ p = omega arith in
+    rw (zero-add (length l), le-leb 0 p (omega arith), s) (get_front l m p (omega (arith, k)))
+get-there (suc at) l [] p k = absurd (omega (arith, k))
+get-there (suc at) l (x ∷ m) zero k = rw (leb-suc-zero at) refl
+get-there (suc at) l (x ∷ m) (suc p) k = rw (suc-add at (length l), leb-suc-suc at p, suc-sub-suc p at) (get-there at l m p (omega (arith, k)))
+
+-- also where nothing is written
+pub get-written : (at : ℕ) (l m : List ℕ) (p : ℕ) → EndsIn at m l → slice_get (written at l m) p ≡ option_or (byteAt at l p) (slice_get m p)
+get-written at [] m p k = rw (left-same at m (written at [] m) [] refl refl) (none (leb at p))
+  where
+    none : (b : Bool) → slice_get m p ≡ option_or (pick b None None) (slice_get m p)
+    none true = refl
+    none false = refl
+get-written at (x ∷ l) m p k = get-there at (x ∷ l) m p (k (omega arith))
+
+-- one or else another or else a third
+pub or-else : (a b c : Option ℕ) → option_or a (option_or b c) ≡ option_or (option_or a b) c
+or-else None b c = refl
+or-else (Some x) b c = refl
+
+-- a byte of what is sent is the medium's
+pub sent-byte : (at : ℕ) (m l : List ℕ) (p b : ℕ) → SentFrom at m l → byteAt at l p ≡ Some b → slice_get m p ≡ Some b
+sent-byte at m l p b s k =
+    ⊎_elim
+    (λ (y : leb at p ≡ true).
+    let i : ℕ = p - at in
+    let there : slice_get l i ≡ Some b = sym (pick_yes (leb at p) (slice_get l i) None y) ∙ k in
+    let place : at + i ≡ p = omega (arith, leb-true at p y) in
+    ap (slice_get m) (sym place) ∙ sym (get_drop at m i) ∙ sym (get_take (length l) (drop at m) i (slice_get_within l i b there)) ∙ ap (λ (v : List ℕ). slice_get v i) (sym s) ∙ there)
+    (λ (n : leb at p ≡ false). absurd (none-some b (sym (pick_no (leb at p) (slice_get l (p - at)) None n) ∙ k)))
+    (tested (leb at p))
+
+-- the byte at a position of those that stand from a place on
+pub byte-there : (at i : ℕ) (l : List ℕ) → i < length l → byteAt at l (at + i) ≡ Some (get_or l i 0)
+byte-there at i l k =
+    let s : at + i - at ≡ i = omega arith in
+    rw (le-leb at (at + i) (omega arith), s) (slice_get-get_or l i 0 k)

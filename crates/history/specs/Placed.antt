@@ -1,0 +1,37 @@
+-- Where in the medium the data that are under way stand: a command's range, from its first byte on. Assumes nothing.
+use Rattle.std.specs.Prelude.{Bool, ◌&&◌, List, ◌++◌, map, ℕ, ◌+◌, ◌-◌, leb, length, take, drop, find, slice_get, Option, None}
+use Rattle.std.specs.Option.{option_map_or}
+use Rattle.bits.specs.Pick.{pick}
+use Rattle.history.specs.Event.{Event}
+use Rattle.history.specs.Seen.{seen, Transfer, noTransfer, underWay}
+use Rattle.history.specs.Fates.{Command, commands, ownTag, outstanding}
+use Rattle.history.specs.Carried.{transfer, base, belongs}
+
+-- data of tag t are those of an outstanding command: a read's to the host (D 1), a write's from it (D 0)
+abbrev pub owns : Bool → ℕ → Command → Bool
+owns d t c = outstanding c && belongs c.accepted.asks.write (ownTag c) d t
+
+-- the command whose data are under way; where nothing is, none
+abbrev pub ownerIn : List Command → Transfer → Option Command
+ownerIn cs noTransfer = None
+ownerIn cs (underWay d t a z) = find (owns d t) cs
+
+-- the next byte of what is under way, counted in the medium from the first byte of that command's range; where nothing is, 0
+abbrev pub placeIn : List Command → Transfer → ℕ
+placeIn cs noTransfer = 0
+placeIn cs (underWay d t a z) = option_map_or base (ownerIn cs (underWay d t a z)) 0 + a
+
+-- each after a history
+abbrev pub ownerOf : List Event → Option Command
+ownerOf h = ownerIn (commands (map seen h)) (transfer (map seen h))
+
+abbrev pub placeOf : List Event → ℕ
+placeOf h = placeIn (commands (map seen h)) (transfer (map seen h))
+
+-- a medium with these bytes at that place, otherwise as it was
+abbrev pub written : ℕ → List ℕ → List ℕ → List ℕ
+written at bytes medium = take at medium ++ (bytes ++ drop (at + length bytes) medium)
+
+-- the byte of position p among bytes at that place
+abbrev pub byteAt : ℕ → List ℕ → ℕ → Option ℕ
+byteAt at bytes p = pick (leb at p) (slice_get bytes (p - at)) None

@@ -1,0 +1,11 @@
+-- Power-on by the settings alone. Assumes nothing.
+use Rattle.std.specs.Prelude.{◌≡◌, [], ◌∷◌, ℕ, Option}
+use Rattle.refusals.specs.First.{rung, first_of}
+use Rattle.refusals.specs.declared.reasons.Refusal.{Refusal}
+use Rattle.refusals.specs.declared.reasons.Refusal.TheVariants.{Contradiction}
+use Rattle.history.specs.Refused.{outOfBounds}
+
+-- refused with 1 exactly where the settings are out of bounds, and no reply
+pub record Powered (deep capacity mask : ℕ) (refusal' : Option Refusal) (len : ℕ) : Type 0 where
+  pub refusal : refusal' ≡ first_of (rung Contradiction (outOfBounds deep capacity mask) ∷ [])
+  pub silent : len ≡ 0

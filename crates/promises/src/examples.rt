@@ -1,0 +1,31 @@
+// Of examples, computed: what the definitions give of them is what stands there.
+ghost use Rattle.worked_examples.specs.Points.{Hold, examples as all};
+ghost use Rattle.worked_examples.specs.Whole.{Placed, wholeFrames, WholeShows};
+ghost use Rattle.worked_examples.specs.Story.{ExampleShows};
+ghost use Rattle.worked_examples.specs.Second.{SecondShows, LongShows};
+
+/// Eleven of the bytes of pages and replies, P1 to P11.
+pub fn points()
+    ensures { Hold all }
+{}
+
+/// A frame of each kind and both pages, no two fields alike, byte for byte.
+pub fn bytes_in_full()
+    ensures frames { Placed wholeFrames }
+    ensures pages { WholeShows }
+{}
+
+/// A run in which every fate occurs.
+pub fn every_fate_occurs()
+    ensures { ExampleShows }
+{}
+
+/// A run with a held reset and its release, and three errors that each wait and are read.
+pub fn errors_and_resets_occur()
+    ensures { SecondShows }
+{}
+
+/// A run that moves a read and a write of 17 sectors, each in two data frames.
+pub fn long_moves_occur()
+    ensures { LongShows }
+{}

@@ -1,0 +1,17 @@
+// What is promised, a function each, in the order in which docs/DEMAND3.md tells it: no code, and the contract is the sentence.
+// A promise that is dropped, or no longer holds, is refused here by the toolchain.
+#![tactic(auto)]
+
+mod examples;
+mod histories;
+mod written;
+
+pub use examples::{
+    bytes_in_full, errors_and_resets_occur, every_fate_occurs, long_moves_occur, points,
+};
+pub use histories::{
+    answered_exactly, any_state_serves, carried_once, counters_told, errors_told, exists_always,
+    finished_writes_stand, no_choice_left, no_refusal_matters, one_fate, one_per_tag, polls_told,
+    powered_exactly, refused_exactly, sactive_names, state_told, within_depth,
+};
+pub use written::{counters_read_back, errors_read_back, frames_read_back, frames_write_back};

@@ -1,0 +1,140 @@
+// The same events twice over: by the public calls of `Device`, which take the state and hand it back, and by those of the
+// device that is kept. State, refusal, length, reply buffer and medium must be the same behind each.
+use device::{Device, Outcome, Sealed};
+use event_kinds::{EVENT_LIMIT, Kind, RUN_CAPACITY_LIMIT, Request};
+use frame_parts::{DATA_FRAME_LIMIT, DATA_HEAD, DATA_HEAD_SIZE};
+
+const MEDIUM_LIMIT: usize = (RUN_CAPACITY_LIMIT as usize) * Device::SECTOR_SIZE;
+
+/// How a file's events compare: how many were played, power-on among them, and whether all came to the same.
+#[derive(Clone, Copy)]
+pub struct Compared {
+    pub played: usize,
+    pub same: bool,
+}
+
+// What a device is lent, and what it leaves there.
+#[derive(Drop)]
+struct Lent {
+    medium: [u8; MEDIUM_LIMIT],
+    reply: [u8; Device::REPLY_SIZE],
+}
+
+impl Lent {
+    fn new() -> Lent {
+        Lent {
+            medium: [0; MEDIUM_LIMIT],
+            reply: [0; Device::REPLY_SIZE],
+        }
+    }
+}
+
+// Host data of the length due; where none is due, 4 bytes, which the device refuses.
+fn host_data(device: Device, byte: u8, medium: &mut [u8], reply: &mut [u8]) -> Outcome {
+    let mut frame = [byte; DATA_FRAME_LIMIT];
+    frame[..DATA_HEAD_SIZE].copy_from_slice(&DATA_HEAD);
+    let end = DATA_HEAD_SIZE
+        + device
+            .data_due()
+            .unwrap_or(4)
+            .min(DATA_FRAME_LIMIT - DATA_HEAD_SIZE);
+    device.host_frame(&frame[..end], medium, reply)
+}
+
+// One event to a public call of the device.
+fn call(
+    device: Device,
+    event: &[u8],
+    request: Request,
+    medium: &mut [u8],
+    reply: &mut [u8],
+) -> Outcome {
+    match request {
+        Request::OpenPhase(tag) => device.open(tag, reply),
+        Request::SendData => device.send(medium, reply),
+        Request::FinishTags(set) => device.finish(set, reply),
+        Request::MediaError { tag, error, sector } => device.media_error(tag, error, sector, reply),
+        Request::LinkEvent(row) => device.link_event(row),
+        Request::ComReset => device.comreset(reply),
+        Request::HostData(byte) => host_data(device, byte, medium, reply),
+        Request::HostFrame => device.host_frame(event, medium, reply),
+    }
+}
+
+// The next event of the input, and what is behind it.
+fn next_event(input: &[u8], first: bool) -> Option<(&[u8], &[u8])> {
+    let kind = Kind::from_byte(*input.first()?)?;
+    if kind.is_misplaced(first) {
+        return None;
+    }
+    input.split_at_checked(kind.body_length().checked_add(1)?)
+}
+
+// The events behind power-on, each played both ways.
+fn play_on(device: Device, sealed: Sealed, events: &[u8]) -> Compared {
+    let mut device = device;
+    let mut sealed = sealed;
+    let mut handed = Lent::new();
+    let mut kept = Lent::new();
+    let size = device.settings.medium_size().min(MEDIUM_LIMIT);
+    let mut rest = events;
+    let mut compared = Compared {
+        played: 1,
+        same: device == sealed.device,
+    };
+    for _ in 0..events.len() {
+        let Some((event, behind)) = next_event(rest, false) else {
+            break;
+        };
+        let Some(request) = event_kinds::request_of(event) else {
+            break;
+        };
+        let outcome = call(
+            device,
+            event,
+            request,
+            &mut handed.medium[..size],
+            &mut handed.reply,
+        );
+        let answer = events::play(
+            &mut sealed,
+            event,
+            &mut kept.medium[..size],
+            &mut kept.reply,
+        );
+        compared.played = compared.played.saturating_add(1);
+        compared.same = compared.same
+            && outcome == sealed.device.with(answer)
+            && handed.medium == kept.medium
+            && handed.reply == kept.reply;
+        device = outcome.state;
+        rest = behind;
+    }
+    compared
+}
+
+/// Plays the events of a file both ways, from the settings record on.
+pub fn compare(input: &[u8]) -> Compared {
+    let nothing = Compared {
+        played: 0,
+        same: true,
+    };
+    let Some((record, events)) = next_event(input, true) else {
+        return nothing;
+    };
+    let begun = events::start(record);
+    let Some(settings) = event_kinds::settings_asked(record) else {
+        return Compared {
+            played: 1,
+            same: begun.is_err(),
+        };
+    };
+    let outcome = Device::power_on(settings);
+    match begun {
+        Ok(sealed) => play_on(outcome.state, sealed, events),
+        Err(refusal) => Compared {
+            played: 1,
+            same: outcome == Device::default().with(Err(refusal)),
+        },
+    }
+}
