@@ -136,3 +136,6 @@ held-by None r ps b h = b
 pub plays-history : (e : List ℕ) (ps : List Play) → EachPlay PlayGiven (start_of e).state ps → EachPlay PlayContinues (start_of e).state ps × HeldBy (asked_of e) (start_of e) ps
 unfolding start_of
 plays-history e ps h = ((plays-given (start_of e).state ps h).0, held-by (asked_of e) (start_of e) ps refl h)
+
+-- what the check needs for events
+pub ruleset events = (begins-by, play-continues, plays-told)

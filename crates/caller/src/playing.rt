@@ -1,4 +1,6 @@
 // One event each, with any medium and any reply buffer: what is proved is what the contracts of `events` tell a caller.
+#![tactic(auto, using(crate::proofs::Plays::events))]
+
 ghost use Rattle.device.specs.Lent.{gave, answered};
 ghost use Rattle.event_kinds.specs.Settings.{asked_of};
 ghost use Rattle.caller.specs.Playing.{play as played, BeginsBy, PlayContinues, PlaysContinue, GivenPlaysHold, GivenPlaysTold};

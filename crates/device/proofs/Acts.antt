@@ -1,8 +1,8 @@
 -- SRST, release, a halt and its end, a media error and zeroed counters leave a state that does not contradict itself. Assumes nothing.
-use Rattle.std.proofs.Common.{Option, Some, None, is_none, unwrap_or, ◌≡◌, refl, Bool, true, false, not, ◌&&◌, ◌||◌, ℕ, eqb, ltb}
+use Rattle.std.proofs.Common.{Option, Some, None, is_none, unwrap_or, ◌≡◌, refl, Bool, true, false, not, ◌&&◌, ◌||◌, ℕ, eqb, ltb, arith}
 use Rattle.bits.specs.Bit.{bitIn}
 use Rattle.contradictions.specs.Clauses.{statusBad, recordBad, phaseIdle, contradictory}
-use Rattle.bits.proofs.Picks.{by-test, or_right}
+use Rattle.bits.proofs.Picks.{by-test}
 use Rattle.rules.specs.declared.acts.Fault.{Fault}
 use Rattle.device.specs.Device.{contradictoryDevice}
 use Rattle.device_state.specs.declared.shapes.Status.{Status}
@@ -26,18 +26,11 @@ zeroed-good d false h = h
 -- a status that is not halted, and one that is not held: of tests
 not-halted : (halted held busy set idle : Bool) → (((halted || held) && busy) || (halted && held)) || ((held && set) || idle) ≡ false
     → (((false || held) && busy) || (false && held)) || ((held && set) || idle) ≡ false
-not-halted true true true set idle e = e
-not-halted true true false set idle e = or_right true (set || idle) e
-not-halted true false busy set idle e = or_right (busy || false) idle e
-not-halted false held busy set idle e = e
+not-halted halted held busy set idle e = grind arith
 
 not-held : (halted held busy set idle : Bool) → (((halted || held) && busy) || (halted && held)) || ((held && set) || idle) ≡ false
     → (((halted || false) && busy) || (halted && false)) || ((false && set) || idle) ≡ false
-not-held true true true set idle e = e
-not-held true true false set idle e = or_right true idle e
-not-held true false busy set idle e = e
-not-held false true busy set idle e = or_right set idle (or_right (busy || false) (set || idle) e)
-not-held false false busy set idle e = e
+not-held halted held busy set idle e = grind arith
 
 abbrev statusAgain : Device → Bool → Bool → Status
 statusAgain d halted held = record { outstanding = d.status.outstanding; phase = d.status.phase; halted = halted; held = held }

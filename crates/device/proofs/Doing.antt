@@ -1,5 +1,5 @@
 -- From what a call comes to, to the contract: a refusal leaves all as it was; of an act that is done the replies are all sent, and its state is handed back. Assumes nothing.
-use Rattle.std.proofs.Common.{Result, Ok, Err, ◌≡◌, refl, sym, ap, subst, ◌∙◌, Bool, true, false, List, [], ⊎_elim, ℕ, zero, suc, leb, length, take, drop}
+use Rattle.std.proofs.Common.{Result, Ok, Err, ◌≡◌, refl, sym, ap, subst, ◌∙◌, Bool, true, false, List, [], ⊎_elim, ℕ, leb, length, take, drop, arith}
 use Rattle.std.specs.Result.{IsErrAnd}
 use Rattle.std.proofs.lemmas.Result.{err_from_is_err_and}
 use Rattle.bits.specs.Pick.{pick}
@@ -57,8 +57,7 @@ room-enough d l a part e =
     (tested (handed l.call).buffer)
   where
     nothing : (y : Bool) → pick {A = List FrameValue} y [] [] ≡ []
-    nothing true = refl
-    nothing false = refl
+    nothing y = grind arith
 
 -- an act that is the call's, done
 given_by : (d : Device) (l : Lent) (a : Act) (part m' b' : List ℕ) (d' : Device) (n : ℕ) → Ok a ≡ actOf d l → part ≡ part_of a l.medium → m' ≡ mediumAfter a (frameIn l.call) l.medium
@@ -77,12 +76,10 @@ given_by d l a part m' b' d' n e p m s w =
 -- ---- what is sent of the medium, and what stays of it
 
 none_dropped : (n : ℕ) → drop {A = ℕ} n [] ≡ []
-none_dropped zero = refl
-none_dropped (suc n) = refl
+none_dropped n = grind arith
 
 none-taken : (n : ℕ) → take {A = ℕ} n [] ≡ []
-none-taken zero = refl
-none-taken (suc n) = refl
+none-taken n = grind arith
 
 -- of a medium that was not lent nothing is sent
 pub part_none : (t : Touch) → [] ≡ sentBy t []

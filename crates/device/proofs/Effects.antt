@@ -1,5 +1,5 @@
 -- What each change of the state does, said of its parts; and of every act: settings, record, phase, bytes. Assumes nothing.
-use Rattle.std.proofs.Common.{Option, None, is_none, ◌≡◌, refl, sym, subst, Bool, true, false, true≢false, ℕ, ◌<◌, lit<, replicate}
+use Rattle.std.proofs.Common.{Option, None, is_none, ◌≡◌, refl, sym, subst, Bool, true, false, true≢false, ℕ, ◌<◌, lit<, replicate, arith}
 use Rattle.bits.specs.Pick.{pick}
 use Rattle.bits.specs.Bit.{bitIn}
 use Rattle.device_state.specs.State.{blankRecord, zeroEcho}
@@ -100,13 +100,11 @@ pub record ActLaws (d : Device) (a : Act) : Type 0 where
 -- nor does a media error
 failed-settings : (d : Device) (f : Fault) → (b : Bool) → (haltWith (pick b (withValue d 0) d) f).settings ≡ d.settings
 unfolding haltWith withValue
-failed-settings d f true = refl
-failed-settings d f false = refl
+failed-settings d f b = grind arith
 
 -- what moves closes a phase, or leaves it
 still : (last : Bool) (phase : Option ℕ) → is_none (pick last None phase) ≡ false → is_none phase ≡ false
-still true phase e = absurd (true≢false e)
-still false phase e = e
+still last phase e = grind arith
 
 -- one more event at a row leaves record and table
 raised-wide : (d : Device) (row : ℕ) → Wide d → Wide (withValue d row)

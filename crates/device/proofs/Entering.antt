@@ -1,7 +1,5 @@
 -- The entry of a queued command that is taken is right for its tag: its bytes name that tag and its range. Assumes nothing.
-use Rattle.std.proofs.Common.{◌≡◌, refl, Bool, true, false, not, ◌||◌, ℕ, ◌+◌, ◌*◌, ◌^◌, ◌≤◌, ◌<◌, arith, ltb, leb, eqb, eq-eqb, ltb-false}
-use Rattle.bits.proofs.Picks.{by-test, or_left, or_right}
-use Rattle.page_rows.specs.Rows.{keepsBoth}
+use Rattle.std.proofs.Common.{◌≡◌, refl, Bool, true, false, not, ◌||◌, ℕ, ◌+◌, ◌^◌, ◌≤◌, ◌<◌, arith, ltb, leb, eqb, eq-eqb, ltb-false}
 use Rattle.frame_parts.specs.Shared.{tag_of, sectorsOf}
 use Rattle.frames.specs.declared.shapes.HostReg.{HostReg}
 use Rattle.device_state.specs.State.{taskIn, tagIn, whole_of, echoOf}
@@ -17,17 +15,12 @@ tag_small count = omega arith
 
 -- a command asks for some sectors
 some-sectors : (features high : ℕ) → eqb (sectorsOf features high) 0 ≡ false
-some-sectors features high =
-    by-test (λ (n : ℕ). eqb n 0 ≡ false) (eqb (high * 256 + features) 0) 65536 (high * 256 + features) (λ _. refl) (λ x. x)
+some-sectors features high = grind arith
 
 -- capacity is at most 65,536
 pub capacity-most : (s : Settings) → settingsOut s ≡ false → s.capacity ≤ 65536
 unfolding settingsOut
-capacity-most s h =
-    let depth : Bool = ltb s.depth 1 || ltb 32 s.depth in
-    let capacity : Bool = ltb s.capacity 1 || ltb 65536 s.capacity in
-    ltb-false 65536 s.capacity
-    (or_right (ltb s.capacity 1) (ltb 65536 s.capacity) (or_right depth capacity (or_left (depth || capacity) (not (keepsBoth s.mask)) h)))
+capacity-most s h = grind arith
 
 -- of tests: none of the clauses of an outstanding tag's entry
 clauses : (above past zero tag first count moved : Bool) → above ≡ false → past ≡ false → zero ≡ false → tag ≡ true → first ≡ true → count ≡ true

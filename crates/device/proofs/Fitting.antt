@@ -1,6 +1,5 @@
 -- Every reply of a taken call can be written: nothing is left out. Assumes nothing.
 use Rattle.std.proofs.Common.{Some, Result, Ok, ◌≡◌, refl, Bool, true, false, not, ◌&&◌, ◌||◌, List, [], ◌∷◌, ℕ, zero, suc, ◌<◌, arith, eqb, length, get_or, lt-ltb, ltb-true, ltb-false}
-use borrow.Author.Tests.{not-false}
 use Rattle.bits.specs.Little.{byte_of, Bytes}
 use Rattle.bits.proofs.Picks.{by-test, and_left, or_left, or_right}
 use Rattle.frame_parts.specs.Shared.{taskFits, below}
@@ -55,8 +54,7 @@ echo-bytes t h =
 
 -- what a record shows, if it does not contradict itself
 shows : (nq : Bool) (tag : ℕ) → nq && not (eqb tag 0) ≡ false → not nq || eqb tag 0 ≡ true
-shows true tag h = not-false (eqb tag 0) h
-shows false tag h = refl
+shows nq tag h = grind arith
 
 pub record-fits : (d : Device) → SizedRecord d → contradictoryDevice d ≡ false → fits10 (logOf d.errors) ≡ true
 unfolding fits10 recordBad taskIn

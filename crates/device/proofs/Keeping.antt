@@ -1,5 +1,5 @@
 -- A taken link event never makes a state that contradicts itself. Assumes nothing.
-use Rattle.std.proofs.Common.{◌≡◌, true, false, not, ◌||◌, List, ⊎_elim, ℕ, eqb, ltb, leb, get_or, set, get_or-set_other, eqb-true}
+use Rattle.std.proofs.Common.{◌≡◌, true, false, not, ◌||◌, List, ⊎_elim, ℕ, eqb, ltb, leb, get_or, set, get_or-set_other, eqb-true, arith}
 use borrow.Author.Tests.{not-false, eqb-false}
 use Rattle.bits.proofs.Picks.{tested, and_left, and_right, or_left, or_right}
 use Rattle.page_rows.specs.Rows.{kept, keepsBoth}
@@ -24,20 +24,12 @@ kept-rows mask values row v k h =
 -- what is found where a state does not contradict itself
 pub rows-good : (d : Device) → contradictoryDevice d ≡ false → rowsBad d.settings.mask d.values ≡ false
 unfolding contradictoryDevice contradictory
-rows-good d h =
-    or_right
-    ((settingsOut d.settings || tableBad d.settings d.entries d.status.outstanding d.status.phase) || (statusBad d.status d.errors.set || recordBad d.errors))
-    (rowsBad d.settings.mask d.values)
-    h
+rows-good d h = grind arith
 
 pub rest-good : (d : Device) → contradictoryDevice d ≡ false
     → (settingsOut d.settings || tableBad d.settings d.entries d.status.outstanding d.status.phase) || (statusBad d.status d.errors.set || recordBad d.errors) ≡ false
 unfolding contradictoryDevice contradictory
-rest-good d h =
-    or_left
-    ((settingsOut d.settings || tableBad d.settings d.entries d.status.outstanding d.status.phase) || (statusBad d.status d.errors.set || recordBad d.errors))
-    (rowsBad d.settings.mask d.values)
-    h
+rest-good d h = grind arith
 
 pub settings-good : (d : Device) → contradictoryDevice d ≡ false → settingsOut d.settings ≡ false
 settings-good d h =

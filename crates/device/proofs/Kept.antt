@@ -1,5 +1,5 @@
 -- A kept device is known by its device, and an answer by the outcome that it stands for. Assumes nothing.
-use Rattle.std.proofs.Common.{Option, Some, None, Result, Ok, Err, ◌≡◌, refl, sym, ap, ◌∙◌, true, false, true≢false, ℕ}
+use Rattle.std.proofs.Common.{Option, Some, None, Result, Ok, Err, ◌≡◌, sym, ap, ◌∙◌, true, false, true≢false, ℕ, arith}
 use mathlib.Core.Bool.{Bool-set}
 use mathlib.Core.HLevel.{is_prop→PathP}
 use Rattle.refusals.specs.declared.reasons.Refusal.{Refusal}
@@ -34,8 +34,7 @@ sealed-once d (Err e) (Err e') p q = ap Err (p.0 ∙ sym q.0)
 
 -- its state is the one that is left in place
 pub answered-state : (d : Device) (r : Result ℕ Refusal) → (answered d r).state ≡ d
-answered-state d (Ok n) = refl
-answered-state d (Err e) = refl
+answered-state d r = grind arith
 
 -- the answer that an outcome stands for
 abbrev answer_by : Option Refusal → ℕ → Result ℕ Refusal
@@ -46,8 +45,7 @@ abbrev answer_of : Outcome → Result ℕ Refusal
 answer_of o = answer_by o.refusal o.len
 
 answer_back : (d : Device) (r : Result ℕ Refusal) → r ≡ answer_of (answered d r)
-answer_back d (Ok n) = refl
-answer_back d (Err e) = refl
+answer_back d r = grind arith
 
 -- one outcome has one answer, and one state
 pub same-answer : (d d' : Device) (r r' : Result ℕ Refusal) → answered d r ≡ answered d' r' → r ≡ r'

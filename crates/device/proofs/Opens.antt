@@ -1,18 +1,18 @@
 -- As many tags are outstanding as the table holds commands, and never more than the depth. Assumes nothing.
-use Rattle.std.proofs.Common.{◌≡◌, refl, sym, ap, ◌∙◌, Bool, true, false, not, ◌&&◌, ◌||◌, List, [], ◌∷◌, ⊎_elim, ℕ, ◌+◌, ◌*◌, ◌/◌, ◌%◌, ◌^◌, ◌≤◌, ◌<◌, mod-lt, div-le_self, div-add-mod', lt_of_le_of_lt, lt_of_lt_of_le, arith, leb, eqb, pow_pos, pow_mono, shr-shr, lt-ltb, le-leb, eqb-true}
+use Rattle.std.proofs.Common.{◌≡◌, refl, sym, ap, ◌∙◌, Bool, true, false, ◌||◌, List, [], ◌∷◌, ⊎_elim, ℕ, ◌+◌, ◌*◌, ◌/◌, ◌%◌, ◌^◌, ◌≤◌, ◌<◌, mod-lt, div-le_self, div-add-mod', lt_of_le_of_lt, lt_of_lt_of_le, arith, leb, eqb, pow_pos, pow_mono, shr-shr, lt-ltb, le-leb, eqb-true}
 use native.Mathlib.Nat.{zero-div, div-eq_of_lt}
 use lib.Count.{ones, ones-le}
-use borrow.Author.Tests.{not-false, eqb-false}
+use borrow.Author.Tests.{eqb-false}
 use Rattle.bits.specs.Bit.{bitIn}
 use Rattle.std.proofs.lemmas.Nat.Bits.{bit_at-lt, same_from_bits_below}
 use Rattle.std.proofs.lemmas.Bool.{cases_lt}
-use Rattle.bits.proofs.Picks.{tested, and_left, and_right, or_left, or_right}
+use Rattle.bits.proofs.Picks.{tested, or_left, or_right}
 use Rattle.bits.proofs.Tables.{ones-tied}
 use Rattle.std.specs.List.{sum_by}
 use Rattle.std.proofs.lemmas.List.Sums.{sum_by-cons}
 use Rattle.device_state.specs.State.{zeroEntry}
 use Rattle.device_state.specs.Table.{entry_of}
-use Rattle.contradictions.specs.Clauses.{aboveDepth, pastCapacity, countZero, otherTag, otherRange, echoSet, movedBad, busyBad, idleBad, entryBad}
+use Rattle.contradictions.specs.Clauses.{aboveDepth, pastCapacity, countZero, otherTag, otherRange, movedBad, busyBad, idleBad, entryBad}
 use Rattle.device_state.specs.declared.shapes.Settings.{Settings}
 use Rattle.device_state.specs.declared.shapes.Entry.{Entry}
 use Rattle.device.specs.Device.{contradictoryDevice}
@@ -45,14 +45,7 @@ busy-depth s e t phase h =
 -- an idle tag has none
 idle-count : (e : Entry) → idleBad e ≡ false → eqb e.count 0 ≡ true
 unfolding idleBad
-idle-count e h =
-    let head : Bool = not e.write && eqb e.first 0 in
-    let count : Bool = eqb e.count 0 in
-    let moved : Bool = eqb e.moved 0 in
-    let low : Bool = eqb e.features 0 in
-    let high : Bool = eqb e.features_high 0 in
-    let all = not-false (head && count && moved && low && high) (or_left (not (head && count && moved && low && high)) (echoSet e.echo) h) in
-    and_right head count (and_left (head && count) moved (and_left (head && count && moved) low (and_left (head && count && moved && low) high all)))
+idle-count e h = grind arith
 
 -- a bit is 0 or 1
 zero_bit : (n : ℕ) → n < 2 → eqb n 1 ≡ false → n ≡ 0

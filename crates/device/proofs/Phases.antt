@@ -1,6 +1,5 @@
 -- The open phase: what tests of it tell. Assumes nothing.
-use Rattle.std.proofs.Common.{Option, Some, None, is_some, is_none, unwrap_or, ◌≡◌, refl, sym, Bool, true, false, not, true≢false, List, ℕ, eqb, eq-eqb, ne_eqb}
-use borrow.Author.Tests.{eqb-false}
+use Rattle.std.proofs.Common.{Option, Some, None, is_some, is_none, unwrap_or, ◌≡◌, refl, Bool, true, false, not, List, ℕ, eqb, eq-eqb, arith}
 use Rattle.bits.specs.Pick.{pick}
 use Rattle.device_state.specs.Table.{entry_of}
 use Rattle.device_state.specs.UnderWay.{openFor}
@@ -9,18 +8,15 @@ use Rattle.device.specs.FactsOf.{entryMeant}
 
 -- none is open
 pub none-open : (phase : Option ℕ) → is_some phase ≡ false → phase ≡ None
-none-open None e = refl
-none-open (Some t) e = absurd (true≢false e)
+none-open phase e = grind arith
 
 -- one is open, that of its tag
 pub some-open : (phase : Option ℕ) → is_none phase ≡ false → phase ≡ Some (unwrap_or phase 0)
-some-open None e = absurd (true≢false e)
-some-open (Some t) e = refl
+some-open phase e = grind arith
 
 -- whose entry a call is about
 pub open-entry : (es : List Entry) (phase : Option ℕ) → is_none phase ≡ false → entryMeant es phase ≡ entry_of es (unwrap_or phase 0)
-open-entry es None e = absurd (true≢false e)
-open-entry es (Some t) e = refl
+open-entry es phase e = grind arith
 
 -- that of a tag
 pub own-open : (phase : Option ℕ) (t : ℕ) → phase ≡ Some t → openFor phase t ≡ true
@@ -32,12 +28,8 @@ no-phase phase t e = rw e
 
 -- a phase that closes at the last move: its own tag
 pub phase-same : (last : Bool) (phase : Option ℕ) → is_none phase ≡ false → openFor (pick last None phase) (unwrap_or phase 0) ≡ not last
-phase-same last None n = absurd (true≢false n)
-phase-same true (Some u) n = refl
-phase-same false (Some u) n = eq-eqb u u refl
+phase-same last phase n = grind arith
 
 -- and any other tag
 pub phase-other : (last : Bool) (phase : Option ℕ) (t : ℕ) → is_none phase ≡ false → eqb t (unwrap_or phase 0) ≡ false → openFor (pick last None phase) t ≡ false
-phase-other last None t n x = absurd (true≢false n)
-phase-other true (Some u) t n x = refl
-phase-other false (Some u) t n x = ne_eqb u t (λ e. eqb-false t u x (sym e))
+phase-other last phase t n x = grind arith

@@ -1,5 +1,5 @@
 -- What a refusal hands back: the very state that came in, no frames, and every byte as it was. Assumes nothing.
-use Rattle.std.proofs.Common.{Option, Some, None, ◌≡◌, refl, ap, ◌∙◌, List, [], ℕ, length}
+use Rattle.std.proofs.Common.{Option, None, ◌≡◌, refl, ap, ◌∙◌, List, [], ℕ, length, arith}
 use Rattle.bits.specs.Laid.{laid}
 use Rattle.frame_parts.specs.Cut.{joined}
 use Rattle.frames.specs.Write.{FrameValue}
@@ -42,8 +42,7 @@ refused-unchanged d l g h n =
 
 -- a refused power-on hands back all zeros
 powered-zeros : (r : Option Refusal) (s : Settings) → (r ≡ None → ⊥) → powered r s ≡ zeroDevice
-powered-zeros None s n = absurd (n refl)
-powered-zeros (Some r) s n = refl
+powered-zeros r s n = grind arith
 
 pub refused-zeros : (s : Settings) → ((powerOn s).refusal ≡ None → ⊥) → (powerOn s).state ≡ zeroDevice
 unfolding powerOn

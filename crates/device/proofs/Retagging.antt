@@ -1,9 +1,9 @@
 -- The test of any one tag, after a command is accepted, opened, moved on or finished. Assumes nothing.
-use Rattle.std.proofs.Common.{Option, Some, None, is_none, unwrap_or, ◌≡◌, refl, sym, Bool, true, false, not, ◌||◌, List, ⊎_elim, ℕ, ◌%◌, ◌^◌, ◌<◌, min, leb, eqb, eq-eqb, ne_eqb, eqb-true}
+use Rattle.std.proofs.Common.{Option, Some, None, is_none, unwrap_or, ◌≡◌, refl, sym, Bool, true, false, not, ◌||◌, List, ⊎_elim, ℕ, ◌%◌, ◌^◌, ◌<◌, min, leb, eqb, eq-eqb, ne_eqb, eqb-true, arith}
 use borrow.Author.Tests.{eqb-false}
 use Rattle.bits.specs.Pick.{pick}
 use Rattle.bits.specs.Bit.{bitIn, withBitIn, clearIn}
-use Rattle.bits.proofs.Picks.{tested, or_left, or_right}
+use Rattle.bits.proofs.Picks.{tested}
 use Rattle.device_state.specs.State.{whole_of}
 use Rattle.device_state.specs.Table.{entry_of, placed, cleared}
 use Rattle.rules.specs.Positions.{left_of, advancedBy}
@@ -14,7 +14,7 @@ use Rattle.device_state.proofs.TableLaws.{getD-placed, getD-cleared}
 use Rattle.device.proofs.Never.{idle-tag}
 use Rattle.device.proofs.Phases.{no-phase, phase-same, phase-other}
 use Rattle.device_state.specs.UnderWay.{openFor}
-use Rattle.device.proofs.Tags.{bit-with, bit-without, busy-below, wrongMove, moved-opened, moved_on}
+use Rattle.device.proofs.Tags.{bit-with, bit-without, busy-below}
 
 -- the clauses of an entry that do not ask what has moved
 abbrev pub nameBad : Settings → Entry → ℕ → Bool
@@ -23,18 +23,12 @@ nameBad s e t = (aboveDepth s t || pastCapacity s e) || (countZero e || (otherTa
 -- an outstanding tag's entry as its phase is opened
 busy-opened : (s : Settings) (e : Entry) (t : ℕ) → busyBad s e t false ≡ false → eqb e.moved (whole_of e.count) ≡ false → busyBad s e t true ≡ false
 unfolding busyBad movedBad
-busy-opened s e t h m =
-    let name : Bool = nameBad s e t in
-    let old : Bool = wrongMove (whole_of e.count) e.moved false in
-    rw (or_left name old h) (moved-opened (whole_of e.count) e.moved (or_right name old h) m)
+busy-opened s e t h m = grind arith
 
 -- and as n bytes move, or what is left
 busy-on : (s : Settings) (e : Entry) (t n : ℕ) → busyBad s e t true ≡ false → min n (left_of e) % 4 ≡ 0 → busyBad s (advancedBy e (min n (left_of e))) t (not (leb (left_of e) n)) ≡ false
 unfolding busyBad movedBad advancedBy
-busy-on s e t n h four =
-    let name : Bool = nameBad s e t in
-    let old : Bool = wrongMove (whole_of e.count) e.moved true in
-    rw (or_left name old h) (moved_on (whole_of e.count) e.moved n (or_right name old h) four)
+busy-on s e t n h four = grind arith
 
 -- ---- any one tag
 

@@ -1,5 +1,5 @@
 -- What a call comes to: a refusal, or an act that one of the rules gives. Assumes nothing.
-use Rattle.std.proofs.Common.{Some, None, Result, Ok, Err, ◌≡◌, refl, sym, subst, ◌∙◌}
+use Rattle.std.proofs.Common.{Some, None, Result, Ok, Err, ◌≡◌, refl, sym, subst, ◌∙◌, arith}
 use Rattle.refusals.specs.First.{first_of, refusal_in}
 use Rattle.refusals.specs.declared.reasons.Refusal.{Refusal}
 use Rattle.rules.specs.Tests.{tests}
@@ -25,8 +25,7 @@ module _ (d : Device) (l : Lent) where
       go (Err r) q = e r q
 
   refusal-by : (x : Result Act Refusal) → (stepBy d l x).refusal ≡ refusal_in x
-  refusal-by (Ok a) = refl
-  refusal-by (Err r) = refl
+  refusal-by x = grind arith
 
   -- a call is refused by the first of its tests that holds
   pub step-refusal : (step d l).refusal ≡ first_of (tests (facts_of d l) l.call)

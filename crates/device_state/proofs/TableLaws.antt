@@ -87,9 +87,9 @@ unfolding cleared
 getD-cleared es set i h = getD-tab 32 (clearedAt es set) i zeroEntry h
 
 -- a store, and a place where nothing is stored
-pub set-placed : (es : List Entry) (t : ℕ) (e : Entry) → length es ≡ 32 → set es t e ≡ placed es t e
+pub set_placed : (es : List Entry) (t : ℕ) (e : Entry) → length es ≡ 32 → set es t e ≡ placed es t e
 unfolding placed
-set-placed es t e h =
+set_placed es t e h =
     ext_get_or zeroEntry (set es t e) (tab 32 (fresher es t e)) (simp length-set (h ∙ sym (length-tab 32 (fresher es t e))))
     (λ i k.
     let j : i < 32 = rw h at (simp length-set at k) in
@@ -98,10 +98,13 @@ set-placed es t e h =
     (λ (x : eqb i t ≡ false). rw (getD-tab 32 (fresher es t e) i zeroEntry j, x) (get_or-set_other es t i e zeroEntry (eqb-false i t x)))
     (tested (eqb i t)))
 
-pub none-placed : (es : List Entry) (t : ℕ) (e : Entry) → length es ≡ 32 → 32 ≤ t → es ≡ placed es t e
+pub none_placed : (es : List Entry) (t : ℕ) (e : Entry) → length es ≡ 32 → 32 ≤ t → es ≡ placed es t e
 unfolding placed
-none-placed es t e h l =
+none_placed es t e h l =
     ext_get_or zeroEntry es (tab 32 (fresher es t e)) (h ∙ sym (length-tab 32 (fresher es t e)))
     (λ i k.
     let j : i < 32 = rw h at k in
     rw (getD-tab 32 (fresher es t e) i zeroEntry j, ne_eqb i t (λ q. omega arith)))
+
+-- what the check needs of a table that is cleared
+pub ruleset clearing = (partly_none, partly-put, partly-next, partly-end)

@@ -12,6 +12,7 @@ pub fn entry_of(entries: &Entries, tag: u32) -> Entry
 }
 
 /// The table with the entry of a tag anew.
+#[tactic(auto, using(crate::proofs::TableLaws::set_placed, crate::proofs::TableLaws::none_placed))]
 pub fn put_entry(entries: &mut Entries, tag: u32, entry: Entry)
     ensures { entries.new ≡ placed entries.old tag entry }
 {
@@ -22,6 +23,7 @@ pub fn put_entry(entries: &mut Entries, tag: u32, entry: Entry)
 }
 
 /// The table without the entries of a set of tags.
+#[tactic(auto, unfolding(crate::specs::Table::cleared), using(crate::proofs::TableLaws::clearing))]
 pub fn clear_entries(entries: &mut Entries, set: u32)
     ensures { entries.new ≡ cleared entries.old set }
 {

@@ -35,6 +35,7 @@ fn read_byte<R: Read>(reader: &mut R) -> io::Result<Option<u8>>
 }
 
 // The kind that a byte names, if an event of that kind may stand here; `first` says that nothing was before it.
+#[tactic(auto, unfolding(crate::specs::Reading::placedKind))]
 fn placed_kind(byte: u8, first: bool) -> Option<Kind>
     ensures { result ≡ placedKind first (kindNamed byte) }
 {

@@ -11,6 +11,7 @@ use event_kinds::{Request, request_of};
 use refusals::Refusal;
 
 // A frame is handed on as it came, its kind being its first byte.
+#[tactic(auto, unfolding(crate::specs::Calls::call_of, crate::specs::Played::stepFor))]
 pub(crate) fn make_call(
     sealed: &mut Sealed,
     request: Request,

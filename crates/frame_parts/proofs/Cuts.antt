@@ -1,21 +1,14 @@
 -- The cut of several frames: nothing is lost, and every piece has a byte. Assumes nothing.
-use Rattle.std.proofs.Common.{◌≡◌, refl, sym, ap, ◌∙◌, true, false, List, [], ◌∷◌, ◌++◌, ⊎_elim, ℕ, zero, suc, ◌-◌, ◌≤◌, ◌<◌, arith, eqb, length, get_or, take, drop, length-drop, take-append-drop, eqb-true, ne_eqb, eq-eqb, Option, Some, None, unwrap_or}
+use Rattle.std.proofs.Common.{◌≡◌, refl, sym, ap, ◌∙◌, true, false, List, [], ◌∷◌, ◌++◌, ⊎_elim, ℕ, zero, suc, ◌-◌, ◌≤◌, ◌<◌, arith, eqb, length, get_or, take, drop, length-drop, take-append-drop, eqb-true, ne_eqb, Some, None, unwrap_or}
 use borrow.Author.Tests.{eqb-false}
-use Rattle.bits.proofs.Picks.{pick_yes, pick_no, tested}
-use Rattle.std.specs.Option.{option_and_then}
-use Rattle.frame_parts.specs.Size.{fixedSize, kindNamed, sizeOf}
-use Rattle.frame_parts.specs.declared.kinds.FrameKind.{FrameKind}
-use Rattle.frame_parts.proofs.SizeLaws.{size-some}
+use Rattle.bits.proofs.Picks.{pick_no, tested}
+use Rattle.frame_parts.specs.Size.{fixedSize}
 use Rattle.frame_parts.specs.Cut.{firstLength, cut_to, cut, joined}
 
 -- no byte fixes a length of nothing
 some-length : (byte d : ℕ) → 0 < d → 0 < unwrap_or (fixedSize byte) d
 unfolding fixedSize
-some-length byte d h = of-kind (kindNamed byte)
-  where
-    of-kind : (kind : Option FrameKind) → 0 < unwrap_or (option_and_then sizeOf kind) d
-    of-kind (Some kind) = size-some kind d h
-    of-kind None = h
+some-length byte d h = grind arith
 
 -- a piece of what is not empty has a byte, and is not longer than what is there
 pub first-length-some : (l : List ℕ) → 0 < length l → (0 < firstLength l) × (firstLength l ≤ length l)
@@ -28,8 +21,7 @@ empty (x ∷ l) e = absurd (omega arith)
 
 pub cut-none : (n : ℕ) (l : List ℕ) → length l ≡ 0 → cut_to n l ≡ []
 unfolding cut_to
-cut-none zero l e = refl
-cut-none (suc n) l e = pick_yes (eqb (length l) 0) [] (take (firstLength l) l ∷ cut_to n (drop (firstLength l) l)) (eq-eqb (length l) 0 e)
+cut-none n l e = grind arith
 
 pub cut-one : (n : ℕ) (l : List ℕ) → (length l ≡ 0 → ⊥) → cut_to (suc n) l ≡ take (firstLength l) l ∷ cut_to n (drop (firstLength l) l)
 unfolding cut_to
@@ -91,3 +83,6 @@ cut-next l e =
     let n : length l ≡ suc (length l - 1) = omega arith in
     ap (λ (k : ℕ). cut_to k l) n ∙ cut-one (length l - 1) l e
     ∙ ap (λ (x : List (List ℕ)). take (firstLength l) l ∷ x) (cut-enough (length l - 1) (length (drop (firstLength l) l)) (drop (firstLength l) l) (omega arith) (omega arith))
+
+-- what the check needs of it
+pub ruleset cutting = (cut-empty, cut-next, first-length-some)

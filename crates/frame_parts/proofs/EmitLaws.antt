@@ -1,6 +1,5 @@
 -- Laws of every writer. Assumes nothing.
-use Rattle.std.proofs.Common.{◌≡◌, refl, ◌∙◌, Bool, true, false, List, [], ◌++◌, ℕ, ◌≤◌, ◌<◌, length, Some, None, Result, Ok, Err, append-nil, ⊎_elim, lt-ltb, le-ltb}
-use Rattle.bits.specs.Pick.{pick}
+use Rattle.std.proofs.Common.{◌≡◌, refl, ◌∙◌, Bool, true, false, List, ℕ, ◌≤◌, ◌<◌, length, Some, None, Result, Ok, ⊎_elim, lt-ltb, le-ltb}
 use Rattle.bits.specs.Laid.{laid}
 use Rattle.std.proofs.lemmas.Bool.{cases_lt}
 use Rattle.bits.proofs.Tying.{same}
@@ -24,18 +23,6 @@ unfolding write_refusal first_of
 write_refusal-none n room h = rw (le-ltb room n h)
 
 module _ (fit : Bool) (s d : List ℕ) where
-  pub emitted-unfit : fit ≡ false → WriteGiven fit s d (Err Unfit) d
-  emitted-unfit e = record {
-    answer = rw (e, write_refusal-unfit (length s) (length d));
-    bytes = rw (e, write_refusal-unfit (length s) (length d));
-  }
-
-  pub emitted-short : fit ≡ true → length d < length s → WriteGiven fit s d (Err BufferShort) d
-  emitted-short e h = record {
-    answer = rw (e, write_refusal-short (length s) (length d) h);
-    bytes = rw (e, write_refusal-short (length s) (length d) h);
-  }
-
   pub emitted-done : (n : ℕ) (d' : List ℕ) → fit ≡ true → length s ≤ length d → n ≡ length s → d' ≡ laid s d → WriteGiven fit s d (Ok n) d'
   emitted-done n d' e h m b = record {
     answer = rw (e, write_refusal-none (length s) (length d) h, m);
@@ -66,18 +53,3 @@ wrote-room fit s d r d' w f h =
 -- a writer has one answer
 pub emitted-once : (fit : Bool) (s d : List ℕ) (r r' : Result ℕ Refusal) (b b' : List ℕ) → WriteGiven fit s d r b → WriteGiven fit s d r' b' → (r ≡ r') × (b ≡ b')
 emitted-once fit s d r r' b b' p q = (same p.answer q.answer, same p.bytes q.bytes)
-
--- a writer of bytes that are made by value first: where there are none, the values do not fit, and nothing is written
-pub emitted-unmade : (fit : Bool) (s d : List ℕ) (x : Refusal) (r : Result ℕ Refusal) → pick fit (Ok s) (Err Unfit) ≡ Err x → r ≡ Err x → WriteGiven fit s d r d
-emitted-unmade true s d x r e q = absurd (cc)
-emitted-unmade false s d x r e q =
-    let z : Unfit ≡ x = cc in
-    let g = emitted-unfit false s d refl in
-    rw (q, ← z) g
-
--- and where there are some, the values fit, and these are written
-pub emitted_made : (fit : Bool) (s p d : List ℕ) (r : Result ℕ Refusal) (d' : List ℕ) → pick fit (Ok s) (Err Unfit) ≡ Ok p → WriteGiven true (p ++ []) d r d' → WriteGiven fit s d r d'
-emitted_made true s p d r d' e w =
-    let q : s ≡ p = cc in
-    rw (append-nil p, ← q) at w
-emitted_made false s p d r d' e w = absurd (cc)

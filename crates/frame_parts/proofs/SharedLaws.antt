@@ -1,22 +1,9 @@
 -- Laws of the pieces that frames share. Assumes nothing.
-use Rattle.std.proofs.Common.{◌≡◌, refl, sym, ◌∙◌, Bool, true, false, ◌&&◌, ⊎_elim, ℕ, ◌*◌, ◌/◌, ◌%◌, ◌^◌, ◌≤◌, ◌<◌, div-lt_iff_lt-mul, arith, bit_or, eqb, ltb, pow_pos, eq-eqb, ne_eqb, lt-ltb, le-ltb}
+use Rattle.std.proofs.Common.{◌≡◌, refl, sym, ◌∙◌, Bool, false, ◌&&◌, ⊎_elim, ℕ, ◌*◌, ◌/◌, ◌^◌, ◌≤◌, ◌<◌, div-lt_iff_lt-mul, arith, eqb, ltb, pow_pos, eq-eqb, ne_eqb, lt-ltb, le-ltb}
 use native.Mathlib.Nat.{div-eq_of_lt}
-use mir.Val.{bool_byte}
 use Rattle.std.proofs.lemmas.Nat.Bits.{bit_at_above}
 use Rattle.bits.specs.Bit.{bitIn}
 use Rattle.std.proofs.lemmas.Bool.{cases_lt}
-use Rattle.frame_parts.specs.Shared.{flags_of}
-
--- three flags, each at its place
-pub flags-or : (a b c : Bool) → bit_or (bit_or ((bool_byte a * 128) % 256) ((bool_byte b * 64) % 256)) ((bool_byte c * 32) % 256) ≡ flags_of a b c
-flags-or true true true = refl
-flags-or true true false = refl
-flags-or true false true = refl
-flags-or true false false = refl
-flags-or false true true = refl
-flags-or false true false = refl
-flags-or false false true = refl
-flags-or false false false = refl
 
 not-zero : (k x : ℕ) → 2 ^ k ≤ x → x / 2 ^ k ≡ 0 → ⊥
 not-zero k x h e =
@@ -37,5 +24,4 @@ bit_of_byte b k h =
     (λ (l : 8 ≤ k). rw (le-ltb k 8 l, bit_at_above b 8 k h l) (none (ltb k 32))) (cases_lt k 8)
   where
     none : (t : Bool) → t && false ≡ false
-    none true = refl
-    none false = refl
+    none t = grind arith

@@ -23,14 +23,7 @@ first-length-of (pio f) rest h = fixed 0x5F 20 _ refl refl (omega arith)
 -- no frame is empty
 pub encode-some : (f : FrameValue) → 0 < length (encode f)
 unfolding encode registerBytes bitsBytes setupBytes
-encode-some (host f) = omega arith
-encode-some (device f) = omega arith
-encode-some (setBits f) = omega arith
-encode-some (setup f) = omega arith
-encode-some activate = omega arith
-encode-some (payload p) = omega arith
-encode-some bist = omega arith
-encode-some (pio f) = omega arith
+encode-some f = grind arith
 
 sent-to : (n : ℕ) (fs : List FrameValue) → DataLast fs → length (joined (map encode fs)) ≤ n → cut_to n (joined (map encode fs)) ≡ map encode fs
 unfolding joined DataLast

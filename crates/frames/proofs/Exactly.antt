@@ -1,29 +1,16 @@
 -- Refusal 24, exactly when its clause holds. Assumes nothing.
-use Rattle.std.proofs.Common.{◌≡◌, refl, Bool, ap, ◌∙◌, true, false, not, List, ℕ, length, get_or, Option, Some, None, Result, Ok, Err}
-use Rattle.std.specs.Option.{option_map_or}
-use Rattle.bits.specs.Pick.{pick}
+use Rattle.std.proofs.Common.{◌≡◌, ap, ◌∙◌, List, ℕ, Result, arith}
 use Rattle.refusals.specs.First.{first_of, refusal_in, FirstExactly}
 use Rattle.refusals.specs.Number.{number_told}
 use Rattle.refusals.specs.declared.reasons.Refusal.{Refusal}
-use Rattle.refusals.specs.declared.reasons.Refusal.TheVariants.{NoFrame}
 use Rattle.refusals.proofs.FirstLaws.{first-exactly as of-a-list}
-use Rattle.frame_parts.specs.Size.{kindNamed, allows, readable}
-use Rattle.frame_parts.specs.declared.kinds.FrameKind.{FrameKind}
-use Rattle.frames.specs.Read.{frameOf, frameByKind, readFrame, ladder24, frameAnswer, FrameGiven}
+use Rattle.frame_parts.specs.Size.{readable}
+use Rattle.frames.specs.Read.{frameByKind, readFrame, ladder24, frameAnswer, FrameGiven}
 use Rattle.frames.specs.declared.shapes.Frame.{Frame}
 
 refused-24 : (l : List ℕ) → refusal_in (readFrame l) ≡ first_of (ladder24 l)
 unfolding readFrame readable frameByKind first_of
-refused-24 l = of-kind (kindNamed (get_or l 0 0))
-  where
-    by-length : (allowed : Bool) (f : Frame) → refusal_in (pick allowed (Ok f) (Err NoFrame)) ≡ pick (not allowed) (Some NoFrame) None
-    by-length true f = refl
-    by-length false f = refl
-
-    of-kind : (o : Option FrameKind) → refusal_in (pick (option_map_or (λ kind. allows kind (length l)) o false) (option_map_or (λ kind. Ok (frameOf kind l)) o (Err NoFrame)) (Err NoFrame))
-        ≡ pick (not (option_map_or (λ kind. allows kind (length l)) o false)) (Some NoFrame) None
-    of-kind (Some kind) = by-length (allows kind (length l)) (frameOf kind l)
-    of-kind None = refl
+refused-24 l = grind arith
 
 -- 24, exactly when the kind is unknown or the length wrong
 pub first-exactly : (l : List ℕ) → FirstExactly (ladder24 l) (refusal_in (readFrame l))
@@ -32,8 +19,7 @@ first-exactly l = rw (refused-24 l) (of-a-list (ladder24 l) tt)
 -- the number that an answer tells is that of its refusal, and 0 where it has none
 pub number-told : (r : Result Frame Refusal) → (frameAnswer r).number ≡ number_told (refusal_in r)
 unfolding frameAnswer
-number-told (Ok f) = refl
-number-told (Err r) = refl
+number-told r = grind arith
 
 -- the frame that the bytes are is all that the reader promises
 pub read_told : (l : List ℕ) (r : Result Frame Refusal) → r ≡ readFrame l → FrameGiven l r

@@ -18,15 +18,6 @@ pub read-some : (l : List ℕ) (kind : FrameKind) → kindNamed (get_or l 0 0) �
 unfolding readFrame readable frameByKind
 read-some l kind e a = rw (e, a)
 
--- and all other bytes are refused
-pub read-other : (l : List ℕ) (kind : FrameKind) → kindNamed (get_or l 0 0) ≡ Some kind → allows kind (length l) ≡ false → readFrame l ≡ Err NoFrame
-unfolding readFrame readable frameByKind
-read-other l kind e a = rw (e, a)
-
-pub read-none : (l : List ℕ) → kindNamed (get_or l 0 0) ≡ None → readFrame l ≡ Err NoFrame
-unfolding readFrame readable frameByKind
-read-none l e = rw e
-
 -- so what holds of the refusal, and of the frame of each kind that allows the length, holds of what is read
 pub by-kind : (P : Result Frame Refusal → Type 0) (l : List ℕ) → P (Err NoFrame)
     → ((kind : FrameKind) → kindNamed (get_or l 0 0) ≡ Some kind → allows kind (length l) ≡ true → P (Ok (frameOf kind l))) → P (readFrame l)

@@ -37,8 +37,7 @@ off : ℕ → ℕ → Bool
 off k b = not (bitIn 8 (halvesOf b) k)
 
 is-off : (b : Bool) → T (not b) → b ≡ false
-is-off true t = absurd t
-is-off false t = refl
+is-off b t = grind arith
 
 module _ (b : ℕ) (h : b < 256) where
   masks-7 : flags_of (bitIn 8 b 7) false false ≡ bit_and b 0x80

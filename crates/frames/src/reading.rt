@@ -98,6 +98,7 @@ fn frame_of(kind: FrameKind, bytes: &[u8]) -> Frame
 ///
 /// # Errors
 /// `NoFrame` (24) where byte 0 names no kind, or its kind does not allow the length.
+#[tactic(auto, unfolding(crate::specs::Read::readFrame, crate::specs::Read::frameByKind, frame_parts::specs::Size::readable, refusals::specs::First::first_of))]
 pub fn read_frame(bytes: &[u8]) -> Result<Frame, Refusal>
     ensures { FrameGiven bytes.now result }
 {

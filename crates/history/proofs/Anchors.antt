@@ -1,10 +1,9 @@
 -- A history splits at the error that waits, and what was outstanding before that error was given up at it. Assumes nothing.
-use Rattle.std.proofs.Common.{◌≡◌, refl, sym, ap, ◌∙◌, Bool, true, false, not, ◌&&◌, ◌||◌, List, [], ◌∷◌, ◌++◌, map, ⊎_elim, ℕ, ◌≤◌, ◌<◌, arith, eqb, ltb, ltb-true}
-use mathlib.Core.Bool.{false≢true}
-use Rattle.bits.specs.Pick.{pick}
-use Rattle.bits.proofs.Picks.{tested, pick_yes, pick_no}
+use Rattle.std.proofs.Common.{◌≡◌, sym, ap, ◌∙◌, Bool, true, false, ◌&&◌, ◌||◌, List, [], ◌∷◌, ◌++◌, map, ⊎_elim, ℕ, ◌≤◌, ◌<◌, arith, eqb, ltb-true}
+use mathlib.Core.Bool.{or-false, false≢true}
+use Rattle.bits.proofs.Picks.{by-test, tested, pick_yes, pick_no}
 use Rattle.history.specs.Seen.{Seen, errs, accepts}
-use Rattle.history.specs.Fates.{Command, later, commands, ownTag, outstandingAt, givenUpAt, outstanding, givenUp, one, howMany, All, total, totalWith}
+use Rattle.history.specs.Fates.{Command, later, commands, ownTag, outstandingAt, givenUpAt, outstanding, givenUp, one, howMany, All, totalWith}
 use Rattle.history.specs.Waits.{waits, raises, before, since, givenUpThere}
 use Rattle.history.proofs.Commands.{many-pick}
 
@@ -44,21 +43,12 @@ since-before (e ∷ h) w =
 
 -- an event that raises an error answers one
 raises-errs : (e : Seen) (h : List Seen) → raises e h ≡ true → errs e ≡ true
-raises-errs e h x = go e.bad (e.asks.queued || ltb 0 (total h)) e.fails x
-  where
-    go : (a b c : Bool) → (a && b) || c ≡ true → a || c ≡ true
-    go true b c x = refl
-    go false b c x = x
+raises-errs e h x = grind arith
 
 -- the first event of an error that waits answers an error
 waits-new : (e : Seen) (h : List Seen) → waits (e ∷ h) ≡ true → waits h ≡ false → errs e ≡ true
 unfolding waits
 waits-new e h w x = raises-errs e h (sym (pick_no (waits h) _ (raises e h) x) ∙ w)
-
--- given up at an error that came
-up-test : (g o a : Bool) → a ≡ true → g || (o && a) ≡ g || o
-up-test g true a x = ap (λ (b : Bool). g || b) x
-up-test g false a x = refl
 
 -- of a command of tag t: n are the events after it up to an error, s those since
 pub record Up (t : ℕ) (n s : List Seen) : Type 0 where
@@ -71,28 +61,14 @@ pub record Up (t : ℕ) (n s : List Seen) : Type 0 where
 up_more : (t : ℕ) (n s : List Seen) (e : Seen) → Up t n s → Up t n (e ∷ s)
 unfolding outstandingAt givenUpAt
 up_more t n s e u = record {
-  up = rw u.out (last (givenUpAt t (s ++ n)) ∙ u.up);
+  up = rw u.out (or-false (givenUpAt t (s ++ n)) ∙ u.up);
   out = rw u.out;
 }
-  where
-    last : (a : Bool) → a || false ≡ a
-    last true = refl
-    last false = refl
 
 -- at the error itself
 up-new : (t : ℕ) (n : List Seen) (e : Seen) → errs e ≡ true → Up t n (e ∷ [])
 unfolding outstandingAt givenUpAt
-up-new t n e x = record {
-  up = up-test (givenUpAt t n) (outstandingAt t n) (errs e) x;
-  out = out (e.finishes t) (outstandingAt t n) (errs e) e.asks.resets x;
-}
-  where
-    out : (f o b r : Bool) → b ≡ true → o && not (f || (b || r)) ≡ false
-    out true true b r x = refl
-    out true false b r x = refl
-    out false true true r x = refl
-    out false true false r x = absurd (false≢true x)
-    out false false b r x = refl
+up-new t n e x = record { up = grind arith; out = grind arith }
 
 -- a command outstanding before the error that waits is given up in the history, one that was not is given up only if it was before; none is outstanding
 pub given-up-there : (h : List Seen) → waits h ≡ true → (t : ℕ) (n : List Seen) → Up t n (since h)
@@ -119,11 +95,9 @@ all-unmap P f (c ∷ cs) a = (a.0, all-unmap P f cs a.1)
 -- what holds of all commands of a history holds of those before its last event, that event later
 pub all_back : (P : Command → Type 0) (e : Seen) (h : List Seen) → All P (commands (e ∷ h)) → All (λ c. P (later e c)) (commands h)
 unfolding commands All
-all_back P e h a = all-unmap P (later e) (commands h) (go (accepts e) a)
-  where
-    go : (b : Bool) → All P (pick b (record { accepted = e; after = [] } ∷ map (later e) (commands h)) (map (later e) (commands h))) → All P (map (later e) (commands h))
-    go true a = a.1
-    go false a = a
+all_back P e h a =
+    let cs = map (later e) (commands h) in
+    all-unmap P (later e) (commands h) (by-test (λ (l : List Command). All P l → All P cs) (accepts e) (record { accepted = e; after = [] } ∷ cs) cs (λ _ a. a.1) (λ _ a. a) a)
 
 -- of several events
 pub all-since : (P : Command → Type 0) (x h : List Seen) → All P (commands (x ++ h)) → All (λ c. P (laterBy x c)) (commands h)
@@ -144,10 +118,7 @@ many-le p q f g [] = omega arith
 many-le p q f g (c ∷ cs) = let ih = many-le p q f g cs in let o = go (p c) (q (f c)) (g c) in omega arith
   where
     go : (a b : Bool) → (a ≡ true → b ≡ true) → one a ≤ one b
-    go true true x = omega arith
-    go true false x = absurd (false≢true (x refl))
-    go false true x = omega arith
-    go false false x = omega arith
+    go a b x = grind arith
 
 -- an event takes no command away
 many-event : (q : Command → Bool) (e : Seen) (h : List Seen) → howMany q (map (later e) (commands h)) ≤ howMany q (commands (e ∷ h))
@@ -161,14 +132,8 @@ up-on t e h =
     omega (
       arith,
       many-event (isUp t) e h,
-      many-le (isUp t) (isUp t) (later e)
-          (λ c x. go (eqb (ownTag c) t) (givenUp c) (outstanding c && errs e) x) (commands h),
+      many-le (isUp t) (isUp t) (later e) (λ c x. grind arith) (commands h),
     )
-  where
-    go : (a g b : Bool) → a && g ≡ true → a && (g || b) ≡ true
-    go true true b x = refl
-    go true false b x = absurd (false≢true x)
-    go false g b x = x
 
 -- what is outstanding is given up at an error
 up_at : (t : ℕ) (e : Seen) (h : List Seen) → errs e ≡ true → totalWith t h ≤ howMany (isUp t) (commands (e ∷ h))
@@ -177,15 +142,8 @@ up_at t e h r =
     omega (
       arith,
       many-event (isUp t) e h,
-      many-le (λ c. eqb (ownTag c) t && outstanding c) (isUp t) (later e)
-          (λ c x. go (eqb (ownTag c) t) (givenUp c) (outstanding c) (errs e) r x) (commands h),
+      many-le (λ c. eqb (ownTag c) t && outstanding c) (isUp t) (later e) (λ c x. grind arith) (commands h),
     )
-  where
-    go : (a g o b : Bool) → b ≡ true → a && o ≡ true → a && (g || (o && b)) ≡ true
-    go true true o b y x = refl
-    go true false true b y x = y
-    go true false false b y x = x
-    go false g o b y x = x
 
 -- of the commands of tag t that were outstanding before the error that waits, all are commands given up in the history
 pub given-up-number : (h : List Seen) → waits h ≡ true → (t : ℕ) → totalWith t (before h) ≤ howMany (isUp t) (commands h)

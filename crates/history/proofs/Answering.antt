@@ -135,8 +135,7 @@ module _ (d : Device) (h : List Event) (k : Stands d h) where
       way ∙ due ∙ ap left_of (sym q)
     where
       in_way : (b w : Bool) (n : ℕ) → w ≡ not b → pick (pick b (not w) (not (not w))) n 0 ≡ n
-      in_way true w n e = rw e refl
-      in_way false w n e = rw e refl
+      in_way b w n e = grind arith
 
   -- ---- host frames
 
@@ -197,10 +196,7 @@ module _ (d : Device) (h : List Event) (k : Stands d h) where
 
   -- the outstanding command of tag t asks for what its entry says
   opened-by : (t : ℕ) (c : Command) → ownTag c ≡ t → Standing d c → openedBy t c ≡ opening t
-  opened-by t c e s =
-      let w : c.accepted.asks.write ≡ (entry_of d.entries t).write = sym s.write ∙ ap (λ (u : ℕ). (entry_of d.entries u).write) e in
-      let n : c.accepted.asks.count ≡ (entry_of d.entries t).count = sym s.count ∙ ap (λ (u : ℕ). (entry_of d.entries u).count) e in
-      ap₂ (λ (x : Bool) (m : ℕ). setup (record { auto = false; interrupt = false; to_host = not x; tag = t; offset = 0; count = 512 * m }) ∷ activateIf x) w n
+  opened-by t c e s = grind arith
 
   -- and is found
   found : (t : ℕ) (cs : List Command) → some (λ c. eqb (ownTag c) t && (outstanding c && true)) cs ≡ true → All (Following d) cs → openedReplies t cs ≡ opening t
@@ -217,9 +213,7 @@ module _ (d : Device) (h : List Event) (k : Stands d h) where
       (tested o)
     where
       in-rest : (x y r : Bool) → x && y ≡ false → (x && (y && true)) || r ≡ true → r ≡ true
-      in-rest true true r n e = absurd (false≢true (sym n))
-      in-rest true false r n e = e
-      in-rest false y r n e = e
+      in-rest x y r n e = grind arith
 
   -- open
   open-answers : (t : ℕ) → contradictoryDevice d ≡ false → bitIn 32 d.status.outstanding t ≡ true → Replies d [] (Open (record { tag = t; entry = entry_of d.entries t })) ≡ openedReplies t (commands (map seen h))

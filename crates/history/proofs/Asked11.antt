@@ -1,9 +1,7 @@
 -- What the state shows of a counter's number is what the history tells. Assumes nothing.
-use Rattle.std.proofs.Common.{Option, Some, None, ◌≡◌, refl, ap, ◌∙◌, false, List, ℕ}
-use Rattle.bits.specs.Pick.{pick}
-use Rattle.page_rows.specs.Rows.{kept, row_of}
+use Rattle.std.proofs.Common.{Option, ◌≡◌, refl, ap, ◌∙◌, false, List, ℕ, arith}
+use Rattle.page_rows.specs.Rows.{row_of}
 use Rattle.page_rows.specs.Made11.{onRow, shownFor}
-use Rattle.page_rows.proofs.RowLaws.{row-only}
 use Rattle.device_state.specs.declared.shapes.Settings.{Settings}
 use Rattle.device.specs.Device.{contradictoryDevice}
 use Rattle.device.specs.declared.state.Device.{Device}
@@ -18,8 +16,7 @@ use Rattle.history.proofs.Counters.{counting-true, masked-true}
 -- what is shown of a row, if there is one, is what the history tells
 told-shown : (mask : ℕ) (values : List ℕ) (h : List Event) → ValuesTell values h → (number : ℕ) (row : Option ℕ) → row_of number ≡ row → onRow mask values row ≡ toldAt mask h row
 unfolding onRow
-told-shown mask values h i number (Some k) e = ap (λ (x : ℕ). pick (kept mask k) (Some x) None) (i.value k (row-only number k e).0)
-told-shown mask values h i number None e = refl
+told-shown mask values h i number row e = grind arith
 
 -- what a state that does not contradict itself shows of a counter's number, at the end of every run from power-on
 pub counter-true : (s : Settings) (as' : List Lent) → AllTyped as' → (number : ℕ) → contradictoryDevice (run_from s as').state ≡ false

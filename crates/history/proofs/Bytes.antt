@@ -1,11 +1,10 @@
 -- Laws of the byte of a position: of what is written at a place, and of what was sent from it. Assumes nothing.
-use Rattle.std.proofs.Common.{Option, Some, None, ◌≡◌, refl, sym, ap, ◌∙◌, Bool, true, false, ⊎_elim, List, [], ◌∷◌, ◌++◌, ℕ, zero, suc, ◌+◌, ◌-◌, ◌≤◌, ◌<◌, suc-add, zero-add, arith, leb, le-leb, leb-true, get_or, length, take, drop, slice_get}
+use Rattle.std.proofs.Common.{Option, Some, None, ◌≡◌, refl, sym, ap, ◌∙◌, true, false, ⊎_elim, List, [], ◌∷◌, ◌++◌, ℕ, zero, suc, ◌+◌, ◌-◌, ◌≤◌, ◌<◌, suc-add, zero-add, arith, leb, le-leb, leb-true, get_or, length, take, drop, slice_get}
 use Rattle.std.specs.Option.{option_or}
 use Rattle.std.proofs.Math.Nat.{suc-sub-suc}
 use Rattle.std.proofs.Math.Dec.{leb-suc-zero, leb-suc-suc}
 use Rattle.std.proofs.lemmas.Option.{none-some, slice_get-get_or, slice_get_within}
-use Rattle.bits.specs.Pick.{pick}
-use Rattle.bits.proofs.Picks.{tested, pick_yes, pick_no}
+use Rattle.bits.proofs.Picks.{tested, pick_yes, pick_no, by-test}
 use Rattle.history.specs.Placed.{written, byteAt}
 use Rattle.history.proofs.Placed.{SentFrom, EndsIn, left-same}
 
@@ -40,17 +39,12 @@ get-there (suc at) l (x ∷ m) (suc p) k = rw (suc-add at (length l), leb-suc-su
 
 -- also where nothing is written
 pub get-written : (at : ℕ) (l m : List ℕ) (p : ℕ) → EndsIn at m l → slice_get (written at l m) p ≡ option_or (byteAt at l p) (slice_get m p)
-get-written at [] m p k = rw (left-same at m (written at [] m) [] refl refl) (none (leb at p))
-  where
-    none : (b : Bool) → slice_get m p ≡ option_or (pick b None None) (slice_get m p)
-    none true = refl
-    none false = refl
+get-written at [] m p k = rw (left-same at m (written at [] m) [] refl refl) (by-test (λ (x : Option ℕ). slice_get m p ≡ option_or x (slice_get m p)) (leb at p) None None (λ _. refl) (λ _. refl))
 get-written at (x ∷ l) m p k = get-there at (x ∷ l) m p (k (omega arith))
 
 -- one or else another or else a third
 pub or-else : (a b c : Option ℕ) → option_or a (option_or b c) ≡ option_or (option_or a b) c
-or-else None b c = refl
-or-else (Some x) b c = refl
+or-else a b c = grind arith
 
 -- a byte of what is sent is the medium's
 pub sent-byte : (at : ℕ) (m l : List ℕ) (p b : ℕ) → SentFrom at m l → byteAt at l p ≡ Some b → slice_get m p ≡ Some b

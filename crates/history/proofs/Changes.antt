@@ -1,9 +1,10 @@
 -- What each change of the state does to settings, commands, phase and halt. Assumes nothing.
-use Rattle.std.proofs.Common.{Some, None, is_none, unwrap_or, ◌≡◌, refl, sym, ap, ◌∙◌, Bool, true, false, not, ◌&&◌, ◌||◌, List, ℕ, ◌+◌, ◌-◌, ◌*◌, ◌<◌, min, arith, eqb, leb, ⊎_elim, eqb-true, eq-eqb, ne_eqb, leb-true, leb-false, le-leb}
-use borrow.Author.Tests.{not-false, lt-leb}
+use Rattle.std.proofs.Common.{Some, None, is_none, unwrap_or, ◌≡◌, refl, ap, ◌∙◌, Bool, true, false, not, ◌&&◌, ◌||◌, List, ℕ, ◌+◌, ◌-◌, ◌*◌, ◌<◌, min, arith, eqb, leb, eqb-true, eq-eqb, ne_eqb}
+use Rattle.std.proofs.lemmas.Bool.{false_from_ne_true}
+use borrow.Author.Tests.{not-false}
 use Rattle.bits.specs.Pick.{pick}
 use Rattle.bits.specs.Bit.{bitIn}
-use Rattle.bits.proofs.Picks.{tested, or_left, or_right}
+use Rattle.bits.proofs.Picks.{or_left, or_right}
 use Rattle.device_state.specs.State.{whole_of}
 use Rattle.device_state.specs.Table.{entry_of, placed, cleared}
 use Rattle.contradictions.specs.Clauses.{statusBad, busyBad, aboveDepth, pastCapacity, countZero, otherTag, otherRange, movedAbove, movedOdd, movedBetween, phaseDone, movedBad, stoppedBusy, haltedHeld, heldRecord, phaseIdle}
@@ -44,11 +45,7 @@ cleared-other es set i l n = getD-cleared es set i l ∙ rw n
 
 -- nothing is left exactly if all has moved then
 last-is : (w c m k : ℕ) → w ≡ c → m < w → leb (w - m) k ≡ leb c (m + min k (w - m))
-last-is w c m k e l =
-    ⊎_elim
-    (λ (x : leb (w - m) k ≡ true). let y = leb-true (w - m) k x in x ∙ sym (le-leb c (m + min k (w - m)) (omega arith)))
-    (λ (x : leb (w - m) k ≡ false). let y = leb-false (w - m) k x in x ∙ sym (lt-leb c (m + min k (w - m)) (omega arith)))
-    (tested (leb (w - m) k))
+last-is w c m k e l = grind arith
 
 module _ (d : Device) (g : contradictoryDevice d ≡ false) where
   -- a halted state has nothing outstanding
@@ -61,11 +58,7 @@ module _ (d : Device) (g : contradictoryDevice d ≡ false) where
 
   -- a state with something outstanding is not halted
   pub busy-calm : (t : ℕ) → bitIn 32 d.status.outstanding t ≡ true → d.status.halted ≡ false
-  busy-calm t b = go d.status.halted refl
-    where
-      go : (x : Bool) → d.status.halted ≡ x → d.status.halted ≡ false
-      go true e = absurd (no-busy d.status.outstanding t (halted-empty e) b)
-      go false e = e
+  busy-calm t b = false_from_ne_true d.status.halted (λ e. no-busy d.status.outstanding t (halted-empty e) b)
 
   -- rule 4: the tag is outstanding, and its entry is what the command asks for
   pub took_by : (h : HostReg) (e : Seen) → e.asks ≡ registerAsks h → d.status.halted ≡ false → d.status.phase ≡ None → bitIn 32 d.status.outstanding (tagAsked h) ≡ false
@@ -133,8 +126,5 @@ module _ (d : Device) (g : contradictoryDevice d ≡ false) where
       let high = (movedAbove e || movedOdd e) || (movedBetween e (phaseOf d t) || phaseDone e (phaseOf d t)) in
       let between = or_left (movedBetween e (phaseOf d t)) (phaseDone e (phaseOf d t))
       (or_right (movedAbove e || movedOdd e) (movedBetween e (phaseOf d t) || phaseDone e (phaseOf d t)) (or_right low high (busy-good d t g b))) in
-      eqb-true e.moved 0 (moved_none (eqb e.moved 0) (rw (shut, n) at between))
-    where
-      moved_none : (x : Bool) → not x && true ≡ false → x ≡ true
-      moved_none true q = refl
-      moved_none false q = sym q
+      let none : not (eqb e.moved 0) && true ≡ false = rw (shut, n) at between in
+      eqb-true e.moved 0 (grind arith)

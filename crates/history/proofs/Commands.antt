@@ -1,8 +1,8 @@
 -- Laws of the commands of a history: what one more event does to all of them, and to how many are outstanding. Assumes nothing.
-use Rattle.std.proofs.Common.{◌≡◌, refl, sym, ap, ap₂, ◌∙◌, subst, Bool, true, false, not, ◌&&◌, List, [], ◌∷◌, map, ⊎_elim, ℕ, zero, suc, ◌+◌, ◌<◌, zero-add, add-zero, arith, eqb, eqb-true, eq-eqb, ne_eqb}
-use borrow.Author.Tests.{eqb-false}
+use Rattle.std.proofs.Common.{◌≡◌, refl, sym, ap, ap₂, ◌∙◌, Bool, true, ◌&&◌, List, [], ◌∷◌, map, ℕ, zero, suc, ◌+◌, ◌<◌, zero-add, add-zero, arith, eqb, eq-eqb, ne_eqb}
+use mathlib.Core.Bool.{and-true}
 use Rattle.bits.specs.Pick.{pick}
-use Rattle.bits.proofs.Picks.{tested, by-test}
+use Rattle.bits.proofs.Picks.{by-test}
 use Rattle.history.specs.Seen.{Seen, accepts}
 use Rattle.history.specs.Fates.{Command, later, commands, ownTag, ends, outstandingAt, outstanding, one, howMany, All, total, totalWith}
 use Rattle.history.proofs.Alls.{all-step}
@@ -16,23 +16,7 @@ isOut t c = eqb (ownTag c) t && outstanding c
 -- of one command more, by its tag u and what came after it: an event that ends tag t leaves none of that tag outstanding, any other leaves all
 out_at : (t : ℕ) (e : Seen) (n u : ℕ) (a : List Seen) → one (eqb u t && outstandingAt u (e ∷ a)) + pick (ends t e) 0 n ≡ pick (ends t e) 0 (one (eqb u t && outstandingAt u a) + n)
 unfolding outstandingAt
-out_at t e n u a =
-    ⊎_elim
-    (λ (x : eqb u t ≡ true).
-    subst (λ (w : ℕ). one (eqb w t && outstandingAt w (e ∷ a)) + pick (ends t e) 0 n ≡ pick (ends t e) 0 (one (eqb w t && outstandingAt w a) + n)) (sym (eqb-true u t x))
-    (rw (eq-eqb t t refl) (go (outstandingAt t a) (ends t e))))
-    (λ (x : eqb u t ≡ false). rw x (none (ends t e)))
-    (tested (eqb u t))
-  where
-    go : (o d : Bool) → ◌≡◌ {A = ℕ} (one (o && not d) + pick d 0 n) (pick d 0 (one o + n))
-    go true true = refl
-    go true false = refl
-    go false true = refl
-    go false false = refl
-
-    none : (d : Bool) → ◌≡◌ {A = ℕ} (0 + pick d 0 n) (pick d 0 (0 + n))
-    none true = refl
-    none false = refl
+out_at t e n u a = grind arith
 
 out_one : (t : ℕ) (e : Seen) (c : Command) (n : ℕ) → one (isOut t (later e c)) + pick (ends t e) 0 n ≡ pick (ends t e) 0 (one (isOut t c) + n)
 out_one t e c n = out_at t e n (ownTag c) c.after
@@ -46,8 +30,7 @@ out-map t e (c ∷ cs) = ap (λ (n : ℕ). one (isOut t (later e c)) + n) (out-m
 -- how many are so, of a list that may have a command more
 pub many-pick : (p : Command → Bool) (a : Bool) (c : Command) (cs : List Command) → howMany p (pick a (c ∷ cs) cs) ≡ one (a && p c) + howMany p cs
 unfolding howMany
-many-pick p true c cs = refl
-many-pick p false c cs = sym (zero-add (howMany p cs))
+many-pick p a c cs = grind arith
 
 -- a command more where one of tag t is accepted, none of the older where the event ends tag t
 pub with-step : (t : ℕ) (e : Seen) (h : List Seen)
@@ -55,11 +38,7 @@ pub with-step : (t : ℕ) (e : Seen) (h : List Seen)
 unfolding totalWith commands outstandingAt
 with-step t e h =
     many-pick (isOut t) (accepts e) (record { accepted = e; after = [] }) (map (later e) (commands h))
-    ∙ ap₂ (λ (a : Bool) (n : ℕ). one (accepts e && a) + n) (truth (eqb e.asks.tag t)) (out-map t e (commands h))
-  where
-    truth : (b : Bool) → b && true ≡ b
-    truth true = refl
-    truth false = refl
+    ∙ ap₂ (λ (a : Bool) (n : ℕ). one (accepts e && a) + n) (and-true (eqb e.asks.tag t)) (out-map t e (commands h))
 
 -- none at first
 pub with_none : (t : ℕ) → totalWith t [] ≡ 0
@@ -93,11 +72,7 @@ sum-add f g (suc k) = let ih = sum-add (λ t. f (suc t)) (λ t. g (suc t)) k in 
 
 -- numbers are equal where those after them are
 eqb-suc : (u t : ℕ) → eqb (suc u) (suc t) ≡ eqb u t
-eqb-suc u t =
-    ⊎_elim
-    (λ (x : eqb u t ≡ true). eq-eqb (suc u) (suc t) (ap suc (eqb-true u t x)) ∙ sym x)
-    (λ (x : eqb u t ≡ false). let n = eqb-false u t x in ne_eqb (suc u) (suc t) (λ e. n (omega arith)) ∙ sym x)
-    (tested (eqb u t))
+eqb-suc u t = grind arith
 
 -- one summand that is not 0
 sum_one : (u : ℕ) (b : Bool) (k : ℕ) → u < k → sumBelow (λ t. one (eqb u t && b)) k ≡ one b

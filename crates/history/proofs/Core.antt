@@ -1,13 +1,11 @@
 -- The set outstanding and the halt of a device, held together with its history: kept by each of the eleven kinds of effect. Assumes nothing.
-use Rattle.std.proofs.Common.{◌≡◌, refl, sym, ap, ap₂, ◌∙◌, Bool, true, false, not, ◌&&◌, ◌||◌, true≢false, List, [], ◌∷◌, ⊎_elim, ℕ, ◌+◌, ◌-◌, ◌^◌, ◌<◌, zero-add, lt_of_le_of_lt, eqb, ltb, lit<, eqb-true, eq-eqb, ne_eqb, lt-ltb}
+use Rattle.std.proofs.Common.{◌≡◌, refl, sym, ap, ap₂, ◌∙◌, Bool, true, false, not, ◌&&◌, ◌||◌, true≢false, List, [], ◌∷◌, ℕ, ◌+◌, ◌-◌, ◌^◌, ◌<◌, zero-add, lt_of_le_of_lt, eqb, ltb, lit<, eqb-true, eq-eqb, lt-ltb, arith}
 use mathlib.Core.Bool.{and-true, and-false, false≢true}
 use lib.Bits.{or_lt, and_le_l}
 use lib.Count.{ones, ones_in}
 use lib.Pow.{pow-lt}
-use borrow.Author.Tests.{eqb-false}
 use Rattle.bits.specs.Pick.{pick}
 use Rattle.bits.specs.Bit.{bitIn, withBitIn, clearIn}
-use Rattle.bits.proofs.Picks.{tested}
 use Rattle.bits.proofs.Masks.{no-bit}
 use Rattle.device.proofs.Tags.{bit-with, bit-without}
 use Rattle.device.specs.declared.state.Device.{Device}
@@ -48,52 +46,30 @@ inv-start = record {
 -- ---- truth tables, each for one of the kinds below
 
 keep-test : (w : Bool) → pick w true false ≡ w
-keep-test true = refl
-keep-test false = refl
+keep-test w = grind arith
 
 gone-test : (w : Bool) → pick w false false ≡ false
-gone-test true = refl
-gone-test false = refl
+gone-test w = grind arith
 
 add-test : (a b : Bool) → (a ≡ true → b ≡ false) → one a + one b ≡ one (a || b)
-add-test true true f = absurd (true≢false (f refl))
-add-test true false f = refl
-add-test false true f = refl
-add-test false false f = refl
+add-test a b f = grind arith
 
 done-test : (a b : Bool) → ◌≡◌ {A = ℕ} (0 + pick (a || false) 0 (one b)) (one (not a && b))
-done-test true b = refl
-done-test false true = refl
-done-test false false = refl
+done-test a b = grind arith
 
 cleared-test : (a b : Bool) → b && (not a && true) ≡ not a && b
-cleared-test true true = refl
-cleared-test true false = refl
-cleared-test false true = refl
-cleared-test false false = refl
+cleared-test a b = grind arith
 
 again-test : (a x y : Bool) → (a || (x || y)) && true ≡ x || ((a && true) || y)
-again-test true true y = refl
-again-test true false y = refl
-again-test false true y = refl
-again-test false false true = refl
-again-test false false false = refl
+again-test a x y = grind arith
 
 -- SActive at a halt: q is a queued command, m that its tag is this one
 halt-test : (q m b ba fa : Bool) → (q ≡ true → fa ≡ false) → ba || fa ≡ true → ((q && m) || b) && true ≡ ltb 0 (one b) || (((q && m) && ba) || false)
-halt-test true true true true fa f x = refl
-halt-test true true true false fa f x = refl
-halt-test true true false true fa f x = refl
-halt-test true true false false fa f x = absurd (true≢false (sym x ∙ f refl))
-halt-test true false true ba fa f x = refl
-halt-test true false false ba fa f x = refl
-halt-test false m true ba fa f x = refl
-halt-test false m false ba fa f x = refl
+halt-test q m b ba fa f x = grind arith
 
 -- an error, of a test that asks for more
 or-both : (a b c : Bool) → (a && b) || c ≡ true → a || c ≡ true
-or-both true b c x = refl
-or-both false b c x = x
+or-both a b c x = grind arith
 
 -- ---- the kinds of effect
 
@@ -207,11 +183,7 @@ module _ {k : ℕ} {b : Bool} {h : List Seen} (v : Inv k b h) {e : Seen} where
   }
     where
       turn : (t : ℕ) → eqb t e.asks.tag ≡ eqb e.asks.tag t
-      turn t =
-          ⊎_elim
-          (λ (y : eqb t e.asks.tag ≡ true). y ∙ sym (eq-eqb e.asks.tag t (sym (eqb-true t e.asks.tag y))))
-          (λ (y : eqb t e.asks.tag ≡ false). y ∙ sym (ne_eqb e.asks.tag t (λ z. eqb-false t e.asks.tag y (sym z))))
-          (tested (eqb t e.asks.tag))
+      turn t = grind arith
 
       with-is : (t : ℕ) → t < 32 → bitIn 32 (withBitIn 32 k e.asks.tag) t ≡ eqb e.asks.tag t || bitIn 32 k t
       with-is t u = bit-with k e.asks.tag t l u ∙ ap (λ (s : Bool). s || bitIn 32 k t) (turn t)
@@ -256,8 +228,7 @@ inv-number v = v.number
 
 -- one is more than none
 pub one-test : (b : Bool) → ltb 0 (one b) ≡ b
-one-test true = refl
-one-test false = refl
+one-test b = grind arith
 
 -- while no error waits, SActive names exactly the outstanding tags
 pub inv-sactive : {k : ℕ} {b : Bool} {h : List Seen} → Inv k b h → Sactive h

@@ -1,12 +1,10 @@
 -- What one more event does to SActive, to how many are outstanding and to a waiting error, by what is seen of it; and the ones of a set of tags. Assumes nothing.
-use Rattle.std.proofs.Common.{◌≡◌, refl, sym, ap, ap₂, ◌∙◌, Bool, true, false, not, ◌&&◌, ◌||◌, List, ◌∷◌, ⊎_elim, ℕ, zero, suc, ◌+◌, ◌/◌, ◌%◌, ◌^◌, ◌<◌, div-one, add-one, arith, eqb, ltb, shr_lt, eqb-true, lt-ltb}
+use Rattle.std.proofs.Common.{◌≡◌, refl, sym, ap, ap₂, ◌∙◌, Bool, true, false, not, ◌&&◌, ◌||◌, List, ◌∷◌, ℕ, zero, suc, ◌+◌, ◌/◌, ◌%◌, ◌^◌, ◌<◌, div-one, add-one, arith, eqb, ltb, shr_lt}
 use lib.Arith.{lt-one, bin_ind}
 use lib.Count.{ones, ones_in, ones_step}
-use borrow.Author.Tests.{eqb-false}
 use Rattle.bits.specs.Pick.{pick}
 use Rattle.bits.specs.Bit.{bitIn}
 use Rattle.std.proofs.lemmas.Nat.Bits.{bit_at-lt, bit_at-suc}
-use Rattle.bits.proofs.Picks.{tested}
 use Rattle.history.specs.Replied.{some}
 use Rattle.history.specs.Seen.{Seen}
 use Rattle.history.specs.Fates.{ends, one, total, totalWith}
@@ -56,11 +54,7 @@ blamed-new t e h w = rw w
 
 -- a digit is 1 where its bit is on, else 0
 bit-digit : (m t : ℕ) → t < 32 → one (bitIn 32 m t) ≡ m / 2 ^ t % 2
-bit-digit m t l = rw (lt-ltb t 32 l)
-    (⊎_elim
-    (λ (x : eqb (m / 2 ^ t % 2) 1 ≡ true). rw x (sym (eqb-true (m / 2 ^ t % 2) 1 x)))
-    (λ (x : eqb (m / 2 ^ t % 2) 1 ≡ false). let n = eqb-false (m / 2 ^ t % 2) 1 x in let b = bit_at-lt m t in rw x (omega arith))
-    (tested (eqb (m / 2 ^ t % 2) 1)))
+bit-digit m t l = grind (arith, bit_at-lt)
 
 -- the ones of a number are the sum of its digits
 ones-sum : (k m : ℕ) → m < 2 ^ k → ones m ≡ sumBelow (λ t. m / 2 ^ t % 2) k
@@ -83,15 +77,7 @@ ones_none =
 -- it has some exactly when it is not 0
 pub ones-some : (k : ℕ) → ltb 0 (ones k) ≡ not (eqb k 0)
 unfolding ones ones_in
-ones-some k =
-    ⊎_elim
-    (λ (x : eqb k 0 ≡ true). rw (x, eqb-true k 0 x))
-    (λ (x : eqb k 0 ≡ false). rw x (lt-ltb 0 (ones k) (go (ones k) refl (eqb-false k 0 x))))
-    (tested (eqb k 0))
-  where
-    go : (j : ℕ) → ones k ≡ j → (k ≡ 0 → ⊥) → 0 < j
-    go zero e n = absurd (n (ones_none k e))
-    go (suc j) e n = omega arith
+ones-some k = let none = ones_none k in grind arith
 
 -- as many are outstanding as the set has ones, where each tag of the set has one command outstanding, and no other tag any
 pub total-ones : (k : ℕ) (h : List Seen) → k < 2 ^ 32 → TagsBelow 32 h → ((t : ℕ) → t < 32 → totalWith t h ≡ one (bitIn 32 k t)) → total h ≡ ones k

@@ -1,5 +1,6 @@
 -- Every taken device event comes to one of the eleven kinds. Assumes nothing.
 use Rattle.std.proofs.Common.{None, is_none, unwrap_or, ◌≡◌, refl, sym, ap, subst, ◌∙◌, Bool, true, false, not, ◌||◌, true≢false, List, ℕ, ◌+◌, ◌*◌, ◌^◌, ◌≤◌, ◌<◌, min, arith, zero-add, eqb, lit<, length, take, drop, length-take, length-drop, eqb-true}
+use Rattle.std.proofs.lemmas.Bool.{false_from_ne_true}
 use borrow.Author.Tests.{eqb-false, not-false}
 use Rattle.bits.specs.Bit.{bitIn}
 use Rattle.bits.proofs.Picks.{by-test, or_left, or_right}
@@ -97,15 +98,9 @@ ready_at busy e h = (not-false busy (or_left (not busy) (not (allMoved e)) h), e
 -- a set that is not empty, all of it outstanding: the device is not halted
 some-busy : (d : Device) → contradictoryDevice d ≡ false → (set : ℕ) → set < 2 ^ 32 → eqb set 0 ≡ false → ((t : ℕ) → t < 32 → bitIn 32 set t ≡ true → bitIn 32 d.status.outstanding t ≡ true)
     → d.status.halted ≡ false
-some-busy d g set l n all = go d.status.halted refl
-  where
-    unless : (b : Bool) → (b ≡ true → ⊥) → b ≡ false
-    unless true h = absurd (h refl)
-    unless false h = refl
-
-    go : (x : Bool) → d.status.halted ≡ x → d.status.halted ≡ false
-    go true e = absurd (eqb-false set 0 n (no_bits set l (λ t u. unless (bitIn 32 set t) (λ b. no-busy d.status.outstanding t (halted-empty d g e) (all t u b)))))
-    go false e = e
+some-busy d g set l n all =
+    false_from_ne_true d.status.halted
+    (λ e. eqb-false set 0 n (no_bits set l (λ t u. false_from_ne_true (bitIn 32 set t) (λ b. no-busy d.status.outstanding t (halted-empty d g e) (all t u b)))))
 
 -- a set of tags, each outstanding and wholly moved
 pub finished-comes : (d : Device) (part : List ℕ) (set : ℕ) → contradictoryDevice d ≡ false → set < 2 ^ 32 → d.status.phase ≡ None → eqb set 0 ≡ false

@@ -1,8 +1,8 @@
 -- What the history reads of a host frame is what its act does to the counters; and only page 11h is read as such. Assumes nothing.
-use Rattle.std.proofs.Common.{Option, Some, None, Ok, ◌≡◌, refl, sym, ap, ◌∙◌, Bool, true, false, ◌&&◌, true≢false, List, [], ℕ, ◌%◌, arith, eqb, eqb-true}
+use Rattle.std.proofs.Common.{Option, Some, None, Ok, ◌≡◌, refl, sym, ap, ◌∙◌, Bool, true, false, ◌&&◌, List, [], ℕ, ◌%◌, arith, eqb, eqb-true}
 use mathlib.Core.Bool.{false≢true, and-false}
 use Rattle.bits.specs.Bit.{bitIn}
-use Rattle.bits.proofs.Picks.{by-test, and_left}
+use Rattle.bits.proofs.Picks.{by-test}
 use Rattle.frame_parts.specs.declared.shared.Task.{Task}
 use Rattle.frames.specs.Write.{FrameValue}
 use Rattle.frames.specs.declared.shapes.HostReg.{HostReg}
@@ -74,13 +74,7 @@ tells-counters = record {
 -- a page that is asked for: a READ LOG EXT whose byte 4 names it
 log-page : (asks : Option LogPage → Bool) (n command : ℕ) (e : Echo) → Tells asks n → asks (logPage command e) ≡ true → (eqb command 0x2F ≡ true) × (eqb e.b4 n ≡ true)
 unfolding logPage
-log-page asks n command e k =
-    let a : Bool = eqb command 0x2F in
-    let c : Bool = eqb e.b5 0 && eqb e.b9 0 in
-    let g : Bool = eqb e.b12 1 && eqb e.b13 0 in
-    by-test (λ (x : Option LogPage). asks x ≡ true → (eqb command 0x2F ≡ true) × (eqb e.b4 n ≡ true)) (a && c && g) (pageNamed e.b4) None
-    (λ t u. (and_left a c (and_left (a && c) g t), k.named e.b4 u))
-    (λ _ u. absurd (true≢false (sym u ∙ k.unasked)))
+log-page asks n command e k u = grind arith
 
 -- two facts together
 both : (a b : Bool) → a ≡ true → b ≡ true → a && b ≡ true
@@ -88,9 +82,7 @@ both a b x y = rw (x, y)
 
 -- a third that fails
 last-not : (a b c : Bool) → c ≡ false → a && (b && c) ≡ false
-last-not true true c e = e
-last-not true false c e = refl
-last-not false b c e = refl
+last-not a b c e = grind arith
 
 -- a well-formed read of a page is one that the history reads as such
 reads-page : (asks : Option LogPage → Bool) (n : ℕ) (h : HostReg) → Tells asks n → h.command_bit ≡ true → asks (pageAsked h) ≡ true → readsLog n h ≡ true

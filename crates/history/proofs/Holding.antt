@@ -1,6 +1,5 @@
 -- Reset is held by the state where it is by the history: what each call does to it. Assumes nothing.
-use Rattle.std.proofs.Common.{Ok, ◌≡◌, refl, sym, ◌∙◌, Bool, true, false, not, ◌&&◌, ◌||◌, true≢false, List, [], ◌∷◌, ℕ, eqb, ne_eqb}
-use borrow.Author.Tests.{not-false}
+use Rattle.std.proofs.Common.{Ok, ◌≡◌, refl, Bool, true, false, not, ◌&&◌, ◌||◌, List, [], ◌∷◌, ℕ, eqb, ne_eqb, arith}
 use Rattle.bits.specs.Pick.{pick}
 use Rattle.bits.specs.Bit.{bitIn}
 use Rattle.bits.proofs.Picks.{or_left}
@@ -41,9 +40,7 @@ busy-free d g t b =
     go f.halted f.held (eqb f.outstanding 0) busy (ne_eqb f.outstanding 0 (λ z. no-busy f.outstanding t z b))
   where
     go : (a h e : Bool) → (a || h) && not e ≡ false → e ≡ false → h ≡ false
-    go true h e x y = absurd (true≢false (sym (not-false e x) ∙ y))
-    go false true e x y = absurd (true≢false (sym (not-false e x) ∙ y))
-    go false false e x y = refl
+    go a h e x y = grind arith
 
 -- a host frame that is not turned down
 heard-holds : (d : Device) (v : Facts) {f : FrameRead} {a : Act} → v.status ≡ d.status → by.Heard v f a → next (frameFrees f) (frameAsks f).resets d.status.held ≡ (after_of d a).status.held

@@ -1,5 +1,6 @@
 -- What a host frame asks for and its act, where it is not turned down, come to one of the eleven kinds. Assumes nothing.
 use Rattle.std.proofs.Common.{Option, Some, None, is_some, is_none, unwrap_or, ◌≡◌, refl, sym, ap, subst, ◌∙◌, Bool, true, false, not, ◌&&◌, ◌||◌, List, [], ℕ, ◌-◌, ◌/◌, ◌%◌, ◌^◌, ◌<◌, min, arith, eqb, ltb, leb, lit<, lt-ltb, ltb-false, leb-true}
+use Rattle.std.proofs.lemmas.Bool.{false_from_ne_true}
 use native.Mathlib.Nat.{zero-div}
 use borrow.Author.Tests.{eqb-false}
 use Rattle.bits.specs.Bit.{bitIn}
@@ -82,11 +83,7 @@ module _ (d : Device) (g : contradictoryDevice d ≡ false) where
 
     -- with something outstanding the device is not halted
     calm : eqb d.status.outstanding 0 ≡ false → d.status.halted ≡ false
-    calm n = go d.status.halted refl
-      where
-        go : (b : Bool) → d.status.halted ≡ b → d.status.halted ≡ false
-        go true e = absurd (eqb-false d.status.outstanding 0 n (halted-empty d g e))
-        go false e = e
+    calm n = false_from_ne_true d.status.halted (λ e. eqb-false d.status.outstanding 0 n (halted-empty d g e))
 
     -- and a command that is not queued raises a halt
     pub busy-faulted : h.command_bit ≡ true → isQueued h ≡ false → eqb d.status.outstanding 0 ≡ false → Comes d [] k (fault h None 0x04)

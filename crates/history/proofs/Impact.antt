@@ -1,8 +1,6 @@
 -- What a call does to the counters is what the history reads of it. Assumes nothing.
-use Rattle.std.proofs.Common.{◌≡◌, refl, Bool, true, false, ⊎_elim, ℕ, ltb, le-leb, ltb-true, ltb-false}
-use borrow.Author.Tests.{lt-leb}
+use Rattle.std.proofs.Common.{◌≡◌, refl, Bool, false, ℕ, arith}
 use Rattle.bits.specs.Pick.{pick}
-use Rattle.bits.proofs.Picks.{tested}
 use Rattle.rules.specs.Call.{Call}
 use Rattle.rules.specs.declared.acts.Act.{Act}
 use Rattle.device.specs.After.{withValue, renewed, resetHeld, released, zeroedIf, after_of}
@@ -17,8 +15,7 @@ Reckons d c paged a = (after_of d a).values ≡ counted (callZeroes paged c) (ro
 -- one event more at a row
 pub raised-values : (d : Device) (row : ℕ) → (withValue d row).values ≡ counted false row d.values
 unfolding withValue
-raised-values d row =
-    ⊎_elim (λ (t : ltb row 16 ≡ true). rw (t, lt-leb 16 row (ltb-true row 16 t))) (λ (f : ltb row 16 ≡ false). rw (f, le-leb 16 row (ltb-false row 16 f))) (tested (ltb row 16))
+raised-values d row = grind arith
 
 -- COMRESET: row 9
 pub renewed-values : (d : Device) → (renewed d).values ≡ counted false 9 d.values
@@ -27,8 +24,7 @@ renewed-values d = raised-values (released (resetHeld d)) 9
 
 -- a media error: row 0, if its byte has bit 7
 pub failed-values : (d : Device) (b : Bool) → (pick b (withValue d 0) d).values ≡ counted false (pick b 0 16) d.values
-failed-values d true = raised-values d 0
-failed-values d false = refl
+failed-values d b = grind (arith, raised-values)
 
 -- zeroed, or not
 pub zeroed-values : (d : Device) (b : Bool) → (zeroedIf d b).values ≡ counted b 16 d.values

@@ -1,7 +1,6 @@
 -- What the device keeps of its business is what the history tells of it (ByHistory): the commands outstanding, what has moved of them, their ranges, and the open phase. Assumes nothing.
-use Rattle.std.proofs.Common.{◌≡◌, refl, sym, ap, ap₂, ◌∙◌, Bool, true, false, not, ◌&&◌, ◌||◌, List, [], ◌∷◌, map, ⊎_elim, ℕ, zero, suc, ◌+◌, ◌*◌, ◌≤◌, ◌<◌, arith, eqb, ltb, leb, length, eqb-true, ltb-true, ltb-false, le-leb, lt-ltb}
+use Rattle.std.proofs.Common.{◌≡◌, refl, sym, ap, ap₂, ◌∙◌, Bool, true, false, not, ◌&&◌, ◌||◌, List, [], ◌∷◌, map, ⊎_elim, ℕ, zero, suc, ◌+◌, ◌*◌, ◌≤◌, ◌<◌, arith, eqb, ltb, leb, length, eqb-true, ltb-true, ltb-false}
 use mathlib.Core.Bool.{and-true}
-use borrow.Author.Tests.{lt-leb}
 use Rattle.bits.specs.Bit.{bitIn}
 use Rattle.bits.proofs.Picks.{tested}
 use Rattle.rules.specs.Tests.{outside}
@@ -37,22 +36,15 @@ some-many p [] = refl
 some-many p (c ∷ cs) = ap (λ (b : Bool). p c || b) (some-many p cs) ∙ go (p c) (howMany p cs)
   where
     go : (b : Bool) (n : ℕ) → b || ltb 0 n ≡ ltb 0 (one b + n)
-    go true n = sym (lt-ltb 0 (1 + n) (omega arith))
-    go false n = ap (ltb 0) (let e : n ≡ 0 + n = omega arith in e)
+    go b n = grind arith
 
 -- truth table: a test in front of two that agree where it holds
 agree : (t o x b : Bool) → (t ≡ true → o ≡ true → x ≡ b) → t && (o && x) ≡ (t && (o && true)) && b
-agree true true x b f = f refl refl
-agree true false x b f = refl
-agree false o x b f = refl
+agree t o x b f = grind arith
 
 -- truth table: one of two, in front of a test
 either : (a s b : Bool) → (a && b) || (s && b) ≡ (a || s) && b
-either true true true = refl
-either true true false = refl
-either true false true = refl
-either true false false = refl
-either false s b = refl
+either a s b = grind arith
 
 -- where every outstanding command of tag t is so or not as b says, some is so where some is outstanding and b holds
 some-same : (t : ℕ) (is : Command → Bool) (b : Bool) (cs : List Command) → All (λ c. eqb (ownTag c) t ≡ true → outstanding c ≡ true → is c ≡ b) cs
@@ -77,20 +69,9 @@ some-none p (c ∷ cs) a = ap₂ ◌||◌ a.0 (some-none p cs a.1)
 
 -- ---- sectors and bytes
 
--- one test or the other holds
-pub below-not : (a b : ℕ) → ltb a b ≡ not (leb b a)
-below-not a b =
-    ⊎_elim (λ (x : ltb a b ≡ true). let l = ltb-true a b x in x ∙ sym (ap not (lt-leb b a l)))
-    (λ (x : ltb a b ≡ false). let l = ltb-false a b x in x ∙ sym (ap not (le-leb b a l))) (tested (ltb a b))
-
--- truth table: in the range is not outside
-in-out : (a b : Bool) → (a && not b) ≡ not (not a || b)
-in-out true b = refl
-in-out false b = refl
-
 -- a sector from `first` on and below its end is not outside
 pub covers-not : (first count sector : ℕ) → leb first sector && ltb sector (first + count) ≡ not (ltb sector first || leb (first + count) sector)
-covers-not first count sector = rw (below-not sector (first + count), below-not sector first) (in-out (leb first sector) (leb (first + count) sector))
+covers-not first count sector = grind arith
 
 -- a span has its length
 span-length : (a n : ℕ) → length (span a n) ≡ n
@@ -129,9 +110,7 @@ module _ (d : Device) (h : List Event) (i : Inv d.status.outstanding d.status.ha
       (tested (ltb t 32))
     where
       high : (c : Command) → ownTag c < 32 → 32 ≤ t → eqb (ownTag c) t && (outstanding c && true) ≡ false
-      high c l k =
-          ⊎_elim (λ (y : eqb (ownTag c) t ≡ true). let e = eqb-true (ownTag c) t y in absurd (omega arith))
-          (λ (y : eqb (ownTag c) t ≡ false). ap (λ (b : Bool). b && (outstanding c && true)) y) (tested (eqb (ownTag c) t))
+      high c l k = grind arith
 
   -- a test of the outstanding command of a tag is one of its entry
   known-with : Tracked d (map seen h) → (t : ℕ) (is : Command → Bool) (b : ℕ → Bool) → ((c : Command) → Standing d c → is c ≡ b (ownTag c))

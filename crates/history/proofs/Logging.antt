@@ -1,11 +1,10 @@
 -- The error record of the state is what the history tells of the last error: what each call does to it. Assumes nothing.
-use Rattle.std.proofs.Common.{Ok, Err, ◌≡◌, refl, ap, ap₂, subst, ◌∙◌, Bool, true, false, not, List, [], ◌∷◌, map, ⊎_elim, ℕ, ◌+◌, ◌<◌, ◌^◌, arith, eqb, ltb, leb, leb-false}
+use Rattle.std.proofs.Common.{Ok, Err, ◌≡◌, refl, ap₂, subst, ◌∙◌, Bool, true, false, not, List, [], ◌∷◌, map, ⊎_elim, ℕ, ◌+◌, ◌<◌, ◌^◌, arith, eqb, ltb, leb, leb-false}
 use mathlib.Core.Bool.{and-false}
 use borrow.Author.Tests.{eqb-false}
 use Rattle.bits.specs.Bit.{bitIn}
 use Rattle.bits.proofs.Picks.{tested, or_right}
 use Rattle.frame_parts.specs.declared.shared.Task.{Task}
-use Rattle.frame_parts.proofs.TaskLaws.{same-task}
 use Rattle.frames.specs.Write.{FrameValue}
 use Rattle.frames.specs.declared.shapes.HostReg.{HostReg}
 use Rattle.page_10h.specs.declared.page10.ErrorLog.{ErrorLog}
@@ -13,7 +12,7 @@ use Rattle.device_state.specs.State.{taskIn, echoOf}
 use Rattle.device_state.specs.Table.{entry_of}
 use Rattle.device_state.specs.declared.shapes.Echo.{Echo}
 use Rattle.device_state.specs.declared.shapes.Settings.{Settings}
-use Rattle.device_state.proofs.EchoLaws.{echo-task, echo-lba}
+use Rattle.device_state.proofs.EchoLaws.{echo-task}
 use Rattle.rules.specs.Call.{Call, hostFrame}
 use Rattle.rules.specs.Act.{failing}
 use Rattle.rules.specs.Medium.{part_of}
@@ -56,8 +55,7 @@ use Rattle.history.proofs.Soundness.{from-power}
 -- the bytes of a command with a failing sector in them
 failing-task : (e : Echo) (sector : ℕ) (t : Task) → sector < 2 ^ 48 → taskIn e ≡ t → taskIn (failing e sector) ≡ record { lba = sector; device = t.device; count = t.count }
 unfolding taskIn failing echoOf
-failing-task e sector t l k =
-    same-task (echo-lba (record { lba = sector; device = 0; count = 0 }) l) (ap (λ (x : Task). x.device) k) (ap (λ (x : Task). x.count) k)
+failing-task e sector t l k = grind arith
 
 -- a sector of an outstanding command's range has 48 bits
 sector-small : (d : Device) (t sector : ℕ) → contradictoryDevice d ≡ false → bitIn 32 d.status.outstanding t ≡ true → outside (entry_of d.entries t) sector ≡ false → sector < 2 ^ 48
@@ -101,8 +99,7 @@ module _ (d : Device) (h : List Event) (w : waits (map seen h) ≡ d.status.halt
   -- page 10h, with or without the sweep
   paged-logged : (f : HostReg) (on : Bool) (p : List ℕ) (r : ErrorLog) → f.command_bit ≡ true → Next (registerAsks f) (logReplies on f.task p) r ≡ logOf d.errors
   unfolding view some collect
-  paged-logged f true p r c = stays (registerAsks f) (logReplies true f.task p) r (rw c refl) refl (rw c refl)
-  paged-logged f false p r c = stays (registerAsks f) (logReplies false f.task p) r (rw c refl) refl (rw c refl)
+  paged-logged f on p r c = stays (registerAsks f) (logReplies on f.task p) r (grind arith) (grind arith) (grind arith)
 
   -- a host frame that is not turned down
   heard-logged : (x m b : List ℕ) {f : FrameRead} {a : Act} → contradictoryDevice d ≡ false → ReadFits f → by.Heard (facts_of d (lent (hostFrame x) m b)) f a

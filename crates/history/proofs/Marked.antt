@@ -1,7 +1,6 @@
 -- While the device is halted its record is set, and so page 10h tells an error. Assumes nothing.
-use Rattle.std.proofs.Common.{Option, Some, None, Ok, ◌≡◌, refl, ap, ◌∙◌, true, false, List, [], ℕ, length, get_or, eq-eqb}
+use Rattle.std.proofs.Common.{Option, Ok, ◌≡◌, refl, ap, ◌∙◌, true, false, List, [], ℕ, length, get_or, eq-eqb, arith}
 use mathlib.Core.Path.{subst⁻¹}
-use mathlib.Core.Bool.{false≢true}
 use Rattle.bits.proofs.Picks.{pick_yes}
 use Rattle.refusals.specs.First.{first_of}
 use Rattle.refusals.specs.declared.reasons.Refusal.{Refusal}
@@ -32,8 +31,7 @@ raised-marked d row k = k
 -- power-on, refused or not
 powered-marked : (r : Option Refusal) (s : Settings) → Marked (powered r s)
 unfolding freshDevice
-powered-marked None s h = absurd (false≢true h)
-powered-marked (Some r) s h = absurd (false≢true h)
+powered-marked r s h = grind arith
 
 pub marked_start : (s : Settings) → Marked (powerOn s).state
 unfolding powerOn

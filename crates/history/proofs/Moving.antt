@@ -1,5 +1,5 @@
 -- What each kind of effect does to the table, as far as the carried positions need it. Assumes nothing.
-use Rattle.std.proofs.Common.{Some, None, ◌≡◌, refl, sym, ap, ap₂, ◌∙◌, subst, ⊎_elim, Bool, true, false, not, ◌&&◌, ◌||◌, true≢false, List, [], ◌++◌, append-nil, ℕ, ◌+◌, ◌*◌, ◌≤◌, eqb, eqb-true, eq-eqb}
+use Rattle.std.proofs.Common.{Some, None, ◌≡◌, refl, sym, ap, ap₂, ◌∙◌, subst, ⊎_elim, Bool, true, false, not, ◌||◌, true≢false, List, [], ◌++◌, append-nil, ℕ, ◌+◌, ◌*◌, ◌≤◌, eqb, eqb-true, eq-eqb, arith}
 use mathlib.Core.Bool.{false≢true}
 use borrow.Author.Tests.{eqb-false}
 use Rattle.std.proofs.lemmas.Bool as bools
@@ -67,14 +67,9 @@ stays d d' e t y b x = record {
 kept : (d d' : Device) (e : Seen) (t : ℕ) → Empty e → d'.status.outstanding ≡ d.status.outstanding → d'.entries ≡ d.entries → busyAt d t ≡ true → Stays d e d' t
 kept d d' e t y o x b = stays d d' e t y (ap (λ (m : ℕ). bitIn 32 m t) o ∙ b) (ap (λ (es : List Entry). entry_of es t) x)
 
--- truth table: what is an error or a reset ends every command
-b-ends : (f c : Bool) → c ≡ true → f || c ≡ false → ⊥
-b-ends true c x y = true≢false y
-b-ends false c x y = true≢false (sym x ∙ y)
-
 -- an event that ends every command leaves none
 never : (d d' : Device) (e : Seen) → errs e || e.asks.resets ≡ true → (t : ℕ) → ends t e ≡ false → Stays d e d' t
-never d d' e c t x = absurd (b-ends (e.finishes t) (errs e || e.asks.resets) c x)
+never d d' e c t x = absurd (grind arith)
 
 -- the tag of an accepted command was not outstanding
 took-other : (d d' : Device) (e : Seen) → Took d e d' → (t : ℕ) → busyAt d t ≡ true → t ≡ e.asks.tag → ⊥
@@ -155,17 +150,12 @@ module _ (d d' : Device) (e : Seen) (tag n : ℕ) (k : Carried tag n d d') (l : 
       (λ (x : eqb t tag ≡ false). carried_other t b (eqb-false t tag x))
       (tested (eqb t tag))
 
--- truth table: a tag that was not taken away
-b-without : (s b : Bool) → s ≡ false → b ≡ true → (not s && b) ≡ true
-b-without true b x y = absurd (true≢false x)
-b-without false b x y = y
-
 -- a set of tags is finished: each other tag stays as it was
 ended-stays : (d d' : Device) (e : Seen) (set : ℕ) → Empty e → Ended set d d' → (t : ℕ) → busyAt d t ≡ true → bitIn 32 set t ≡ false → Stays d e d' t
 ended-stays d d' e set y k t b x =
     let l = busy-below d.status.outstanding t b in
     stays d d' e t y
-    (ap (λ (m : ℕ). bitIn 32 m t) k.outstanding ∙ bit-without d.status.outstanding set t k.width l ∙ b-without (bitIn 32 set t) (busyAt d t) x b)
+    (ap (λ (m : ℕ). bitIn 32 m t) k.outstanding ∙ bit-without d.status.outstanding set t k.width l ∙ rw (x, b))
     (k.others t l x)
 
 -- an event that accepts nothing

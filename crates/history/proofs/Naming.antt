@@ -1,5 +1,5 @@
 -- The bytes that the state keeps of a command are what the history tells of it: what each call does to them. Assumes nothing.
-use Rattle.std.proofs.Common.{Ok, Err, is_none, unwrap_or, ◌≡◌, refl, sym, ap, subst, ◌∙◌, Bool, true, false, not, ◌&&◌, ◌||◌, List, [], ◌∷◌, ⊎_elim, ℕ, ◌^◌, ◌<◌, eqb, eqb-true}
+use Rattle.std.proofs.Common.{Ok, Err, is_none, unwrap_or, ◌≡◌, refl, sym, ap, subst, ◌∙◌, Bool, true, false, not, ◌&&◌, ◌||◌, List, [], ◌∷◌, ⊎_elim, ℕ, ◌^◌, ◌<◌, eqb, eqb-true, arith}
 use mathlib.Core.Bool.{and-false}
 use borrow.Author.Tests.{eqb-false, not-true}
 use Rattle.bits.specs.Pick.{pick}
@@ -121,8 +121,7 @@ module _ (d : Device) (h : List Event) (n : Named d h) where
   -- page 10h, with or without the sweep
   paged-named : (f : HostReg) (on : Bool) (p : List ℕ) (task : Task) (d' : Device) → f.command_bit ≡ true → (eqb f.command 0x60 || eqb f.command 0x61) ≡ false → Stay d d' → Names (registerAsks f) (logReplies on f.task p) task d'
   unfolding view some collect
-  paged-named f true p task d' c e s = stays (registerAsks f) (logReplies true f.task p) task d' (rw (c, e) refl) s
-  paged-named f false p task d' c e s = stays (registerAsks f) (logReplies false f.task p) task d' (rw (c, e) refl) s
+  paged-named f on p task d' c e s = stays (registerAsks f) (logReplies on f.task p) task d' (grind arith) s
 
   -- rule 4
   accepted-named : (f : HostReg) → f.command_bit ≡ true → (eqb f.command 0x60 || eqb f.command 0x61) ≡ true → f.task ≡ taskIn (entryFor f).echo → (rs : List FrameValue) → accepts (view (registerAsks f) rs) ≡ true

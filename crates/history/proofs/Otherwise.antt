@@ -1,10 +1,8 @@
 -- What a command that is not queued is answered, by the tests of its rules; and those tests by the fields that were read. Assumes nothing.
-use Rattle.std.proofs.Common.{Option, Some, None, ◌≡◌, refl, sym, ◌∙◌, Bool, true, false, not, ◌&&◌, List, [], ◌∷◌, ◌++◌, ⊎_elim, ℕ, ◌%◌, ◌^◌, ◌<◌, arith, eqb, eqb-true, ltb-true}
-use mathlib.Core.Bool.{and-false}
-use borrow.Author.Tests.{eqb-false}
+use Rattle.std.proofs.Common.{Option, Some, None, ◌≡◌, refl, ◌∙◌, Bool, true, false, not, ◌&&◌, List, [], ◌∷◌, ◌++◌, ℕ, ◌%◌, ◌^◌, ◌<◌, arith, eqb, ltb-true}
 use Rattle.bits.specs.Pick.{pick}
 use Rattle.bits.specs.Little.{byte_of}
-use Rattle.bits.proofs.Picks.{tested, and_left, and_right}
+use Rattle.bits.proofs.Picks.{and_left, and_right}
 use Rattle.frame_parts.specs.Shared.{taskFits, below}
 use Rattle.frame_parts.specs.declared.shared.Task.{Task}
 use Rattle.frames.specs.declared.shapes.HostReg.{HostReg}
@@ -56,49 +54,19 @@ module _ (v : Facts) (s : Shown) (part : List ℕ) (h : HostReg) (same : s.halte
 
 -- bytes 12 and 13 say 1 and 0 exactly when the count is 1
 count_one : (n : ℕ) → n < 2 ^ 16 → eqb (byte_of n 0) 1 && eqb (byte_of n 1) 0 ≡ eqb n 1
-count_one n l =
-    ⊎_elim
-    (λ (y : eqb n 1 ≡ true). rw (eqb-true n 1 y) refl)
-    (λ (y : eqb n 1 ≡ false). rw y (not-both (eqb (byte_of n 0) 1) (eqb (byte_of n 1) 0) (λ a b. apart (eqb-false n 1 y) (eqb-true (byte_of n 0) 1 a) (eqb-true (byte_of n 1) 0 b))))
-    (tested (eqb n 1))
-  where
-    not-both : (a b : Bool) → (a ≡ true → b ≡ true → ⊥) → a && b ≡ false
-    not-both true true f = absurd (f refl refl)
-    not-both true false f = refl
-    not-both false b f = refl
-
-    apart : (n ≡ 1 → ⊥) → byte_of n 0 ≡ 1 → byte_of n 1 ≡ 0 → ⊥
-    apart f a b = f (omega arith)
-
-and-always : (b : Bool) → b && true ≡ b
-and-always true = refl
-and-always false = refl
+count_one n l = grind arith
 
 -- as the device tests it, and as the fields say it
 page-test : (asks : Option LogPage → Bool) (a b c g w : Bool) (page : Option LogPage) → asks None ≡ false → asks page ≡ w → asks (pick (a && (b && c) && g) page None) ≡ a && (w && (b && (c && g)))
-page-test asks false b c g w page z e = z
-page-test asks true false c g w page z e = z ∙ sym (and-false w)
-page-test asks true true false g w page z e = z ∙ sym (and-false w)
-page-test asks true true true false w page z e = z ∙ sym (and-false w)
-page-test asks true true true true w page z e = e ∙ sym (and-always w)
+page-test asks a b c g w page z e = grind arith
 
 -- byte 4 names page 10h
 ten-named : (n : ℕ) → asksErrors (pageNamed n) ≡ eqb n 0x10
-ten-named n = go (eqb n 0x10) (eqb n 0x11)
-  where
-    go : (p q : Bool) → asksErrors (pick p (Some Errors) (pick q (Some Counters) None)) ≡ p
-    go true q = refl
-    go false true = refl
-    go false false = refl
+ten-named n = grind arith
 
 -- and page 11h
 eleven-named : (n : ℕ) → asksCounters (pageNamed n) ≡ eqb n 0x11
-eleven-named n = go (eqb n 0x10) (eqb n 0x11) (λ y. rw (eqb-true n 0x10 y) refl)
-  where
-    go : (p q : Bool) → (p ≡ true → q ≡ false) → asksCounters (pick p (Some Errors) (pick q (Some Counters) None)) ≡ q
-    go true q f = sym (f refl)
-    go false true f = refl
-    go false false f = refl
+eleven-named n = grind arith
 
 module _ (h : HostReg) (fit : taskFits h.task ≡ true) where
   small_count : h.task.count < 2 ^ 16

@@ -75,9 +75,7 @@ owner-found cs (underWay d t a z) o = one-found (owns d t) cs o
 
 -- data of a write are the host's, of a read the device's
 way : (w d : Bool) → pick w (not d) d ≡ true → d ≡ not w
-way true false b = refl
-way true true b = absurd (false≢true b)
-way false d b = b
+way w d b = grind arith
 
 -- and as many as are carried
 moved-long : (w : Bool) (e : Event) → load (not w) (seen e) ≡ length (dataMoved w e)

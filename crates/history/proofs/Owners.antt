@@ -1,11 +1,7 @@
 -- Whose data are under way: those of the one outstanding command of the open phase's tag. Assumes nothing.
-use Rattle.std.proofs.Common.{Option, Some, None, ◌≡◌, refl, sym, ap, ap₂, ◌∙◌, Bool, true, false, not, ◌&&◌, ⊎_elim, List, [], ◌∷◌, ℕ, ◌+◌, ◌<◌, eqb, eqb-true, eq-eqb, ne_eqb}
+use Rattle.std.proofs.Common.{Option, Some, None, ◌≡◌, refl, ap, ap₂, ◌∙◌, Bool, not, ◌&&◌, List, [], ◌∷◌, ℕ, ◌+◌, ◌<◌, eqb, arith}
 use mathlib.Core.Path.{subst⁻¹}
-use mathlib.Core.Bool.{and-false}
-use borrow.Author.Tests.{eqb-false}
-use Rattle.bits.specs.Pick.{pick}
 use Rattle.bits.specs.Bit.{bitIn}
-use Rattle.bits.proofs.Picks.{tested}
 use Rattle.device.specs.declared.state.Device.{Device}
 use Rattle.device.proofs.Tags.{busy-below}
 use Rattle.history.specs.Seen.{Seen, Transfer}
@@ -13,7 +9,6 @@ use Rattle.history.specs.Fates.{Command, commands, ownTag, outstanding, one, how
 use Rattle.history.specs.Carried.{transfer, belongs}
 use Rattle.history.specs.Demand3.{Owned}
 use Rattle.history.proofs.Alls.{all-imp}
-use Rattle.history.proofs.Spans.{own-way}
 use Rattle.history.proofs.Transfers.{transferFor, transfer-shut, transfer-open}
 use Rattle.history.proofs.Moving.{deviceEntry}
 use Rattle.history.proofs.Table.{Following, Tracked}
@@ -24,28 +19,10 @@ unfolding All howMany
 many-same p q [] a = refl
 many-same p q (c ∷ cs) a = ap₂ (λ (b : Bool) (n : ℕ). one b + n) a.0 (many-same p q cs a.1)
 
--- data of a tag are those of a command with this tag, and with the same write, and of no other
-pub belongs-tag : (w v : Bool) (t u : ℕ) → (t ≡ u → w ≡ v) → belongs v u (not w) t ≡ eqb u t
-belongs-tag w v t u s =
-    ⊎_elim
-    (λ (y : eqb t u ≡ true).
-    let e = eqb-true t u y in
-    rw (y, eq-eqb u t (sym e)) (ap (λ (x : Bool). pick x (not (not w)) (not w)) (sym (s e)) ∙ own-way w))
-    (λ (n : eqb t u ≡ false). rw (n, ne_eqb u t (λ e. eqb-false t u n (sym e))))
-    (tested (eqb t u))
-
--- truth table: what agrees while it matters
-and-agree : (o a b : Bool) → (o ≡ true → a ≡ b) → o && a ≡ b && o
-and-agree true true b h = ap (λ (x : Bool). x && true) (h refl)
-and-agree true false b h = ap (λ (x : Bool). x && true) (h refl)
-and-agree false a b h = sym (and-false b)
-
 -- the open phase's data belong to the outstanding commands of its tag
 phase-own : (d : Device) (t : ℕ) (c : Command) → Following d c
     → (outstanding c && belongs c.accepted.asks.write (ownTag c) (not (deviceEntry d t).write) t) ≡ (eqb (ownTag c) t && outstanding c)
-phase-own d t c f =
-    and-agree (outstanding c) (belongs c.accepted.asks.write (ownTag c) (not (deviceEntry d t).write) t) (eqb (ownTag c) t)
-    (λ o. belongs-tag (deviceEntry d t).write c.accepted.asks.write t (ownTag c) (λ e. ap (λ (u : ℕ). (deviceEntry d u).write) e ∙ (f.stands o).write))
+phase-own d t c f = grind arith
 
 module _ (d : Device) (h : List Seen) (i : Tracked d h) (counts : (t : ℕ) → t < 32 → totalWith t h ≡ one (bitIn 32 d.status.outstanding t)) where
   -- an open phase: one command

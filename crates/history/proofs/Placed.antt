@@ -1,5 +1,5 @@
 -- Data at a place: sent, they are what the medium held there; brought, the medium holds them there and is otherwise as it was. What each reply sends. Assumes nothing.
-use Rattle.std.proofs.Common.{◌≡◌, refl, sym, ap, ◌∙◌, Bool, true, false, List, [], ◌∷◌, ◌++◌, append-nil, ℕ, zero, suc, ◌+◌, ◌≤◌, ◌<◌, add-zero, arith, length, take, drop, take-append-drop}
+use Rattle.std.proofs.Common.{◌≡◌, refl, sym, ap, ◌∙◌, Bool, List, [], ◌∷◌, ◌++◌, append-nil, ℕ, zero, suc, ◌+◌, ◌≤◌, ◌<◌, add-zero, arith, length, take, drop, take-append-drop}
 use Rattle.frame_parts.specs.declared.shared.Task.{Task}
 use Rattle.frames.specs.Write.{payload}
 use Rattle.rules.specs.declared.acts.Queued.{Queued}
@@ -71,17 +71,14 @@ payload-sent at n m = rw (append-nil (take n (drop at m))) (take_short n (drop a
 -- a page is no command's data, with a sweep before it or without
 pub log-none : (on : Bool) (task : Task) (page : List ℕ) → sentIn (logReplies on task page) ≡ []
 unfolding some
-log-none true task page = refl
-log-none false task page = refl
+log-none on task page = grind arith
 
 -- nor is an Activate
 pub active-none : (on : Bool) → sentIn (activateIf on) ≡ []
 unfolding some
-active-none true = refl
-active-none false = refl
+active-none on = grind arith
 
 -- nor a DMA Setup
 pub setup-none : (q : Queued) (on : Bool) → sentIn (setupReply q ∷ activateIf on) ≡ []
 unfolding some
-setup-none q true = refl
-setup-none q false = refl
+setup-none q on = grind arith

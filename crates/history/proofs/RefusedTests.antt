@@ -1,6 +1,6 @@
 -- Each test of the table of refusals, by the history (Refused) and by the state. Assumes nothing.
-use Rattle.std.proofs.Common.{Option, None, Ok, is_some, is_none, unwrap_or, ◌≡◌, refl, sym, ap, ap₂, ◌∙◌, Bool, true, false, not, ◌&&◌, ◌||◌, List, [], ◌∷◌, ⊎_elim, ℕ, zero, suc, ◌-◌, ◌*◌, ◌<◌, arith, eqb, ltb, leb, ne_eqb}
-use mathlib.Core.Bool.{not-not}
+use Rattle.std.proofs.Common.{Option, None, Ok, is_some, is_none, unwrap_or, ◌≡◌, refl, sym, ap, ap₂, ◌∙◌, Bool, true, false, not, ◌&&◌, ◌||◌, List, [], ◌∷◌, ⊎_elim, ℕ, zero, suc, ◌-◌, ◌*◌, ◌<◌, arith, eqb, ltb}
+use mathlib.Core.Bool.{not-not, or_assoc, or_comm}
 use borrow.Author.Tests.{not-false, not-true}
 use Rattle.bits.specs.Pick.{pick}
 use Rattle.bits.specs.Bit.{bitIn}
@@ -25,7 +25,6 @@ use Rattle.device.specs.declared.state.Device.{Device}
 use Rattle.device.proofs.Busy.{whole_is, moves-on}
 use Rattle.device.proofs.Parts.{status-good}
 use Rattle.device.proofs.StatusLaws.{phase-busy}
-use Rattle.device.proofs.Turns.{none-some}
 use Rattle.history.specs.Event.{Event}
 use Rattle.history.specs.Replied.{FrameRead}
 use Rattle.history.specs.Seen.{Transfer, underWay}
@@ -34,30 +33,15 @@ use Rattle.history.specs.Powered.{Powered}
 use Rattle.history.specs.Refused.{outOfBounds, writeOpen, untimely, tooLong, someTag, unfit, noRow}
 use Rattle.history.proofs.Transfers.{transferOf, transfer-shut, transfer-open}
 use Rattle.history.proofs.Moving.{deviceEntry, busyAt}
-use Rattle.history.proofs.Knows.{Known, below-not}
-use Rattle.device.proofs.Phases.{none-open, some-open, open-entry}
+use Rattle.history.proofs.Knows.{Known}
+use Rattle.device.proofs.Phases.{none-open, open-entry}
 
 -- ---- settings
-
--- truth table: out of bounds, as the state's rules put it
-bounds-test : (a b c d k : Bool) → not (not a && not b) || (not (not c && not d) || not k) ≡ ((a || b) || (c || d)) || not k
-bounds-test true b c d k = refl
-bounds-test false true c d k = refl
-bounds-test false false true d k = refl
-bounds-test false false false true k = refl
-bounds-test false false false false k = refl
-
--- a number is at most another where that is not below it
-pub most-not : (a b : ℕ) → leb a b ≡ not (ltb b a)
-most-not a b = sym (not-not (leb a b)) ∙ ap not (sym (below-not b a))
 
 -- 1, of settings
 bounds-out : (s : Settings) → outOfBounds s.depth s.capacity s.mask ≡ settingsOut s
 unfolding settingsOut
-bounds-out s =
-    ap₂ ◌||◌ (ap₂ (λ (a b : Bool). not (a && b)) (most-not 1 s.depth) (most-not s.depth 32))
-    (ap₂ (λ (a b : Bool). not (a && b) || not (bitIn 16 s.mask 0 && bitIn 16 s.mask 9)) (most-not 1 s.capacity) (most-not s.capacity 65536))
-    ∙ bounds-test (ltb s.depth 1) (ltb 32 s.depth) (ltb s.capacity 1) (ltb 65536 s.capacity) (bitIn 16 s.mask 0 && bitIn 16 s.mask 9)
+bounds-out s = grind arith
 
 -- what power-on is refused with, by whether its settings are out of bounds
 abbrev turnedFor : Bool → Option Refusal
@@ -71,53 +55,31 @@ powered s = record { refusal = ap turnedFor (sym (bounds-out s)); silent = refl 
 -- so a power-on that was taken had settings within them
 pub power-taken : (s : Settings) → (powerOn s).refusal ≡ None → outOfBounds s.depth s.capacity s.mask ≡ false
 unfolding first_of
-power-taken s z = go (outOfBounds s.depth s.capacity s.mask) (sym (powered s).refusal ∙ z)
-  where
-    go : (b : Bool) → turnedFor b ≡ None → b ≡ false
-    go true y = absurd (none-some Contradiction y)
-    go false y = refl
+power-taken s z = let e = (powered s).refusal in grind arith
 
 -- and one that was refused did not
 pub power-refused : (s : Settings) → ((powerOn s).refusal ≡ None → ⊥) → outOfBounds s.depth s.capacity s.mask ≡ true
 unfolding first_of
-power-refused s n = go (outOfBounds s.depth s.capacity s.mask) (powered s).refusal
-  where
-    go : (b : Bool) → (powerOn s).refusal ≡ turnedFor b → b ≡ true
-    go true e = refl
-    go false e = absurd (n e)
+power-refused s n = let e = (powered s).refusal in grind arith
 
 -- 13
 pub row-same : (mask r : ℕ) → rowRefused mask r ≡ noRow mask r
-row-same mask r = go (eqb r 0) (eqb r 9) (ltb 15 r || not (bitIn 16 mask r))
-  where
-    go : (a b c : Bool) → (a || b) || c ≡ a || (b || c)
-    go true b c = refl
-    go false b c = refl
+row-same mask r = or_assoc (eqb r 0) (eqb r 9) (ltb 15 r || not (bitIn 16 mask r))
 
 -- ---- what is under way
 
 module _ (d : Device) where
   -- the open phase, while one is open
   phase-at : is_none d.status.phase ≡ false → transferOf d ≡ underWay (not (phaseEntry d).write) (unwrap_or d.status.phase 0) (phaseEntry d).moved (512 * (phaseEntry d).count)
-  phase-at n =
-      let t = unwrap_or d.status.phase 0 in
-      rw (open-entry d.entries d.status.phase n) (transfer-open d t (some-open d.status.phase n))
+  phase-at n = grind arith
 
   -- 5 and 8 of a phase
   pub open-same : isOpen (transferOf d) ≡ linkBusy d.status
-  open-same =
-      ⊎_elim (λ (x : is_none d.status.phase ≡ true). rw (not-true (is_some d.status.phase) x, transfer-shut d (none-open d.status.phase (not-true (is_some d.status.phase) x))))
-      (λ (x : is_none d.status.phase ≡ false). rw (not-false (is_some d.status.phase) x, phase-at x)) (tested (is_none d.status.phase))
+  open-same = grind arith
 
   -- 5 of data: no write phase
   write-open-same : (is_none d.status.phase || not (phaseEntry d).write) ≡ not (writeOpen (transferOf d))
-  write-open-same =
-      ⊎_elim (λ (x : is_none d.status.phase ≡ true). rw (not-true (is_some d.status.phase) x, transfer-shut d (none-open d.status.phase (not-true (is_some d.status.phase) x))))
-      (λ (x : is_none d.status.phase ≡ false). rw (not-false (is_some d.status.phase) x, phase-at x) (go (phaseEntry d).write)) (tested (is_none d.status.phase))
-    where
-      go : (w : Bool) → not w ≡ not (not (not w))
-      go true = refl
-      go false = refl
+  write-open-same = grind arith
 
   module _ (g : contradictoryDevice d ≡ false) where
     -- all of the open phase's command
@@ -142,8 +104,7 @@ module _ (d : Device) where
         (tested (is_none d.status.phase))
       where
         go : (w : Bool) (m a : ℕ) → m < a → w ≡ eqb (pick (pick true (not w) (not (not w))) (a - m) 0) 0
-        go true m a l = refl
-        go false m a l = sym (ne_eqb (a - m) 0 (λ e. absurd (omega arith)))
+        go w m a l = grind arith
 
 -- ---- each call
 
@@ -151,22 +112,13 @@ module _ (d : Device) where
 some-same : (n : ℕ) (p q : ℕ → Bool) → ((t : ℕ) → p t ≡ q t) → someBelow n p ≡ someTag n q
 unfolding someBelow someTag
 some-same zero p q e = refl
-some-same (suc n) p q e = turn (someBelow n p) (p n) ∙ ap₂ ◌||◌ (e n) (some-same n p q e)
-  where
-    turn : (a b : Bool) → a || b ≡ b || a
-    turn true true = refl
-    turn true false = refl
-    turn false true = refl
-    turn false false = refl
+some-same (suc n) p q e = or_comm (someBelow n p) (p n) ∙ ap₂ ◌||◌ (e n) (some-same n p q e)
 
 module _ (d : Device) (h : List Event) (k : Known d h) where
   -- 5
   pub time-same : (m b x : List ℕ) (f : FrameRead) → wrongTime (facts_of d (lent (hostFrame x) m b)) f ≡ untimely f h
   unfolding wrongTime
-  time-same m b x (Ok (fs.Host r)) = ap₂ (λ (u w : Bool). r.command_bit && (u || w)) (sym k.held) (sym (ap isOpen k.phase ∙ open-same d))
-  time-same m b x (Ok (fs.Data n)) = write-open-same d ∙ ap (λ (y : Transfer). not (writeOpen y)) (sym k.phase)
-  time-same m b x (Ok fs.Bist) = sym (ap isOpen k.phase ∙ open-same d)
-  time-same m b x _ = refl
+  time-same m b x f = grind arith
 
   -- a tag that 7 lets pass is outstanding
   pub passed : (t : ℕ) → not (isOut t h) ≡ false → busyAt d t ≡ true
@@ -192,11 +144,7 @@ module _ (d : Device) (h : List Event) (k : Known d h) where
     tag-same : (set t : ℕ) → unreadyAt d.entries d.status.outstanding set t ≡ bitIn 32 set t && not (outstandingWith t whole h)
     tag-same set t =
         ap (λ (x : Bool). bitIn 32 set t && x)
-        (⊎_elim
-        (λ (o : busyAt d t ≡ true). ap (λ (x : Bool). not x || not (allMoved (deviceEntry d t))) o ∙ ap not (moved-same t o))
-        (λ (o : busyAt d t ≡ false). ap (λ (x : Bool). not x || not (allMoved (deviceEntry d t))) o
-        ∙ sym (ap not (k.moved t ∙ ap (λ (x : Bool). x && eqb (deviceEntry d t).moved (512 * (deviceEntry d t).count)) o)))
-        (tested (busyAt d t)))
+        (let m = moved-same t in let w = k.moved t in grind arith)
 
     -- 11
     pub set-same : (set : ℕ) → (eqb set 0 || someUnready d.entries d.status.outstanding set) ≡ unfit set h

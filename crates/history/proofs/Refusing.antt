@@ -1,6 +1,5 @@
 -- Every event is turned down for what the table of refusals says of the history before it (Refused). Assumes nothing.
-use Rattle.std.proofs.Common.{Some, ◌≡◌, refl, sym, ap, ◌∙◌, Bool, true, false, not, ◌||◌, List, ◌∷◌, ℕ, eqb}
-use Rattle.bits.specs.Pick.{pick}
+use Rattle.std.proofs.Common.{Some, ◌≡◌, refl, sym, ap, ◌∙◌, Bool, true, false, not, ◌||◌, List, ◌∷◌, ℕ, eqb, arith}
 use Rattle.refusals.specs.First.{Rung, rung, first_of}
 use Rattle.refusals.specs.declared.reasons.Refusal.{Refusal}
 use Rattle.refusals.specs.declared.reasons.Refusal.TheVariants.{Contradiction, MediumLength, ReplyShort, NoHostFrame, WrongTime, TooLong, TagIdle, PhaseOpen, AllMoved, NoReadPhase, SetUnready, OutsideCommand, NoRow}
@@ -30,11 +29,7 @@ use Rattle.history.proofs.RefusedTests.{power-taken, power-refused, row-same, op
 -- the same test in front of rows that agree where it does not hold
 cons-same : (n : Refusal) {a b : Bool} (rs ss : List Rung) → a ≡ b → (b ≡ false → first_of rs ≡ first_of ss) → first_of (rung n a ∷ rs) ≡ first_of (rung n b ∷ ss)
 unfolding first_of
-cons-same n {a} {b} rs ss e f = rw e (go b f)
-  where
-    go : (b : Bool) → (b ≡ false → first_of rs ≡ first_of ss) → pick b (Some n) (first_of rs) ≡ pick b (Some n) (first_of ss)
-    go true f = refl
-    go false f = f refl
+cons-same n {a} {b} rs ss e f = grind arith
 
 -- ---- each call
 

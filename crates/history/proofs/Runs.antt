@@ -1,5 +1,5 @@
 -- Demand 3 over every run from power-on. Assumes nothing.
-use Rattle.std.proofs.Common.{None, ◌≡◌, refl, ap, subst, ◌∙◌, Bool, true, false, List, [], ◌∷◌, map, ◌≤◌, le_trans, le_of_eq, arith, ltb}
+use Rattle.std.proofs.Common.{None, ◌≡◌, refl, ap, subst, ◌∙◌, Bool, List, [], ◌∷◌, map, ◌≤◌, le_trans, le_of_eq, arith, ltb}
 use lib.Count.{ones}
 use Rattle.bits.specs.Bit.{bitIn}
 use Rattle.device_state.specs.declared.shapes.Settings.{Settings}
@@ -178,8 +178,7 @@ module _ (s : Settings) (as' : List Lent) (t : AllTyped as') where
   demand3-single u l = le_trans (le_of_eq (inv-number (held s as' t).inv u l)) (one-most (bitIn 32 (run_from s as').state.status.outstanding u))
     where
       one-most : (b : Bool) → one b ≤ 1
-      one-most true = omega arith
-      one-most false = omega arith
+      one-most b = grind arith
 
   -- every event says no more than it may after those before it, and what it must
   pub demand3-reply-rules : AllReplyRules (history s as')

@@ -1,8 +1,7 @@
 -- What the replies of each act may hold: an A1h answers a host frame only with page 10h, which tells an error, and a page only a read of 10h or 11h. Assumes nothing.
-use Rattle.std.proofs.Common.{Ok, ◌≡◌, refl, sym, ◌∙◌, Bool, true, false, ◌&&◌, ◌||◌, List, append-nil, ℕ}
+use Rattle.std.proofs.Common.{Ok, ◌≡◌, refl, sym, ◌∙◌, Bool, true, false, ◌&&◌, ◌||◌, List, append-nil, ℕ, arith}
 use mathlib.Core.Path.{subst⁻¹}
 use mathlib.Core.Bool.{false≢true}
-use Rattle.std.proofs.lemmas.Bool.{or_right}
 use Rattle.frame_parts.specs.declared.shared.Task.{Task}
 use Rattle.frames.specs.Write.{FrameValue}
 use Rattle.frames.specs.declared.shapes.SetBits.{SetBits}
@@ -48,11 +47,9 @@ ten-said h task page t false k = record { swept = λ _. rw t; tells = λ x. absu
 -- page 11h
 pub eleven-said : (h : HostReg) (task : Task) (page : List ℕ) → (frameAsks (Ok (fs.Host h))).reads 0x11 ≡ true → FrameSays (Ok (fs.Host h)) (logReplies false task page)
 unfolding some collect
-eleven-said h task page t =
-    record { swept = λ x. absurd (false≢true x); tells = λ x. absurd (false≢true x); paged = λ _. or_right ((frameAsks (Ok (fs.Host h))).reads 0x10) ((frameAsks (Ok (fs.Host h))).reads 0x11) t }
+eleven-said h task page t = grind arith
 
 -- an Activate or none
 pub kept-said : (f : FrameRead) (on : Bool) → FrameSays f (activateIf on)
 unfolding some collect
-kept-said f true = mild _ _ refl refl
-kept-said f false = mild _ _ refl refl
+kept-said f on = grind arith

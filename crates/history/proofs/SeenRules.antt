@@ -34,8 +34,7 @@ no-queue n e = absurd (false≢true e)
 
 -- a bad answer where no A1h speaks
 only-bad : (ba fa x : Bool) → fa ≡ false → (ba && x) || fa ≡ true → ba ≡ true
-only-bad true fa x e c = refl
-only-bad false fa x e c = absurd (false≢true (sym e ∙ c))
+only-bad ba fa x e c = grind arith
 
 -- each kind
 pub seen-rules : (d d' : Device) (e : Seen) (h : List Seen) → Inv d.status.outstanding d.status.halted h → Class d e d' → SeenRules e h

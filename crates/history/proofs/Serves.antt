@@ -3,7 +3,7 @@ use Rattle.std.proofs.Common.{Option, Some, None, Ok, is_none, unwrap_or, ◌≡
 use borrow.Author.Tests.{not-false}
 use Rattle.bits.specs.Pick.{pick}
 use Rattle.bits.specs.Bit.{bitIn}
-use Rattle.bits.proofs.Picks.{pick_yes, or_left, or_right}
+use Rattle.bits.proofs.Picks.{pick_yes, or_left, or_right, by-test}
 use Rattle.frame_parts.specs.Cut.{joined}
 use Rattle.frame_parts.specs.Size.{payloadSize}
 use Rattle.frames.specs.Write.{FrameValue, setup, activate, payload, encode, fits}
@@ -58,8 +58,7 @@ reply-is d l g p = ap₂ (λ (n : ℕ) (b : List ℕ). take n b) p.len p.reply �
 -- a DMA Setup, and for a write an Activate, as bytes
 open-bytes : (f : FrameValue) (w : Bool) → joined (map encode ((f ∷ []) ++ activateIf w)) ≡ encode f ++ pick w (encode activate) []
 unfolding joined encode
-open-bytes f true = refl
-open-bytes f false = refl
+open-bytes f w = grind arith
 
 module _ (d : Device) (good : contradictoryDevice d ≡ false) where
   module _ (t : ℕ) where
@@ -124,11 +123,7 @@ module _ (d : Device) (good : contradictoryDevice d ≡ false) where
 
     -- refused for its sector, and that by the range that the bytes name
     by-sector : bitIn 32 d.status.outstanding t ≡ true → (sector : ℕ) → pick (outside e sector) (Some OutsideCommand) None ≡ pick (covered e sector) None (Some OutsideCommand)
-    by-sector o sector = rw (first-named d t good o, count-named d t good o, covers-not e.first e.count sector) (go (outside e sector))
-      where
-        go : (x : Bool) → pick x (Some OutsideCommand) None ≡ pick (not x) None (Some OutsideCommand)
-        go true = refl
-        go false = refl
+    by-sector o sector = rw (first-named d t good o, count-named d t good o, covers-not e.first e.count sector) (grind arith)
 
     fails : (error sector : ℕ) (m b : List ℕ) (g : Gave) → bitIn 32 d.status.outstanding t ≡ true → eqb error 0 ≡ false → 8196 ≤ length b → Given d (lent (mediaError t error sector) m b) g
         → g.outcome.refusal ≡ pick (covered e sector) None (Some OutsideCommand)
@@ -208,11 +203,7 @@ module _ (d : Device) (good : contradictoryDevice d ≡ false) where
 
 -- a call that brings no data
 leaves : (d : Device) (l : Lent) (g : Gave) → Given d l g → callBrings l.call ≡ [] → g.medium ≡ l.medium
-leaves d l g p n = p.medium ∙ left-same _ _ _ _ (call_lies d l).left_at (go (is_none (step d l).refusal))
-  where
-    go : (b : Bool) → pick b (callBrings l.call) [] ≡ []
-    go true = n
-    go false = refl
+leaves d l g p n = p.medium ∙ left-same _ _ _ _ (call_lies d l).left_at (by-test (λ (x : List ℕ). x ≡ []) (is_none (step d l).refusal) (callBrings l.call) [] (λ _. n) (λ _. refl))
 
 -- any state that does not contradict itself, whatever is asked of it
 pub serves : (d : Device) → contradictoryDevice d ≡ false → Serves Given d

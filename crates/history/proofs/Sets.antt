@@ -1,6 +1,5 @@
 -- Sets of 32 tags, and the empty one; and the test whether something is there. Assumes nothing.
-use Rattle.std.proofs.Common.{Option, Some, None, is_none, ◌≡◌, refl, sym, ap, ◌∙◌, true, false, true≢false, ℕ, ◌/◌, ◌%◌, ◌^◌, ◌<◌, arith, eqb, lit<, lt-ltb}
-use mathlib.Core.Bool.{false≢true}
+use Rattle.std.proofs.Common.{Option, None, is_none, ◌≡◌, sym, ap, ◌∙◌, true, false, true≢false, ℕ, ◌/◌, ◌%◌, ◌^◌, ◌<◌, arith, eqb, lit<, lt-ltb}
 use native.Mathlib.Nat.{zero-div}
 use borrow.Author.Tests.{eqb-false}
 use Rattle.bits.specs.Bit.{bitIn}
@@ -22,14 +21,11 @@ no_bits m l h =
 -- ---- nothing is there, or something
 
 pub is_none-true : {A : Type 0} (o : Option A) → is_none o ≡ true → o ≡ None
-is_none-true None e = refl
-is_none-true (Some x) e = absurd (false≢true e)
+is_none-true o e = grind arith
 
 pub is_none-false : {A : Type 0} (o : Option A) → is_none o ≡ false → o ≡ None → ⊥
-is_none-false None e z = true≢false e
-is_none-false (Some x) e z = false≢true (ap is_none z)
+is_none-false o e z = grind arith
 
 -- and back
 pub is_none-some : {A : Type 0} (o : Option A) → (o ≡ None → ⊥) → is_none o ≡ false
-is_none-some None n = absurd (n refl)
-is_none-some (Some x) n = refl
+is_none-some o n = grind arith

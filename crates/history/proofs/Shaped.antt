@@ -1,5 +1,5 @@
 -- When replies are of a shape that they may have: one of those that the call may have; a 34h with ERR answers a command, one without it none but a queued one, and a 5Fh has no ERR. Assumes nothing.
-use Rattle.std.proofs.Common.{Ok, ◌≡◌, refl, sym, ◌∙◌, Bool, true, false, not, true≢false, List, [], ◌∷◌, map, inl, inr, ℕ}
+use Rattle.std.proofs.Common.{Ok, ◌≡◌, sym, ◌∙◌, Bool, true, false, not, true≢false, List, [], ◌∷◌, map, inl, ℕ, arith}
 use mathlib.Core.Bool.{false≢true}
 use Rattle.frame_parts.specs.declared.shared.Task.{Task}
 use Rattle.frames.specs.Write.{FrameValue}
@@ -69,11 +69,9 @@ module _ (h : HostReg) (c : h.command_bit ≡ true) where
   -- by a page, behind the sweep or not
   pub to-log : (on : Bool) (task : Task) (page : List ℕ) → Shaped (frameReplies (Ok (fs.Host h))) (frameAsks (Ok (fs.Host h))) (logReplies on task page)
   unfolding some collect
-  to-log true task page = to-other _ (inr (inr (inl refl))) refl refl
-  to-log false task page = to-other _ (inr (inl refl)) refl refl
+  to-log on task page = grind arith
 
 -- host data: an Activate if more is left
 pub to-data : (n : ℕ) (on : Bool) → Shaped (frameReplies (Ok (fs.Data n))) (dataAsks n) (activateIf on)
 unfolding some collect
-to-data n true = unblamed _ refl (inr (inl refl)) refl refl
-to-data n false = unblamed [] refl (inl refl) refl refl
+to-data n on = grind arith

@@ -15,7 +15,7 @@ use Rattle.rules.specs.Decide.{pageAsked}
 use Rattle.rules.specs.Medium.{part_of}
 use Rattle.rules.specs.declared.acts.Act.{Act}
 use Rattle.rules.proofs.Ruled as by
-use Rattle.replies.specs.Replies.{logOf, logReplies, activateIf, page10Of, repliesOf}
+use Rattle.replies.specs.Replies.{logOf, logReplies, page10Of, repliesOf}
 use Rattle.device.specs.Device.{contradictoryDevice}
 use Rattle.device.specs.Lent.{Lent, lent, Typed}
 use Rattle.device.specs.FactsOf.{facts_of}
@@ -49,14 +49,7 @@ reads-back f fit =
 -- page 10h in its replies, with or without the sweep
 ten-page : (on : Bool) (task : Task) (l : List ℕ) → pageIn (logReplies on task l) ≡ l
 unfolding some
-ten-page true task l = append-nil l
-ten-page false task l = append-nil l
-
--- an Activate is no page
-active-pageless : (on : Bool) → pioIn (activateIf on) ≡ false
-unfolding some
-active-pageless true = refl
-active-pageless false = refl
+ten-page on task l = grind (arith, append-nil {A = ℕ})
 
 -- a read of page 11h is none of page 10h
 not-ten : (h : HostReg) → h.command_bit ≡ true → asksCounters (pageAsked h) ≡ true → readsLog 0x10 h ≡ true → ⊥

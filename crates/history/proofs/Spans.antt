@@ -1,5 +1,5 @@
 -- Laws of rising numbers, of what is under way, and of the positions that an event carries. Assumes nothing.
-use Rattle.std.proofs.Common.{◌≡◌, refl, ap, ap₂, ◌∙◌, Bool, true, false, not, ◌&&◌, ◌||◌, true≢false, List, [], ◌∷◌, ◌++◌, append-nil, ℕ, zero, suc, ◌+◌, ◌<◌, zero-add, suc-add, arith, ltb, eq-eqb, ne_eqb}
+use Rattle.std.proofs.Common.{◌≡◌, refl, ap, ap₂, ◌∙◌, Bool, true, false, not, ◌&&◌, ◌||◌, List, [], ◌∷◌, ◌++◌, append-nil, ℕ, zero, suc, ◌+◌, ◌<◌, zero-add, suc-add, arith, ltb, eq-eqb, ne_eqb}
 use mathlib.Core.Bool.{false≢true}
 use Rattle.bits.specs.Pick.{pick}
 use Rattle.bits.proofs.Picks.{by-test}
@@ -41,13 +41,11 @@ first-length-none start write tag e (underWay d t a z) y =
 
 -- something carried: what is under way goes on, or ends
 pub onward-some : (k : ℕ) (d : Bool) (t a z : ℕ) → 0 < k → onward k (underWay d t a z) ≡ pick (ltb (a + k) z) (underWay d t (a + k) z) noTransfer
-onward-some zero d t a z l = absurd (omega arith)
-onward-some (suc k) d t a z l = refl
+onward-some k d t a z l = grind arith
 
 -- truth table: the data of a direction are those of a command of that direction
 pub own-way : (w : Bool) → pick w (not (not w)) (not w) ≡ true
-own-way true = refl
-own-way false = refl
+own-way w = grind arith
 
 -- the data of a tag in a command's direction is the command's
 pub belongs-own : (w : Bool) (t : ℕ) → belongs w t (not w) t ≡ true
@@ -80,10 +78,7 @@ carried_none start write tag e n y =
 
 -- truth table: a finished command is not outstanding
 b-done : (o f fi er : Bool) → (f ≡ true → o ≡ false) → (f || (o && fi)) ≡ true → (o && not (fi || er)) ≡ false
-b-done true true fi er g e = absurd (true≢false (g refl))
-b-done true false true er g e = refl
-b-done true false false er g e = absurd (false≢true e)
-b-done false f fi er g e = refl
+b-done o f fi er g e = grind arith
 
 -- a finished command is not outstanding
 pub finished-over : (t : ℕ) (n : List Seen) → finishedAt t n ≡ true → outstandingAt t n ≡ false

@@ -1,12 +1,11 @@
 -- When a call says no more than it may, and what it must: by its replies. Assumes nothing.
-use Rattle.std.proofs.Common.{Ok, ◌≡◌, refl, sym, ap, ◌∙◌, Bool, true, false, not, ◌&&◌, ◌||◌, true≢false, List, [], ◌∷◌, ⊎_elim, ℕ, ◌%◌, eqb}
+use Rattle.std.proofs.Common.{◌≡◌, refl, sym, ap, ◌∙◌, Bool, true, false, not, ◌&&◌, ◌||◌, true≢false, List, [], ◌∷◌, ⊎_elim, ℕ, arith}
 use mathlib.Core.Bool.{false≢true, and-false}
 use Rattle.bits.specs.Bit.{bitIn}
 use Rattle.bits.proofs.Picks.{tested, and_left, and_right}
 use Rattle.frames.specs.Read.{readFrame}
 use Rattle.frames.specs.Write.{FrameValue}
 use Rattle.frames.specs.declared.shapes.SetBits.{SetBits}
-use Rattle.frames.specs.declared.shapes.Frame.TheVariants as fs
 use Rattle.page_10h.specs.Page10.{read_log}
 use Rattle.rules.specs.Call.{Call, hostFrame}
 use Rattle.history.specs.FrameAsks.{Asked}
@@ -42,8 +41,7 @@ some-none p (f ∷ l) e = absurd (true≢false e)
 
 -- a frame that reads a page is a command
 reads-command : (n : ℕ) (f : FrameRead) → (frameAsks f).reads n ≡ true → (frameAsks f).command ≡ true
-reads-command n (Ok (fs.Host h)) e = and_left h.command_bit (eqb h.command 0x2F && eqb (h.task.lba % 256) n) e
-reads-command n _ e = absurd (false≢true e)
+reads-command n f e = grind arith
 
 -- no host frame finishes anything
 pub host-finishes : (f : FrameRead) (rs : List FrameValue) → FrameSays f rs → (t : ℕ) → (view (frameAsks f) rs).finishes t ≡ false

@@ -1,5 +1,5 @@
 -- The state at the end of every run is what its history tells. Assumes nothing.
-use Rattle.std.proofs.Common.{Ok, ◌≡◌, refl, sym, ap, ap₂, subst, ◌∙◌, Bool, true, false, not, ◌&&◌, ◌||◌, List, ℕ, ◌≤◌, ltb, Option, Some, None, is_none, is_some, min, ⊎_elim}
+use Rattle.std.proofs.Common.{Ok, ◌≡◌, refl, sym, ap, ap₂, subst, ◌∙◌, Bool, true, false, not, ◌&&◌, ◌||◌, List, ℕ, ◌≤◌, ltb, Option, Some, None, is_none, is_some, min, ⊎_elim, arith}
 use Rattle.page_11h.specs.Page11.{noNumber}
 use Rattle.refusals.specs.First.{first_of, unless}
 use Rattle.refusals.specs.Ladders.{powerLadder, counterLadder}
@@ -26,27 +26,17 @@ use Rattle.history.proofs.Core.{inv-waits, inv-number, inv-total}
 use Rattle.history.proofs.Counters.{counting-true}
 use Rattle.history.proofs.Asked11.{counter-true}
 use Rattle.history.proofs.Soundness.{by-power}
-use Rattle.history.proofs.RefusedTests.{most-not, power-taken, power-refused}
+use Rattle.history.proofs.RefusedTests.{power-taken, power-refused}
 use Rattle.history.proofs.Runs.{held, demand3-depth}
 
 -- 23, by the state's rules and the history's
 number-same : (number : ℕ) → noNumber number ≡ noCounter number
-number-same number = sym (ap₂ (λ (a b : Bool). not (a && b)) (most-not 1 number) (most-not number 0xFFF) ∙ either (ltb number 1) (ltb 0xFFF number))
-  where
-    either : (a b : Bool) → not (not a && not b) ≡ a || b
-    either true b = refl
-    either false true = refl
-    either false false = refl
+number-same number = grind arith
 
 -- the same answer of rows that agree, and values that do where 1 does not hold
 asked-same : {A : Type 0} {c o n m : Bool} {x y : A} → c ≡ o → n ≡ m → (o ≡ false → x ≡ y) → unless (first_of (counterLadder c n)) x ≡ unless (first_of (counterLadder o m)) y
 unfolding first_of
-asked-same {A} {c} {o} {n} {m} {x} {y} e f g = rw (e, f) (go o m g)
-  where
-    go : (o m : Bool) → (o ≡ false → x ≡ y) → unless (first_of (counterLadder o m)) x ≡ unless (first_of (counterLadder o m)) y
-    go true m g = refl
-    go false true g = refl
-    go false false g = ap (λ (a : A). Ok a) (g refl)
+asked-same {A} {c} {o} {n} {m} {x} {y} e f g = grind arith
 
 module _ (s : Settings) (as' : List Lent) (t : AllTyped as') where
   -- bit t of the mask is set exactly when a command with tag t is outstanding by the history, and there is at most one

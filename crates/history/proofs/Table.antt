@@ -1,9 +1,9 @@
 -- The commands of a history against the device's table: what each carried is what its entry says has moved. Assumes nothing.
-use Rattle.std.proofs.Common.{None, ◌≡◌, refl, sym, ap, ap₂, ◌∙◌, ⊎_elim, Bool, true, false, not, ◌&&◌, ◌||◌, true≢false, List, [], ◌∷◌, ◌++◌, ℕ, ◌*◌, ◌≤◌, arith}
+use Rattle.std.proofs.Common.{None, ◌≡◌, sym, ap, ap₂, ◌∙◌, ⊎_elim, Bool, true, false, not, ◌&&◌, ◌||◌, true≢false, List, [], ◌∷◌, ◌++◌, ℕ, ◌*◌, ◌≤◌, arith}
 use mathlib.Core.Bool.{false≢true}
 use borrow.Author.Tests.{not-true}
 use Rattle.std.proofs.lemmas.Bool.{or_left}
-use Rattle.bits.proofs.Picks.{tested, and_left, and_right}
+use Rattle.bits.proofs.Picks.{tested, and_right}
 use Rattle.device.specs.declared.state.Device.{Device}
 use Rattle.history.specs.Seen.{Seen, Transfer}
 use Rattle.history.specs.Fates.{Command, later, commands, ownTag, ends, outstandingAt, finishedAt, outstanding, finished, All}
@@ -79,18 +79,15 @@ stands-later d d' e c m f o s x =
 
 -- truth table: what was not outstanding is not
 b-gone : (o x : Bool) → o ≡ false → (o && not x) ≡ true → ⊥
-b-gone true x e f = true≢false e
-b-gone false x e f = false≢true f
+b-gone o x e f = grind arith
 
 -- truth table: what was outstanding and is finished is finished now
 b-now : (f o g : Bool) → (f || (o && g)) ≡ true → (f ≡ true → o ≡ false) → o ≡ true → g ≡ true
-b-now true o g e n y = absurd (true≢false (sym y ∙ n refl))
-b-now false o g e n y = and_right o g e
+b-now f o g e n y = grind arith
 
 -- truth table: what had already ended was finished before
 b-before : (f o g : Bool) → (f || (o && g)) ≡ true → o ≡ false → f ≡ true
-b-before true o g e y = refl
-b-before false o g e y = absurd (true≢false (sym (and_left o g e) ∙ y))
+b-before f o g e y = grind arith
 
 module _ (d d' : Device) (e : Seen) (c : Command) (m : Moving d e d') (k : Following d c) (u : transfer (e ∷ c.after) ≡ transferOf d') where
   -- a command that had already ended
@@ -156,10 +153,6 @@ following-step d d' e h i a k =
 pub ranges : (d : Device) (h : List Seen) → All (Following d) (commands h) → Ranges h
 ranges d h a = all-imp (Following d) _ (λ c f. (f.whole, f.begins)) (commands h) a
 
--- for each outstanding command: what is under way since it was accepted is what the state's phase stands for, and its entry asks for the same
-pub transfer-now : (d : Device) (h : List Seen) → All (Following d) (commands h) → All (λ c. outstanding c ≡ true → (transfer c.after ≡ transferOf d) × Standing d c) (commands h)
-transfer-now d h a = all-imp (Following d) _ (λ c f o. (f.under, f.stands o)) (commands h) a
-
 -- a whole history against the state: the open phase's tag is outstanding, what is under way is what the phase stands for, and each command follows
 pub record Tracked (d : Device) (h : List Seen) : Type 0 where
   pub phased : Phased d
@@ -177,7 +170,3 @@ tracked-step d d' e h i k = record {
   under = whole-transfer-step d d' e h i.phased i.under k;
   commands = following-step d d' e h i.phased i.commands k;
 }
-
--- and what is under way after a whole history is what the state's phase stands for
-pub transfer-all : (d : Device) (h : List Seen) → Tracked d h → transfer h ≡ transferOf d
-transfer-all d h i = i.under

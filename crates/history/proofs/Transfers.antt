@@ -1,6 +1,5 @@
 -- What is under way, by the history and by the state: each kind of effect keeps them equal. Assumes nothing.
-use Rattle.std.proofs.Common.{Option, Some, None, is_some, unwrap_or, true≢false, ◌≡◌, refl, sym, ap, ap₂, ◌∙◌, Bool, true, false, not, ◌&&◌, ◌||◌, List, [], ◌∷◌, ℕ, ◌+◌, ◌*◌, eqb, ltb, leb, lt-ltb, le-ltb, leb-true, leb-false}
-use mathlib.Core.Bool.{false≢true}
+use Rattle.std.proofs.Common.{Option, Some, None, is_some, unwrap_or, true≢false, ◌≡◌, refl, sym, ap, ap₂, ◌∙◌, Bool, true, false, not, ◌&&◌, ◌||◌, List, [], ◌∷◌, ℕ, ◌+◌, ◌*◌, eqb, ltb, leb, lt-ltb, le-ltb, leb-true, leb-false, arith}
 use Rattle.bits.specs.Pick.{pick}
 use Rattle.bits.specs.Bit.{bitIn}
 use Rattle.bits.proofs.Picks.{pick_yes, pick_no}
@@ -60,8 +59,7 @@ phased-same d d' i p o = record { busy = λ t e. ap (λ (m : ℕ). bitIn 32 m t)
 
 -- data moved: the phase is closed, or as it was
 phased-on : (d d' : Device) (b : Bool) → Phased d → d'.status.phase ≡ pick b None d.status.phase → d'.status.outstanding ≡ d.status.outstanding → Phased d'
-phased-on d d' true i p o = phased-shut d' p
-phased-on d d' false i p o = phased-same d d' i p o
+phased-on d d' b i p o = grind arith
 
 -- a phase is open for one tag only
 opened-tag : (t u : ℕ) (phase : Option ℕ) → phase ≡ Some t → phase ≡ Some u → t ≡ u
@@ -107,14 +105,11 @@ closing s = rw (s.bad, s.fails, s.resets)
 
 -- a halt is an error
 pub b-halt : (q o bad fails : Bool) → (bad && (q || o)) || fails ≡ true → (bad || fails) || false ≡ true
-b-halt q o true fails x = refl
-b-halt q o false true x = refl
-b-halt q o false false x = absurd (false≢true x)
+b-halt q o bad fails x = grind arith
 
 -- the bytes of an event in the direction of a command, which writes or reads
 pub load-own : (w : Bool) (e : Seen) (k : ℕ) → e.sends ≡ pick w 0 k → e.asks.brings ≡ pick w k 0 → load (not w) e ≡ k
-load-own true e k s b = b
-load-own false e k s b = s
+load-own w e k s b = grind arith
 
 -- a phase at its end: used up, or further on
 on-transfer : (b : Bool) (d' : Device) (x : Entry) (tag : ℕ) (p : Option ℕ) (n : ℕ) → b ≡ leb (512 * x.count) (x.moved + n) → p ≡ Some tag → d'.status.phase ≡ pick b None p

@@ -1,9 +1,7 @@
 -- What the host sees of replies that were sent: the reader's view of the frames, and what demand 3 reads of them. Assumes nothing.
-use Rattle.std.proofs.Common.{Ok, ◌≡◌, refl, ap, ap₂, ◌∙◌, Bool, true, false, not, ◌&&◌, ◌||◌, List, [], ◌∷◌, ◌++◌, map, append-nil, ℕ, ◌+◌, length}
-use mathlib.Core.Bool.{and-false}
+use Rattle.std.proofs.Common.{Ok, ◌≡◌, refl, ap, ap₂, ◌∙◌, Bool, true, false, ◌||◌, List, [], ◌∷◌, ◌++◌, map, append-nil, ℕ, ◌+◌, length, arith}
 use Rattle.bits.specs.Pick.{pick}
 use Rattle.bits.specs.Bit.{bitIn}
-use Rattle.bits.proofs.Masks.{no-bit}
 use Rattle.frames.specs.Read.{readFrame}
 use Rattle.frames.specs.Write.{FrameValue, host, device, setBits, setup, activate, payload, bist, pio, encode}
 use Rattle.frames.specs.RoundTrip as trip
@@ -85,171 +83,64 @@ module _ (k : Asked) where
   -- no reply
   pub is-silent : k.queued ≡ false → Is (view k []) false false false false k.resets false false none none 0 k.brings
   unfolding view some collect
-  is-silent q = record {
-    queued = q;
-    accepted = rw q;
-    bad = and-false k.command;
-    fails = refl;
-    resets = refl;
-    sweeps = and-false k.command;
-    delivers = and-false (k.reads 0x10);
-    finishes = λ t. and-false (not k.command);
-    clears = λ t. refl;
-    sends = refl;
-    brings = refl;
-  }
+  is-silent q = grind arith
 
   -- a bad answer
   pub is-bad : (f : DevReg) → errIn f.status ≡ true → k.command ≡ true → k.resets ≡ false → k.brings ≡ 0 → Is (view k (device f ∷ [])) k.queued false true false false false false none none 0 0
   unfolding view some collect
-  is-bad f e c r b = record {
-    queued = refl;
-    accepted = rw e (and-false k.queued);
-    bad = rw (c, e);
-    fails = refl;
-    resets = r;
-    sweeps = and-false k.command;
-    delivers = and-false (k.reads 0x10);
-    finishes = λ t. and-false (not k.command);
-    clears = λ t. refl;
-    sends = refl;
-    brings = b;
-  }
-
-  and-always : (b : Bool) → b && true ≡ b
-  and-always true = refl
-  and-always false = refl
+  is-bad f e c r b = grind arith
 
   -- a good answer
   pub is-good : (f : DevReg) → errIn f.status ≡ false → k.resets ≡ false → k.brings ≡ 0 → Is (view k (device f ∷ [])) k.queued k.queued false false false false false none none 0 0
   unfolding view some collect
-  is-good f e r b = record {
-    queued = refl;
-    accepted = rw e (and-always k.queued);
-    bad = rw e (and-false k.command);
-    fails = refl;
-    resets = r;
-    sweeps = and-false k.command;
-    delivers = and-false (k.reads 0x10);
-    finishes = λ t. and-false (not k.command);
-    clears = λ t. refl;
-    sends = refl;
-    brings = b;
-  }
+  is-good f e r b = grind arith
 
   -- a page
   pub is-page : (f : PioSetup) (p : List ℕ) → k.queued ≡ false → k.resets ≡ false → k.brings ≡ 0
       → Is (view k (pio f ∷ payload p ∷ [])) false false false false false false (k.reads 0x10) none none 0 0
   unfolding view some collect
-  is-page f p q r b = record {
-    queued = q;
-    accepted = rw q;
-    bad = and-false k.command;
-    fails = refl;
-    resets = r;
-    sweeps = and-false k.command;
-    delivers = and-always (k.reads 0x10);
-    finishes = λ t. and-false (not k.command);
-    clears = λ t. refl;
-    sends = refl;
-    brings = b;
-  }
+  is-page f p q r b = grind arith
 
   -- the sweep, and a page
   pub is-swept : (s : SetBits) (f : PioSetup) (p : List ℕ) → errIn s.status ≡ false → k.command ≡ true → k.reads 0x10 ≡ true → k.queued ≡ false → k.resets ≡ false → k.brings ≡ 0
       → Is (view k (setBits s ∷ pio f ∷ payload p ∷ [])) false false false false false true true none (λ t. names t s || false) 0 0
   unfolding view some collect
-  is-swept s f p e c n q r b = record {
-    queued = q;
-    accepted = rw q;
-    bad = and-false k.command;
-    fails = rw e;
-    resets = r;
-    sweeps = rw c;
-    delivers = rw n;
-    finishes = λ t. rw c;
-    clears = λ t. refl;
-    sends = refl;
-    brings = b;
-  }
-
-or-none : (b : Bool) → b || false ≡ b
-or-none true = refl
-or-none false = refl
+  is-swept s f p e c n q r b = grind arith
 
 -- an A1h without ERR that answers no command
 pub is-finish : (s : SetBits) → errIn s.status ≡ false → Is (view quiet (setBits s ∷ [])) false false false false false false false (bitIn 32 s.active) (bitIn 32 s.active) 0 0
 unfolding view some collect
-is-finish s e = record {
-  queued = refl;
-  accepted = refl;
-  bad = refl;
-  fails = rw e;
-  resets = refl;
-  sweeps = refl;
-  delivers = refl;
-  finishes = λ t. rw e (or-none (bitIn 32 s.active t));
-  clears = λ t. or-none (bitIn 32 s.active t);
-  sends = refl;
-  brings = refl;
-}
+is-finish s e = grind arith
 
 -- an A1h with ERR and an empty field
 pub is-failed : (s : SetBits) → errIn s.status ≡ true → s.active ≡ 0 → Is (view quiet (setBits s ∷ [])) false false false true false false false none none 0 0
 unfolding view some collect
-is-failed s e z = record {
-  queued = refl;
-  accepted = refl;
-  bad = refl;
-  fails = rw e;
-  resets = refl;
-  sweeps = refl;
-  delivers = refl;
-  finishes = λ t. rw e;
-  clears = λ t. or-none (bitIn 32 s.active t) ∙ ap (λ (n : ℕ). bitIn 32 n t) z ∙ no-bit t;
-  sends = refl;
-  brings = refl;
-}
+is-failed s e z = grind arith
 
 -- COMRESET and its signature
 pub is-reset : (f : DevReg) → errIn f.status ≡ false → Is (view resetAsks (device f ∷ [])) false false false false true false false none none 0 0
 unfolding view some collect
-is-reset f e = record { queued = refl; accepted = refl; bad = refl; fails = refl; resets = refl; sweeps = refl; delivers = refl; finishes = λ t. refl; clears = λ t. refl; sends = refl; brings = refl }
+is-reset f e = grind arith
 
 -- a DMA Setup, for a write with an Activate
 pub is-setup : (f : DmaSetup) (w : Bool) → Is (view quiet (setup f ∷ activateIf w)) false false false false false false false none none 0 0
 unfolding view some collect
-is-setup f true = record { queued = refl; accepted = refl; bad = refl; fails = refl; resets = refl; sweeps = refl; delivers = refl; finishes = λ t. refl; clears = λ t. refl; sends = refl; brings = refl }
-is-setup f false = record { queued = refl; accepted = refl; bad = refl; fails = refl; resets = refl; sweeps = refl; delivers = refl; finishes = λ t. refl; clears = λ t. refl; sends = refl; brings = refl }
+is-setup f w = grind arith
 
 -- and what it begins
 pub setup-begins : (f : DmaSetup) (w : Bool) (x : Transfer) → (view quiet (setup f ∷ activateIf w)).begins x ≡ underWay f.to_host f.tag f.offset (f.offset + f.count)
 unfolding view collect begun
-setup-begins f true x = refl
-setup-begins f false x = refl
+setup-begins f w x = grind arith
 
 -- host data, with an Activate if more is left
 pub is-brought : (n : ℕ) (on : Bool) → Is (view (dataAsks n) (activateIf on)) false false false false false false false none none 0 n
 unfolding view some collect
-is-brought n true = record { queued = refl; accepted = refl; bad = refl; fails = refl; resets = refl; sweeps = refl; delivers = refl; finishes = λ t. refl; clears = λ t. refl; sends = refl; brings = refl }
-is-brought n false = record { queued = refl; accepted = refl; bad = refl; fails = refl; resets = refl; sweeps = refl; delivers = refl; finishes = λ t. refl; clears = λ t. refl; sends = refl; brings = refl }
+is-brought n on = grind arith
 
 -- device data
 pub is-sent : (p : List ℕ) → Is (view quiet (payload p ∷ [])) false false false false false false false none none (length p) 0
 unfolding view some collect
-is-sent p = record {
-  queued = refl;
-  accepted = refl;
-  bad = refl;
-  fails = refl;
-  resets = refl;
-  sweeps = refl;
-  delivers = refl;
-  finishes = λ t. refl;
-  clears = λ t. refl;
-  sends = ap length (append-nil p);
-  brings = refl;
-}
+is-sent p = grind (arith, append-nil {A = ℕ})
 
 -- ---- what begins nothing
 
@@ -277,8 +168,7 @@ module _ (k : Asked) where
   -- an Activate
   pub active-unbegun : (on : Bool) → Unbegun (view k (activateIf on))
   unfolding view collect begun
-  active-unbegun true x = refl
-  active-unbegun false x = refl
+  active-unbegun on x = grind arith
 
   -- an A1h
   pub bits-unbegun : (s : SetBits) → Unbegun (view k (setBits s ∷ []))

@@ -1,5 +1,5 @@
 -- Each refusal of page 10h is given exactly when it should be. Assumes nothing.
-use Rattle.std.proofs.Common.{◌≡◌, refl, ap, ◌∙◌, List, ℕ, Result, Ok, Err}
+use Rattle.std.proofs.Common.{◌≡◌, ap, ◌∙◌, List, ℕ, Result, arith}
 use Rattle.refusals.specs.First.{first_of, refusal_in, FirstExactly}
 use Rattle.refusals.specs.Number.{number_told}
 use Rattle.refusals.specs.declared.reasons.Refusal.{Refusal}
@@ -19,8 +19,7 @@ first-exactly l = rw (refusal_first l) (firsts.first-exactly (ladder10 l) tt)
 -- the number that an answer tells is that of its refusal, and 0 where it has none
 pub number-told : (r : Result ErrorLog Refusal) → (logAnswer r).number ≡ number_told (refusal_in r)
 unfolding logAnswer
-number-told (Ok f) = refl
-number-told (Err r) = refl
+number-told r = grind arith
 
 -- the answer is all that the reader promises
 pub log-told : (l : List ℕ) (r : Result ErrorLog Refusal) → r ≡ read_log l → LogGiven l r

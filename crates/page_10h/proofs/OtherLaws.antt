@@ -11,8 +11,7 @@ use Rattle.page_10h.specs.Page10.{ladder10}
 use Rattle.page_10h.specs.Others.{namedBits, hasOther}
 
 not-false : (b : Bool) → not b ≡ false → b ≡ true
-not-false true h = refl
-not-false false h = absurd (cc)
+not-false b h = grind arith
 
 -- a page that is not refused has 512 bytes
 pub others-most : (page : List ℕ) → first_of (ladder10 page) ≡ None → count_by hasOther (enumerate_from 0 page) ≤ 512

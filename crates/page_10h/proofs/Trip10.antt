@@ -1,11 +1,11 @@
 -- Page 10h, there and back, and its refusals exactly. Assumes nothing.
-use Rattle.std.proofs.Common.{Ok, ◌≡◌, refl, sym, ap, ◌∙◌, Bool, true, false, not, ◌&&◌, ◌||◌, List, ℕ, ◌+◌, ◌/◌, ◌%◌, ◌^◌, ◌<◌, arith, eqb, length, take, drop, length-set, take_at, ltb-true, eq-eqb, ne_eqb, eqb-true}
+use Rattle.std.proofs.Common.{Ok, ◌≡◌, refl, ap, ◌∙◌, Bool, true, not, ◌&&◌, ◌||◌, List, ℕ, ◌<◌, arith, eqb, length, take, drop, length-set, take_at, eq-eqb}
 use Rattle.bits.specs.Bit.{bitIn}
 use Rattle.refusals.specs.First.{first_of}
 use Rattle.frame_parts.specs.Shared.{registerBytes, below, taskFits}
 use Rattle.frame_parts.specs.Emit.{WriteGiven}
 use Rattle.frame_parts.specs.declared.shared.Task.{Task}
-use Rattle.bits.proofs.Picks.{and_left, and_right}
+use Rattle.bits.proofs.Picks.{and_right}
 use Rattle.frame_parts.proofs.EmitLaws.{wrote-all}
 use Rattle.frame_parts.proofs.TaskLaws.{task-all}
 use Rattle.page_sum.specs.Sum.{sum256, sealed}
@@ -16,12 +16,10 @@ use Rattle.page_sum.proofs.Sealed.{sum-sealed}
 -- ---- byte 0
 
 nq-back : (b : Bool) (t : ℕ) → bitIn 8 (firstByte b t) 7 ≡ b
-nq-back true t = eq-eqb ((128 + t % 32) / 2 ^ 7 % 2) 1 (omega arith)
-nq-back false t = ne_eqb ((0 + t % 32) / 2 ^ 7 % 2) 1 (λ e. omega arith)
+nq-back b t = grind arith
 
 tag_back : (b : Bool) (t : ℕ) → t < 32 → not b || eqb t 0 ≡ true → tagShown (firstByte b t) b ≡ t
-tag_back true t h e = sym (eqb-true t 0 e)
-tag_back false t h e = omega arith
+tag_back b t h e = grind arith
 
 same_log : {n n' : Bool} {t t' s s' e e' : ℕ} {k k' : Task} → n ≡ n' → t ≡ t' → s ≡ s' → e ≡ e' → k ≡ k'
     → ◌≡◌ {A = ErrorLog} (record { nq = n; tag = t; status = s; error = e; task = k }) (record { nq = n'; tag = t'; status = s'; error = e'; task = k' })
@@ -40,17 +38,11 @@ module _ (f : ErrorLog) where
   module _ (h : fits10 f ≡ true) where
     task-ok : taskFits f.task ≡ true
     unfolding fits10
-    task-ok =
-        and_right (below 8 f.status && below 8 f.error) (taskFits f.task)
-        (and_left (below 8 f.status && below 8 f.error && taskFits f.task) (below 5 f.tag)
-        (and_left (below 8 f.status && below 8 f.error && taskFits f.task && below 5 f.tag) (not f.nq || eqb f.tag 0) h))
+    task-ok = grind arith
 
     tag-ok : f.tag < 32
     unfolding fits10
-    tag-ok =
-        ltb-true f.tag 32
-        (and_right (below 8 f.status && below 8 f.error && taskFits f.task) (below 5 f.tag)
-        (and_left (below 8 f.status && below 8 f.error && taskFits f.task && below 5 f.tag) (not f.nq || eqb f.tag 0) h))
+    tag-ok = grind arith
 
     nq-ok : not f.nq || eqb f.tag 0 ≡ true
     unfolding fits10

@@ -21,7 +21,7 @@ impl ErrorLog {
 
 /// Writes the page of a record to the front of `buf`: 512, the bytes written; `Unfit` where a value is too large for its
 /// bits or a tag stands under NQ, `BufferShort` where `buf` has no room, and then no byte is changed.
-#[tactic(auto, using(frame_parts::proofs::EmitLaws::emitted_made))]
+#[tactic(auto, unfolding(frame_parts::specs::Emit::write_refusal, refusals::specs::First::first_of))]
 pub fn write_log(buf: &mut [u8], log: ErrorLog) -> Result<usize, Refusal>
     ensures { WriteGiven (fits10 log) (page10 log) buf.old result buf.new }
 {

@@ -1,17 +1,15 @@
 -- The count of the entries that are none of the sixteen counters, over the walk. Assumes nothing.
-use Rattle.std.proofs.Common.{◌≡◌, refl, ap, sym, ◌∙◌, Bool, true, false, List, [], ◌∷◌, length, ℕ, zero, suc, ◌+◌, ◌-◌, ◌≤◌, ◌<◌, Option, Some, None, Result, Ok, Err, cond, arith, ◌||◌, ⊎_elim, lit<, eq-eqb, zero-add}
+use Rattle.std.proofs.Common.{◌≡◌, refl, ap, sym, ◌∙◌, Bool, true, false, List, [], ◌∷◌, length, ℕ, zero, suc, ◌+◌, ◌-◌, ◌≤◌, ◌<◌, Option, Some, None, Result, Ok, Err, cond, arith, ◌||◌, ⊎_elim, eq-eqb, zero-add}
 use Rattle.std.specs.List.{count_by}
 use Rattle.std.proofs.lemmas.List.Sums.{sum_by-cons, count_by-le-length}
 use Rattle.bits.specs.Pick.{pick}
-use Rattle.bits.proofs.Picks.{by-test, pick_yes, tested, or_left}
+use Rattle.bits.proofs.Picks.{by-test, pick_yes, tested}
 use Rattle.page_sum.specs.Sum.{sum256}
 use Rattle.refusals.specs.First.{first_of, unless}
-use Rattle.refusals.proofs.FirstLaws as firsts
-use Rattle.refusals.proofs.FirstLaws.{unless-ok}
 use Rattle.refusals.specs.declared.reasons.Refusal.{Refusal}
 use Rattle.refusals.specs.declared.reasons.Refusal.TheVariants.{PageDamaged}
 use Rattle.page_11h.specs.Entries.{CounterEntry, entry_at, id_at, bytesIn, end_of, wrongWidth, pastEnd, entriesFrom, entries}
-use Rattle.page_11h.specs.Page11.{anyFault, damaged, valueIn, ladder11, readCounter}
+use Rattle.page_11h.specs.Page11.{anyFault, damaged, readCounter}
 use Rattle.page_11h.specs.Others.{idOther, entryOther, countOthers}
 use Rattle.page_11h.specs.WalkStep.{faulty, walkEntry, stepAt, Stepped}
 use Rattle.page_11h.specs.declared.value.CounterValue.{CounterValue}
@@ -141,8 +139,7 @@ module _ {page : List ℕ} {w w' : Walk} {r : Option (Result WalkEntry Refusal)}
 -- ---- the count of a page that is not refused for its length or its sum
 
 last_rung : (fault : Bool) (n : ℕ) → unless (pick fault (Some PageDamaged) None) n ≡ pick fault (Err PageDamaged) (Ok n)
-last_rung true n = refl
-last_rung false n = refl
+last_rung fault n = grind arith
 
 pub counts-total : (page : List ℕ) → length page ≡ 512 → sum256 page ≡ 0 → countOthers page ≡ total page
 unfolding countOthers first_of
@@ -165,7 +162,7 @@ others-most page = omega (arith, count_by-le-length entryOther (entriesFrom page
 -- where a counter is told, so is the count
 pub counted-where-read : (page : List ℕ) (number : ℕ) (v : Option CounterValue) → readCounter page number ≡ Ok v → countOthers page ≡ Ok (count_by entryOther (entries page))
 unfolding readCounter countOthers damaged first_of
-counted-where-read page number v e =
-    let u = unless-ok (first_of (ladder11 page number)) (valueIn page number (entries page)) v (sym e) in
-    let rungs = (firsts.first-exactly (ladder11 page number) tt).none.0 u.0 in
-    rw (rungs 0 (lit< tt), rungs 2 (lit< tt), or_left (anyFault (entries page)) _ (rungs 3 (lit< tt))) refl
+counted-where-read page number v e = grind arith
+
+-- what the check needs of the walk that counts
+pub ruleset counting = (counts-none, counts-all, counts-other, counts-row)

@@ -1,5 +1,5 @@
 -- Each refusal of page 11h is given exactly when it should be. Assumes nothing.
-use Rattle.std.proofs.Common.{◌≡◌, refl, ap, ◌∙◌, List, ℕ, Option, Some, None, Result, Ok, Err}
+use Rattle.std.proofs.Common.{◌≡◌, ap, ◌∙◌, List, ℕ, Option, Result, arith}
 use Rattle.refusals.specs.First.{first_of, refusal_in, FirstExactly}
 use Rattle.refusals.specs.Number.{number_told}
 use Rattle.refusals.specs.declared.reasons.Refusal.{Refusal}
@@ -20,9 +20,7 @@ first-exactly page number = rw (refusal_first page number) (firsts.first-exactly
 -- the number that an answer tells is that of its refusal, and 0 where it has none
 pub number-told : (r : Result (Option CounterValue) Refusal) → (counterAnswer r).number ≡ number_told (refusal_in r)
 unfolding counterAnswer
-number-told (Ok (Some v)) = refl
-number-told (Ok None) = refl
-number-told (Err r) = refl
+number-told r = grind arith
 
 -- the answer is all that the reader promises
 pub counter-told : (page : List ℕ) (number : ℕ) (r : Result (Option CounterValue) Refusal) → r ≡ readCounter page number → PageCounterGiven page number r

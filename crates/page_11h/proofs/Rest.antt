@@ -1,5 +1,5 @@
 -- The answer for a list of entries, with what is found so far, entry by entry: from it the four clauses of refusal 22 follow. Assumes nothing.
-use Rattle.std.proofs.Common.{◌≡◌, refl, ap, sym, ◌∙◌, Bool, true, false, List, [], ◌∷◌, ℕ, suc, Option, Some, None, Result, Ok, Err, cond, ◌||◌, one-add, zero-add, leb}
+use Rattle.std.proofs.Common.{◌≡◌, refl, ap, sym, ◌∙◌, Bool, true, false, List, [], ◌∷◌, ℕ, suc, Option, Some, None, Result, Ok, Err, cond, ◌||◌, one-add, zero-add, leb, arith}
 use Rattle.std.specs.List.{list_any, count_by}
 use Rattle.std.proofs.lemmas.List.Sums.{sum_by-cons}
 use mathlib.Core.Bool.{or-true}
@@ -24,13 +24,7 @@ rest_of page number es (Some v) = pick (spoilt number es) (Err PageDamaged) (Ok 
 
 -- the three clauses of one entry, taken together
 or-six : (a b c w p n : Bool) → ((a || w) || (b || p)) || (c || n) ≡ ((a || b) || c) || ((w || p) || n)
-or-six true b c w p n = refl
-or-six false true c true p n = refl
-or-six false true c false p n = refl
-or-six false false true true p n = refl
-or-six false false true false true n = refl
-or-six false false true false false n = refl
-or-six false false false w p n = refl
+or-six a b c w p n = grind arith
 
 fault-more : (e : CounterEntry) (es : List CounterEntry) → anyFault (e ∷ es) ≡ faulty e || anyFault es
 fault-more e es = or-six (wrongWidth e) (pastEnd e) (nameless e) (list_any wrongWidth es) (list_any pastEnd es) (list_any nameless es)
@@ -78,8 +72,7 @@ module _ (number : ℕ) (e : CounterEntry) (es : List CounterEntry) where
 module _ (page : List ℕ) (number : ℕ) where
   pub rest-none : (found : Option CounterValue) → rest_of page number [] found ≡ Ok found
   unfolding rest_of damaged spoilt valueIn
-  rest-none None = refl
-  rest-none (Some v) = refl
+  rest-none found = grind arith
 
   module _ (e : CounterEntry) (es : List CounterEntry) where
     value-hit : entryAsked number e ≡ true → valueIn page number (e ∷ es) ≡ Some (valueOf page e)

@@ -1,8 +1,8 @@
 -- The contracts of the two functions over the held walk. Assumes nothing.
-use Rattle.std.proofs.Common.{◌≡◌, refl, ap, sym, ◌∙◌, Option, Result, List, ℕ, Bor}
+use Rattle.std.proofs.Common.{◌≡◌, refl, Option, Result, List, ℕ, Bor, arith}
 use Rattle.bits.specs.Contract.{Tied}
 use Rattle.bits.proofs.Tying.{same, say, by}
-use Rattle.page_11h.specs.WalkStep.{Stepped, placeAfter}
+use Rattle.page_11h.specs.WalkStep.{Stepped}
 use Rattle.page_11h.specs.declared.walk.Walk.{Walk}
 use Rattle.page_11h.specs.declared.walk.WalkEntry.{WalkEntry}
 use Rattle.refusals.specs.declared.reasons.Refusal.{Refusal}
@@ -25,9 +25,7 @@ tied-new = by (say (λ κs a. tt) (λ κs a r ws p. p)) (λ κs a r r' ws ws' p 
 
 -- a step allows one answer and one walk only
 pub stepped-once : (w : Walk) (r r' : Option (Result WalkEntry Refusal)) (v v' : Walk) → Stepped w r v → Stepped w r' v' → (r ≡ r') × (v ≡ v')
-stepped-once w r r' v v' p q =
-    let e = same p.answer q.answer in
-    (e, same-walk (same p.page q.page) (p.at ∙ ap (placeAfter w.at) e ∙ sym q.at))
+stepped-once w r r' v v' p q = grind arith
 
 pub tied-step : Tied walk-said.WalkIterator.next.ended walk.WalkIterator.next.Reads.Asked walk.WalkIterator.next.Reads.Post (λ κs a r ws. Stepped a.0.now r ws.0)
 tied-step = by (say (λ κs a. tt) (λ κs a r ws p. p.0)) (λ κs a r r' ws ws' p q. let e = stepped-once _ r r' ws.0 ws'.0 p q in (e.0, λ i. (e.1 i, tt)))

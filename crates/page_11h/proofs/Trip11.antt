@@ -1,5 +1,5 @@
 -- The round trip of page 11h: of every number 1 to 4095, a kept row's value is read, and any other number is absent. Assumes nothing.
-use Rattle.std.proofs.Common.{Option, Some, None, Ok, ◌≡◌, refl, ap, sym, ◌∙◌, Bool, true, false, ◌&&◌, ⊎_elim, List, ℕ, zero, suc, ◌+◌, ◌/◌, ◌%◌, ◌^◌, ◌<◌, ◌≤◌, arith, eq-eqb, ne_eqb, le-ltb, eqb-true, eqb, get_or}
+use Rattle.std.proofs.Common.{Option, Some, None, Ok, ◌≡◌, refl, ap, sym, ◌∙◌, Bool, true, false, ◌&&◌, ⊎_elim, List, ℕ, zero, suc, ◌+◌, ◌^◌, ◌<◌, ◌≤◌, arith, eq-eqb, ne_eqb, eqb-true, eqb, get_or}
 use borrow.Author.Tests.{lt-leb, eqb-false}
 use Rattle.bits.specs.Pick.{pick}
 use Rattle.bits.proofs.Picks.{pick_yes, pick_no, tested}
@@ -25,13 +25,10 @@ pub number-row : (id : ℕ) → id < 4096 → number_in (8192 + id) ≡ id
 number-row id h = omega arith
 
 pub vendor-row : (id : ℕ) → id < 4096 → vendorOf (8192 + id) ≡ false
-vendor-row id h =
-    let v : (8192 + id) / 32768 % 2 ≡ 0 = omega arith in
-    simp v
+vendor-row id h = grind arith
 
 faulty-row : (a id : ℕ) → a ≤ 502 → 0 < id → id < 4096 → faulty (counterEntry a (8192 + id)) ≡ false
-faulty-row a id h p q =
-    simp (width-row id q, number-row id q, vendor-row id q, ne_eqb id 0 (λ e. omega arith), le-ltb 508 (a + 2 + 4) (omega arith))
+faulty-row a id h p q = grind arith
 
 module _ (mask : ℕ) (values : List ℕ) where
   abbrev page : List ℕ
@@ -70,8 +67,7 @@ module _ (mask : ℕ) (values : List ℕ) where
     found-hit n t = pick_yes (kept mask n && eqb (id_of n) number) (Some (rowValue (get_or values n 0))) (foundTo n) t
 
     and_no : (a b : Bool) → b ≡ false → (a && b) ≡ false
-    and_no true b e = e
-    and_no false b e = refl
+    and_no a b e = grind arith
 
     -- no row of this number so far
     found_none : (n : ℕ) → ((k : ℕ) → k < n → id_of k ≡ number → ⊥) → foundTo n ≡ None

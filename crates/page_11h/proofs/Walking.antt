@@ -84,8 +84,7 @@ module _ (page : List ℕ) (at : ℕ) where
 
   pub entries-end : (fuel : ℕ) → ends ≡ true → entriesFrom page fuel at ≡ []
   unfolding entriesFrom
-  entries-end zero h = refl
-  entries-end (suc fuel) h = pick_yes ends [] _ h
+  entries-end fuel h = grind arith
 
   -- a first entry, and some behind it
   pub entries-some : (fuel : ℕ) → ends ≡ false
@@ -114,8 +113,7 @@ module _ (page : List ℕ) (at : ℕ) where
   step_entry h s = pick_no ends None _ h ∙ ap Some (pick_no (faulty (entry_at page at)) (Err PageDamaged) _ s)
 
 same-tail : (b : Bool) (xs ys : List CounterEntry) → (b ≡ false → xs ≡ ys) → pick b [] xs ≡ pick b [] ys
-same-tail true xs ys h = refl
-same-tail false xs ys h = h refl
+same-tail b xs ys h = grind arith
 
 -- any two fuels that are as much as the bytes that are left give the same entries: the fuel decides nothing
 pub entries-fuel : (page : List ℕ) (f g at : ℕ) → 508 - at ≤ f → 508 - at ≤ g → entriesFrom page f at ≡ entriesFrom page g at
@@ -271,8 +269,7 @@ module _ {page : List ℕ} {number : ℕ} {w w' : Walk} {r : Option (Result Walk
 
 -- the last rung alone: 22, or what is found
 pub last_rung : (d : Bool) (v : Option CounterValue) → pick d (Err PageDamaged) (Ok v) ≡ unless (pick d (Some PageDamaged) None) v
-last_rung true v = refl
-last_rung false v = refl
+last_rung d v = grind arith
 
 -- a page that is refused neither for its length, nor for the number, nor for its sum is walked
 pub reads-walk : (page : List ℕ) (number : ℕ) → length page ≡ 512 → 0 < number → number < 4096 → sum256 page ≡ 0 → readCounter page number ≡ fromHere page number 4 None
@@ -280,3 +277,6 @@ unfolding readCounter first_of
 reads-walk page number l p q s =
     simp (eq-eqb (length page) 512 l, le-ltb number 1 p, le-ltb 4095 number (omega arith), eq-eqb (sum256 page) 0 s)
     (sym (last_rung (damaged number (entries page)) (valueIn page number (entries page))) ∙ walk-starts page number)
+
+-- what the check needs of the walk that finds
+pub ruleset finding = (walk-starts, end-here, miss-ahead, hit-ahead)

@@ -10,6 +10,7 @@ use page_sum::{PAGE_SIZE, byte_sum};
 use refusals::Refusal;
 
 // The whole walk, since a fault anywhere refuses the page.
+#[tactic(auto, using(crate::proofs::Counting::counting))]
 fn count_walked(page: &[u8; PAGE_SIZE]) -> Result<usize, Refusal>
     ensures { result ≡ pick (anyFault (entries page.now)) (Err Refusal.PageDamaged) (Ok (count_by entryOther (entries page.now))) }
 {

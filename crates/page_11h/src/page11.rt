@@ -11,6 +11,7 @@ use page_sum::{PAGE_SIZE, byte_sum};
 use refusals::Refusal;
 
 // The walk from 4 to 0000h or to 508. It goes on after a hit, since a fault or a second hit behind it refuses the page.
+#[tactic(auto, using(crate::proofs::Walking::finding))]
 fn find_counter(page: &[u8; PAGE_SIZE], number: u16) -> Result<Option<CounterValue>, Refusal>
     ensures { result ≡ pick (damaged number (entries page.now)) (Err Refusal.PageDamaged) (Ok (valueIn page.now number (entries page.now))) }
 {

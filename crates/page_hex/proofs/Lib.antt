@@ -1,5 +1,4 @@
 pub mod Collecting
-pub mod Reading
 pub mod RoundTrip
 pub mod Spaces
 pub mod Swapping

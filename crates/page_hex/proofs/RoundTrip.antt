@@ -2,7 +2,6 @@
 use Rattle.std.proofs.Common.{◌≡◌, ℕ, zero, suc, ◌/◌, ◌%◌, Bool, true, false, not, List, [], ◌∷◌, length, slice_index, Some, refl, sym, ap, ◌∙◌, arith}
 use Rattle.std.specs.Char.{is_ascii_whitespace}
 use Rattle.std.specs.List.{All, list_all}
-use Rattle.std.specs.Result.{result_ok}
 use Rattle.std.proofs.lemmas.Bool.{and_parts}
 use Rattle.std.proofs.lemmas.List.Elements.{All-cons, All-head, All-nil, All-tail}
 use Rattle.std.proofs.lemmas.List.Splits.{slice_split_none}
@@ -12,7 +11,6 @@ use Rattle.page_hex.specs.declared.parsing.Notation.{Notation}
 use Rattle.page_hex.specs.declared.parsing.Notation.TheVariants.{Bytes, Words}
 use Rattle.page_hex.specs.Text.{digits_each, digits_in, in_order, in_units, page_of}
 use Rattle.page_hex.specs.Words.{swapped}
-use Rattle.page_hex.proofs.Reading.{page_of-units}
 
 -- no white space
 abbrev IsDark : ℕ → Type 0
@@ -20,8 +18,7 @@ IsDark c = is_ascii_whitespace c ≡ false
 
 -- a test that fails
 dark-from_not : (b : Bool) → not b ≡ true → b ≡ false
-dark-from_not true h = sym h
-dark-from_not false h = refl
+dark-from_not b h = grind arith
 
 -- no digit of a table is white space, which computes
 dark-at : (table : List ℕ) → list_all (λ c. not (is_ascii_whitespace c)) table ≡ true → (d : ℕ) → IsDark (slice_index table d)
@@ -49,17 +46,16 @@ in_units-dark notation text h even = rw (slice_split_none is_ascii_whitespace te
 
 -- 1,024 digits are whole units
 whole-page : (notation : Notation) → 1024 % digits_each notation ≡ 0
-whole-page Bytes = refl
-whole-page Words = refl
+whole-page notation = grind arith
 
 -- the bytes of 512 that were written in hex, in the page's order
 page_of-encode_lower : (notation : Notation) (bytes : List ℕ) → length bytes ≡ 512 → IsBytes bytes → page_of notation (encode_lower bytes) ≡ Some (in_order notation bytes)
+unfolding page_of
 page_of-encode_lower notation bytes size fit =
     let dark = All-encode_with lower_digits bytes (dark-at lower_digits refl) in
     let long : length (encode_lower bytes) ≡ 1024 = omega (arith, length-encode_with lower_digits bytes) in
     let whole = in_units-dark notation (encode_lower bytes) dark (rw long (whole-page notation)) in
-    sym (page_of-units notation (encode_lower bytes) (encode_lower bytes) (Some bytes) whole (sym (digits_in-dark (encode_lower bytes) dark))
-    (ap result_ok (decode_sized-encode_lower bytes 512 size fit)))
+    rw (whole, digits_in-dark (encode_lower bytes) dark, decode_sized-encode_lower bytes 512 size fit)
 
 -- swapped twice, all is as it was
 swapped-swapped : (page : List ℕ) → swapped (swapped page) ≡ page

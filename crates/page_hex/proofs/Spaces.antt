@@ -5,7 +5,6 @@ use Rattle.std.specs.List.{filter, list_all, onto_first, slice_split}
 use Rattle.std.proofs.lemmas.Bool.{and_parts}
 use Rattle.std.proofs.lemmas.List.Elements.{filter-append}
 use Rattle.page_hex.specs.declared.parsing.Notation.{Notation}
-use Rattle.page_hex.specs.declared.parsing.Notation.TheVariants.{Bytes, Words}
 use Rattle.page_hex.specs.Text.{digits_each, digits_in, in_units, page_of}
 
 -- so many digits are whole units
@@ -24,37 +23,17 @@ fits_on notation n (c ∷ rest) = cond (is_ascii_whitespace c) (is_whole notatio
 
 -- what is said of two tests
 and-true : (b : Bool) → (b && true) ≡ b
-and-true true = refl
-and-true false = refl
-
-and-and : (a b c : Bool) → (a && (b && c)) ≡ ((a && b) && c)
-and-and true b c = refl
-and-and false b c = refl
-
--- a digit more in the first group
-fits-onto_first : (notation : Notation) (n c : ℕ) (groups : List (List ℕ)) → fits notation n (onto_first c groups) ≡ fits notation (n + 1) groups
-fits-onto_first notation n c [] = and-true (is_whole notation (n + 1))
-fits-onto_first notation n c (group ∷ rest) =
-    let e : n + length (c ∷ group) ≡ n + 1 + length group = omega arith in
-    ap (λ (k : ℕ). is_whole notation k && list_all (λ g. is_whole notation (length g)) rest) e
+and-true b = grind arith
 
 -- with none before it
 fits-none : (notation : Notation) (groups : List (List ℕ)) → list_all (λ g. is_whole notation (length g)) groups ≡ fits notation 0 groups
-fits-none Bytes [] = refl
-fits-none Words [] = refl
-fits-none notation (group ∷ rest) =
-    let e : length group ≡ 0 + length group = omega arith in
-    ap (λ (k : ℕ). is_whole notation k && list_all (λ g. is_whole notation (length g)) rest) e
+fits-none notation groups = grind arith
 
 -- a character more, which is white space or none
 fits-cons : (notation : Notation) (n c : ℕ) (white : Bool) (groups : List (List ℕ)) (rest : List ℕ)
     → fits notation 0 groups ≡ fits_on notation 0 rest → fits notation (n + 1) groups ≡ fits_on notation (n + 1) rest
     → fits notation n (cond white ([] ∷ groups) (onto_first c groups)) ≡ cond white (is_whole notation n && fits_on notation 0 rest) (fits_on notation (n + 1) rest)
-fits-cons notation n c true groups rest none more =
-    let e : n + 0 ≡ n = omega arith in
-    ap (λ (k : ℕ). is_whole notation k && list_all (λ g. is_whole notation (length g)) groups) e
-    ∙ ap (λ (b : Bool). is_whole notation n && b) (fits-none notation groups ∙ none)
-fits-cons notation n c false groups rest none more = fits-onto_first notation n c groups ∙ more
+fits-cons notation n c white groups rest none more = grind arith
 
 -- group by group is digit by digit
 fits-slice_split : (notation : Notation) (n : ℕ) (text : List ℕ) → fits notation n (slice_split is_ascii_whitespace text) ≡ fits_on notation n text
@@ -78,18 +57,15 @@ fits_on-parted notation n w (c ∷ rest) back white = parted (is_ascii_whitespac
       → fits_on notation (n + 1) (rest ++ w ∷ back) ≡ (fits_on notation (n + 1) rest && fits_on notation 0 back)
       → cond b (is_whole notation n && fits_on notation 0 (rest ++ w ∷ back)) (fits_on notation (n + 1) (rest ++ w ∷ back))
       ≡ (cond b (is_whole notation n && fits_on notation 0 rest) (fits_on notation (n + 1) rest) && fits_on notation 0 back)
-  parted true none more = ap (λ (b : Bool). is_whole notation n && b) none ∙ and-and (is_whole notation n) (fits_on notation 0 rest) (fits_on notation 0 back)
-  parted false none more = more
+  parted b none more = grind arith
 
 -- nothing is no unit begun
 none-left : (notation : Notation) → 0 % digits_each notation ≡ 0
-none-left Bytes = refl
-none-left Words = refl
+none-left notation = grind arith
 
 -- only what is left of the last unit counts
 is_whole-alike : (notation : Notation) (n m : ℕ) → n % digits_each notation ≡ m % digits_each notation → (n + 1) % digits_each notation ≡ (m + 1) % digits_each notation
-is_whole-alike Bytes n m h = omega arith
-is_whole-alike Words n m h = omega arith
+is_whole-alike notation n m h = grind arith
 
 -- so many before the first group, or so many
 fits_on-alike : (notation : Notation) (n m : ℕ) (text : List ℕ) → n % digits_each notation ≡ m % digits_each notation → fits_on notation n text ≡ fits_on notation m text

@@ -37,6 +37,7 @@ fn is_in_units(text: &[u8], notation: Notation) -> bool
 }
 
 // What the text has beside white space, where that is as long as a page's digits are.
+#[tactic(auto, unfolding(crate::specs::Text::digits_in), using(crate::proofs::Collecting::digits_in_white, crate::proofs::Collecting::digits_in_more, crate::proofs::Collecting::digits_beyond, std::proofs::lemmas::List::take_more_set))]
 fn digits(text: &[u8]) -> Option<[u8; 2 * PAGE_SIZE]>
     ensures { result ≡ if length (digits_in text.now) == 1024 then Some (digits_in text.now) else None }
 {
@@ -57,6 +58,7 @@ fn digits(text: &[u8]) -> Option<[u8; 2 * PAGE_SIZE]>
 
 /// The page that a text tells in hex, or `None` where the text is not just 512 bytes of it. White space may stand between
 /// bytes, or between words, and not within one; digits are of either case.
+#[tactic(auto, unfolding(crate::specs::Text::page_of))]
 pub fn parse_page(text: &[u8], notation: Notation) -> Option<[u8; PAGE_SIZE]>
     ensures { result ≡ page_of notation text.now }
 {

@@ -4,6 +4,7 @@ ghost use Rattle.page_hex.specs.Words.{swapped};
 
 use page_sum::PAGE_SIZE;
 
+#[tactic(auto, using(crate::proofs::Swapping::swap_more, crate::proofs::Swapping::swap_all))]
 pub(crate) fn swap_words(mut page: [u8; PAGE_SIZE]) -> [u8; PAGE_SIZE]
     ensures { result ≡ swapped page }
 {

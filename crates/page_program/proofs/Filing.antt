@@ -23,8 +23,8 @@ some-section query many (Some None) name = (Unopened, name ++ codes ": unread\n"
 some-section query many (Some (Some bytes)) name = (Stopped, heading many name ++ stop_text, (Some (Some bytes), refl, (stop_text, refl, refl)))
 
 -- of which nothing at all is a front
-pub file-nothing : (query : Query) (many : Bool) (holds : List ℕ → Option (Option (List ℕ))) (name : List ℕ) (old : Option (List ℕ)) → TellsFront (OwesFile query many holds name) old old
-file-nothing query many holds name old =
+pub file_nothing : (query : Query) (many : Bool) (holds : List ℕ → Option (Option (List ℕ))) (name : List ℕ) (old : Option (List ℕ)) → TellsFront (OwesFile query many holds name) old old
+file_nothing query many holds name old =
     let s = some-section query many (holds name) name in
     (s.0, s.1, s.2, (0, appends-none old))
 
@@ -97,3 +97,6 @@ all-told query many holds names i worst a b same all done = (
       (subst (λ ns. OwesFiles query many holds (map name_of ns) worst done.0) (take_all i names all) done.1),
   done.2,
 )
+
+-- what the check needs of it
+pub ruleset filing = (none-told, told-more, lost-more, all-told)

@@ -47,8 +47,8 @@ appends-none None = tt
 appends-none (Some xs) = sym (append-nil xs)
 
 -- nothing at all is a front of `stop`
-pub tells-nothing : (query : Query) (known old : Option (List ℕ)) → TellsFront (Owes query known) old old
-tells-nothing query known old = (Stopped, stop_text, refl, (0, appends-none old))
+pub tells_nothing : (query : Query) (known old : Option (List ℕ)) → TellsFront (Owes query known) old old
+tells_nothing query known old = (Stopped, stop_text, refl, (0, appends-none old))
 
 pub on-err : {A E : Type 0} (r : Result A E) (P : Type 0) → P → OnErr r P
 on-err (Ok a) P p = tt

@@ -40,6 +40,7 @@ impl Query {
     }
 
     // All of a file's section, or a front of it.
+    #[tactic(auto, using(crate::proofs::Filing::file_nothing))]
     pub(crate) fn tell_file<S: Shelf, W: Write>(
         self,
         shelf: &S,

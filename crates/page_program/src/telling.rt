@@ -28,6 +28,7 @@ impl Query {
     }
 
     // The text is put together before the first write, which so knows a front of it from all.
+    #[tactic(auto, using(crate::proofs::Owing::tells_nothing))]
     pub(crate) fn tell<R: Read, W: Write>(self, reader: &mut R, out: &mut W) -> io::Result<Answer>
         ensures ok { IfOk result (λ answer. Tells (Owes self (R.remaining reader.old)) (W.contents out.old) (W.contents out.new) answer) }
         ensures err { OnErr result (TellsFront (Owes self (R.remaining reader.old)) (W.contents out.old) (W.contents out.new)) }

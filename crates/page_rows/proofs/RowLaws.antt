@@ -1,8 +1,7 @@
 -- Laws of the sixteen rows: each identifier has its row, and no other number has one. Assumes nothing.
-use Rattle.std.proofs.Common.{◌≡◌, refl, ap, sym, ◌∙◌, Bool, false, [], ◌∷◌, ℕ, ◌<◌, ◌≤◌, length, Option, Some, None, T, eqb, ltb, eqb→eq, ltb→lt, eqb-true}
+use Rattle.std.proofs.Common.{◌≡◌, refl, ap, sym, ◌∙◌, Bool, false, ℕ, ◌<◌, ◌≤◌, length, Option, Some, None, T, eqb, ltb, ltb→lt, eqb-true, arith}
 use Rattle.std.proofs.lemmas.List.Quantifiers.{position-Some}
 use lib.ListN.{get_or-eq_default}
-use Rattle.bits.specs.Answer.{Answer}
 use Rattle.bits.proofs.Tables.{below_all}
 use Rattle.page_rows.specs.Rows.{ids, id_of, row_of, placeAnswer}
 use Rattle.page_rows.specs.declared.rows.TheConstants.{IDENTIFIERS}
@@ -28,8 +27,7 @@ at_row k None = false
 
 at-row : (k : ℕ) (row : Option ℕ) → T (at_row k row) → row ≡ Some k
 unfolding at_row
-at-row k (Some j) t = ap (λ (i : ℕ). Some i) (eqb→eq j k t)
-at-row k None t = absurd t
+at-row k row t = grind arith
 
 finds : ℕ → Bool
 finds k = at_row k (row_of (id_of k))
@@ -76,7 +74,4 @@ row-missing n e k h s =
 -- what is told of a place tells it from every other, and from none
 pub place-told : (a b : Option ℕ) → placeAnswer a ≡ placeAnswer b → a ≡ b
 unfolding placeAnswer
-place-told (Some j) (Some k) e = let v : j ∷ [] ≡ k ∷ [] = ap (λ (x : Answer). x.values) e in cc
-place-told (Some j) None e = let v : j ∷ [] ≡ [] = ap (λ (x : Answer). x.values) e in cc
-place-told None (Some k) e = let v : [] ≡ k ∷ [] = ap (λ (x : Answer). x.values) e in cc
-place-told None None e = refl
+place-told a b e = grind arith

@@ -23,7 +23,7 @@ pub fn counters_page(mask: u16, values: &Counters) -> Result<[u8; PAGE_SIZE], Re
 /// Writes page 11h of the counters to the front of `buf`: 512, the bytes written; `Unfit` where the mask does not keep
 /// rows 0 and 9, `BufferShort` where `buf` has no room, and then no byte is changed. Values of rows that the mask does
 /// not keep are not written.
-#[tactic(auto, using(frame_parts::proofs::EmitLaws::emitted_made))]
+#[tactic(auto, unfolding(frame_parts::specs::Emit::write_refusal, refusals::specs::First::first_of))]
 pub fn write_counters(buf: &mut [u8], mask: u16, values: &Counters) -> Result<usize, Refusal>
     ensures { WriteGiven (keepsBoth mask) (page11 mask values.now) buf.old result buf.new }
 {

@@ -16,8 +16,7 @@ behind read (Ok more) = Ok (read ++ more)
 behind read (Err refusal) = Err refusal
 
 behind-nil : (r : Result (List Counter) Refusal) → behind [] r ≡ r
-behind-nil (Ok more) = refl
-behind-nil (Err refusal) = refl
+behind-nil r = grind arith
 
 behind-one : (read : List Counter) (number : ℕ) (counter : Option CounterValue) (r : Result (List Counter) Refusal) → behind read (in_front number (Ok counter) r) ≡ behind (read ++ (number, counter) ∷ []) r
 behind-one read number counter (Ok more) = ap Ok (sym (append_assoc read ((number, counter) ∷ []) more))

@@ -1,4 +1,6 @@
 // Of examples, computed: what the definitions give of them is what stands there.
+#![tactic(auto, using(crate::proofs::Promised::shown))]
+
 ghost use Rattle.worked_examples.specs.Points.{Hold, examples as all};
 ghost use Rattle.worked_examples.specs.Whole.{Placed, wholeFrames, WholeShows};
 ghost use Rattle.worked_examples.specs.Story.{ExampleShows};

@@ -1,5 +1,7 @@
 // Of every sequence of calls from power-on, each given the state that the last returned, and each as the one contract of the calls promises it: whatever the settings, the calls, and
 // what is lent to them. That the contract of each public function is that one is proved below (device:Tied, history:Contracts). And of any state at all.
+#![tactic(auto, using(crate::proofs::Promised::histories))]
+
 ghost use Rattle.std.specs.Prelude.{◌≡◌, false, List, ℕ, map};
 ghost use Rattle.device_state.specs.declared.shapes.Settings.{Settings};
 ghost use Rattle.device.specs.Device.{powerOn, contradictoryDevice};
@@ -101,7 +103,7 @@ pub fn no_choice_left()
     ensures { (deep capacity mask : ℕ) → NoChoice deep capacity mask }
 {}
 
-/// Whatever the settings, the calls, and what is lent to them, there is such a sequence. Of a medium that is handed on from call to call it may be lent any: `every_fate_occurs` has one.
+/// Whatever the settings, the calls, and what is lent to them, there is such a sequence; `every_fate_occurs` has one whose medium is handed on from call to call.
 pub fn exists_always()
     ensures { (s : Settings) (as' : List Lent) → (r : Outcome) × ((xs : List Done) × (Began s r xs × (lents xs ≡ as'))) }
 {}

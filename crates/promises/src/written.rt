@@ -1,4 +1,6 @@
 // Of frames and pages: what is written is read back as it was.
+#![tactic(auto, using(crate::proofs::Promised::written))]
+
 ghost use Rattle.std.specs.Prelude.{◌≡◌, ◌<◌, ◌^◌, true, false, List, ℕ, get_or, Some, None, Ok};
 ghost use Rattle.bits.specs.Little.{Bytes};
 ghost use Rattle.frames.specs.Read.{readFrame};

@@ -1,12 +1,10 @@
 -- The room that every call asks for is enough for the replies of any act. Assumes nothing.
-use Rattle.std.proofs.Common.{◌≡◌, refl, Bool, true, false, not, ◌&&◌, List, [], ◌∷◌, ⊎_elim, ℕ, ◌+◌, ◌%◌, ◌≤◌, ◌<◌, leb, eqb, arith, length}
-use borrow.Author.Tests.{lt-leb}
+use Rattle.std.proofs.Common.{◌≡◌, refl, Bool, true, false, not, ◌&&◌, List, [], ◌∷◌, ⊎_elim, ℕ, ◌+◌, ◌≤◌, ◌<◌, arith, length}
 use Rattle.bits.specs.Pick.{pick}
 use Rattle.bits.proofs.Picks.{by-test}
 use Rattle.std.proofs.lemmas.Bool.{cases_lt}
 use Rattle.frame_parts.specs.Cut.{joined}
 use Rattle.frame_parts.specs.Shared.{registerBytes}
-use Rattle.frame_parts.specs.Size.{payloadSize}
 use Rattle.frame_parts.specs.declared.shared.Task.{Task}
 use Rattle.frames.specs.Write.{FrameValue, host, device, setBits, setup, activate, payload, bist, pio, bitsBytes, setupBytes, encode, fits}
 use Rattle.frames.proofs.WriteLaws.{length-payload}
@@ -28,15 +26,12 @@ picked-short : (b : Bool) (s : List ℕ) → length (pick b s []) ≤ length s
 picked-short b s = by-test (λ (t : List ℕ). length t ≤ length s) b s [] (λ _. omega arith) (λ _. omega arith)
 
 and-never : (a b : Bool) → (a && false) && b ≡ false
-and-never true b = refl
-and-never false b = refl
+and-never a b = grind arith
 
 -- a payload that is too long is not sent
 long-unsent : (p : List ℕ) → 8192 < length p → sentBytes (payload p) ≡ []
 unfolding sentBytes fits
-long-unsent p h =
-    let z : payloadSize (length p) ≡ false = rw (lt-leb (length p) 8192 h) (and-never (leb 4 (length p)) (eqb (length p % 4) 0)) in
-    rw z
+long-unsent p h = grind arith
 
 -- what is sent of a frame is no longer than it
 within : (f : FrameValue) (n : ℕ) → length (encode f) ≡ n → length (sentAll (f ∷ [])) ≤ n
@@ -92,21 +87,21 @@ unfolding sentAll joined
 none-room = omega arith
 
 -- by the act
-pub replies-room : (s : Shown) (part : List ℕ) (a : Act) → length (sentAll (repliesOf s part a)) ≤ 8196
+pub replies_room : (s : Shown) (part : List ℕ) (a : Act) → length (sentAll (repliesOf s part a)) ≤ 8196
 unfolding repliesOf
-replies-room s part Nothing = none-room
-replies-room s part (Bad b) = one-room _
-replies-room s part (BadAndHalt f) = one-room _
-replies-room s part (Accept q) = one-room _
-replies-room s part (Log10 task) = log-room s.halted task (page10Of s.errors) (page10-short s.errors)
-replies-room s part (Log11 l) = log-room false l.task (page11Of s.mask s.values) (page11-short s.mask s.values)
-replies-room s part Reset = none-room
-replies-room s part Release = one-room _
-replies-room s part ZeroCounters = none-room
-replies-room s part (Store m) = omega (arith, activate-room (not m.last))
-replies-room s part (Open q) = open-room q
-replies-room s part (Send m) = one-room _
-replies-room s part (Finish set) = one-room _
-replies-room s part (Media f) = one-room _
-replies-room s part (Count r) = none-room
-replies-room s part Renew = one-room _
+replies_room s part Nothing = none-room
+replies_room s part (Bad b) = one-room _
+replies_room s part (BadAndHalt f) = one-room _
+replies_room s part (Accept q) = one-room _
+replies_room s part (Log10 task) = log-room s.halted task (page10Of s.errors) (page10-short s.errors)
+replies_room s part (Log11 l) = log-room false l.task (page11Of s.mask s.values) (page11-short s.mask s.values)
+replies_room s part Reset = none-room
+replies_room s part Release = one-room _
+replies_room s part ZeroCounters = none-room
+replies_room s part (Store m) = omega (arith, activate-room (not m.last))
+replies_room s part (Open q) = open-room q
+replies_room s part (Send m) = one-room _
+replies_room s part (Finish set) = one-room _
+replies_room s part (Media f) = one-room _
+replies_room s part (Count r) = none-room
+replies_room s part Renew = one-room _

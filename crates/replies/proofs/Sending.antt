@@ -95,6 +95,5 @@ sends_then {fs} {gs} {d} {xs} {ys} {n} {m} a b = record {
 }
 
 -- the bytes of a page by value, and none of one that is turned down
-pub page_bytes-pick : (fits : Bool) (page : List ℕ) (r : Refusal) → result_unwrap_or (pick fits (Ok page) (Err r)) [] ≡ pick fits page []
-page_bytes-pick true page r = refl
-page_bytes-pick false page r = refl
+pub page_bytes_pick : (fits : Bool) (page : List ℕ) (r : Refusal) → result_unwrap_or (pick fits (Ok page) (Err r)) [] ≡ pick fits page []
+page_bytes_pick fits page r = grind arith

@@ -61,7 +61,7 @@ fn put_log(room: &mut [u8], sweep: bool, task: Task, page: Result<Page, Refusal>
     len
 }
 
-#[tactic(auto, using(crate::proofs::Sending::sends_nothing), unfolding(crate::specs::Replies::repliesOf))]
+#[tactic(auto, using(crate::proofs::Sending::sends_nothing, crate::proofs::Sending::page_bytes_pick), unfolding(crate::specs::Replies::repliesOf))]
 fn put_all(room: &mut [u8], act: &Act, shown: &Shown<'_>, part: &[u8]) -> usize
     ensures { Sends (repliesOf shown.now part.now act.now) room.old result room.new }
 {
@@ -86,7 +86,7 @@ fn put_all(room: &mut [u8], act: &Act, shown: &Shown<'_>, part: &[u8]) -> usize
 
 /// The replies of an act, in front of `reply`, and how many bytes they are; none where `reply` is under the 8,196 bytes that
 /// every call which replies asks for.
-#[tactic(auto, unfolding(crate::specs::Replies::sentAll, frame_parts::specs::Cut::joined))]
+#[tactic(auto, unfolding(crate::specs::Replies::sentAll, frame_parts::specs::Cut::joined), using(crate::proofs::Room::replies_room))]
 pub fn emit(reply: &mut [u8], act: &Act, shown: &Shown<'_>, part: &[u8]) -> usize
     ensures { RepliesGiven (pick (leb 8196 (length reply.old)) (repliesOf shown.now part.now act.now) []) reply.old result reply.new }
 {

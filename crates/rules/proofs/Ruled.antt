@@ -1,5 +1,5 @@
 -- How a call is decided: the rule that holds, with what it found. A proof about calls goes by these cases. Assumes nothing.
-use Rattle.std.proofs.Common.{Some, None, is_none, Result, Ok, Err, ◌≡◌, refl, Bool, true, false, not, ◌&&◌, ◌||◌, true≢false, List, [], ℕ, ◌+◌, eqb, ltb, leb, lit<}
+use Rattle.std.proofs.Common.{Some, None, is_none, Result, Ok, Err, ◌≡◌, refl, Bool, true, false, not, ◌&&◌, ◌||◌, true≢false, List, [], ℕ, ◌+◌, eqb, ltb, leb, lit<, arith}
 use mathlib.Core.Bool.{false≢true}
 use borrow.Author.Tests.{not-false, not-true}
 use Rattle.bits.specs.Pick.{pick}
@@ -84,20 +84,7 @@ pub data Ruled (v : Facts) : Call → Result Act Refusal → Type 0 where
 -- what a host frame that is not turned down makes the device do sends nothing of the medium
 pub heard-unsent : (v : Facts) (m : List ℕ) {f : Result Frame Refusal} {a : Act} → Heard v f a → [] ≡ part_of a m
 unfolding touch_of
-heard-unsent v m (srst h c s) = refl
-heard-unsent v m (release h c s x) = refl
-heard-unsent v m (nothing h c s x) = refl
-heard-unsent v m (rule1 h c x) = refl
-heard-unsent v m (rule2 h c x u) = refl
-heard-unsent v m (rule3 h c x u y) = refl
-heard-unsent v m (rule4 h c x u y) = refl
-heard-unsent v m (other-halted h c x) = refl
-heard-unsent v m (other-busy h c x) = refl
-heard-unsent v m (page10 h c e p) = refl
-heard-unsent v m (page11 h c x e p) = refl
-heard-unsent v m (other-bad h c x e) = refl
-heard-unsent v m (due n p w s) = refl
-heard-unsent v m (bist b) = refl
+heard-unsent v m y = grind arith
 
 -- what all device events share: the state does not contradict itself; where a reply buffer is lent it is not short; and where no medium is lent the act leaves it
 pub record OwnLaws (v : Facts) (c : Call) (a : Act) : Type 0 where
@@ -116,8 +103,7 @@ own-laws v (renewed g s) = record { sound = g; room = λ _. s; leaving = λ _. r
 
 -- a taken call is not refused for its reply buffer, where it is lent one
 pub ruled-room : (v : Facts) {c : Call} {a : Act} → (handed c).buffer ≡ true → Ruled v c (Ok a) → v.reply_short ≡ false
-ruled-room v p (host f a g w s h) = s
-ruled-room v p (own o) = (own-laws v o).room p
+ruled-room v p y = grind arith
 
 -- a taken call that is lent no medium leaves it
 pub ruled-leaves : (v : Facts) {c : Call} {a : Act} → (handed c).medium ≡ false → Ruled v c (Ok a) → touch_of a ≡ leaves
@@ -126,9 +112,7 @@ ruled-leaves v u (own o) = (own-laws v o).leaving u
 
 -- of one that does not hold beside one that does
 and-other : (a b : Bool) → a && not b ≡ false → b ≡ false → a ≡ false
-and-other true true e f = f
-and-other true false e f = e
-and-other false b e f = refl
+and-other a b e f = grind arith
 
 module _ (v : Facts) where
   control-heard : (h : HostReg) → h.command_bit ≡ false → Heard v (Ok (Host h)) (controlAct v h)

@@ -26,3 +26,6 @@ written-kept a b c text rest w kept = record { done = w.done; parts = w.parts; b
 -- what was written is a front of the text
 pub written-front : (a b : Option (List ℕ)) (text rest : List ℕ) → Written a b text rest → AppendsFront a b text
 written-front a b text rest w = (length w.done, subst (Appends a b) (sym (ap (take (length w.done)) w.parts ∙ take_at w.done rest (length w.done) refl)) w.bytes)
+
+-- what the check needs of it
+pub ruleset writes = (written-more, written-kept)

@@ -11,6 +11,7 @@ use std::io::Read;
 /// # Errors
 /// The reader's: the first error that a read gives, `ErrorKind::Interrupted` too. What was read before it stands in front of the
 /// buffer.
+#[tactic(auto, using(crate::proofs::Filling::grows_more))]
 pub fn fill<R: Read>(reader: &mut R, buffer: &mut [u8]) -> io::Result<usize>
     ensures same { length buffer.new ≡ length buffer.old }
     ensures ok { IfOk result (λ n. Filled (R.remaining reader.old) (R.remaining reader.new) n buffer.new) }

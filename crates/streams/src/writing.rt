@@ -12,6 +12,7 @@ use std::io::{Error, ErrorKind, Write};
 /// # Errors
 /// The writer's: the first error that a write gives, but for `ErrorKind::Interrupted`; `ErrorKind::WriteZero` where a write takes
 /// nothing; `ErrorKind::TimedOut` where `u64::MAX` writes have not sufficed. A front of the text is written then.
+#[tactic(auto, using(crate::proofs::Pieces::writes))]
 pub fn put<W: Write>(out: &mut W, text: &[u8]) -> io::Result<()>
     ensures ok { OnOk result (Appends (W.contents out.old) (W.contents out.new) text.now) }
     ensures err { OnErr result (AppendsFront (W.contents out.old) (W.contents out.new) text.now) }

@@ -1,5 +1,5 @@
 -- What a verdict tells of its tests. Assumes nothing.
-use Rattle.std.proofs.Common.{Option, Some, None, Result, Ok, Err, is_ok, ◌≡◌, refl, sym, ap, ◌∙◌, Bool, true, false, true≢false}
+use Rattle.std.proofs.Common.{Option, Some, None, Result, Ok, Err, ◌≡◌, refl, Bool, true, false, arith}
 use Rattle.std.specs.Option.{ok_or}
 use Rattle.verdicts.specs.Queued.{queuedRule}
 use Rattle.verdicts.specs.Other.{asksErrors, asksCounters}
@@ -11,10 +11,7 @@ use Rattle.verdicts.specs.declared.commands.Bad.TheVariants.{Only}
 
 -- a good queued command ends at or below capacity
 pub good-near : (r : Result Unit Bad) (halted tag far : Bool) → r ≡ Ok tt → r ≡ queuedRule halted tag far → far ≡ false
-good-near r true tag far g e = absurd (true≢false (ap is_ok (sym g ∙ e)))
-good-near r false true far g e = absurd (true≢false (ap is_ok (sym g ∙ e)))
-good-near r false false true g e = absurd (true≢false (ap is_ok (sym g ∙ e)))
-good-near r false false false g e = refl
+good-near r halted tag far g e = grind arith
 
 -- what a command that asks for a page comes to, by the page
 pub by-page : (P : Result LogPage Bad → Type 0) (page : Option LogPage) → (asksErrors page ≡ true → P (Ok Errors))

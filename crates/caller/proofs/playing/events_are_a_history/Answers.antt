@@ -1,4 +1,4 @@
-use Rattle.caller.proofs.Plays.{plays-continue, plays-given, plays-told}
+use Rattle.caller.proofs.Plays.{plays-continue, plays-given}
 use Rattle.caller.proofs.playing.events_are_a_history.Goals as goal
 
 pub returns-clause-together : goal.returns-clause-together
@@ -6,6 +6,3 @@ returns-clause-together c = plays-continue
 
 pub returns-clause-given : goal.returns-clause-given
 returns-clause-given c = plays-given
-
-pub returns-clause-told : goal.returns-clause-told
-returns-clause-told c = plays-told

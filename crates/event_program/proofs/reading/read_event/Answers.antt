@@ -2,17 +2,12 @@ use Rattle.std.proofs.Common.{arith, ◌≡◌, ◌+◌, ◌≤◌, sym, List, �
 use Rattle.event_kinds.specs.declared.kinds.InputEnd.TheVariants.{NoEvent}
 use Rattle.event_kinds.specs.Kinds.{next_of}
 use Rattle.event_program.proofs.Fronts.{on_err}
-use Rattle.event_program.proofs.Nexts.{begun, ended, placed-named, stop-unplaced, ends-empty, short-body}
+use Rattle.event_program.proofs.Nexts.{begun, placed-named, stop-unplaced, ends-empty, short-body}
 use Rattle.event_program.proofs.Parts.{body-stuck, body-short, body-whole}
 use Rattle.event_program.proofs.reading.read_event.Goals as goal
 
 pub returns-in_err-byte-clause-err : goal.returns-in_err-byte-clause-err
 returns-in_err-byte-clause-err g c = on_err c.from_residual.result _ ([], c.in_err-byte.ensures.err, ends-empty c.args.first)
-
-pub returns-in_default-clause-ok : goal.returns-in_default-clause-ok
-returns-in_default-clause-ok g c =
-    let read = rw c.in_default.is at c.in_ok-byte.ensures.ok in
-    ended (λ (l : List ℕ). next_of c.args.first l ≡ Err c.empty_end.result) _ _ [] read.0 read.1 c.empty_end.ensures
 
 pub returns-in_default-placed_kind-clause-ok : goal.returns-in_default-placed_kind-clause-ok
 returns-in_default-placed_kind-clause-ok g c =

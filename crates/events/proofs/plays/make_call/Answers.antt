@@ -9,10 +9,6 @@ pub returns-in-OpenPhase : goal.returns-in-OpenPhase
 unfolding call_of stepFor
 returns-in-OpenPhase c = rw c.in-OpenPhase.is (unlent _ (openPhase _) _ _ _ _ refl c.open.ensures)
 
-pub returns-in-SendData : goal.returns-in-SendData
-unfolding call_of stepFor
-returns-in-SendData c = rw c.in-SendData.is c.send.ensures
-
 pub returns-in-FinishTags : goal.returns-in-FinishTags
 unfolding call_of stepFor
 returns-in-FinishTags c = rw c.in-FinishTags.is (unlent _ (finishTags _) _ _ _ _ refl c.finish.ensures)
@@ -28,11 +24,3 @@ returns-in-LinkEvent c = rw c.in-LinkEvent.is (unlent-both _ (linkEvent _) _ _ _
 pub returns-in-ComReset : goal.returns-in-ComReset
 unfolding call_of stepFor
 returns-in-ComReset c = rw c.in-ComReset.is (unlent _ comReset _ _ _ _ refl c.comreset.ensures)
-
-pub returns-in-HostData : goal.returns-in-HostData
-unfolding call_of stepFor
-returns-in-HostData c = rw c.in-HostData.is c.host_data.ensures
-
-pub returns-in-HostFrame : goal.returns-in-HostFrame
-unfolding call_of stepFor
-returns-in-HostFrame c = rw c.in-HostFrame.is c.host_frame.ensures
