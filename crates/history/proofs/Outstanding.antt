@@ -1,5 +1,5 @@
 -- What the clauses of refusal 1 tell of the entry of an outstanding command, and of an idle tag's. Assumes nothing.
-use Rattle.std.proofs.Common.{◌≡◌, sym, ◌∙◌, Bool, true, false, not, ◌&&◌, ◌||◌, ℕ, ◌<◌, eqb, leb-false, eqb-true, arith}
+use Rattle.std.proofs.Common.{◌≡◌, sym, ◌∙◌, Bool, true, false, not, ◌&&◌, ◌||◌, ℕ, ◌<◌, eqb, leb-false, eqb-true}
 use borrow.Author.Tests.{not-false, not-true}
 use Rattle.bits.specs.Bit.{bitIn}
 use Rattle.bits.proofs.Picks.{pick_no, and_left, and_right, or_left, or_right}

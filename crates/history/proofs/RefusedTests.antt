@@ -31,7 +31,7 @@ use Rattle.history.specs.Seen.{Transfer, underWay}
 use Rattle.history.specs.ByHistory.{isOut, outstandingWith, whole, covers, isOpen, leftOf}
 use Rattle.history.specs.Powered.{Powered}
 use Rattle.history.specs.Refused.{outOfBounds, writeOpen, untimely, tooLong, someTag, unfit, noRow}
-use Rattle.history.proofs.Transfers.{transferOf, transfer-shut, transfer-open}
+use Rattle.history.proofs.Transfers.{transferOf, transfer-shut}
 use Rattle.history.proofs.Moving.{deviceEntry, busyAt}
 use Rattle.history.proofs.Knows.{Known}
 use Rattle.device.proofs.Phases.{none-open, open-entry}

@@ -28,7 +28,7 @@ pub record Promised (s : Settings) (r : Outcome) (d : Device) (h : List Event) :
   pub demand3 : Demand3 s.depth s.mask h
   -- where each call is lent the medium as the last one left it, what the host wrote last stands there, and a read sends that
   pub lasting : (m : List ℕ) → HandedOn m h → Lasting m h
-  -- what the device keeps, and every answer of the two calls that only ask, is what the history tells
+  -- what the device keeps, and every answer of the calls that only ask, is what the history tells
   pub state : StateAgrees s d h
 
 -- so it is of every sequence of results from power-on that is as the contracts promise, whatever the settings, the calls, and what is lent to them
