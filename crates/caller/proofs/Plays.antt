@@ -59,14 +59,11 @@ typed-kind : (d : Device) (e : List ℕ) (kind : Option Kind) → Bytes e → Ty
 unfolding callByKind call_of
 typed-kind d e None w = tt
 typed-kind d e (Some kinds.Settings) w = tt
-typed-kind d e (Some kinds.OpenPhase) w = none-typed
-typed-kind d e (Some kinds.SendData) w = none-typed
 typed-kind d e (Some kinds.FinishTags) w = set_typed _ (le-lt e w 1 4)
 typed-kind d e (Some kinds.MediaError) w = error-typed _ (w 2)
-typed-kind d e (Some kinds.LinkEvent) w = none-typed
-typed-kind d e (Some kinds.ComReset) w = none-typed
 typed-kind d e (Some kinds.HostData) w = frame-typed (hostData d (get_or e 1 0)) (data-bytes (unwrap_or (dataDue d) 4) (get_or e 1 0) (w 1))
 typed-kind d e (Some (kinds.HostFrame kind)) w = frame-typed e w
+typed-kind d e (Some kind) w = none-typed
 
 typed-event : (d : Device) (e : List ℕ) → Bytes e → TypedCall (callFor d e)
 unfolding requestOf

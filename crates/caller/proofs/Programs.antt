@@ -1,5 +1,5 @@
 -- What the event program plays is a history in the sense of demand 3. Assumes nothing.
-use Rattle.std.proofs.Common.{◌≡◌, refl, sym, ap, subst, ◌∙◌, Bool, true, false, true≢false, List, [], ◌∷◌, ◌++◌, map, option_to_list, ℕ, ◌+◌, length, take, drop, Option, Some, None, is_none, option_map}
+use Rattle.std.proofs.Common.{◌≡◌, refl, sym, ap, subst, ◌∙◌, Bool, true, false, true≢false, List, [], ◌∷◌, ◌++◌, map, option_to_list, ℕ, ◌+◌, length, drop, Option, Some, None, is_none, option_map}
 use lib.Seq.{take-append_seam, take-length}
 use Rattle.bits.specs.Laid.{laid}
 use Rattle.bits.specs.Little.{Bytes}
@@ -27,10 +27,6 @@ use Rattle.caller.specs.Continued.{Holds}
 use Rattle.caller.specs.Playing.{donesAll, endState, PlayGiven, EachPlay}
 use Rattle.caller.specs.Program.{playIn, playsIn, ShowsCall, EachShown, StartShown, IsHistory, NoneStarts, ByAsked, OfHistory}
 use Rattle.caller.proofs.Plays.{held-by}
-
--- the outside sees just the replies
-front : (f b : List ℕ) → take (length f) (laid f b) ≡ f
-front f b = take-append_seam f (drop (length f) b)
 
 -- an event that a run plays makes a call
 some-call : (d : Device) (e : List ℕ) → IsEvent false e → is_none (callFor d e) ≡ false
@@ -61,7 +57,7 @@ module _ (traced : Bool) (number : ℕ) (k : Kept) (e : List ℕ) where
       let s = step k.device (lent c k.medium k.reply) in
       record {
         kept = t.kept;
-        line = t.line ∙ ap (line_of traced number s.refusal s.state.status.outstanding) (sym (front (bytes_of s) k.reply));
+        line = t.line ∙ ap (line_of traced number s.refusal s.state.status.outstanding) (sym (take-append_seam (bytes_of s) (drop (length (bytes_of s)) k.reply)));
       }
 
 shown-run : (traced : Bool) (n : ℕ) (k : Kept) (es : List (List ℕ)) → AllEvents es → EachShown traced n k es
@@ -91,10 +87,6 @@ end-kept k [] = refl
 end-kept k (e ∷ es) = end-kept (after k e) es
 
 -- ---- from power-on
-begun : (s : List ℕ) (asked : Settings) → asked_of s ≡ Some asked → start_of s ≡ powerOn asked
-unfolding start_of start_by
-begun s asked a = ap start_by a
-
 powered : (traced : Bool) (s : List ℕ) (asked : Settings) → start_of s ≡ powerOn asked → StartShown traced s asked
 unfolding started
 powered traced s asked b = record { state = ap (λ (o : Outcome). o.state) b; line = ap (λ (o : Outcome). line_of traced 0 o.refusal o.state.status.outstanding []) b }
@@ -144,8 +136,9 @@ media s asked es h =
 
 -- the events behind a settings record
 behind-settings : (traced : Bool) (s : List ℕ) (asked : Settings) (es : List (List ℕ)) → asked_of s ≡ Some asked → AllBytes es → AllEvents es → IsHistory traced s asked es
+unfolding start_of start_by
 behind-settings traced s asked es a w q =
-    let b = begun s asked a in
+    let b : start_of s ≡ powerOn asked = ap start_by a in
     let h = held s asked es b w in
     record { begins = powered traced s asked b; shown = shown-run traced 1 (started s) es q; holds = h; media = media s asked es h }
 

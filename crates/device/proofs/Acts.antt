@@ -1,7 +1,7 @@
 -- SRST, release, a halt and its end, a media error and zeroed counters leave a state that does not contradict itself. Assumes nothing.
-use Rattle.std.proofs.Common.{Option, Some, None, is_none, unwrap_or, ◌≡◌, refl, Bool, true, false, not, ◌&&◌, ◌||◌, ℕ, eqb, ltb, arith}
+use Rattle.std.proofs.Common.{Option, is_none, unwrap_or, ◌≡◌, Bool, true, false, not, ◌&&◌, ℕ, eqb, ltb, arith}
 use Rattle.bits.specs.Bit.{bitIn}
-use Rattle.contradictions.specs.Clauses.{statusBad, recordBad, phaseIdle, contradictory}
+use Rattle.contradictions.specs.Clauses.{statusBad, recordBad, contradictory}
 use Rattle.bits.proofs.Picks.{by-test}
 use Rattle.rules.specs.declared.acts.Fault.{Fault}
 use Rattle.device.specs.Device.{contradictoryDevice}
@@ -23,15 +23,6 @@ unfolding contradictoryDevice contradictory zeroedIf
 zeroed-good d true h = rw (rest-good d h) (fresh-rows d.settings.mask)
 zeroed-good d false h = h
 
--- a status that is not halted, and one that is not held: of tests
-not-halted : (halted held busy set idle : Bool) → (((halted || held) && busy) || (halted && held)) || ((held && set) || idle) ≡ false
-    → (((false || held) && busy) || (false && held)) || ((held && set) || idle) ≡ false
-not-halted halted held busy set idle e = grind arith
-
-not-held : (halted held busy set idle : Bool) → (((halted || held) && busy) || (halted && held)) || ((held && set) || idle) ≡ false
-    → (((halted || false) && busy) || (halted && false)) || ((false && set) || idle) ≡ false
-not-held halted held busy set idle e = grind arith
-
 abbrev statusAgain : Device → Bool → Bool → Status
 statusAgain d halted held = record { outstanding = d.status.outstanding; phase = d.status.phase; halted = halted; held = held }
 
@@ -42,21 +33,16 @@ status-again-good d halted held h e = refilled-good d (statusAgain d halted held
 -- the end of a halt
 pub unhalted-good : (d : Device) → contradictoryDevice d ≡ false → contradictoryDevice (unhalted d) ≡ false
 unfolding unhalted statusBad
-unhalted-good d h =
-    status-again-good d false d.status.held h
-    (not-halted d.status.halted d.status.held (not (eqb d.status.outstanding 0)) d.errors.set (phaseIdle d.status) (status-good d h))
+unhalted-good d h = status-again-good d false d.status.held h (let s = status-good d h in grind arith)
 
 -- release
 pub released-good : (d : Device) → contradictoryDevice d ≡ false → contradictoryDevice (released d) ≡ false
 unfolding released statusBad
-released-good d h =
-    status-again-good d d.status.halted false h
-    (not-held d.status.halted d.status.held (not (eqb d.status.outstanding 0)) d.errors.set (phaseIdle d.status) (status-good d h))
+released-good d h = status-again-good d d.status.halted false h (let s = status-good d h in grind arith)
 
 -- the record of a fault has no tag under NQ
 untagged : (tag : Option ℕ) → is_none tag && not (eqb (unwrap_or tag 0) 0) ≡ false
-untagged None = refl
-untagged (Some t) = refl
+untagged tag = grind arith
 
 -- a halt: with no tag, or one that a queued command can have
 pub halt-good : (d : Device) (f : Fault) → contradictoryDevice d ≡ false → ltb 31 (unwrap_or f.tag 0) ≡ false → contradictoryDevice (haltWith d f) ≡ false

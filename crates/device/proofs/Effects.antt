@@ -8,7 +8,7 @@ use Rattle.device_state.specs.declared.shapes.Entry.{Entry}
 use Rattle.device_state.specs.declared.shapes.ErrorRecord.{ErrorRecord}
 use Rattle.rules.specs.declared.acts.Fault.{Fault}
 use Rattle.rules.specs.declared.acts.Act.{Act}
-use Rattle.rules.specs.declared.acts.Act.TheVariants.{Nothing, Bad, BadAndHalt, Accept, Log10, Log11, Reset, Release, ZeroCounters, Store, Open, Send, Finish, Media, Count, Renew}
+use Rattle.rules.specs.declared.acts.Act.TheVariants.{BadAndHalt, Accept, Reset, Store, Open, Send, Finish, Media, Renew}
 use Rattle.device.specs.After.{withValue, haltWith, unhalted, zeroedIf, resetHeld, released, acceptedBy, movedBy, openedFor, finishedBy, failedBy, renewed, after_of}
 use Rattle.device.specs.declared.state.Device.{Device}
 use Rattle.device.proofs.Widths.{Small, SmallAll, Wide, zero-small, placed-small, cleared-small, idle-small}
@@ -69,22 +69,15 @@ opening = record { anew = false; opens = true; error = 0; echo = zeroEcho }
 
 -- an act's
 unfoldable pub traits : Act → Traits
-traits Nothing = none
-traits (Bad b) = none
 traits (BadAndHalt f) = halting f
 traits (Accept q) = entering q.entry
-traits (Log10 l) = none
-traits (Log11 l) = none
 traits Reset = clearing
-traits Release = none
-traits ZeroCounters = none
 traits (Store m) = entering m.entry
 traits (Open q) = opening
 traits (Send m) = entering m.entry
-traits (Finish set) = none
 traits (Media f) = halting f
-traits (Count row) = none
 traits Renew = clearing
+traits _ = none
 
 -- what an act puts into the record or the table is of bytes
 abbrev pub Puts : Act → Type 0
@@ -117,8 +110,6 @@ same-record q w s = record { sized = record { error = subst (λ (r : ErrorRecord
 
 pub act-laws : (d : Device) (a : Act) → ActLaws d a
 unfolding traits after_of haltWith acceptedBy unhalted zeroedIf resetHeld released movedBy openedFor finishedBy failedBy renewed withValue
-act-laws d Nothing = record { settings = refl; stays = λ _. refl; opened = λ p _. p; wide = λ w _. w }
-act-laws d (Bad b) = record { settings = refl; stays = λ _. refl; opened = λ p _. p; wide = λ w _. w }
 act-laws d (BadAndHalt f) = record {
   settings = refl;
   stays = λ h. absurd (true≢false h);
@@ -126,16 +117,12 @@ act-laws d (BadAndHalt f) = record {
   wide = λ _ p. record { sized = record { error = p.0; echo = p.1 }; entries = idle-small };
 }
 act-laws d (Accept q) = record { settings = refl; stays = λ _. refl; opened = λ p _. p; wide = λ w p. same-record refl w (placed-small d.entries q.tag q.entry w.entries p.1) }
-act-laws d (Log10 l) = record { settings = refl; stays = λ _. refl; opened = λ p _. p; wide = λ w _. same-record refl w w.entries }
-act-laws d (Log11 l) = record { settings = refl; stays = λ _. refl; opened = λ p _. p; wide = λ w _. same-record refl w w.entries }
 act-laws d Reset = record {
   settings = refl;
   stays = λ h. absurd (true≢false h);
   opened = λ p _. absurd (true≢false p);
   wide = λ _ _. record { sized = record { error = lit< tt; echo = zero-small }; entries = idle-small };
 }
-act-laws d Release = record { settings = refl; stays = λ _. refl; opened = λ p _. p; wide = λ w _. same-record refl w w.entries }
-act-laws d ZeroCounters = record { settings = refl; stays = λ _. refl; opened = λ p _. p; wide = λ w _. same-record refl w w.entries }
 act-laws d (Store m) = record { settings = refl; stays = λ _. refl; opened = λ p _. still m.last d.status.phase p; wide = λ w p. same-record refl w (placed-small d.entries m.tag m.entry w.entries p.1) }
 act-laws d (Open q) = record { settings = refl; stays = λ _. refl; opened = λ _ e. absurd (true≢false e); wide = λ w _. same-record refl w w.entries }
 act-laws d (Send m) = record { settings = refl; stays = λ _. refl; opened = λ p _. still m.last d.status.phase p; wide = λ w p. same-record refl w (placed-small d.entries m.tag m.entry w.entries p.1) }
@@ -146,18 +133,13 @@ act-laws d (Media f) = record {
   opened = λ p _. absurd (true≢false p);
   wide = λ _ p. record { sized = record { error = p.0; echo = p.1 }; entries = idle-small };
 }
-act-laws d (Count row) = record {
-  settings = refl;
-  stays = λ _. refl;
-  opened = λ p _. p;
-  wide = λ w _. raised-wide d row w;
-}
 act-laws d Renew = record {
   settings = refl;
   stays = λ h. absurd (true≢false h);
   opened = λ p _. absurd (true≢false p);
   wide = λ _ _. raised-wide (released (resetHeld d)) 9 (record { sized = record { error = lit< tt; echo = zero-small }; entries = idle-small });
 }
+act-laws d _ = record { settings = refl; stays = λ _. refl; opened = λ p _. p; wide = λ w _. same-record refl w w.entries }
 
 -- each by its name
 pub act-settings : (d : Device) (a : Act) → (after_of d a).settings ≡ d.settings

@@ -1,13 +1,13 @@
 -- The entry of a queued command that is taken is right for its tag: its bytes name that tag and its range. Assumes nothing.
-use Rattle.std.proofs.Common.{◌≡◌, refl, Bool, true, false, not, ◌||◌, ℕ, ◌+◌, ◌^◌, ◌≤◌, ◌<◌, arith, ltb, leb, eqb, eq-eqb, ltb-false}
+use Rattle.std.proofs.Common.{◌≡◌, refl, false, ℕ, ◌+◌, ◌^◌, ◌≤◌, ◌<◌, arith, ltb, leb, eqb, eq-eqb, ltb-false}
 use Rattle.frame_parts.specs.Shared.{tag_of, sectorsOf}
 use Rattle.frames.specs.declared.shapes.HostReg.{HostReg}
-use Rattle.device_state.specs.State.{taskIn, tagIn, whole_of, echoOf}
+use Rattle.device_state.specs.State.{whole_of}
 use Rattle.device_state.proofs.EchoLaws.{echo-tag, echo-lba}
 use Rattle.rules.specs.Decide.{tagAsked, countAsked, entryFor}
 use Rattle.contradictions.specs.Clauses.{settingsOut, movedBad, busyBad}
 use Rattle.device_state.specs.declared.shapes.Settings.{Settings}
-use Rattle.device.proofs.Tags.{wrongMove, moved_none}
+use Rattle.device.proofs.Tags.{moved_none}
 
 -- a tag asked for is below 32
 pub tag_small : (count : ℕ) → tag_of count < 32
@@ -22,11 +22,6 @@ pub capacity-most : (s : Settings) → settingsOut s ≡ false → s.capacity �
 unfolding settingsOut
 capacity-most s h = grind arith
 
--- of tests: none of the clauses of an outstanding tag's entry
-clauses : (above past zero tag first count moved : Bool) → above ≡ false → past ≡ false → zero ≡ false → tag ≡ true → first ≡ true → count ≡ true
-    → moved ≡ false → ((above || past) || (zero || (not tag || (not first || not count)))) || moved ≡ false
-clauses above past zero tag first count moved a p z t f c m = rw (a, p, z, t, f, c, m)
-
 -- the entry of a command below the depth and within capacity
 pub entry-good : (s : Settings) (r : HostReg) → settingsOut s ≡ false → leb s.depth (tagAsked r) ≡ false
     → ltb s.capacity (r.task.lba + countAsked r) ≡ false → busyBad s (entryFor r) (tagAsked r) false ≡ false
@@ -37,7 +32,4 @@ entry-good s r h above past =
     let b = ltb-false s.capacity (r.task.lba + countAsked r) past in
     let c : r.task.lba ≤ 65536 = omega arith in
     omega arith) in
-    clauses (leb s.depth (tagAsked r)) (ltb s.capacity (r.task.lba + countAsked r)) (eqb (countAsked r) 0) (eqb (tagIn (echoOf r.task)) (tagAsked r))
-    (eqb (taskIn (echoOf r.task)).lba r.task.lba) (eqb (countAsked r) (countAsked r)) (wrongMove (whole_of (countAsked r)) 0 false)
-    above past (some-sectors r.features r.features_high) (eq-eqb (tagIn (echoOf r.task)) (tagAsked r) (echo-tag r.task))
-    (eq-eqb (taskIn (echoOf r.task)).lba r.task.lba (echo-lba r.task small)) (eq-eqb (countAsked r) (countAsked r) refl) (moved_none (whole_of (countAsked r)))
+    rw (above, past, some-sectors r.features r.features_high, echo-tag r.task, eq-eqb (tagAsked r) (tagAsked r) refl, echo-lba r.task small, eq-eqb r.task.lba r.task.lba refl, eq-eqb (countAsked r) (countAsked r) refl) (moved_none (whole_of (countAsked r)))

@@ -60,16 +60,13 @@ same-state d d' r r' e = sym (answered-state d r) ∙ ap (λ (o : Outcome). o.st
 pub never-zeros : (k : Sealed) → k.device ≡ zeroDevice → ⊥
 never-zeros k e = contradicts-kept k zeroDevice e zeros-contradict
 
-same-refusal : (r r' : Refusal) → Some r ≡ Some r' → r ≡ r'
-same-refusal r r' e = cc
-
 -- one power-on has one answer
 pub powered-once : (r r' : Result Sealed Refusal) → poweredOf r ≡ poweredOf r' → r ≡ r'
 unfolding poweredOf
 powered-once (Ok k) (Ok k') e = ap Ok (kept-once k k' (ap (λ (o : Outcome). o.state) e))
 powered-once (Ok k) (Err r) e = absurd (never-zeros k (ap (λ (o : Outcome). o.state) e))
 powered-once (Err r) (Ok k) e = absurd (never-zeros k (sym (ap (λ (o : Outcome). o.state) e)))
-powered-once (Err r) (Err r') e = ap Err (same-refusal r r' (ap (λ (o : Outcome). o.refusal) e))
+powered-once (Err r) (Err r') e = let f = ap (λ (o : Outcome). o.refusal) e in cc
 
 -- a device by default, with settings that are not out of bounds, may be kept
 pub fresh_sound : (s : Settings) (d : Device) → TheImpl.ghosts.is_default d → settingsOut s ≡ false

@@ -1,18 +1,16 @@
 -- As many tags are outstanding as the table holds commands, and never more than the depth. Assumes nothing.
-use Rattle.std.proofs.Common.{◌≡◌, refl, sym, ap, ◌∙◌, Bool, true, false, ◌||◌, List, [], ◌∷◌, ⊎_elim, ℕ, ◌+◌, ◌*◌, ◌/◌, ◌%◌, ◌^◌, ◌≤◌, ◌<◌, mod-lt, div-le_self, div-add-mod', lt_of_le_of_lt, lt_of_lt_of_le, arith, leb, eqb, pow_pos, pow_mono, shr-shr, lt-ltb, le-leb, eqb-true}
+use Rattle.std.proofs.Common.{◌≡◌, refl, sym, ap, ◌∙◌, Bool, true, false, List, [], ◌∷◌, ⊎_elim, ℕ, ◌+◌, ◌*◌, ◌/◌, ◌%◌, ◌^◌, ◌≤◌, ◌<◌, mod-lt, div-le_self, div-add-mod', lt_of_le_of_lt, lt_of_lt_of_le, arith, leb, eqb, pow_pos, pow_mono, shr-shr}
 use native.Mathlib.Nat.{zero-div, div-eq_of_lt}
 use lib.Count.{ones, ones-le}
-use borrow.Author.Tests.{eqb-false}
 use Rattle.bits.specs.Bit.{bitIn}
 use Rattle.std.proofs.lemmas.Nat.Bits.{bit_at-lt, same_from_bits_below}
 use Rattle.std.proofs.lemmas.Bool.{cases_lt}
-use Rattle.bits.proofs.Picks.{tested, or_left, or_right}
 use Rattle.bits.proofs.Tables.{ones-tied}
 use Rattle.std.specs.List.{sum_by}
 use Rattle.std.proofs.lemmas.List.Sums.{sum_by-cons}
 use Rattle.device_state.specs.State.{zeroEntry}
 use Rattle.device_state.specs.Table.{entry_of}
-use Rattle.contradictions.specs.Clauses.{aboveDepth, pastCapacity, countZero, otherTag, otherRange, movedBad, busyBad, idleBad, entryBad}
+use Rattle.contradictions.specs.Clauses.{movedBad, busyBad, idleBad, entryBad}
 use Rattle.device_state.specs.declared.shapes.Settings.{Settings}
 use Rattle.device_state.specs.declared.shapes.Entry.{Entry}
 use Rattle.device.specs.Device.{contradictoryDevice}
@@ -20,62 +18,34 @@ use Rattle.device.proofs.Sized.{Sized}
 use Rattle.device.specs.Ones.{openEntry, openEntries}
 use Rattle.device.specs.declared.state.Device.{Device}
 use Rattle.device.proofs.Parts.{tag-good}
-use Rattle.device.proofs.Retagging.{nameBad}
 use Rattle.device_state.specs.UnderWay.{openFor}
 
 -- ---- what the test of an entry says of its count, and of its tag
 
--- none of the clauses that do not ask what has moved
-name-good : (s : Settings) (e : Entry) (t : ℕ) (phase : Bool) → busyBad s e t phase ≡ false → nameBad s e t ≡ false
-unfolding busyBad
-name-good s e t phase h = or_left (nameBad s e t) (movedBad e phase) h
-
 -- an outstanding tag has a command
 busy-count : (s : Settings) (e : Entry) (t : ℕ) (phase : Bool) → busyBad s e t phase ≡ false → eqb e.count 0 ≡ false
-busy-count s e t phase h =
-    or_left (countZero e) (otherTag e t || otherRange e)
-    (or_right (aboveDepth s t || pastCapacity s e) (countZero e || (otherTag e t || otherRange e)) (name-good s e t phase h))
+unfolding busyBad movedBad
+busy-count s e t phase h = grind arith
 
 -- and is below the depth
 busy-depth : (s : Settings) (e : Entry) (t : ℕ) (phase : Bool) → busyBad s e t phase ≡ false → leb s.depth t ≡ false
-busy-depth s e t phase h =
-    or_left (aboveDepth s t) (pastCapacity s e)
-    (or_left (aboveDepth s t || pastCapacity s e) (countZero e || (otherTag e t || otherRange e)) (name-good s e t phase h))
+unfolding busyBad movedBad
+busy-depth s e t phase h = grind arith
 
 -- an idle tag has none
 idle-count : (e : Entry) → idleBad e ≡ false → eqb e.count 0 ≡ true
 unfolding idleBad
 idle-count e h = grind arith
 
--- a bit is 0 or 1
-zero_bit : (n : ℕ) → n < 2 → eqb n 1 ≡ false → n ≡ 0
-zero_bit n l x = let y = eqb-false n 1 x in omega arith
-
 -- a tag's bit says whether its entry is one of a command
 bit-open : (s : Settings) (e : Entry) (o t : ℕ) (phase : Bool) → t < 32 → entryBad s e t (bitIn 32 o t) phase ≡ false → o / 2 ^ t % 2 ≡ openEntry e
 unfolding entryBad
-bit-open s e o t phase l h =
-    ⊎_elim
-    (λ (x : eqb (o / 2 ^ t % 2) 1 ≡ true).
-    let b : busyBad s e t phase ≡ false = rw (lt-ltb t 32 l, x) at h in
-    rw (busy-count s e t phase b) (eqb-true (o / 2 ^ t % 2) 1 x))
-    (λ (x : eqb (o / 2 ^ t % 2) 1 ≡ false).
-    let b : idleBad e ≡ false = rw (lt-ltb t 32 l, x) at h in
-    rw (idle-count e b) (zero_bit (o / 2 ^ t % 2) (bit_at-lt o t) x))
-    (tested (eqb (o / 2 ^ t % 2) 1))
+bit-open s e o t phase l h = let y = bit_at-lt o t in grind (arith, busy-count s e t phase, idle-count e)
 
 -- the bit of a tag at or above the depth is off
 bit-above : (s : Settings) (e : Entry) (o t : ℕ) (phase : Bool) → t < 32 → s.depth ≤ t → entryBad s e t (bitIn 32 o t) phase ≡ false → o / 2 ^ t % 2 ≡ 0
 unfolding entryBad
-bit-above s e o t phase l a h =
-    ⊎_elim
-    (λ (x : eqb (o / 2 ^ t % 2) 1 ≡ true).
-    let b : busyBad s e t phase ≡ false = rw (lt-ltb t 32 l, x) at h in
-    let y = busy-depth s e t phase b in
-    let w = le-leb s.depth t a in
-    absurd (let z : ◌≡◌ {A = ℕ} 0 1 = cc in omega arith))
-    (λ (x : eqb (o / 2 ^ t % 2) 1 ≡ false). zero_bit (o / 2 ^ t % 2) (bit_at-lt o t) x)
-    (tested (eqb (o / 2 ^ t % 2) 1))
+bit-above s e o t phase l a h = let y = bit_at-lt o t in grind (arith, busy-depth s e t phase)
 
 -- ---- a number of w digits, all of which from k on are 0, has k digits
 

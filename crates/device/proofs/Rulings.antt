@@ -1,14 +1,12 @@
 -- What each rule and each device event keeps: its replies can be written, what it puts into the state is of bytes, and the state does not contradict itself. Assumes nothing.
-use Rattle.std.proofs.Common.{Option, Some, None, Result, is_none, unwrap_or, ◌≡◌, refl, subst, sym, true≢false, Bool, ◌&&◌, ◌||◌, false, not, true, List, [], ◌%◌, ◌*◌, ◌+◌, ◌<◌, ◌^◌, ◌≤◌, min, ℕ, arith, eqb, leb, ltb, lit<, length, take, drop, length-drop, length-take, eq-eqb, eqb-true, le-leb, le-ltb}
-use borrow.Author.Tests.{not-false}
+use Rattle.std.proofs.Common.{Option, Some, None, Result, is_none, unwrap_or, ◌≡◌, refl, subst, sym, Bool, ◌&&◌, false, true, List, [], ◌%◌, ◌*◌, ◌+◌, ◌<◌, ◌^◌, ◌≤◌, min, ℕ, arith, eqb, leb, ltb, lit<, length, take, drop, length-drop, length-take, eq-eqb, eqb-true, le-leb, le-ltb}
 use Rattle.bits.specs.Bit.{bitIn}
-use Rattle.bits.proofs.Picks.{and_right, or_left, or_right}
+use Rattle.bits.proofs.Picks.{and_right}
 use Rattle.frame_parts.specs.Size.{payloadSize}
 use Rattle.frames.specs.declared.shapes.HostReg.{HostReg}
 use Rattle.frames.specs.declared.shapes.Frame.{Frame}
 use Rattle.frames.proofs.ReadLaws.{DataRead}
 use Rattle.refusals.specs.declared.reasons.Refusal.{Refusal}
-use Rattle.page_rows.specs.Rows.{kept}
 use Rattle.device_state.specs.State.{echoOf, zeroEcho}
 use Rattle.device_state.specs.declared.shapes.Entry.{Entry}
 use Rattle.device_state.specs.Table.{entry_of}
@@ -86,21 +84,19 @@ module _ (d : Device) (wrong some : Bool) (room : ℕ) (g : contradictoryDevice 
   heard-keeps k l r (by.srst h c s) = record { fits = λ _ _. tt; puts = λ _ _. none-puts; good = λ _. reset-held-good d g }
   heard-keeps k l r (by.release h c s x) = record { fits = λ _ _. tt; puts = λ _ _. none-puts; good = λ _. released-good d g }
   heard-keeps k l r (by.nothing h c s x) = record { fits = λ _ _. tt; puts = λ _ _. none-puts; good = λ _. g }
-  heard-keeps k l r (by.rule1 h c x) = record { fits = λ t _. (omega arith, t); puts = λ _ _. none-puts; good = λ _. g }
   heard-keeps k l r (by.rule2 h c x u) = record { fits = λ t _. (omega arith, echo-bytes h.task t); puts = λ t _. (omega arith, echo-bytes h.task t); good = λ _. fault-good d h (Some (tagAsked h)) 0x04 g (asked-small h) }
   heard-keeps k l r (by.rule3 h c x u y) = record { fits = λ t _. (omega arith, echo-bytes h.task t); puts = λ t _. (omega arith, echo-bytes h.task t); good = λ _. fault-good d h (Some (tagAsked h)) 0x10 g (asked-small h) }
   heard-keeps k l r (by.rule4 h c x u y) = record {
     fits = λ t _. echo-bytes h.task t;
     puts = λ t _. (lit< tt, echo-bytes h.task t);
-    good = λ _. accepted-good d (record { tag = tagAsked h; entry = entryFor h }) g x c.free c.calm (tag_small h.task.count) (entry-good d.settings h (settings-good d g) (or_left (leb d.settings.depth (tagAsked h)) (bitIn 32 d.status.outstanding (tagAsked h)) u) y);
+    good = λ _. accepted-good d (record { tag = tagAsked h; entry = entryFor h }) g x c.free c.calm (tag_small h.task.count) (entry-good d.settings h (settings-good d g) (grind arith) y);
   }
-  heard-keeps k l r (by.other-halted h c x) = record { fits = λ t _. (omega arith, t); puts = λ _ _. none-puts; good = λ _. g }
   heard-keeps k l r (by.other-busy h c x) = record { fits = λ t _. (omega arith, echo-bytes h.task t); puts = λ t _. (omega arith, echo-bytes h.task t); good = λ _. fault-good d h None 0x04 g refl }
   heard-keeps k l r (by.page10 h c e p) = record { fits = λ t z. (t, record-fits d z g); puts = λ _ _. none-puts; good = λ _. unhalted-good d g }
   heard-keeps k l r (by.page11 h c x e p) = record { fits = λ t _. (t, both-kept d g); puts = λ _ _. none-puts; good = λ _. zeroed-good d (bitIn 8 h.features 0) g }
-  heard-keeps k l r (by.other-bad h c x e) = record { fits = λ t _. (omega arith, t); puts = λ _ _. none-puts; good = λ _. g }
   heard-keeps k l r (by.due n p w s) = record { fits = λ _ _. tt; puts = λ _ es. (lit< tt, move-small d n p es); good = λ _. moving-good d n g p (eqb-true (n % 4) 0 (and_right (leb 4 n && leb n 8192) (eqb (n % 4) 0) r.1.1)) }
   heard-keeps k l r (by.bist b) = record { fits = λ _ _. tt; puts = λ _ _. none-puts; good = λ _. zeroed-good d true g }
+  heard-keeps k l r _ = record { fits = λ t _. (omega arith, t); puts = λ _ _. none-puts; good = λ _. g }
 
 -- ---- a device event that is taken
 
@@ -126,39 +122,20 @@ pub record OwnKeeps (d : Device) (part : List ℕ) (c : Call) (a : Act) : Type 0
   pub keeps : RuleKeeps d part (Typed c) ((handed c).set < 2 ^ 32) a
   pub silent : (handed c).buffer ≡ false → (sent : List ℕ) → repliesOf (shown d) sent a ≡ []
 
+-- by the event
+own-rule : (d : Device) (m b : List ℕ) {c : Call} {a : Act} → by.Own (facts_of d (lent c m b)) c a → RuleKeeps d (part_of a m) (Typed c) ((handed c).set < 2 ^ 32) a
+unfolding after_of Fit traits touch_of
+own-rule d m b (by.opened u g s o p e) = record { fits = λ _ _. let small = busy-below d.status.outstanding u o in omega arith; puts = λ _ _. none-puts; good = λ _. opened-good d u g p o e }
+own-rule d m b (by.sent g w s p r) = record { fits = λ _ _. part-sized d m g w p; puts = λ _ es. (lit< tt, move-small d 8192 p es); good = λ _. moving-good d 8192 g p refl }
+own-rule d m b (by.finished u g s p e r) = record { fits = λ t _. t.1; puts = λ _ _. none-puts; good = λ small. finished-good d u g small p }
+own-rule d m b (by.failed u e x g s o y w) = record {
+  fits = λ t _. t.2;
+  puts = λ t es. (t.2, failing-small (entry_of d.entries u).echo x (es u));
+  good = λ _. let small : u < 32 = busy-below d.status.outstanding u o in failed-good d _ g (le-ltb 31 u (omega arith));
+}
+own-rule d m b (by.linked r g x) = record { fits = λ _ _. tt; puts = λ _ _. none-puts; good = λ _. counted-good d r g (grind arith) }
+own-rule d m b (by.renewed g s) = record { fits = λ _ _. tt; puts = λ _ _. none-puts; good = λ _. renewed-good d g }
+
 pub own-keeps : (d : Device) (m b : List ℕ) {c : Call} {a : Act} → by.Own (facts_of d (lent c m b)) c a → OwnKeeps d (part_of a m) c a
-unfolding after_of Fit traits touch_of repliesOf
-own-keeps d m b (by.opened u g s o p e) = record {
-  keeps = record {
-    fits = λ _ _. let small = busy-below d.status.outstanding u o in omega arith;
-    puts = λ _ _. none-puts;
-    good = λ _. opened-good d u g p o e;
-  };
-  silent = λ h. absurd (true≢false h);
-}
-own-keeps d m b (by.sent g w s p r) = record {
-  keeps = record { fits = λ _ _. part-sized d m g w p; puts = λ _ es. (lit< tt, move-small d 8192 p es); good = λ _. moving-good d 8192 g p refl };
-  silent = λ h. absurd (true≢false h);
-}
-own-keeps d m b (by.finished u g s p e r) = record {
-  keeps = record { fits = λ t _. t.1; puts = λ _ _. none-puts; good = λ small. finished-good d u g small p };
-  silent = λ h. absurd (true≢false h);
-}
-own-keeps d m b (by.failed u e x g s o y w) = record {
-  keeps = record {
-    fits = λ t _. t.2;
-    puts = λ t es. (t.2, failing-small (entry_of d.entries u).echo x (es u));
-    good = λ _. let small : u < 32 = busy-below d.status.outstanding u o in failed-good d _ g (le-ltb 31 u (omega arith));
-  };
-  silent = λ h. absurd (true≢false h);
-}
-own-keeps d m b (by.linked r g x) = record {
-  keeps = record {
-    fits = λ _ _. tt;
-    puts = λ _ _. none-puts;
-    good = λ _. counted-good d r g
-        (not-false (kept d.settings.mask r) (or_right (ltb 15 r) (not (kept d.settings.mask r)) (or_right (eqb r 0 || eqb r 9) (ltb 15 r || not (kept d.settings.mask r)) x)));
-  };
-  silent = λ h sent. refl;
-}
-own-keeps d m b (by.renewed g s) = record { keeps = record { fits = λ _ _. tt; puts = λ _ _. none-puts; good = λ _. renewed-good d g }; silent = λ h. absurd (true≢false h) }
+unfolding repliesOf
+own-keeps d m b y = record { keeps = own-rule d m b y; silent = grind arith }

@@ -2,7 +2,7 @@
 use Rattle.std.proofs.Common.{Option, Some, None, is_some, is_none, unwrap_or, ◌≡◌, Bool, true, false, not, ℕ, arith, eqb}
 use Rattle.bits.specs.Pick.{pick}
 use Rattle.bits.specs.Bit.{bitIn, clearIn}
-use Rattle.contradictions.specs.Clauses.{openIdle, phaseIdle, statusBad}
+use Rattle.contradictions.specs.Clauses.{phaseIdle, statusBad}
 use Rattle.device_state.specs.declared.shapes.Status.{Status}
 use Rattle.device.proofs.Phases.{none-open}
 
@@ -26,13 +26,9 @@ pub phase-good : (f : Status) (set : Bool) → statusBad f set ≡ false → pha
 unfolding statusBad
 phase-good f set e = grind arith
 
--- not idle, so outstanding
-busy-of : (o : ℕ) (phase : Option ℕ) → openIdle o phase ≡ false → is_none phase ≡ false → bitIn 32 o (unwrap_or phase 0) ≡ true
-busy-of o phase e n = grind arith
-
 -- the same, where a phase is open
 pub phase-busy : (f : Status) (set : Bool) → statusBad f set ≡ false → is_none f.phase ≡ false → bitIn 32 f.outstanding (unwrap_or f.phase 0) ≡ true
-phase-busy f set e n = busy-of f.outstanding f.phase (phase-good f set e) n
+phase-busy f set e n = let idle = phase-good f set e in grind arith
 
 -- the phase of an outstanding tag
 pub opened-idle : (o tag : ℕ) (halted held : Bool) → bitIn 32 o tag ≡ true → phaseIdle (statusWith o (Some tag) halted held) ≡ false

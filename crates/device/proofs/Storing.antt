@@ -1,12 +1,11 @@
 -- Host data: what is known of a frame that was taken, where it goes, and when 6 is given, by what the rules go by. Assumes nothing.
-use Rattle.std.proofs.Common.{Option, Some, None, Result, Ok, Err, is_none, ◌≡◌, refl, sym, ap, ◌∙◌, true, false, not, ◌&&◌, true≢false, List, ◌++◌, ⊎_elim, ℕ, ◌+◌, ◌-◌, ◌%◌, ◌≤◌, arith, ltb, leb, eqb, lit<, length, get_or, take, drop, length-drop, drop-drop, le-leb, leb-true, ltb-false}
+use Rattle.std.proofs.Common.{Option, Some, None, Result, Ok, Err, is_none, ◌≡◌, refl, sym, ap, ◌∙◌, true, false, true≢false, List, ◌++◌, ⊎_elim, ℕ, ◌+◌, ◌-◌, ◌≤◌, arith, ltb, lit<, length, get_or, take, drop, length-drop, drop-drop, le-leb, ltb-false}
 use Rattle.bits.specs.Pick.{pick}
 use Rattle.refusals.specs.First.{first_of, unless}
 use Rattle.refusals.specs.declared.reasons.Refusal.{Refusal}
 use Rattle.refusals.specs.declared.reasons.Refusal.TheVariants.{NoFrame, TooLong}
 use Rattle.bits.proofs.Fronts.{over_yes}
-use borrow.Author.Tests.{not-false}
-use Rattle.bits.proofs.Picks.{tested, and_left, or_left, or_right}
+use Rattle.bits.proofs.Picks.{tested}
 use Rattle.frame_parts.specs.Size.{readable, payloadSize}
 use Rattle.frames.specs.Read.{frameByKind, readFrame}
 use Rattle.frames.specs.declared.shapes.Frame.{Frame}
@@ -83,9 +82,9 @@ module _ (d : Device) (f m b : List ℕ) where
       record {
         good = none 0 (lit< tt);
         medium = none 1 (lit< tt);
-        phase = or_left (is_none d.status.phase) (not v.entry.write) time;
-        write = not-false v.entry.write (or_right (is_none d.status.phase) (not v.entry.write) time);
-        some = leb-true 4 k (and_left (leb 4 k) (leb k 8192) (and_left (leb 4 k && leb k 8192) (eqb (k % 4) 0) p));
+        phase = grind arith;
+        write = grind arith;
+        some = grind arith;
         most = ltb-false (left_of v.entry) k size;
         act = ap (λ (o : Option Refusal). unless o (frameAct v (readFrame f))) (sym (step-refusal d l) ∙ z) ∙ ap (λ (x : Result Frame Refusal). Ok (frameAct v x)) r;
       })

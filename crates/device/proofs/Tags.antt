@@ -1,21 +1,15 @@
 -- Tests of single tags: bits of the set outstanding, and entries as they are accepted, move and are opened. Assumes nothing.
-use Rattle.std.proofs.Common.{◌≡◌, Bool, true, false, not, ◌&&◌, ◌||◌, ⊎_elim, ℕ, ◌+◌, ◌-◌, ◌/◌, ◌%◌, ◌^◌, ◌<◌, min, arith, ltb, leb, eqb, lt-ltb, le-ltb, eqb-true, ltb-true}
-use borrow.Author.Tests.{eqb-false}
+use Rattle.std.proofs.Common.{◌≡◌, Bool, true, false, not, ◌&&◌, ◌||◌, ℕ, ◌-◌, ◌/◌, ◌%◌, ◌^◌, ◌<◌, min, arith, ltb, eqb, lt-ltb, le-ltb, ltb-true}
 use Rattle.bits.specs.Bit.{bitIn, withBitIn, clearIn}
 use Rattle.std.proofs.lemmas.Nat.Bits.{bit_at-lt}
 use Rattle.bits.proofs.Masks.{bit-set-same, bit-set-other, bit-clear}
-use Rattle.bits.proofs.Picks.{tested, and_left}
+use Rattle.bits.proofs.Picks.{and_left}
 
 -- ---- bits
 
 -- a tag more: its own bit is on, each other as it was
 pub bit-with : (m t k : ℕ) → t < 32 → k < 32 → bitIn 32 (withBitIn 32 m t) k ≡ (eqb k t || bitIn 32 m k)
-bit-with m t k ht hk =
-    rw (lt-ltb t 32 ht, lt-ltb k 32 hk)
-    (⊎_elim
-    (λ (x : eqb k t ≡ true). rw (x, eqb-true k t x, bit-set-same m t))
-    (λ (x : eqb k t ≡ false). rw (x, bit-set-other m t k (eqb-false k t x)))
-    (tested (eqb k t)))
+bit-with m t k ht hk = rw (lt-ltb t 32 ht, lt-ltb k 32 hk) (grind (arith, bit-set-same m t, bit-set-other m t k))
 
 -- one digit of `m & !s`, as a test
 digit_clear : (a b : ℕ) → a < 2 → b < 2 → eqb (min a (1 - b)) 1 ≡ (not (eqb b 1) && eqb a 1)
@@ -40,8 +34,3 @@ wrongMove whole moved phase =
 -- nothing has moved, and no phase is open
 pub moved_none : (whole : ℕ) → wrongMove whole 0 false ≡ false
 moved_none whole = rw (le-ltb whole 0 (omega arith))
-
--- n bytes more have moved, or what was left, and the phase stays open while something is left
-pub moved_on : (whole moved n : ℕ) → wrongMove whole moved true ≡ false → min n (whole - moved) % 4 ≡ 0
-    → wrongMove whole (moved + min n (whole - moved)) (not (leb (whole - moved) n)) ≡ false
-moved_on whole moved n h four = grind arith

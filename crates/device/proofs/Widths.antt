@@ -1,10 +1,11 @@
 -- Bytes that stay bytes: the record and the table of commands. Assumes nothing.
-use Rattle.std.proofs.Common.{◌≡◌, refl, true, false, List, ⊎_elim, ℕ, zero, suc, ◌≤◌, ◌<◌, arith, eqb, ltb, length, get_or, replicate, ltb-true, ltb-false}
+use Rattle.std.proofs.Common.{◌≡◌, refl, List, ⊎_elim, ℕ, ◌≤◌, ◌<◌, arith, eqb, length, replicate}
 use mathlib.Core.Path.{subst⁻¹}
-use lib.ListN.{get_or-eq_default}
+use Rattle.std.proofs.lemmas.Bool.{cases_lt}
+use lib.ListN.{get_or-replicate, get_or-eq_default}
 use Rattle.bits.specs.Bit.{bitIn}
 use Rattle.bits.specs.Little.{Bytes}
-use Rattle.bits.proofs.Picks.{by-test, tested}
+use Rattle.bits.proofs.Picks.{by-test}
 use Rattle.device_state.specs.State.{placedBytes, zeroEcho, zeroEntry}
 use Rattle.device_state.specs.Table.{entry_of, placed, cleared}
 use Rattle.device_state.specs.declared.shapes.Echo.{Echo}
@@ -47,9 +48,7 @@ past_end es l t h = get_or-eq_default es zeroEntry (rw l h)
 -- a table of 32 whose entries below 32 are small
 small-table : (es : List Entry) → length es ≡ 32 → ((t : ℕ) → t < 32 → Small (entry_of es t).echo) → SmallAll es
 small-table es l h t =
-    ⊎_elim (λ (y : ltb t 32 ≡ true). h t (ltb-true t 32 y))
-    (λ (n : ltb t 32 ≡ false). subst⁻¹ (λ (e : Entry). Small e.echo) (past_end es l t (ltb-false t 32 n)) zero-small)
-    (tested (ltb t 32))
+    ⊎_elim (h t) (λ (n : 32 ≤ t). subst⁻¹ (λ (e : Entry). Small e.echo) (past_end es l t n) zero-small) (cases_lt t 32)
 
 -- one entry anew
 pub placed-small : (es : List Entry) (t : ℕ) (e : Entry) → SmallAll es → Small e.echo → SmallAll (placed es t e)
@@ -69,12 +68,6 @@ cleared-small es set h =
     subst⁻¹ (λ (x : Entry). Small x.echo) (getD-cleared es set i l)
     (by-test (λ (x : Entry). Small x.echo) (bitIn 32 set i) zeroEntry (entry_of es i) (λ _. zero-small) (λ _. h i)))
 
--- n idle entries
-idle-entry : (n t : ℕ) → get_or (replicate n zeroEntry) t zeroEntry ≡ zeroEntry
-idle-entry zero t = refl
-idle-entry (suc n) zero = refl
-idle-entry (suc n) (suc t) = idle-entry n t
-
 -- a table of idle entries
 pub idle-small : SmallAll (replicate 32 zeroEntry)
-idle-small t = subst⁻¹ (λ (e : Entry). Small e.echo) (idle-entry 32 t) zero-small
+idle-small = small-table (replicate 32 zeroEntry) refl (λ t l. subst⁻¹ (λ (e : Entry). Small e.echo) (get_or-replicate 32 t zeroEntry zeroEntry l) zero-small)

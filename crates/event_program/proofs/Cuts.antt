@@ -1,12 +1,12 @@
 -- An input is events and a rest in one way, and what a run writes for it is one text. Assumes nothing.
-use Rattle.std.proofs.Common.{◌≡◌, ℕ, ◌+◌, ◌≤◌, Bool, true, false, List, [], ◌∷◌, ◌++◌, length, take, drop, drop_at, Option, Some, None, length-append, refl, sym, ap, ap₂, subst, ◌∙◌, append_assoc, arith, leb, le-leb, leb-true, Result, Ok, Err}
+use Rattle.std.proofs.Common.{◌≡◌, ℕ, ◌≤◌, Bool, true, false, List, [], ◌∷◌, ◌++◌, length, take, Option, Some, None, length-append, refl, sym, ap, ap₂, subst, ◌∙◌, append_assoc, arith, Ok, Err}
+use Rattle.std.proofs.lemmas.List.{append_cancel_left, append_cancel_right}
 use lib.Seq.{take-append_seam}
 use Rattle.std.specs.Io.KnownBytes.{Appends}
 use Rattle.bits.specs.Pick.{pick}
 use Rattle.frame_parts.specs.Cut.{joined}
-use Rattle.event_kinds.specs.declared.kinds.InputEnd.{InputEnd}
 use Rattle.event_kinds.specs.declared.kinds.InputEnd.TheVariants.{Clean, NoEvent}
-use Rattle.event_kinds.specs.Kinds.{kindNamed, bodyOf, misplaced, nextWhole, nextBy, next_of}
+use Rattle.event_kinds.specs.Kinds.{kindNamed, nextWhole, nextBy, next_of}
 use Rattle.event_kinds.specs.declared.kinds.Kind.{Kind}
 use Rattle.event_program.specs.Reading.{IsEvent, Ends}
 use Rattle.event_program.specs.Running.{ReadsOn, AllEvents, Plays, refused, next_behind, run_lines, ending}
@@ -18,50 +18,31 @@ unfolding next_of
 kind-next first k l = rw (some k l) refl
 
 -- what is there of an event is enough, whatever follows
-enough : (b b' : Bool) (j n : ℕ) → (b ≡ true → b' ≡ true) → pick b (Ok j) (Err NoEvent) ≡ Ok n → pick b' (Ok j) (Err NoEvent) ≡ Ok n
-enough true b' j n f e = rw (f refl) e
-enough false b' j n f e = absurd (subst Ends e tt)
-
-placed-front : (m : Bool) (j n n' : ℕ) → n ≤ n' → pick m (Err NoEvent) (nextWhole j n) ≡ Ok n → pick m (Err NoEvent) (nextWhole j n') ≡ Ok n
-unfolding nextWhole
-placed-front true j n n' h e = absurd (subst Ends e tt)
-placed-front false j n n' h e = enough (leb (j + 1) n) (leb (j + 1) n') (j + 1) n (λ t. let l = leb-true (j + 1) n t in le-leb (j + 1) n' (omega (arith, l, h))) e
-
 whole-front : (first : Bool) (kind : Option Kind) (n n' : ℕ) → n ≤ n' → nextBy first kind n ≡ Ok n → nextBy first kind n' ≡ Ok n
-unfolding nextBy
-whole-front first (Some kind) n n' h e = placed-front (misplaced first kind) (bodyOf kind) n n' h e
-whole-front first None n n' h e = absurd (subst Ends e tt)
+unfolding nextBy nextWhole
+whole-front first kind n n' h e = grind arith
 
 none-empty : (first : Bool) → IsEvent first [] → ⊥
 unfolding next_of
-none-empty true h = subst Ends h tt
-none-empty false h = subst Ends h tt
+none-empty first h = grind arith
 
 pub next-front : (first : Bool) (e more : List ℕ) → IsEvent first e → next_of first (e ++ more) ≡ Ok (length e)
 next-front first [] more h = absurd (none-empty first h)
 next-front first (k ∷ l) more h =
     kind-next first k (l ++ more) ∙ whole-front first (kindNamed k) (length (k ∷ l)) (length (k ∷ (l ++ more))) (omega (arith, length-append l more)) (sym (kind-next first k l) ∙ h)
 
-size : Result ℕ InputEnd → ℕ
-size (Ok n) = n
-size (Err NoEvent) = 0
-size (Err Clean) = 0
-
 -- two events that the same bytes begin with are the same
 same-front : (first : Bool) (e e' more more' : List ℕ) → IsEvent first e → IsEvent first e' → e ++ more ≡ e' ++ more' → (e ≡ e') × (more ≡ more')
-unfolding size
 same-front first e e' more more' i i' q =
-    let n : length e ≡ length e' = ap size (sym (next-front first e more i) ∙ ap (next_of first) q ∙ next-front first e' more' i') in (
-      sym (take-append_seam e more) ∙ ap₂ (λ (k : ℕ) (l : List ℕ). take k l) n q ∙ take-append_seam e' more',
-      sym (drop_at e more (length e) refl) ∙ ap₂ (λ (k : ℕ) (l : List ℕ). drop k l) n q ∙ drop_at e' more' (length e') refl,
-    )
+    let a = next-front first e more i in
+    let b = next-front first e' more' i' in
+    let n : length e ≡ length e' = cc in
+    let same : e ≡ e' = sym (take-append_seam e more) ∙ ap₂ (λ (k : ℕ) (l : List ℕ). take k l) n q ∙ take-append_seam e' more' in
+    (same, append_cancel_left e more more' (cc))
 
 -- and no event begins what ends
 no-front : (first : Bool) (e more rest : List ℕ) → IsEvent first e → Ends (next_of first rest) → rest ≡ e ++ more → ⊥
 no-front first e more rest i n q = subst Ends (ap (next_of first) q ∙ next-front first e more i) n
-
-both : {e e' : List ℕ} {es es' : List (List ℕ)} → e ≡ e' → es ≡ es' → e ∷ es ≡ e' ∷ es'
-both p q = cc
 
 later-once : (es es' : List (List ℕ)) (r r' : List ℕ) → AllEvents es → AllEvents es' → Ends (next_of false r) → Ends (next_of false r') → joined es ++ r ≡ joined es' ++ r' → (es ≡ es') × (r ≡ r')
 unfolding AllEvents joined
@@ -71,7 +52,7 @@ later-once (e ∷ es) [] r r' a a' n n' q = absurd (no-front false e (joined es 
 later-once (e ∷ es) (e' ∷ es') r r' a a' n n' q =
     let front = same-front false e e' (joined es ++ r) (joined es' ++ r') a.0 a'.0 (sym (append_assoc e (joined es) r) ∙ q ∙ append_assoc e' (joined es') r') in
     let more = later-once es es' r r' a.1 a'.1 n n' front.1 in
-    (both front.0 more.0, more.1)
+    (cc (front.0, more.0), more.1)
 
 -- behind the same settings
 behind-once : (b : Bool) (es es' : List (List ℕ)) (r r' : List ℕ) → (b ≡ true → es ≡ []) → (b ≡ true → es' ≡ []) → AllEvents es → AllEvents es' → Ends (pick b (Err Clean) (next_of false r)) → Ends (pick b (Err Clean) (next_of false r'))
@@ -92,7 +73,7 @@ cut-once input (s ∷ es) (s' ∷ es') r r' c c' =
     let more =
     behind-once (refused s) es es' r r' c.events.2 (λ t. c'.events.2 (same ∙ t)) c.events.1 c'.events.1 c.ends (subst (λ (b : Bool). Ends (pick b (Err Clean) (next_of false r'))) same c'.ends) front.1
     in
-    (both front.0 more.0, more.1)
+    (cc (front.0, more.0), more.1)
 
 appended : (o t t' : List ℕ) (w w' : Option (List ℕ)) → t ≡ t' → Appends (Some o) w t → Appends (Some o) w' t' → w ≡ w'
 appended o t t' None w' e p p' = absurd p
@@ -100,20 +81,15 @@ appended o t t' (Some x) None e p p' = absurd p'
 appended o t t' (Some x) (Some y) e p p' = ap Some (p ∙ ap (λ (l : List ℕ). o ++ l) e ∙ sym p')
 
 -- so two outputs that the contract allows for an input are equal
-pub run-once : (traced : Bool) (input old : List ℕ) (new new' : Option (List ℕ)) → RunsOut Plays next_behind (run_lines traced) (Some old) new input → RunsOut Plays next_behind (run_lines traced) (Some old) new' input → new ≡ new'
-run-once traced input old new new' a b =
+pub run_once : (traced : Bool) (input old : List ℕ) (new new' : Option (List ℕ)) → RunsOut Plays next_behind (run_lines traced) (Some old) new input → RunsOut Plays next_behind (run_lines traced) (Some old) new' input → new ≡ new'
+run_once traced input old new new' a b =
     let same = cut-once input a.es b.es a.rest b.rest a.cut b.cut in
     appended old _ _ new new' (ap₂ (λ (es : List (List ℕ)) (r : List ℕ). run_lines traced es ++ ending (next_behind es r)) same.0 same.1) a.written b.written
 
-cancel : (a b c : List ℕ) → a ++ c ≡ b ++ c → a ≡ b
-cancel a b c q =
-    let n : length a ≡ length b = omega (arith, sym (length-append a c) ∙ ap length q ∙ length-append b c) in
-    sym (take-append_seam a c) ∙ ap₂ (λ (k : ℕ) (l : List ℕ). take k l) n q ∙ take-append_seam b c
-
 -- and where a read failed, two outputs for the same bytes read
-pub broken-once : (traced : Bool) (input left old : List ℕ) (new new' : Option (List ℕ)) → BreaksOff Plays ReadsOn next_behind (run_lines traced) (Some input) (Some left) (Some old) new
+pub broken_once : (traced : Bool) (input left old : List ℕ) (new new' : Option (List ℕ)) → BreaksOff Plays ReadsOn next_behind (run_lines traced) (Some input) (Some left) (Some old) new
     → BreaksOff Plays ReadsOn next_behind (run_lines traced) (Some input) (Some left) (Some old) new' → new ≡ new'
-broken-once traced input left old new new' a b =
-    let read = cancel (joined a.es ++ a.part) (joined b.es ++ b.part) left (sym a.read ∙ b.read) in
+broken_once traced input left old new new' a b =
+    let read = append_cancel_right (joined a.es ++ a.part) (joined b.es ++ b.part) left (sym a.read ∙ b.read) in
     let same = cut-once (joined b.es ++ b.part) a.es b.es a.part b.part (record { whole = sym read; events = a.cut.events; ends = a.cut.ends }) b.cut in
     appended old _ _ new new' (ap (λ (es : List (List ℕ)). run_lines traced es ++ ending (Err NoEvent)) same.0) a.written b.written

@@ -1,6 +1,8 @@
 -- The turns of the loops that write the fields of a line's replies and the digits of bytes. Assumes nothing.
-use Rattle.std.proofs.Common.{◌≡◌, ℕ, ◌<◌, ◌+◌, ◌/◌, ◌%◌, Bool, List, [], ◌∷◌, ◌++◌, length, get_or, slice_index, take, drop, refl, arith, ap, ◌∙◌, append_assoc}
+use Rattle.std.proofs.Common.{◌≡◌, ℕ, ◌<◌, ◌+◌, ◌/◌, ◌%◌, Bool, List, [], ◌∷◌, ◌++◌, length, get_or, Option, slice_index, take, drop, refl, arith, ap, ◌∙◌, append_assoc}
 use Rattle.std.proofs.lemmas.List.{take_more}
+use Rattle.std.proofs.KnownBytes.{Appends-trans}
+use Rattle.std.specs.Io.KnownBytes.{Appends}
 use Rattle.hex.specs.Hex.{encode_with, encode_upper, upper_digits}
 use Rattle.frame_parts.specs.Cut.{firstLength, cut}
 use Rattle.frame_parts.proofs.Cuts.{cut-next}
@@ -25,3 +27,7 @@ digits-append (x ∷ a) b = ap (λ (t : List ℕ). slice_index upper_digits (x /
 -- the digits of one byte more
 pub digits-turn : (l : List ℕ) (i : ℕ) → i < length l → encode_upper (take (i + 1) l) ≡ encode_upper (take i l) ++ encode_upper (get_or l i 0 ∷ [])
 digits-turn l i h = ap (λ (t : List ℕ). encode_upper t) (take_more l i 0 h) ∙ digits-append (take i l) (get_or l i 0 ∷ [])
+
+-- and what is written by then
+pub digits_on : (a b c : Option (List ℕ)) (l digits : List ℕ) (i : ℕ) → i < length l → Appends a b (encode_upper (take i l)) → digits ≡ encode_upper (get_or l i 0 ∷ []) → Appends b c digits → Appends a c (encode_upper (take (i + 1) l))
+digits_on a b c l digits i h p e q = rw (digits-turn l i h) (Appends-trans a b c _ _ p (rw e at q))

@@ -45,9 +45,7 @@ events-more (x ∷ es) e a i = (a.0, events-more es e a.1 i)
 -- the line of one event more
 pub text-more : (traced : Bool) (k : Kept) (l : List ℕ) (es : List (List ℕ)) (e done lines lines' : List ℕ) → lines_on traced k l es ≡ done ++ lines → lines' ≡ lines ++ told traced (1 + length es) (kept_after k es) e
     → lines_on traced k l (es ++ e ∷ []) ≡ done ++ lines'
-text-more traced k l es e done lines lines' p q =
-    let t = told traced (1 + length es) (kept_after k es) e in
-    ap (λ (x : List ℕ). l ++ x) (lines-more traced 1 k es e) ∙ sym (append_assoc l (lines_from traced 1 k es) t) ∙ ap (λ (x : List ℕ). x ++ t) p ∙ append_assoc done lines t ∙ ap (λ (x : List ℕ). done ++ x) (sym q)
+text-more traced k l es e done lines lines' p q = rw (lines-more traced 1 k es e, ← append_assoc l (lines_from traced 1 k es) (told traced (1 + length es) (kept_after k es) e), p, q) (append_assoc done lines _)
 
 -- some of the lines that are left are written
 pub text-passed : (text done lines done' left : List ℕ) → text ≡ done ++ lines → lines ≡ done' ++ left → text ≡ (done ++ done') ++ left

@@ -1,5 +1,6 @@
 -- The whole run, from the run behind the settings. Assumes nothing.
-use Rattle.std.proofs.Common.{◌≡◌, ℕ, suc, Bool, true, false, List, [], ◌∷◌, ◌++◌, Option, Some, None, IfSome, Result, Ok, Err, subst, sym, refl, ap, ◌∙◌, append-nil, append_assoc, true≢false, length, take, length-take-le, ap₂, ◌≤◌, get_or, arith, eqb, replicate, ◌&&◌, leb, is_some, option_copied, leb-true, Bor}
+use Rattle.std.proofs.Common.{◌≡◌, ℕ, suc, Bool, true, false, List, [], ◌∷◌, ◌++◌, Option, Some, None, IfSome, Result, Ok, Err, subst, sym, refl, ap, ◌∙◌, append-nil, append_assoc, true≢false, length, take, length-take-le, ◌≤◌, arith, replicate, option_copied, Bor}
+use Rattle.std.proofs.lemmas.Bool.Decides.{nat_tests}
 use Rattle.std.specs.Io.KnownBytes.{Appends, Consumes}
 use Rattle.std.proofs.KnownBytes.{Consumes-trans, Consumes-nil, Appends-nil}
 use Rattle.event_kinds.specs.declared.kinds.InputEnd.{InputEnd}
@@ -9,17 +10,13 @@ use Rattle.events.specs.Start.{start_by, start_of}
 use Rattle.device.specs.declared.state.Outcome.{Outcome}
 use Rattle.event_program.specs.Lines.{line_of}
 use Rattle.event_program.specs.Running.{kept}
-use Rattle.bits.proofs.Picks.{by-test, and_right}
 use Rattle.std.specs.Result.{result_err, result_copied}
 use Rattle.refusals.specs.declared.reasons.Refusal.{Refusal}
 use Rattle.std.proofs.lemmas.List.{length-replicate}
 use Rattle.device_state.specs.State.{medium_size}
-use Rattle.device_state.specs.declared.shapes.Settings.{Settings}
-use Rattle.device.specs.Device.{freshDevice, powered, powerRefusal, powerOn}
+use Rattle.device.specs.Device.{freshDevice, powerOn}
 use Rattle.device.specs.Sealing.{poweredOf}
 use Rattle.device.specs.declared.sealed.Sealed.{Sealed}
-use Rattle.event_kinds.specs.Kinds.{isEvent}
-use Rattle.event_kinds.specs.Settings.{asked_of, settingsOf, inLimit}
 use Rattle.frame_parts.specs.Cut.{joined}
 use Rattle.event_program.specs.declared.errors.RunError.{RunError}
 use Rattle.event_program.specs.declared.errors.RunError.TheVariants.{Input, Output, Memory, TooMany}
@@ -39,7 +36,7 @@ loses-all traced known w = record { es = []; begins = begins known known [] (Con
 
 lines-same : (traced : Bool) (s lines : List ℕ) (k : Kept) (es : List (List ℕ)) → lines ≡ start_line traced s → k ≡ started s → lines_on traced k lines es ≡ run_lines traced (s ∷ es)
 unfolding run_lines
-lines-same traced s lines k es p q = ap (λ (l : List ℕ). l ++ lines_from traced 1 k es) p ∙ ap (λ (x : Kept). start_line traced s ++ lines_from traced 1 x es) q
+lines-same traced s lines k es p q = rw (p, q) refl
 
 next-same : (s : List ℕ) (es : List (List ℕ)) (rest : List ℕ) → refused s ≡ false → next_of false rest ≡ next_behind (s ∷ es) rest
 unfolding next_behind
@@ -130,81 +127,35 @@ stays-refused traced s lines before known known' w w' r h i c p f =
     (subst (λ (l : List ℕ). Finished (Ok Clean) w w' l r) (p ∙ sym (line-refused traced s)) f)
 
 -- a start leaves nothing outstanding
-none-out : (o : Option Refusal) (s : Settings) → (powered o s).status.outstanding ≡ 0
-unfolding freshDevice
-none-out None s = refl
-none-out (Some r) s = refl
-
-by-none-outstanding : (o : Option Settings) → (start_by o).state.status.outstanding ≡ 0
-unfolding start_by powerOn poweredOf freshDevice
-by-none-outstanding None = refl
-by-none-outstanding (Some s) = none-out (powerRefusal s) s
-
 none-outstanding : (e : List ℕ) → (start_of e).state.status.outstanding ≡ 0
-unfolding start_of
-none-outstanding e = by-none-outstanding (asked_of e)
+unfolding start_of start_by powerOn poweredOf freshDevice
+none-outstanding e = grind arith
 
 -- what power-on gave
 pub refused-yes : (s : List ℕ) (r : Refusal) → poweredOf (Err r) ≡ start_of s → refused s ≡ true
 unfolding poweredOf
-refused-yes s r e = sym (ap (λ (x : Outcome). is_some x.refusal) e)
+refused-yes s r e = rw (← e) refl
 
 pub refused-no : (s : List ℕ) (d : Sealed) → poweredOf (Ok d) ≡ start_of s → refused s ≡ false
 unfolding poweredOf
-refused-no s d e = sym (ap (λ (x : Outcome). is_some x.refusal) e)
+refused-no s d e = rw (← e) refl
 
 -- a refusal that is handed on is that of the outcome
-refusal-is : (r : Result Sealed Refusal) → result_err r ≡ (poweredOf r).refusal
+handed-on : (r : Result (Bor Sealed) (Bor Refusal)) → option_copied (result_err r) ≡ (poweredOf (result_copied r)).refusal
 unfolding poweredOf
-refusal-is (Ok d) = refl
-refusal-is (Err r) = refl
-
-handed-err : (r : Result (Bor Sealed) (Bor Refusal)) → option_copied (result_err r) ≡ result_err (result_copied r)
-handed-err (Ok d) = refl
-handed-err (Err r) = refl
-
-refusal-copied : (begun : Result Sealed Refusal) (r : Result (Bor Sealed) (Bor Refusal)) (o : Option (Bor Refusal)) (given : Option Refusal)
-    → result_copied r ≡ begun → o ≡ result_err r → given ≡ option_copied o → given ≡ (poweredOf begun).refusal
-refusal-copied begun r o given p q t = t ∙ ap option_copied q ∙ handed-err r ∙ ap result_err p ∙ refusal-is begun
-
-line-is : (traced : Bool) (s : List ℕ) (begun : Result Sealed Refusal) (given : Option Refusal) (none lines : List ℕ) → poweredOf begun ≡ start_of s → given ≡ (poweredOf begun).refusal → none ≡ [] → lines ≡ none ++ line_of traced 0 given 0 []
-    → lines ≡ start_line traced s
-line-is traced s begun given none lines e n k q =
-    q ∙ ap (λ (l : List ℕ). l ++ line_of traced 0 given 0 []) k ∙ ap₂ (λ (r : Option Refusal) (t : ℕ). line_of traced 0 r t []) (n ∙ ap (λ (x : Outcome). x.refusal) e) (sym (none-outstanding s))
+handed-on r = grind arith
 
 pub first-line : (traced : Bool) (s : List ℕ) {begun : Result Sealed Refusal} (r : Result (Bor Sealed) (Bor Refusal)) {o : Option (Bor Refusal)} {given : Option Refusal} {none lines : List ℕ}
     → poweredOf begun ≡ start_of s → result_copied r ≡ begun → o ≡ result_err r → given ≡ option_copied o → none ≡ [] → lines ≡ none ++ line_of traced 0 given 0 [] → lines ≡ start_line traced s
-first-line traced s r e p q t k l = line-is traced s _ _ _ _ e (refusal-copied _ r _ _ p q t) k l
+first-line traced s r {given = given} e p q t k l =
+    let h = handed-on r in
+    let same : given ≡ (start_of s).refusal = cc in
+    rw (none-outstanding s) (rw (k, same) at l)
 
 -- the medium of a run has room in the program's array
-and_assoc : (a b c : Bool) → (a && b && c) ≡ ((a && b) && c)
-and_assoc true b c = refl
-and_assoc false b c = refl
-
-IsInLimit : Option Settings → Type 0
-IsInLimit (Some s) = s.capacity ≤ 64
-IsInLimit None = Unit
-
-in-limit : (e : List ℕ) → IsInLimit (asked_of e)
-unfolding IsInLimit
-in-limit e =
-    by-test IsInLimit (inLimit e) (Some (settingsOf e)) None
-    (λ h. leb-true (settingsOf e).capacity 64 (and_right (isEvent e && eqb (get_or e 0 0) 0x00) (leb (settingsOf e).capacity 64) (sym (and_assoc (isEvent e) (eqb (get_or e 0 0) 0x00) (leb (settingsOf e).capacity 64)) ∙ h)))
-    (λ h. tt)
-
-powered-in-limit : (o : Option Refusal) (s : Settings) → s.capacity ≤ 64 → (powered o s).settings.capacity ≤ 64
-unfolding freshDevice
-powered-in-limit None s h = h
-powered-in-limit (Some r) s h = omega arith
-
-by-in-limit : (o : Option Settings) → IsInLimit o → (start_by o).state.settings.capacity ≤ 64
-unfolding start_by powerOn poweredOf freshDevice IsInLimit
-by-in-limit None h = omega arith
-by-in-limit (Some s) h = powered-in-limit (powerRefusal s) s h
-
 started-in-limit : (e : List ℕ) → (start_of e).state.settings.capacity ≤ 64
-unfolding start_of
-started-in-limit e = by-in-limit (asked_of e) (in-limit e)
+unfolding start_of start_by powerOn poweredOf freshDevice
+started-in-limit e = grind (arith, nat_tests)
 
 pub medium-fits : (s : List ℕ) {r : Result Sealed Refusal} {d : Sealed} → poweredOf r ≡ start_of s → r ≡ Ok d → d.device.settings.capacity ≤ 64
 unfolding poweredOf

@@ -24,9 +24,7 @@ front-is s b g p = let f = bytes_of s in ap₂ (λ (n : ℕ) (l : List ℕ). tak
 told-by : (traced : Bool) (n : ℕ) (k : Kept) (e : List ℕ) (g : Gave) → Gives (stepIn k e) k.reply g
     → line_of traced n g.outcome.refusal g.outcome.state.status.outstanding (take g.outcome.len g.buffer) ≡ told traced n k e
 unfolding told
-told-by traced n k e g p =
-    ap₂ (λ (r : Option Refusal) (d : Device). line_of traced n r d.status.outstanding (take g.outcome.len g.buffer)) p.refusal p.state
-    ∙ ap₂ (λ (d : Device) (l : List ℕ). line_of traced n (stepIn k e).refusal d.status.outstanding l) (sym p.state ∙ p.state) (front-is (stepIn k e) k.reply g p)
+told-by traced n k e g p = let f = front-is (stepIn k e) k.reply g p in cc (f, p.refusal, p.state)
 
 told-answered : (traced : Bool) (n : ℕ) (k : Kept) (e : List ℕ) (d : Device) (r : Result ℕ Refusal) (m b : List ℕ) → Gives (stepIn k e) k.reply (gave (answered d r) m b)
     → line_of traced n (result_err r) d.status.outstanding (take (result_unwrap_or r 0) b) ≡ told traced n k e
@@ -36,4 +34,4 @@ told-answered traced n k e d (Err r) m b p = told-by traced n k e (gave (answere
 -- the line of what the device answered: its refusal, and the replies in front of the buffer
 pub told-is : (traced : Bool) (n : ℕ) (k : Kept) (e : List ℕ) (d : Device) (r : Result ℕ Refusal) (m b : List ℕ) (given : Option Refusal) (len : ℕ) → given ≡ result_err r → len ≡ result_unwrap_or r 0
     → Gives (stepIn k e) k.reply (gave (answered d r) m b) → line_of traced n given d.status.outstanding (take len b) ≡ told traced n k e
-told-is traced n k e d r m b given len p q g = ap₂ (λ (x : Option Refusal) (y : ℕ). line_of traced n x d.status.outstanding (take y b)) p q ∙ told-answered traced n k e d r m b g
+told-is traced n k e d r m b given len p q g = rw (p, q) (told-answered traced n k e d r m b g)

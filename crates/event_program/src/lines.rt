@@ -20,7 +20,7 @@ fn upper(byte: u8) -> [u8; 2]
     [UPPER[usize::from(byte / 16)], UPPER[usize::from(byte % 16)]]
 }
 
-#[tactic(auto, unfolding(hex::specs::Hex::encode_with))]
+#[tactic(auto, using(crate::proofs::Fields::digits_on), unfolding(hex::specs::Hex::encode_with))]
 fn write_upper8<W: Write>(out: &mut W, number: u32) -> io::Result<()>
     ensures { OnOk result (Appends (W.contents out.old) (W.contents out.new) (upper8 number)) }
 {

@@ -54,6 +54,7 @@ fn read_body<R: Read>(reader: &mut R, event: &mut [u8]) -> io::Result<usize>
 }
 
 /// The next event, in the front of `room`, or how the input ends; `first` says that nothing was before it.
+#[tactic(auto, using(crate::proofs::Nexts::placed_short))]
 pub(crate) fn read_event<'a, R: Read>(
     reader: &mut R,
     room: &'a mut [u8; EVENT_LIMIT],

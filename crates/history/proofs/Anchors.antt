@@ -1,54 +1,28 @@
 -- A history splits at the error that waits, and what was outstanding before that error was given up at it. Assumes nothing.
-use Rattle.std.proofs.Common.{◌≡◌, sym, ap, ◌∙◌, Bool, true, false, ◌&&◌, ◌||◌, List, [], ◌∷◌, ◌++◌, map, ⊎_elim, ℕ, ◌≤◌, ◌<◌, arith, eqb, ltb-true}
+use Rattle.std.proofs.Common.{◌≡◌, ◌∙◌, Bool, true, false, ◌&&◌, ◌||◌, List, [], ◌∷◌, ◌++◌, map, ⊎_elim, ℕ, ◌≤◌, ◌<◌, arith, eqb, ltb-true}
 use mathlib.Core.Bool.{or-false, false≢true}
-use Rattle.bits.proofs.Picks.{by-test, tested, pick_yes, pick_no}
+use Rattle.bits.proofs.Picks.{by-test, tested}
 use Rattle.history.specs.Seen.{Seen, errs, accepts}
 use Rattle.history.specs.Fates.{Command, later, commands, ownTag, outstandingAt, givenUpAt, outstanding, givenUp, one, howMany, All, totalWith}
-use Rattle.history.specs.Waits.{waits, raises, before, since, givenUpThere}
+use Rattle.history.specs.Waits.{waits, before, since, givenUpThere}
 use Rattle.history.proofs.Commands.{many-pick}
 
 -- ---- the parts of a history in which an error waits
 
--- one more event, while it waits
-since-on : (e : Seen) (h : List Seen) → waits h ≡ true → since (e ∷ h) ≡ e ∷ since h
-unfolding since
-since-on e h w = ap (λ (l : List Seen). e ∷ l) (pick_yes (waits h) (since h) [] w)
-
--- and those before it
-before_on : (e : Seen) (h : List Seen) → waits h ≡ true → before (e ∷ h) ≡ before h
-unfolding before
-before_on e h w = pick_yes (waits h) (before h) h w
-
--- at the event that raises it
-since-new : (e : Seen) (h : List Seen) → waits h ≡ false → since (e ∷ h) ≡ e ∷ []
-unfolding since
-since-new e h w = ap (λ (l : List Seen). e ∷ l) (pick_no (waits h) (since h) [] w)
-
--- and those before it
-before-new : (e : Seen) (h : List Seen) → waits h ≡ false → before (e ∷ h) ≡ h
-unfolding before
-before-new e h w = pick_no (waits h) (before h) h w
-
 -- the events since the error that waits, and those before it, are the history
 pub since-before : (h : List Seen) → waits h ≡ true → since h ++ before h ≡ h
-unfolding waits
+unfolding waits since before
 since-before [] w = absurd (false≢true w)
 since-before (e ∷ h) w =
-    ⊎_elim
-    (λ (x : waits h ≡ true). rw (since-on e h x, before_on e h x) (ap (λ (l : List Seen). e ∷ l) (since-before h x)))
-    (λ (x : waits h ≡ false). rw (since-new e h x, before-new e h x))
-    (tested (waits h))
+    let ih = since-before h in
+    grind arith
 
 -- ---- what became of what was outstanding before
-
--- an event that raises an error answers one
-raises-errs : (e : Seen) (h : List Seen) → raises e h ≡ true → errs e ≡ true
-raises-errs e h x = grind arith
 
 -- the first event of an error that waits answers an error
 waits-new : (e : Seen) (h : List Seen) → waits (e ∷ h) ≡ true → waits h ≡ false → errs e ≡ true
 unfolding waits
-waits-new e h w x = raises-errs e h (sym (pick_no (waits h) _ (raises e h) x) ∙ w)
+waits-new e h w x = grind arith
 
 -- of a command of tag t: n are the events after it up to an error, s those since
 pub record Up (t : ℕ) (n s : List Seen) : Type 0 where
@@ -72,12 +46,12 @@ up-new t n e x = record { up = grind arith; out = grind arith }
 
 -- a command outstanding before the error that waits is given up in the history, one that was not is given up only if it was before; none is outstanding
 pub given-up-there : (h : List Seen) → waits h ≡ true → (t : ℕ) (n : List Seen) → Up t n (since h)
-unfolding waits
+unfolding waits since
 given-up-there [] w t n = absurd (false≢true w)
 given-up-there (e ∷ h) w t n =
     ⊎_elim
-    (λ (x : waits h ≡ true). rw (since-on e h x) (up_more t n (since h) e (given-up-there h x t n)))
-    (λ (x : waits h ≡ false). rw (since-new e h x) (up-new t n e (waits-new e h w x)))
+    (λ (x : waits h ≡ true). rw x (up_more t n (since h) e (given-up-there h x t n)))
+    (λ (x : waits h ≡ false). rw x (up-new t n e (waits-new e h w x)))
     (tested (waits h))
 
 -- ---- they are commands of the history
@@ -115,10 +89,7 @@ many-le : (p q : Command → Bool) (f : Command → Command) → ((c : Command) 
     → howMany p cs ≤ howMany q (map f cs)
 unfolding howMany
 many-le p q f g [] = omega arith
-many-le p q f g (c ∷ cs) = let ih = many-le p q f g cs in let o = go (p c) (q (f c)) (g c) in omega arith
-  where
-    go : (a b : Bool) → (a ≡ true → b ≡ true) → one a ≤ one b
-    go a b x = grind arith
+many-le p q f g (c ∷ cs) = let ih = many-le p q f g cs in let o : one (p c) ≤ one (q (f c)) = grind (arith, g c) in omega arith
 
 -- an event takes no command away
 many-event : (q : Command → Bool) (e : Seen) (h : List Seen) → howMany q (map (later e) (commands h)) ≤ howMany q (commands (e ∷ h))
@@ -147,12 +118,12 @@ up_at t e h r =
 
 -- of the commands of tag t that were outstanding before the error that waits, all are commands given up in the history
 pub given-up-number : (h : List Seen) → waits h ≡ true → (t : ℕ) → totalWith t (before h) ≤ howMany (isUp t) (commands h)
-unfolding waits
+unfolding waits before
 given-up-number [] w t = absurd (false≢true w)
 given-up-number (e ∷ h) w t =
     ⊎_elim
-    (λ (x : waits h ≡ true). rw (before_on e h x) (omega (arith, given-up-number h x t, up-on t e h)))
-    (λ (x : waits h ≡ false). rw (before-new e h x) (up_at t e h (waits-new e h w x)))
+    (λ (x : waits h ≡ true). rw x (omega (arith, given-up-number h x t, up-on t e h)))
+    (λ (x : waits h ≡ false). rw x (up_at t e h (waits-new e h w x)))
     (tested (waits h))
 
 -- a tag named as given up at the error that waits is the tag of a command given up

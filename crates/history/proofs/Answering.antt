@@ -1,10 +1,10 @@
 -- Every taken call is answered what the history before it says: its replies, and the bytes of them in the reply buffer. Assumes nothing.
-use Rattle.std.proofs.Common.{is_none, Ok, Some, unwrap_or, ◌≡◌, refl, sym, ap, ap₂, subst, ◌∙◌, Bool, true, false, not, ◌&&◌, ◌||◌, List, [], ◌∷◌, ◌++◌, map, append-nil, ⊎_elim, ℕ, suc, ◌+◌, ◌-◌, ◌*◌, ◌<◌, min, arith, eqb, ltb, leb, length, get_or, take, drop, eqb-true}
+use Rattle.std.proofs.Common.{zero-add, is_none, Ok, Some, unwrap_or, ◌≡◌, refl, sym, ap, ap₂, subst, ◌∙◌, Bool, true, false, not, ◌&&◌, ◌||◌, List, [], ◌∷◌, ◌++◌, map, append-nil, ℕ, suc, ◌+◌, ◌-◌, ◌*◌, ◌<◌, min, arith, eqb, ltb, leb, length, get_or, take, drop}
 use mathlib.Core.Bool.{false≢true}
 use Rattle.bits.specs.Pick.{pick}
 use Rattle.bits.specs.Bit.{bitIn}
 use Rattle.bits.specs.Laid.{laid}
-use Rattle.bits.proofs.Picks.{tested, not-leb, pick_yes, pick_no, and_left, and_right}
+use Rattle.bits.proofs.Picks.{not-leb, pick_yes}
 use Rattle.frame_parts.specs.Cut.{joined}
 use Rattle.frame_parts.specs.Shared.{taskFits}
 use Rattle.page_10h.specs.Page10.{page10, fits10}
@@ -55,14 +55,14 @@ use Rattle.history.specs.Placed.{placeOf}
 use Rattle.history.specs.Counted.{told, counts}
 use Rattle.history.specs.Carried.{span}
 use Rattle.history.specs.Logged.{logBy}
-use Rattle.history.specs.Answered.{hostReplies, openedBy, openedReplies, sentReply, repliesBy, answer, AnsweredBy}
+use Rattle.history.specs.Answered.{hostReplies, openedReplies, sentReply, repliesBy, answer, AnsweredBy}
 use Rattle.history.proofs.Counts.{eventOf}
 use Rattle.history.proofs.Views.{sentIn}
 use Rattle.history.proofs.Frames.{read-sent, read_step}
 use Rattle.history.proofs.Events.{part-long}
 use Rattle.history.proofs.CoreSteps.{ones-some}
 use Rattle.history.proofs.Core.{Inv, inv-total}
-use Rattle.history.proofs.Table.{Standing, Following, Tracked}
+use Rattle.history.proofs.Table.{Following, Tracked}
 use Rattle.history.proofs.Transfers.{transfer-open}
 use Rattle.history.proofs.Tally.{ValuesTell, Counting}
 use Rattle.history.proofs.Soundness.{by-power, Sound}
@@ -96,24 +96,15 @@ abbrev pub Lies : List Event → List ℕ → List ℕ → Type 0
 Lies h m l = l ≡ take (length l) (drop (placeOf h) m)
 
 -- a list by its places
-by-places : (f : ℕ → ℕ) (l : List ℕ) (a : ℕ) → ((r : ℕ) → r < length l → get_or l r 0 ≡ f (a + r)) → l ≡ map f (span a (length l))
+by-places : (f : ℕ → ℕ) (l : List ℕ) (a : ℕ) → ((r s : ℕ) → r < length l → s ≡ a + r → get_or l r 0 ≡ f s) → l ≡ map f (span a (length l))
 unfolding span
 by-places f [] a h = refl
-by-places f (x ∷ xs) a h = ap₂ (λ (y : ℕ) (ys : List ℕ). y ∷ ys) (h 0 (omega arith) ∙ ap f (plus-none a)) (by-places f xs (suc a) (λ r u. h (suc r) (omega (arith, u)) ∙ ap f (plus-one a r)))
-  where
-    plus-none : (a : ℕ) → a + 0 ≡ a
-    plus-none a = omega arith
-
-    plus-one : (a r : ℕ) → a + suc r ≡ suc a + r
-    plus-one a r = omega arith
+by-places f (x ∷ xs) a h = ap₂ (λ (y : ℕ) (ys : List ℕ). y ∷ ys) (h 0 a (omega arith) (omega arith)) (by-places f xs (suc a) (λ r s u e. h (suc r) s (omega (arith, u)) (omega (arith, e))))
 
 -- sixteen counters that tell a history are what it counted
 counts-told : (values : List ℕ) (h : List Event) → ValuesTell values h → values ≡ counts h
 counts-told values h i =
-    by-places (λ r. told r h) values 0 (λ r u. i.value r (subst (λ (n : ℕ). r < n) i.long u) ∙ ap (λ (n : ℕ). told n h) (nothing-before r)) ∙ ap (λ (n : ℕ). map (λ r. told r h) (span 0 n)) i.long
-  where
-    nothing-before : (r : ℕ) → r ≡ 0 + r
-    nothing-before r = omega arith
+    by-places (λ r. told r h) values 0 (λ r s u e. rw (e, zero-add r) (i.value r (subst (λ (n : ℕ). r < n) i.long u))) ∙ ap (λ (n : ℕ). map (λ r. told r h) (span 0 n)) i.long
 
 module _ (d : Device) (h : List Event) (k : Stands d h) where
   -- something is outstanding
@@ -129,13 +120,9 @@ module _ (d : Device) (h : List Event) (k : Stands d h) where
       let e : Entry = entry_of d.entries t in
       let q : phaseEntry d ≡ e = open-entry d.entries d.status.phase p in
       let way : leftOf b (underWayAfter h) ≡ pick (pick b (not e.write) (not (not e.write))) (512 * e.count - e.moved) 0 = ap (leftOf b) (k.tracked.under ∙ transfer-open d t o) in
-      let due : pick (pick b (not e.write) (not (not e.write))) (512 * e.count - e.moved) 0 ≡ left_of e =
-      in_way b e.write (512 * e.count - e.moved) (subst (λ (x : Entry). x.write ≡ not b) q w)
-      ∙ ap (λ (m : ℕ). m - e.moved) (sym (whole_is d t g (k.tracked.phased.busy t o))) in
-      way ∙ due ∙ ap left_of (sym q)
-    where
-      in_way : (b w : Bool) (n : ℕ) → w ≡ not b → pick (pick b (not w) (not (not w))) n 0 ≡ n
-      in_way b w n e = grind arith
+      let r : e.write ≡ not b = subst (λ (x : Entry). x.write ≡ not b) q w in
+      let all : 512 * e.count - e.moved ≡ left_of e = ap (λ (m : ℕ). m - e.moved) (sym (whole_is d t g (k.tracked.phased.busy t o))) in
+      way ∙ rw (all, r) (grind arith) ∙ ap left_of (sym q)
 
   -- ---- host frames
 
@@ -194,26 +181,14 @@ module _ (d : Device) (h : List Event) (k : Stands d h) where
       let e : Entry = entry_of d.entries t in
       setup (record { auto = false; interrupt = false; to_host = not e.write; tag = t; offset = 0; count = 512 * e.count }) ∷ activateIf e.write
 
-  -- the outstanding command of tag t asks for what its entry says
-  opened-by : (t : ℕ) (c : Command) → ownTag c ≡ t → Standing d c → openedBy t c ≡ opening t
-  opened-by t c e s = grind arith
-
   -- and is found
   found : (t : ℕ) (cs : List Command) → some (λ c. eqb (ownTag c) t && (outstanding c && true)) cs ≡ true → All (Following d) cs → openedReplies t cs ≡ opening t
   unfolding some openedReplies All
   found t [] e a = absurd (false≢true e)
   found t (c ∷ cs) e a =
-      let o : Bool = eqb (ownTag c) t && outstanding c in
-      ⊎_elim
-      (λ (y : o ≡ true).
-      pick_yes o (openedBy t c) (openedReplies t cs) y
-      ∙ opened-by t c (eqb-true (ownTag c) t (and_left (eqb (ownTag c) t) (outstanding c) y)) (a.0.stands (and_right (eqb (ownTag c) t) (outstanding c) y)))
-      (λ (y : o ≡ false).
-      pick_no o (openedBy t c) (openedReplies t cs) y ∙ found t cs (in-rest (eqb (ownTag c) t) (outstanding c) _ y e) a.1)
-      (tested o)
-    where
-      in-rest : (x y r : Bool) → x && y ≡ false → (x && (y && true)) || r ≡ true → r ≡ true
-      in-rest x y r n e = grind arith
+      let stands = a.0.stands in
+      let rest : some (λ c. eqb (ownTag c) t && (outstanding c && true)) cs ≡ true → openedReplies t cs ≡ opening t = λ y. found t cs y a.1 in
+      grind arith
 
   -- open
   open-answers : (t : ℕ) → contradictoryDevice d ≡ false → bitIn 32 d.status.outstanding t ≡ true → Replies d [] (Open (record { tag = t; entry = entry_of d.entries t })) ≡ openedReplies t (commands (map seen h))
@@ -274,7 +249,4 @@ answers-step s d h a t i k p =
     by-power s (λ z. subst (λ (q : Settings). AnsweredBy (answer q.depth q.capacity q.mask h e) e) (i.settings z) here)
     (λ n.
     let never : taken e ≡ false = ap (λ (q : Device). is_none (step q a).refusal) (i.zeros n) ∙ ap is_none (zeros a) in
-    subst (λ (x : List ℕ). AnsweredBy x e) (by-refused (By d h a.medium a.call) (repliesBy s.depth s.capacity s.mask h a.medium a.call) (taken e) never) here)
-  where
-    by-refused : (x y : List FrameValue) (b : Bool) → b ≡ false → joined (map encode (pick b x [])) ≡ joined (map encode (pick b y []))
-    by-refused x y b n = rw n refl
+    rw never (rw never at here))

@@ -1,10 +1,9 @@
 -- Laws of the byte of a position: of what is written at a place, and of what was sent from it. Assumes nothing.
-use Rattle.std.proofs.Common.{Option, Some, None, ◌≡◌, refl, sym, ap, ◌∙◌, true, false, ⊎_elim, List, [], ◌∷◌, ◌++◌, ℕ, zero, suc, ◌+◌, ◌-◌, ◌≤◌, ◌<◌, suc-add, zero-add, arith, leb, le-leb, leb-true, get_or, length, take, drop, slice_get}
+use Rattle.std.proofs.Common.{Option, Some, ◌≡◌, refl, sym, ap, ◌∙◌, List, [], ◌∷◌, ◌++◌, ℕ, zero, suc, ◌+◌, ◌-◌, ◌≤◌, ◌<◌, suc-add, zero-add, arith, le-leb, get_or, length, take, drop, slice_get}
 use Rattle.std.specs.Option.{option_or}
 use Rattle.std.proofs.Math.Nat.{suc-sub-suc}
 use Rattle.std.proofs.Math.Dec.{leb-suc-zero, leb-suc-suc}
-use Rattle.std.proofs.lemmas.Option.{none-some, slice_get-get_or, slice_get_within}
-use Rattle.bits.proofs.Picks.{tested, pick_yes, pick_no, by-test}
+use Rattle.std.proofs.lemmas.Option.{slice_get-get_or, slice_get_within}
 use Rattle.history.specs.Placed.{written, byteAt}
 use Rattle.history.proofs.Placed.{SentFrom, EndsIn, left-same}
 
@@ -39,7 +38,7 @@ get-there (suc at) l (x ∷ m) (suc p) k = rw (suc-add at (length l), leb-suc-su
 
 -- also where nothing is written
 pub get-written : (at : ℕ) (l m : List ℕ) (p : ℕ) → EndsIn at m l → slice_get (written at l m) p ≡ option_or (byteAt at l p) (slice_get m p)
-get-written at [] m p k = rw (left-same at m (written at [] m) [] refl refl) (by-test (λ (x : Option ℕ). slice_get m p ≡ option_or x (slice_get m p)) (leb at p) None None (λ _. refl) (λ _. refl))
+get-written at [] m p k = rw (left-same at m (written at [] m) [] refl refl) (grind arith)
 get-written at (x ∷ l) m p k = get-there at (x ∷ l) m p (k (omega arith))
 
 -- one or else another or else a third
@@ -49,14 +48,10 @@ or-else a b c = grind arith
 -- a byte of what is sent is the medium's
 pub sent-byte : (at : ℕ) (m l : List ℕ) (p b : ℕ) → SentFrom at m l → byteAt at l p ≡ Some b → slice_get m p ≡ Some b
 sent-byte at m l p b s k =
-    ⊎_elim
-    (λ (y : leb at p ≡ true).
     let i : ℕ = p - at in
-    let there : slice_get l i ≡ Some b = sym (pick_yes (leb at p) (slice_get l i) None y) ∙ k in
-    let place : at + i ≡ p = omega (arith, leb-true at p y) in
-    ap (slice_get m) (sym place) ∙ sym (get_drop at m i) ∙ sym (get_take (length l) (drop at m) i (slice_get_within l i b there)) ∙ ap (λ (v : List ℕ). slice_get v i) (sym s) ∙ there)
-    (λ (n : leb at p ≡ false). absurd (none-some b (sym (pick_no (leb at p) (slice_get l (p - at)) None n) ∙ k)))
-    (tested (leb at p))
+    let there : slice_get l i ≡ Some b = grind arith in
+    let place : at + i ≡ p = grind arith in
+    ap (slice_get m) (sym place) ∙ sym (get_drop at m i) ∙ sym (get_take (length l) (drop at m) i (slice_get_within l i b there)) ∙ ap (λ (v : List ℕ). slice_get v i) (sym s) ∙ there
 
 -- the byte at a position of those that stand from a place on
 pub byte-there : (at i : ℕ) (l : List ℕ) → i < length l → byteAt at l (at + i) ≡ Some (get_or l i 0)

@@ -1,13 +1,11 @@
 -- What each change of the state does to settings, commands, phase and halt. Assumes nothing.
-use Rattle.std.proofs.Common.{Some, None, is_none, unwrap_or, ◌≡◌, refl, ap, ◌∙◌, Bool, true, false, not, ◌&&◌, ◌||◌, List, ℕ, ◌+◌, ◌-◌, ◌*◌, ◌<◌, min, arith, eqb, leb, eqb-true, eq-eqb, ne_eqb}
+use Rattle.std.proofs.Common.{Some, None, is_none, unwrap_or, ◌≡◌, refl, ap, ◌∙◌, Bool, true, false, List, ℕ, ◌+◌, ◌*◌, ◌<◌, min, arith, eqb, leb, eq-eqb, ne_eqb}
 use Rattle.std.proofs.lemmas.Bool.{false_from_ne_true}
-use borrow.Author.Tests.{not-false}
 use Rattle.bits.specs.Pick.{pick}
 use Rattle.bits.specs.Bit.{bitIn}
-use Rattle.bits.proofs.Picks.{or_left, or_right}
 use Rattle.device_state.specs.State.{whole_of}
 use Rattle.device_state.specs.Table.{entry_of, placed, cleared}
-use Rattle.contradictions.specs.Clauses.{statusBad, busyBad, aboveDepth, pastCapacity, countZero, otherTag, otherRange, movedAbove, movedOdd, movedBetween, phaseDone, movedBad, stoppedBusy, haltedHeld, heldRecord, phaseIdle}
+use Rattle.contradictions.specs.Clauses.{statusBad, busyBad, movedBad}
 use Rattle.device_state.specs.declared.shapes.Entry.{Entry}
 use Rattle.device_state.proofs.TableLaws.{getD-placed, getD-cleared}
 use Rattle.frames.specs.declared.shapes.HostReg.{HostReg}
@@ -43,18 +41,13 @@ placed-other es t e i l n = getD-placed es t e i l ∙ rw (ne_eqb i t n)
 pub cleared-other : (es : List Entry) (set i : ℕ) → i < 32 → bitIn 32 set i ≡ false → entry_of (cleared es set) i ≡ entry_of es i
 cleared-other es set i l n = getD-cleared es set i l ∙ rw n
 
--- nothing is left exactly if all has moved then
-last-is : (w c m k : ℕ) → w ≡ c → m < w → leb (w - m) k ≡ leb c (m + min k (w - m))
-last-is w c m k e l = grind arith
-
 module _ (d : Device) (g : contradictoryDevice d ≡ false) where
   -- a halted state has nothing outstanding
   pub halted-empty : d.status.halted ≡ true → d.status.outstanding ≡ 0
   unfolding statusBad
   halted-empty h =
-      let f = d.status in
-      let busy = or_left (stoppedBusy f) (haltedHeld f) (or_left (stoppedBusy f || haltedHeld f) (heldRecord f d.errors.set || phaseIdle f) (status-good d g)) in
-      eqb-true f.outstanding 0 (not-false (eqb f.outstanding 0) (rw h at busy))
+      let good = status-good d g in
+      grind arith
 
   -- a state with something outstanding is not halted
   pub busy-calm : (t : ℕ) → bitIn 32 d.status.outstanding t ≡ true → d.status.halted ≡ false
@@ -98,7 +91,7 @@ module _ (d : Device) (g : contradictoryDevice d ≡ false) where
       let more = phase-more d t g busy (own-open d.status.phase t back) in
       let whole = whole_is d t g busy in
       let p = placed_same d.entries t (advancedBy e (min k (left_of e))) l in
-      let last : leb (left_of e) k ≡ leb (512 * e.count) (e.moved + min k (left_of e)) = last-is (whole_of e.count) (512 * e.count) e.moved k whole more in
+      let last : leb (left_of e) k ≡ leb (512 * e.count) (e.moved + min k (left_of e)) = grind arith in
       record {
         phased = back;
         busy = busy;
@@ -120,11 +113,6 @@ module _ (d : Device) (g : contradictoryDevice d ≡ false) where
       → (entry_of d.entries t).moved ≡ 0
   unfolding busyBad movedBad
   unmoved t b p n =
-      let e : Entry = entry_of d.entries t in
-      let low = (aboveDepth d.settings t || pastCapacity d.settings e) || (countZero e || (otherTag e t || otherRange e)) in
       let shut : phaseOf d t ≡ false = no-phase d.status.phase t p in
-      let high = (movedAbove e || movedOdd e) || (movedBetween e (phaseOf d t) || phaseDone e (phaseOf d t)) in
-      let between = or_left (movedBetween e (phaseOf d t)) (phaseDone e (phaseOf d t))
-      (or_right (movedAbove e || movedOdd e) (movedBetween e (phaseOf d t) || phaseDone e (phaseOf d t)) (or_right low high (busy-good d t g b))) in
-      let none : not (eqb e.moved 0) && true ≡ false = rw (shut, n) at between in
-      eqb-true e.moved 0 (grind arith)
+      let good = busy-good d t g b in
+      grind arith

@@ -70,10 +70,6 @@ unfolding sumBelow
 sum-add f g zero = refl
 sum-add f g (suc k) = let ih = sum-add (λ t. f (suc t)) (λ t. g (suc t)) k in omega arith
 
--- numbers are equal where those after them are
-eqb-suc : (u t : ℕ) → eqb (suc u) (suc t) ≡ eqb u t
-eqb-suc u t = grind arith
-
 -- one summand that is not 0
 sum_one : (u : ℕ) (b : Bool) (k : ℕ) → u < k → sumBelow (λ t. one (eqb u t && b)) k ≡ one b
 unfolding sumBelow
@@ -84,7 +80,7 @@ sum_one zero b (suc k) l =
     ∙ add-zero (one b)
 sum_one (suc u) b (suc k) l =
     ap₂ (λ (x : Bool) (n : ℕ). one (x && b) + n) (ne_eqb (suc u) 0 (λ x. absurd (omega arith)))
-    (sum-ext (λ t. one (eqb (suc u) (suc t) && b)) (λ t. one (eqb u t && b)) k (λ t _. ap (λ (x : Bool). one (x && b)) (eqb-suc u t)) ∙ sum_one u b k (omega arith))
+    (sum-ext (λ t. one (eqb (suc u) (suc t) && b)) (λ t. one (eqb u t && b)) k (λ t _. ap (λ (x : Bool). one (x && b)) (let e : eqb (suc u) (suc t) ≡ eqb u t = grind arith in e)) ∙ sum_one u b k (omega arith))
     ∙ zero-add (one b)
 
 -- ---- all that are outstanding, tag by tag

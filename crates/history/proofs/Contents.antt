@@ -1,5 +1,5 @@
 -- The data of one call: read, they are what the medium held at the command's place; written, the medium holds them there, whole, and is otherwise as it was. Assumes nothing.
-use Rattle.std.proofs.Common.{Option, Some, None, ◌≡◌, refl, ap, subst, ◌∙◌, true, not, List, ℕ, ◌+◌, ◌*◌, ◌<◌, arith, eqb, eqb-true}
+use Rattle.std.proofs.Common.{Option, Some, None, ◌≡◌, refl, ap, ◌∙◌, true, not, List, ℕ, ◌+◌, ◌*◌, ◌<◌, arith, eqb, eqb-true}
 use mathlib.Core.Path.{subst⁻¹}
 use Rattle.bits.specs.Pick.{pick}
 use Rattle.bits.specs.Bit.{bitIn}
@@ -28,10 +28,6 @@ use Rattle.history.proofs.Owners.{owned}
 use Rattle.history.proofs.Placed.{SentFrom, Placed, left-same}
 use Rattle.history.proofs.Kept.{call_lies, call-sent}
 
--- the place of the open phase: that of its tag's entry
-phase-place : (d : Device) (t : ℕ) → d.status.phase ≡ Some t → place_of (phaseEntry d) ≡ place_of (deviceEntry d t)
-phase-place d t p = rw p refl
-
 -- every call's data stand at the next byte of the open phase's command
 pub placed : (d : Device) (l : Lent) → Typed l.call → SizedRecord d → Placed (event (done l (result d l))) (place_of (phaseEntry d))
 placed d l t s =
@@ -53,7 +49,7 @@ each-moved d x c p f o = subst⁻¹ (MovedOf x c) f.under (go d.status.phase ref
   where
     go : (k : Option ℕ) → d.status.phase ≡ k → MovedOf x c (transferOf d)
     go None e = subst⁻¹ (MovedOf x c) (transfer-shut d e) tt
-    go (Some t) e = subst⁻¹ (MovedOf x c) (transfer-open d t e) (command-moved d x t c (subst (Placed x) (phase-place d t e) p) (f.stands o))
+    go (Some t) e = subst⁻¹ (MovedOf x c) (transfer-open d t e) (command-moved d x t c (rw e at p) (f.stands o))
 
 -- the Setup of the open phase reaches to the end of its command's range
 command-reaches : (d : Device) (t : ℕ) (c : Command) → Standing d c → Reaches c (transferFor (deviceEntry d t) t)

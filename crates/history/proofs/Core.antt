@@ -1,5 +1,5 @@
 -- The set outstanding and the halt of a device, held together with its history: kept by each of the eleven kinds of effect. Assumes nothing.
-use Rattle.std.proofs.Common.{◌≡◌, refl, sym, ap, ap₂, ◌∙◌, Bool, true, false, not, ◌&&◌, ◌||◌, true≢false, List, [], ◌∷◌, ℕ, ◌+◌, ◌-◌, ◌^◌, ◌<◌, zero-add, lt_of_le_of_lt, eqb, ltb, lit<, eqb-true, eq-eqb, lt-ltb, arith}
+use Rattle.std.proofs.Common.{◌≡◌, refl, sym, ap, ◌∙◌, Bool, true, false, not, ◌&&◌, ◌||◌, true≢false, List, [], ◌∷◌, ℕ, ◌-◌, ◌^◌, ◌<◌, zero-add, lt_of_le_of_lt, eqb, ltb, lit<, eqb-true, eq-eqb, lt-ltb, arith}
 use mathlib.Core.Bool.{and-true, and-false, false≢true}
 use lib.Bits.{or_lt, and_le_l}
 use lib.Count.{ones, ones_in}
@@ -43,34 +43,6 @@ inv-start = record {
   stop = λ x. absurd (false≢true x);
 }
 
--- ---- truth tables, each for one of the kinds below
-
-keep-test : (w : Bool) → pick w true false ≡ w
-keep-test w = grind arith
-
-gone-test : (w : Bool) → pick w false false ≡ false
-gone-test w = grind arith
-
-add-test : (a b : Bool) → (a ≡ true → b ≡ false) → one a + one b ≡ one (a || b)
-add-test a b f = grind arith
-
-done-test : (a b : Bool) → ◌≡◌ {A = ℕ} (0 + pick (a || false) 0 (one b)) (one (not a && b))
-done-test a b = grind arith
-
-cleared-test : (a b : Bool) → b && (not a && true) ≡ not a && b
-cleared-test a b = grind arith
-
-again-test : (a x y : Bool) → (a || (x || y)) && true ≡ x || ((a && true) || y)
-again-test a x y = grind arith
-
--- SActive at a halt: q is a queued command, m that its tag is this one
-halt-test : (q m b ba fa : Bool) → (q ≡ true → fa ≡ false) → ba || fa ≡ true → ((q && m) || b) && true ≡ ltb 0 (one b) || (((q && m) && ba) || false)
-halt-test q m b ba fa f x = grind arith
-
--- an error, of a test that asks for more
-or-both : (a b c : Bool) → (a && b) || c ≡ true → a || c ≡ true
-or-both a b c x = grind arith
-
 -- ---- the kinds of effect
 
 -- as many are outstanding as the set has ones
@@ -111,9 +83,7 @@ module _ {k : ℕ} {b : Bool} {h : List Seen} (v : Inv k b h) {e : Seen} where
     calm = λ y. absurd (true≢false (sym x ∙ y));
     stop = λ _. (
       (v.stop x).0,
-      λ t u. sactive-is h i t ∙ ap (λ (a : Bool). ((q && eqb e.asks.tag t) || a) && true) ((v.stop x).1 t u)
-          ∙ again-test (q && eqb e.asks.tag t) (givenUpThere t h) (badSince t h)
-          ∙ sym (blamed-on t e h (v.waiting ∙ x) ∙ ap (λ (a : Bool). givenUpThere t h || (a || badSince t h)) (asked_is h i t)),
+      λ t u. rw (sactive-is h i t, blamed-on t e h (v.waiting ∙ x), asked_is h i t, (v.stop x).1 t u) (grind arith),
     );
   }
 
@@ -131,7 +101,7 @@ module _ {k : ℕ} {b : Bool} {h : List Seen} (v : Inv k b h) {e : Seen} where
   -- a halt
   keep-halts : {q ba fa : Bool} → Is e q false ba fa false false false none none 0 0 → (q ≡ true → fa ≡ false) → b ≡ false → (ba && (q || not (eqb k 0))) || fa ≡ true → Inv 0 true (e ∷ h)
   keep-halts {q} {ba} {fa} i a x c =
-      let bad : ba || fa ≡ true = or-both ba (q || not (eqb k 0)) fa c in
+      let bad : ba || fa ≡ true = grind arith in
       record {
         bound = lit< tt;
         tags = same-tags v e i.accepted;
@@ -140,9 +110,7 @@ module _ {k : ℕ} {b : Bool} {h : List Seen} (v : Inv k b h) {e : Seen} where
         calm = λ y. absurd (true≢false y);
         stop = λ _. (
           refl,
-          λ t u. sactive-is h i t ∙ ap (λ (s : Bool). ((q && eqb e.asks.tag t) || s) && true) (v.calm x t u)
-              ∙ halt-test q (eqb e.asks.tag t) (bitIn 32 k t) ba fa a bad
-              ∙ sym (blamed-new t e h (v.waiting ∙ x) ∙ ap₂ (λ (n : ℕ) (s : Bool). ltb 0 n || (s || false)) (v.number t u) (asked_is h i t)),
+          λ t u. rw (sactive-is h i t, blamed-new t e h (v.waiting ∙ x), asked_is h i t, v.calm x t u, v.number t u) (grind arith),
         );
       }
 
@@ -152,7 +120,7 @@ module _ {k : ℕ} {b : Bool} {h : List Seen} (v : Inv k b h) {e : Seen} where
     bound = lit< tt;
     tags = same-tags v e i.accepted;
     number = λ t u. number_is h i t ∙ sym (ap one (no-bit t));
-    waiting = waits-is h i ∙ gone-test (waits h);
+    waiting = waits-is h i ∙ grind arith;
     calm = λ _ t u. sactive-is h i t ∙ and-false (sactive t h) ∙ sym (no-bit t);
     stop = λ y. absurd (false≢true y);
   }
@@ -163,7 +131,7 @@ module _ {k : ℕ} {b : Bool} {h : List Seen} (v : Inv k b h) {e : Seen} where
     bound = lit< tt;
     tags = same-tags v e i.accepted;
     number = λ t u. number_is h i t ∙ zero-add (totalWith t h) ∙ v.number t u ∙ ap (λ (n : ℕ). one (bitIn 32 n t)) (v.stop x).0;
-    waiting = waits-is h i ∙ gone-test (waits h);
+    waiting = waits-is h i ∙ grind arith;
     calm = λ _ t u. sactive-is h i t ∙ rw (all t u) (and-false (sactive t h)) ∙ sym (no-bit t);
     stop = λ y. absurd (false≢true y);
   }
@@ -174,37 +142,32 @@ module _ {k : ℕ} {b : Bool} {h : List Seen} (v : Inv k b h) {e : Seen} where
   keep-takes i x l free = record {
     bound = rw (lt-ltb e.asks.tag 32 l) (or_lt 32 k (2 ^ e.asks.tag) v.bound (pow-lt l));
     tags = tags-step 32 e h (λ _. l) v.tags;
-    number = λ t u. number_is h i t ∙ ap (λ (n : ℕ). one (eqb e.asks.tag t) + n) (v.number t u)
-        ∙ add-test (eqb e.asks.tag t) (bitIn 32 k t) (λ y. ap (bitIn 32 k) (sym (eqb-true e.asks.tag t y)) ∙ free)
-        ∙ ap one (sym (with-is t u));
-    waiting = waits-is h i ∙ keep-test (waits h) ∙ v.waiting;
+    number = λ t u.
+        let f : eqb e.asks.tag t ≡ true → bitIn 32 k t ≡ false = λ y. ap (bitIn 32 k) (sym (eqb-true e.asks.tag t y)) ∙ free in
+        rw (number_is h i t, v.number t u, with-is t u) (grind arith);
+    waiting = waits-is h i ∙ rw v.waiting (grind arith);
     calm = λ y t u. sactive-is h i t ∙ and-true (eqb e.asks.tag t || sactive t h) ∙ ap (λ (s : Bool). eqb e.asks.tag t || s) (v.calm y t u) ∙ sym (with-is t u);
     stop = λ y. absurd (false≢true (sym x ∙ y));
   }
     where
-      turn : (t : ℕ) → eqb t e.asks.tag ≡ eqb e.asks.tag t
-      turn t = grind arith
-
       with-is : (t : ℕ) → t < 32 → bitIn 32 (withBitIn 32 k e.asks.tag) t ≡ eqb e.asks.tag t || bitIn 32 k t
-      with-is t u = bit-with k e.asks.tag t l u ∙ ap (λ (s : Bool). s || bitIn 32 k t) (turn t)
+      with-is t u = bit-with k e.asks.tag t l u ∙ ap (λ (s : Bool). s || bitIn 32 k t) (let y : eqb t e.asks.tag ≡ eqb e.asks.tag t = grind arith in y)
 
   -- a set of tags finished
   keep-ends : (set : ℕ) → Is e false false false false false false false (bitIn 32 set) (bitIn 32 set) 0 0 → b ≡ false → set < 2 ^ 32 → Inv (clearIn 32 k set) b (e ∷ h)
   keep-ends set i x l = record {
     bound = lt_of_le_of_lt (and_le_l k ((2 ^ 32 - 1) - set)) v.bound;
     tags = same-tags v e i.accepted;
-    number = λ t u. number_is h i t ∙ ap (λ (n : ℕ). 0 + pick (bitIn 32 set t || false) 0 n) (v.number t u)
-        ∙ done-test (bitIn 32 set t) (bitIn 32 k t) ∙ ap one (sym (bit-without k set t l u));
-    waiting = waits-is h i ∙ keep-test (waits h) ∙ v.waiting;
-    calm = λ y t u. sactive-is h i t ∙ ap (λ (s : Bool). s && (not (bitIn 32 set t) && true)) (v.calm y t u)
-        ∙ cleared-test (bitIn 32 set t) (bitIn 32 k t) ∙ sym (bit-without k set t l u);
+    number = λ t u. rw (number_is h i t, v.number t u, bit-without k set t l u) (grind arith);
+    waiting = waits-is h i ∙ rw v.waiting (grind arith);
+    calm = λ y t u. rw (sactive-is h i t, v.calm y t u, bit-without k set t l u) (grind arith);
     stop = λ y. absurd (false≢true (sym x ∙ y));
   }
 
 -- every kind of effect keeps it
 pub keeps : (d d' : Device) (e : Seen) (h : List Seen) → Inv d.status.outstanding d.status.halted h → Class d e d'
     → Inv d'.status.outstanding d'.status.halted (e ∷ h)
-keeps d d' e h v (kinds.plain i u s) = rw (s.outstanding, s.halted) (keep-plain v i (keep-test d.status.halted))
+keeps d d' e h v (kinds.plain i u s) = rw (s.outstanding, s.halted) (keep-plain v i (grind arith))
 keeps d d' e h v (kinds.pages de i u x s) = rw (s.outstanding, s.halted) (keep-plain v i (rw x))
 keeps d d' e h v (kinds.again q i u x z s) = rw (s.outstanding, s.halted) (keep-again v i x)
 keeps d d' e h v (kinds.freely i u x z s) = rw (s.outstanding, s.halted) (keep-freely v i x z)
@@ -212,19 +175,11 @@ keeps d d' e h v (kinds.halts q ba fa i u a x c s) = rw (s.outstanding, s.halted
 keeps d d' e h v (kinds.resets i u s) = rw (s.outstanding, s.halted) (keep-resets v i)
 keeps d d' e h v (kinds.sweeps cl all i u x z p s) = rw (s.outstanding, s.halted) (keep-sweeps v all i x)
 keeps d d' e h v (kinds.takes i u s) = rw (s.outstanding, s.halted) (keep-takes v i s.calm s.small s.free)
-keeps d d' e h v (kinds.opens tag i s) = rw (s.outstanding, s.halted) (keep-plain v i (keep-test d.status.halted))
-keeps d d' e h v (kinds.carries tag n i u s) = rw (s.outstanding, s.halted) (keep-plain v i (keep-test d.status.halted))
+keeps d d' e h v (kinds.opens tag i s) = rw (s.outstanding, s.halted) (keep-plain v i (grind arith))
+keeps d d' e h v (kinds.carries tag n i u s) = rw (s.outstanding, s.halted) (keep-plain v i (grind arith))
 keeps d d' e h v (kinds.ends set i u s) = rw (s.outstanding, s.halted) (keep-ends v set i s.calm s.width)
 
 -- ---- what it says
-
--- the halt is that an error waits
-pub inv-waits : {k : ℕ} {b : Bool} {h : List Seen} → Inv k b h → waits h ≡ b
-inv-waits v = v.waiting
-
--- each tag of the set has one command outstanding
-pub inv-number : {k : ℕ} {b : Bool} {h : List Seen} → Inv k b h → (t : ℕ) → t < 32 → totalWith t h ≡ one (bitIn 32 k t)
-inv-number v = v.number
 
 -- one is more than none
 pub one-test : (b : Bool) → ltb 0 (one b) ≡ b

@@ -1,9 +1,9 @@
 -- Every taken device event comes to one of the eleven kinds. Assumes nothing.
-use Rattle.std.proofs.Common.{None, is_none, unwrap_or, ◌≡◌, refl, sym, ap, subst, ◌∙◌, Bool, true, false, not, ◌||◌, true≢false, List, ℕ, ◌+◌, ◌*◌, ◌^◌, ◌≤◌, ◌<◌, min, arith, zero-add, eqb, lit<, length, take, drop, length-take, length-drop, eqb-true}
+use Rattle.std.proofs.Common.{None, is_none, unwrap_or, ◌≡◌, refl, sym, ap, subst, ◌∙◌, true, false, not, true≢false, List, ℕ, ◌+◌, ◌*◌, ◌^◌, ◌≤◌, ◌<◌, min, arith, zero-add, eqb, lit<, length, take, drop, length-take, length-drop}
 use Rattle.std.proofs.lemmas.Bool.{false_from_ne_true}
-use borrow.Author.Tests.{eqb-false, not-false}
+use borrow.Author.Tests.{eqb-false}
 use Rattle.bits.specs.Bit.{bitIn}
-use Rattle.bits.proofs.Picks.{by-test, or_left, or_right}
+use Rattle.bits.proofs.Picks.{by-test}
 use Rattle.frames.specs.declared.shapes.DmaSetup.{DmaSetup}
 use Rattle.device_state.specs.State.{whole_of}
 use Rattle.device_state.specs.Table.{entry_of}
@@ -91,10 +91,6 @@ send-comes d m g w p r =
     let e : Entry = phaseEntry d in
     at_tag d m g p r (part-long m (move_of d.status e 8192).at (move_of d.status e 8192).size (move-within d g p 8192 (length m) w))
 
--- a tag that is not unready
-ready_at : (busy : Bool) (e : Entry) → not busy || not (allMoved e) ≡ false → (busy ≡ true) × (e.moved ≡ whole_of e.count)
-ready_at busy e h = (not-false busy (or_left (not busy) (not (allMoved e)) h), eqb-true e.moved (whole_of e.count) (not-false (allMoved e) (or_right (not busy) (not (allMoved e)) h)))
-
 -- a set that is not empty, all of it outstanding: the device is not halted
 some-busy : (d : Device) → contradictoryDevice d ≡ false → (set : ℕ) → set < 2 ^ 32 → eqb set 0 ≡ false → ((t : ℕ) → t < 32 → bitIn 32 set t ≡ true → bitIn 32 d.status.outstanding t ≡ true)
     → d.status.halted ≡ false
@@ -109,8 +105,10 @@ unfolding repliesOf after_of finishedBy someUnready
 finished-comes d part set g l shut some ready =
     let at : (t : ℕ) → t < 32 → bitIn 32 set t ≡ true → (bitIn 32 d.status.outstanding t ≡ true) × ((entry_of d.entries t).moved ≡ 512 * (entry_of d.entries t).count) =
     λ t u b.
-    let r = ready_at (bitIn 32 d.status.outstanding t) (entry_of d.entries t) (rw b at (some-absent (unreadyAt d.entries d.status.outstanding set) 32 t ready u)) in
-    (r.0, r.1 ∙ whole_is d t g r.0) in
+    let r = some-absent (unreadyAt d.entries d.status.outstanding set) 32 t ready u in
+    let o : bitIn 32 d.status.outstanding t ≡ true = grind arith in
+    let w : (entry_of d.entries t).moved ≡ whole_of (entry_of d.entries t).count = grind arith in
+    (o, w ∙ whole_is d t g o) in
     ends set (is-finish _ refl) (bits-unbegun quiet _) (record {
       calm = some-busy d g set l some (λ t u b. (at t u b).0);
       shut = shut;

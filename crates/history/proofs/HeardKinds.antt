@@ -1,7 +1,5 @@
 -- Test 4 of a host frame by its bytes (Refused) and by what the reader answers of it. Assumes nothing.
-use Rattle.std.proofs.Common.{Option, Some, None, Result, Ok, Err, ◌≡◌, refl, sym, ap, ◌∙◌, Bool, true, false, not, ◌&&◌, List, ⊎_elim, ℕ, ◌-◌, ◌%◌, ◌≤◌, ◌<◌, arith, eqb, leb, eqb-true, le-leb, length, get_or}
-use borrow.Author.Tests.{lt-leb}
-use Rattle.std.proofs.lemmas.Bool.{cases_lt}
+use Rattle.std.proofs.Common.{Option, Some, None, Result, Ok, Err, ◌≡◌, refl, sym, ap, ◌∙◌, Bool, true, false, not, ◌&&◌, List, ⊎_elim, ℕ, ◌-◌, ◌%◌, arith, eqb, leb, eqb-true, length, get_or}
 use Rattle.std.specs.Option.{option_map_or}
 use Rattle.bits.specs.Pick.{pick}
 use Rattle.bits.proofs.Picks.{tested}
@@ -19,25 +17,17 @@ use Rattle.history.specs.Refused.{notHeard, hostLength}
 -- a kind that a host sends is turned down for its length alone
 sent : (b : Bool) (r : Result Frame Refusal) → wrongKind r ≡ false → wrongKind (pick b r (Err NoFrame)) ≡ not b
 unfolding wrongKind
-sent true r e = e
-sent false r e = refl
+sent b r e = grind arith
 
 -- and any other always
 unsent : (b : Bool) (r : Result Frame Refusal) → wrongKind r ≡ true → wrongKind (pick b r (Err NoFrame)) ≡ true
 unfolding wrongKind
-unsent true r e = e
-unsent false r e = refl
+unsent b r e = grind arith
 
 -- a payload stands behind four bytes
 payload-long : (n : ℕ) → payloadSize (n - 4) ≡ leb 8 n && leb n 8196 && eqb (n % 4) 0
 payload-long n =
-    ⊎_elim
-    (λ (h : 7 < n).
-    let e : (n - 4) % 4 ≡ n % 4 = omega (arith, h) in
-    let most : leb (n - 4) 8192 ≡ leb n 8196 = ⊎_elim (λ (g : 8196 < n). lt-leb (n - 4) 8192 (omega (arith, g)) ∙ sym (lt-leb n 8196 g)) (λ (g : n ≤ 8196). le-leb (n - 4) 8192 (omega (arith, g)) ∙ sym (le-leb n 8196 g)) (cases_lt 8196 n) in
-    rw (le-leb 4 (n - 4) (omega (arith, h)), le-leb 8 n h, most, e) refl)
-    (λ (h : n ≤ 7). rw (lt-leb 4 (n - 4) (omega (arith, h)), lt-leb 8 n (omega (arith, h))) refl)
-    (cases_lt 7 n)
+    grind arith
 
 -- a byte that names no kind is none of those that do
 unnamed : (byte k : ℕ) (kind : FrameKind) → kindNamed k ≡ Some kind → kindNamed byte ≡ None → eqb byte k ≡ false
@@ -55,11 +45,7 @@ kind-same f = go (kindNamed (get_or f 0 0)) refl
     go : (o : Option FrameKind) → kindNamed (get_or f 0 0) ≡ o
         → wrongKind (pick (option_map_or (λ kind. allows kind (length f)) o false) (option_map_or (λ kind. Ok (frameOf kind f)) o (Err NoFrame)) (Err NoFrame)) ≡ notHeard f
     go None e = rw (unnamed (get_or f 0 0) 0x27 kinds.HostRegister refl e, unnamed (get_or f 0 0) 0x58 kinds.BistActivate refl e, unnamed (get_or f 0 0) 0x46 kinds.Data refl e) refl
-    go (Some kinds.HostRegister) e = sent (eqb 20 (length f)) (Ok (frameOf kinds.HostRegister f)) refl ∙ named f kinds.HostRegister e
-    go (Some kinds.BistActivate) e = sent (eqb 12 (length f)) (Ok (frameOf kinds.BistActivate f)) refl ∙ named f kinds.BistActivate e
-    go (Some kinds.Data) e = sent (payloadSize (length f - 4)) (Ok (frameOf kinds.Data f)) refl ∙ ap not (payload-long (length f)) ∙ named f kinds.Data e
-    go (Some kinds.DeviceRegister) e = unsent (eqb 20 (length f)) (Ok (frameOf kinds.DeviceRegister f)) refl ∙ named f kinds.DeviceRegister e
-    go (Some kinds.DmaActivate) e = unsent (eqb 4 (length f)) (Ok (frameOf kinds.DmaActivate f)) refl ∙ named f kinds.DmaActivate e
-    go (Some kinds.DmaSetup) e = unsent (eqb 28 (length f)) (Ok (frameOf kinds.DmaSetup f)) refl ∙ named f kinds.DmaSetup e
-    go (Some kinds.PioSetup) e = unsent (eqb 20 (length f)) (Ok (frameOf kinds.PioSetup f)) refl ∙ named f kinds.PioSetup e
-    go (Some kinds.SetDeviceBits) e = unsent (eqb 8 (length f)) (Ok (frameOf kinds.SetDeviceBits f)) refl ∙ named f kinds.SetDeviceBits e
+    go (Some kinds.HostRegister) e = sent _ (Ok (frameOf kinds.HostRegister f)) refl ∙ named f kinds.HostRegister e
+    go (Some kinds.BistActivate) e = sent _ (Ok (frameOf kinds.BistActivate f)) refl ∙ named f kinds.BistActivate e
+    go (Some kinds.Data) e = sent _ (Ok (frameOf kinds.Data f)) refl ∙ ap not (payload-long (length f)) ∙ named f kinds.Data e
+    go (Some kind) e = unsent (allows kind (length f)) (Ok (frameOf kind f)) refl ∙ named f kind e

@@ -1,9 +1,8 @@
 -- Reset is held by the state where it is by the history: what each call does to it. Assumes nothing.
-use Rattle.std.proofs.Common.{Ok, ◌≡◌, refl, Bool, true, false, not, ◌&&◌, ◌||◌, List, [], ◌∷◌, ℕ, eqb, ne_eqb, arith}
+use Rattle.std.proofs.Common.{Ok, ◌≡◌, refl, Bool, true, false, ◌||◌, List, [], ◌∷◌, ℕ, ne_eqb, arith}
 use Rattle.bits.specs.Pick.{pick}
 use Rattle.bits.specs.Bit.{bitIn}
-use Rattle.bits.proofs.Picks.{or_left}
-use Rattle.contradictions.specs.Clauses.{statusBad, stoppedBusy, haltedHeld, heldRecord, phaseIdle}
+use Rattle.contradictions.specs.Clauses.{statusBad}
 use Rattle.rules.specs.Call.{Call, hostFrame}
 use Rattle.rules.specs.Positions.{move_of}
 use Rattle.rules.specs.declared.acts.Act.{Act}
@@ -36,11 +35,9 @@ busy-free : (d : Device) → contradictoryDevice d ≡ false → (t : ℕ) → b
 unfolding statusBad
 busy-free d g t b =
     let f = d.status in
-    let busy = or_left (stoppedBusy f) (haltedHeld f) (or_left (stoppedBusy f || haltedHeld f) (heldRecord f d.errors.set || phaseIdle f) (status-good d g)) in
-    go f.halted f.held (eqb f.outstanding 0) busy (ne_eqb f.outstanding 0 (λ z. no-busy f.outstanding t z b))
-  where
-    go : (a h e : Bool) → (a || h) && not e ≡ false → e ≡ false → h ≡ false
-    go a h e x y = grind arith
+    let good = status-good d g in
+    let some = ne_eqb f.outstanding 0 (λ z. no-busy f.outstanding t z b) in
+    grind arith
 
 -- a host frame that is not turned down
 heard-holds : (d : Device) (v : Facts) {f : FrameRead} {a : Act} → v.status ≡ d.status → by.Heard v f a → next (frameFrees f) (frameAsks f).resets d.status.held ≡ (after_of d a).status.held

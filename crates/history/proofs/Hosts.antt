@@ -1,11 +1,10 @@
 -- What a host frame asks for and its act, where it is not turned down, come to one of the eleven kinds. Assumes nothing.
-use Rattle.std.proofs.Common.{Option, Some, None, is_some, is_none, unwrap_or, ◌≡◌, refl, sym, ap, subst, ◌∙◌, Bool, true, false, not, ◌&&◌, ◌||◌, List, [], ℕ, ◌-◌, ◌/◌, ◌%◌, ◌^◌, ◌<◌, min, arith, eqb, ltb, leb, lit<, lt-ltb, ltb-false, leb-true}
+use Rattle.std.proofs.Common.{Option, Some, None, is_some, is_none, unwrap_or, ◌≡◌, refl, sym, ap, subst, ◌∙◌, Bool, true, false, not, ◌||◌, List, [], ℕ, ◌-◌, ◌/◌, ◌%◌, ◌^◌, ◌<◌, min, arith, eqb, ltb, lit<, lt-ltb}
 use Rattle.std.proofs.lemmas.Bool.{false_from_ne_true}
 use native.Mathlib.Nat.{zero-div}
 use borrow.Author.Tests.{eqb-false}
 use Rattle.bits.specs.Bit.{bitIn}
 use Rattle.bits.proofs.Masks.{bit_not}
-use Rattle.bits.proofs.Picks.{and_left}
 use Rattle.frame_parts.specs.Shared.{srstOf}
 use Rattle.frame_parts.specs.Size.{payloadSize}
 use Rattle.frame_parts.specs.declared.shared.Task.{Task}
@@ -49,20 +48,16 @@ module _ (d : Device) (g : contradictoryDevice d ≡ false) where
     abbrev k : Asked
     k = registerAsks h
 
-    -- a command is no reset
-    no-reset : h.command_bit ≡ true → k.resets ≡ false
-    no-reset c = rw c
-
     -- bad while halted
     pub answered-again : (e : ℕ) → h.command_bit ≡ true → d.status.halted ≡ true → Comes d [] k (bad h e)
     unfolding repliesOf after_of
-    answered-again e c x = again k.queued (is-bad k _ refl c (no-reset c) refl) (answer-unbegun k _) x (halted-empty d g x) (same d)
+    answered-again e c x = again k.queued (is-bad k _ refl c (rw c) refl) (answer-unbegun k _) x (halted-empty d g x) (same d)
 
     -- a halt that a command raises
     faulted : (t : Option ℕ) (e : ℕ) → h.command_bit ≡ true → d.status.halted ≡ false → k.queued || not (eqb d.status.outstanding 0) ≡ true → Comes d [] k (fault h t e)
     unfolding repliesOf after_of haltWith
     faulted t e c x r =
-        halts k.queued true false (is-bad k _ refl c (no-reset c) refl) (answer-unbegun k _) (λ _. refl) x (rw r) (record { settings = refl; outstanding = refl; phase = refl; halted = refl })
+        halts k.queued true false (is-bad k _ refl c (rw c) refl) (answer-unbegun k _) (λ _. refl) x (rw r) (record { settings = refl; outstanding = refl; phase = refl; halted = refl })
 
     -- a queued command raises one
     pub queued-faulted : (t e : ℕ) → h.command_bit ≡ true → isQueued h ≡ true → d.status.halted ≡ false → Comes d [] k (fault h (Some t) e)
@@ -75,7 +70,7 @@ module _ (d : Device) (g : contradictoryDevice d ≡ false) where
     accepted c y x p f =
         let q : k.queued ≡ true = rw (c, y) in
         let e : Seen = actSeen d [] k (Accept (record { tag = tagAsked h; entry = entryFor h })) in
-        takes (subst (λ (b : Bool). Is e b b false false false false false none none 0 0) q (is-good k _ refl (no-reset c) refl)) (answer-unbegun k _) (took_by d g h e refl x p f)
+        takes (subst (λ (b : Bool). Is e b b false false false false false none none 0 0) q (is-good k _ refl (rw c) refl)) (answer-unbegun k _) (took_by d g h e refl x p f)
 
     -- not queued
     pub other : h.command_bit ≡ true → isQueued h ≡ false → k.queued ≡ false
@@ -93,17 +88,17 @@ module _ (d : Device) (g : contradictoryDevice d ≡ false) where
     pub answered-free : (e : ℕ) → h.command_bit ≡ true → k.queued ≡ false → d.status.halted ≡ false → d.status.outstanding ≡ 0 → Comes d [] k (bad h e)
     unfolding repliesOf after_of
     answered-free e c q x z =
-        freely (subst (λ (b : Bool). Is (actSeen d [] k (bad h e)) b false true false false false false none none 0 0) q (is-bad k _ refl c (no-reset c) refl)) (answer-unbegun k _) x z (same d)
+        freely (subst (λ (b : Bool). Is (actSeen d [] k (bad h e)) b false true false false false false none none 0 0) q (is-bad k _ refl c (rw c) refl)) (answer-unbegun k _) x z (same d)
 
     -- page 10h: by whether the device was halted
     paged-ten : (b : Bool) → d.status.halted ≡ b → (task : Task) (page : List ℕ) → h.command_bit ≡ true → readsLog 0x10 h ≡ true → k.queued ≡ false → is_some d.status.phase ≡ false
         → Class d (view k (logReplies b task page)) (unhalted d)
     unfolding unhalted
     paged-ten true x task page c n q p =
-        sweeps (λ t. bitIn 32 0xFFFF_FFFF t || false) all-bits (is-swept k _ _ _ refl c n q (no-reset c) refl) (swept-unbegun k _ _ _) x (halted-empty d g x) (none-open d.status.phase p)
+        sweeps (λ t. bitIn 32 0xFFFF_FFFF t || false) all-bits (is-swept k _ _ _ refl c n q (rw c) refl) (swept-unbegun k _ _ _) x (halted-empty d g x) (none-open d.status.phase p)
         (record { settings = refl; outstanding = halted-empty d g x; phase = none-open d.status.phase p; halted = refl })
     paged-ten false x task page c n q p =
-        pages (k.reads 0x10) (is-page k _ _ q (no-reset c) refl) (page-unbegun k _ _) x (record { settings = refl; outstanding = refl; phase = refl; halted = sym x; entries = refl })
+        pages (k.reads 0x10) (is-page k _ _ q (rw c) refl) (page-unbegun k _ _) x (record { settings = refl; outstanding = refl; phase = refl; halted = sym x; entries = refl })
 
     pub ten-comes : h.command_bit ≡ true → readsLog 0x10 h ≡ true → k.queued ≡ false → is_some d.status.phase ≡ false → Comes d [] k (Log10 h.task)
     unfolding repliesOf after_of
@@ -113,7 +108,7 @@ module _ (d : Device) (g : contradictoryDevice d ≡ false) where
     pub paged-eleven : h.command_bit ≡ true → k.queued ≡ false → d.status.halted ≡ false → (b : Bool) → Comes d [] k (Log11 (record { zero = b; task = h.task }))
     unfolding repliesOf after_of zeroedIf
     paged-eleven c q x b =
-        pages (k.reads 0x10) (is-page k _ _ q (no-reset c) refl) (page-unbegun k _ _) x
+        pages (k.reads 0x10) (is-page k _ _ q (rw c) refl) (page-unbegun k _ _) x
         (record { settings = refl; outstanding = refl; phase = refl; halted = refl; entries = refl })
 
     -- SRST
@@ -150,12 +145,10 @@ module _ (d : Device) (g : contradictoryDevice d ≡ false) where
       → Comes d [] (dataAsks n) (Store (move_of d.status e n))
   data-comes n size p w y =
       let e = phaseEntry d in
-      let some = leb-true 4 n (and_left (leb 4 n) (leb n 8192) (and_left (leb 4 n && leb n 8192) (eqb (n % 4) 0) size)) in
-      let most = ltb-false (left_of e) n y in
-      let s : n ≡ min n (left_of e) = omega arith in
+      let s : n ≡ min n (left_of e) = grind arith in
       let q : e ≡ entry_of d.entries t = open-entry d.entries d.status.phase p in
       subst (λ (x : Entry). Comes d [] (dataAsks n) (Store (move_of d.status x n))) (sym q)
-      (kept-comes n p (subst (λ (x : Entry). x.write ≡ true) q w) (omega arith) (subst (λ (x : Entry). n ≡ min n (left_of x)) q s))
+      (kept-comes n p (subst (λ (x : Entry). x.write ≡ true) q w) (grind arith) (subst (λ (x : Entry). n ≡ min n (left_of x)) q s))
 
   pub bist-comes : (k : Asked) → k.queued ≡ false → k.resets ≡ false → k.brings ≡ 0 → Comes d [] k ZeroCounters
   unfolding repliesOf after_of zeroedIf

@@ -1,7 +1,6 @@
 -- What the device keeps of its business is what the history tells of it (ByHistory): the commands outstanding, what has moved of them, their ranges, and the open phase. Assumes nothing.
-use Rattle.std.proofs.Common.{◌≡◌, refl, sym, ap, ap₂, ◌∙◌, Bool, true, false, not, ◌&&◌, ◌||◌, List, [], ◌∷◌, map, ⊎_elim, ℕ, zero, suc, ◌+◌, ◌*◌, ◌≤◌, ◌<◌, arith, eqb, ltb, leb, length, eqb-true, ltb-true, ltb-false}
+use Rattle.std.proofs.Common.{◌≡◌, refl, sym, ap, ap₂, ◌∙◌, Bool, true, false, not, ◌&&◌, ◌||◌, List, [], ◌∷◌, map, ⊎_elim, ℕ, zero, suc, ◌+◌, ◌*◌, ◌<◌, arith, eqb, ltb, leb, length, eqb-true, ltb-true, ltb-false}
 use mathlib.Core.Bool.{and-true}
-use Rattle.bits.specs.Bit.{bitIn}
 use Rattle.bits.proofs.Picks.{tested}
 use Rattle.rules.specs.Tests.{outside}
 use Rattle.device.specs.declared.state.Device.{Device}
@@ -33,18 +32,7 @@ pub record Known (d : Device) (h : List Event) : Type 0 where
 some-many : (p : Command → Bool) (cs : List Command) → some p cs ≡ ltb 0 (howMany p cs)
 unfolding some howMany
 some-many p [] = refl
-some-many p (c ∷ cs) = ap (λ (b : Bool). p c || b) (some-many p cs) ∙ go (p c) (howMany p cs)
-  where
-    go : (b : Bool) (n : ℕ) → b || ltb 0 n ≡ ltb 0 (one b + n)
-    go b n = grind arith
-
--- truth table: a test in front of two that agree where it holds
-agree : (t o x b : Bool) → (t ≡ true → o ≡ true → x ≡ b) → t && (o && x) ≡ (t && (o && true)) && b
-agree t o x b f = grind arith
-
--- truth table: one of two, in front of a test
-either : (a s b : Bool) → (a && b) || (s && b) ≡ (a || s) && b
-either a s b = grind arith
+some-many p (c ∷ cs) = ap (λ (b : Bool). p c || b) (some-many p cs) ∙ (let e : p c || ltb 0 (howMany p cs) ≡ ltb 0 (one (p c) + howMany p cs) = grind arith in e)
 
 -- where every outstanding command of tag t is so or not as b says, some is so where some is outstanding and b holds
 some-same : (t : ℕ) (is : Command → Bool) (b : Bool) (cs : List Command) → All (λ c. eqb (ownTag c) t ≡ true → outstanding c ≡ true → is c ≡ b) cs
@@ -52,8 +40,9 @@ some-same : (t : ℕ) (is : Command → Bool) (b : Bool) (cs : List Command) →
 unfolding some All
 some-same t is b [] a = refl
 some-same t is b (c ∷ cs) a =
-    ap₂ ◌||◌ (agree (eqb (ownTag c) t) (outstanding c) (is c) b a.0) (some-same t is b cs a.1)
-    ∙ either (eqb (ownTag c) t && (outstanding c && true)) (some (λ c. eqb (ownTag c) t && (outstanding c && true)) cs) b
+    let here = a.0 in
+    let rest = some-same t is b cs a.1 in
+    grind arith
 
 -- tests that agree of every command
 some-ext : (p q : Command → Bool) → ((c : Command) → p c ≡ q c) → (cs : List Command) → some p cs ≡ some q cs
@@ -90,10 +79,6 @@ module _ (d : Device) (c : Command) (s : Standing d c) where
   stands-covers : (sector : ℕ) → covers sector c ≡ not (outside (deviceEntry d (ownTag c)) sector)
   stands-covers sector = ap₂ (λ (a n : ℕ). leb a sector && ltb sector (a + n)) (sym s.first) (sym s.count) ∙ covers-not (deviceEntry d (ownTag c)).first (deviceEntry d (ownTag c)).count sector
 
--- a set of 32 bits holds no tag of 32 or more
-high-bit : (m t : ℕ) → ltb t 32 ≡ false → bitIn 32 m t ≡ false
-high-bit m t x = rw x
-
 module _ (d : Device) (h : List Event) (i : Inv d.status.outstanding d.status.halted (map seen h)) where
   -- a tag is outstanding by the history where it is by the state
   known-out : (t : ℕ) → isOut t h ≡ busyAt d t
@@ -105,12 +90,9 @@ module _ (d : Device) (h : List Event) (i : Inv d.status.outstanding d.status.ha
       ∙ some-many (λ c. eqb (ownTag c) t && outstanding c) (commands (map seen h))
       ∙ ap (ltb 0) (i.number t (ltb-true t 32 x)) ∙ one-test (busyAt d t))
       (λ (x : ltb t 32 ≡ false).
-      some-none _ (commands (map seen h)) (all-imp (λ c. ownTag c < 32) _ (λ c l. high c l (ltb-false t 32 x)) (commands (map seen h)) i.tags)
-      ∙ sym (high-bit d.status.outstanding t x))
+      some-none _ (commands (map seen h)) (all-imp (λ c. ownTag c < 32) _ (λ c l. let k = ltb-false t 32 x in grind arith) (commands (map seen h)) i.tags)
+      ∙ rw x)
       (tested (ltb t 32))
-    where
-      high : (c : Command) → ownTag c < 32 → 32 ≤ t → eqb (ownTag c) t && (outstanding c && true) ≡ false
-      high c l k = grind arith
 
   -- a test of the outstanding command of a tag is one of its entry
   known-with : Tracked d (map seen h) → (t : ℕ) (is : Command → Bool) (b : ℕ → Bool) → ((c : Command) → Standing d c → is c ≡ b (ownTag c))

@@ -1,12 +1,9 @@
 -- The error record of the state is what the history tells of the last error: what each call does to it. Assumes nothing.
-use Rattle.std.proofs.Common.{Ok, Err, ◌≡◌, refl, ap₂, subst, ◌∙◌, Bool, true, false, not, List, [], ◌∷◌, map, ⊎_elim, ℕ, ◌+◌, ◌<◌, ◌^◌, arith, eqb, ltb, leb, leb-false}
+use Rattle.std.proofs.Common.{Ok, Err, ◌≡◌, refl, ap₂, subst, ◌∙◌, true, false, not, List, [], ◌∷◌, map, ℕ, ◌<◌, ◌^◌, arith, eqb, ltb}
 use mathlib.Core.Bool.{and-false}
-use borrow.Author.Tests.{eqb-false}
 use Rattle.bits.specs.Bit.{bitIn}
-use Rattle.bits.proofs.Picks.{tested, or_right}
 use Rattle.frame_parts.specs.declared.shared.Task.{Task}
 use Rattle.frames.specs.Write.{FrameValue}
-use Rattle.frames.specs.declared.shapes.HostReg.{HostReg}
 use Rattle.page_10h.specs.declared.page10.ErrorLog.{ErrorLog}
 use Rattle.device_state.specs.State.{taskIn, echoOf}
 use Rattle.device_state.specs.Table.{entry_of}
@@ -21,10 +18,11 @@ use Rattle.rules.specs.Tests.{outside}
 use Rattle.rules.specs.declared.acts.Queued.{Queued}
 use Rattle.rules.specs.declared.acts.Act.{Act}
 use Rattle.rules.proofs.Ruled as by
-use Rattle.replies.specs.Replies.{signature, logOf, setupReply, logReplies, activateIf, repliesOf}
+use Rattle.replies.specs.Replies.{page10Of, logOf, setupReply, logReplies, activateIf, repliesOf}
 use Rattle.device.specs.Device.{contradictoryDevice, powerOn, freshDevice}
 use Rattle.device.specs.Lent.{Lent, lent, Typed}
 use Rattle.device.specs.After.{after_of, haltWith, resetHeld, released, acceptedBy, unhalted, zeroedIf, movedBy, openedFor, finishedBy, failedBy, renewed, withValue}
+use Rattle.device.specs.DataDue.{phaseEntry}
 use Rattle.device.specs.FactsOf.{facts_of}
 use Rattle.device.specs.Step.{Step, shown, stepBy, step}
 use Rattle.device.specs.declared.state.Device.{Device}
@@ -35,7 +33,7 @@ use Rattle.device.proofs.Fitting.{ReadFits, read_fits}
 use Rattle.device.proofs.Keeping.{settings-good}
 use Rattle.device.proofs.Sized.{SizedRecord}
 use Rattle.history.specs.Event.{Event}
-use Rattle.history.specs.FrameAsks.{Asked, quiet, registerAsks, dataAsks, resetAsks}
+use Rattle.history.specs.FrameAsks.{Asked, quiet, registerAsks, dataAsks}
 use Rattle.history.specs.FrameReading.{frameAsks}
 use Rattle.history.specs.Reading.{callAsks}
 use Rattle.history.specs.Asked.{asks}
@@ -43,7 +41,7 @@ use Rattle.history.specs.Replied.{FrameRead, some, registerIn, collect}
 use Rattle.history.specs.Seen.{Seen, seen}
 use Rattle.history.specs.Fates.{total}
 use Rattle.history.specs.Waits.{waits}
-use Rattle.history.specs.Logged.{registerLog, firstError, frameLog, callLog, logNext, blankLog, logBy}
+use Rattle.history.specs.Logged.{firstError, frameLog, callLog, logNext, blankLog, logBy}
 use Rattle.history.proofs.Views.{readIn, view, is-setup, is-brought}
 use Rattle.history.proofs.Frames.{Read, read-frames, read-seen, read_step}
 use Rattle.history.proofs.Changes.{halted-empty, busy-calm}
@@ -61,10 +59,9 @@ failing-task e sector t l k = grind arith
 sector-small : (d : Device) (t sector : ℕ) → contradictoryDevice d ≡ false → bitIn 32 d.status.outstanding t ≡ true → outside (entry_of d.entries t) sector ≡ false → sector < 2 ^ 48
 sector-small d t sector g o w =
     let e = entry_of d.entries t in
-    let a = leb-false (e.first + e.count) sector (or_right (ltb sector e.first) (leb (e.first + e.count) sector) w) in
     let b = range-within d t g o in
     let c = capacity-most d.settings (settings-good d g) in
-    omega arith
+    grind arith
 
 -- the error byte of the first 34h sent
 abbrev errorOf : List FrameValue → ℕ
@@ -79,33 +76,19 @@ module _ (d : Device) (h : List Event) (w : waits (map seen h) ≡ d.status.halt
   stays : (q : Asked) (rs : List FrameValue) (r : ErrorLog) → (view q rs).bad ≡ false → (view q rs).fails ≡ false → (view q rs).asks.resets ≡ false → Next q rs r ≡ logOf d.errors
   stays q rs r a b c = rw (a, b, c) k
 
-  -- a reset
-  reset-logged : (q : Asked) (rs : List FrameValue) (r : ErrorLog) → (view q rs).bad ≡ false → (view q rs).fails ≡ false → (view q rs).asks.resets ≡ true → Next q rs r ≡ blankLog
-  reset-logged q rs r a b c = rw (a, b, c) refl
-
-  -- host data, with an Activate or without
-  data-logged : (m : ℕ) (on : Bool) (r : ErrorLog) → Next (dataAsks m) (activateIf on) r ≡ logOf d.errors
-  data-logged m on r = let i = is-brought m on in stays (dataAsks m) (activateIf on) r i.bad i.fails i.resets
-
   -- DMA Setup, with an Activate or without
   setup-logged : (q : Queued) (r : ErrorLog) → Next quiet (setupReply q ∷ activateIf q.entry.write) r ≡ logOf d.errors
   setup-logged q r = let i = is-setup _ q.entry.write in stays quiet (setupReply q ∷ activateIf q.entry.write) r i.bad i.fails i.resets
 
   -- something is outstanding, and so it is not halted
   calm : contradictoryDevice d ≡ false → eqb d.status.outstanding 0 ≡ false → d.status.halted ≡ false
-  calm g y =
-      ⊎_elim (λ (x : d.status.halted ≡ true). absurd (eqb-false d.status.outstanding 0 y (halted-empty d g x))) (λ (x : d.status.halted ≡ false). x) (tested d.status.halted)
-
-  -- page 10h, with or without the sweep
-  paged-logged : (f : HostReg) (on : Bool) (p : List ℕ) (r : ErrorLog) → f.command_bit ≡ true → Next (registerAsks f) (logReplies on f.task p) r ≡ logOf d.errors
-  unfolding view some collect
-  paged-logged f on p r c = stays (registerAsks f) (logReplies on f.task p) r (grind arith) (grind arith) (grind arith)
+  calm g y = let z = halted-empty d g in grind arith
 
   -- a host frame that is not turned down
   heard-logged : (x m b : List ℕ) {f : FrameRead} {a : Act} → contradictoryDevice d ≡ false → ReadFits f → by.Heard (facts_of d (lent (hostFrame x) m b)) f a
       → Next (frameAsks f) (repliesOf (shown d) [] a) (frameLog (errorOf (repliesOf (shown d) [] a)) f) ≡ logOf (after_of d a).errors
   unfolding view some collect repliesOf ReadFits after_of haltWith resetHeld released acceptedBy unhalted zeroedIf movedBy move_of
-  heard-logged x m b g t (by.srst f c s) = reset-logged (registerAsks f) [] (registerLog 0 f) (rw c refl) refl (rw (c, s) refl)
+  heard-logged x m b g t (by.srst f c s) = rw (c, s) refl
   heard-logged x m b g t (by.release f c s y) = rw (c, s) k
   heard-logged x m b g t (by.nothing f c s y) = rw (c, s) k
   heard-logged x m b g t (by.rule1 f c y) = rw (c.command, c.kind, w, y) k
@@ -114,10 +97,10 @@ module _ (d : Device) (h : List Event) (w : waits (map seen h) ≡ d.status.halt
   heard-logged x m b g t (by.rule4 f c y z v) = rw c.command k
   heard-logged x m b g t (by.other-halted f c y) = rw (c.command, c.kind, w, y, and-false _) k
   heard-logged x m b g t (by.other-busy f c y) = rw (c.command, c.kind, w, calm g y, u, y, echo-task f.task t) refl
-  heard-logged x m b g t (by.page10 f c y p) = paged-logged f d.status.halted _ _ c.command
+  heard-logged x m b g t (by.page10 f c y p) = stays (registerAsks f) (logReplies d.status.halted f.task (page10Of d.errors)) _ (let b = c.command in grind arith) (let b = c.command in grind arith) (let b = c.command in grind arith)
   heard-logged x m b g t (by.page11 f c y z p) = rw c.command k
   heard-logged x m b g t (by.other-bad f c y z) = rw (c.command, c.kind, w, y, u, z) k
-  heard-logged x m b g t (by.due l p q y) = data-logged l _ _
+  heard-logged x m b g t (by.due l p q y) = let on = not (move_of d.status (phaseEntry d) l).last in let i = is-brought l on in stays (dataAsks l) (activateIf on) _ i.bad i.fails i.resets
   heard-logged x m b g t (by.bist y) = k
 
   -- a device event that is taken
@@ -129,7 +112,7 @@ module _ (d : Device) (h : List Event) (w : waits (map seen h) ≡ d.status.halt
   own-logged m b (by.finished set g s p e r) = k
   own-logged m b (by.failed t e x g s o y v) = rw (w, busy-calm d g t o, failing-task _ x _ (sector-small d t x g o v) (n t o)) refl
   own-logged m b (by.linked r g x) = k
-  own-logged m b (by.renewed g s) = reset-logged resetAsks (signature ∷ []) blankLog refl refl refl
+  own-logged m b (by.renewed g s) = refl
 
   -- a call that is taken
   ruled-logged : (m b : List ℕ) {c : Call} {a : Act} → Typed c → by.Ruled (facts_of d (lent c m b)) c (Ok a)

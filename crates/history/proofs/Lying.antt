@@ -1,16 +1,14 @@
 -- Every event's data stand at the place that the history before it tells: sent, they are what the medium held there; brought, the medium holds them there and is otherwise as it was. Assumes nothing.
 use Rattle.std.proofs.Common.{Option, Some, None, Ok, Err, ◌≡◌, refl, sym, ap, subst, ◌∙◌, Bool, true, false, ⊎_elim, List, [], ◌∷◌, map, ℕ, get_or, ◌<◌, arith, length, length-drop, take, drop}
 use Rattle.std.specs.Option.{option_map_or}
-use Rattle.bits.specs.Pick.{pick}
 use Rattle.bits.proofs.Picks.{tested, by-test, and_left, and_right}
 use Rattle.refusals.specs.declared.reasons.Refusal.TheVariants.{NoFrame}
 use Rattle.frame_parts.specs.Size.{kindNamed, readable}
 use Rattle.frame_parts.specs.declared.kinds.FrameKind.{FrameKind}
 use Rattle.frame_parts.specs.declared.kinds.FrameKind.TheVariants as kinds
 use Rattle.frames.specs.Read.{frameOf, frameByKind, readFrame}
-use Rattle.rules.specs.Call.{Call, hostFrame, openPhase, sendData, finishTags, mediaError, linkEvent, comReset}
-use Rattle.history.specs.Event.{Event, taken}
-use Rattle.history.specs.FrameAsks.{quiet}
+use Rattle.rules.specs.Call.{Call, hostFrame}
+use Rattle.history.specs.Event.{Event}
 use Rattle.history.specs.FrameReading.{frameAsks}
 use Rattle.history.specs.Reading.{callAsks, callBrings}
 use Rattle.history.specs.Asked.{asks, brought}
@@ -26,14 +24,8 @@ use Rattle.history.proofs.Placed.{SentFrom, EndsIn, sent-none, nowhere-lies}
 
 -- a frame of each kind
 brings-kind : (p : List ℕ) (k : FrameKind) → (frameAsks (Ok (frameOf k p))).brings ≡ length (dataIn p (Ok (frameOf k p)))
-brings-kind p kinds.HostRegister = refl
-brings-kind p kinds.DeviceRegister = refl
-brings-kind p kinds.SetDeviceBits = refl
-brings-kind p kinds.DmaSetup = refl
-brings-kind p kinds.DmaActivate = refl
-brings-kind p kinds.BistActivate = refl
-brings-kind p kinds.PioSetup = refl
 brings-kind p kinds.Data = sym (length-drop 4 p)
+brings-kind p _ = refl
 
 -- a host frame
 brings-frame : (p : List ℕ) → (frameAsks (readFrame p)).brings ≡ length (dataIn p (readFrame p))
@@ -50,20 +42,11 @@ brings-frame p = by-test Long (readable (get_or p 0 0) (length p)) (frameByKind 
 -- a call
 brings-call : (c : Call) → (callAsks c).brings ≡ length (callBrings c)
 brings-call (hostFrame f) = brings-frame f
-brings-call (openPhase t) = refl
-brings-call sendData = refl
-brings-call (finishTags s) = refl
-brings-call (mediaError t x y) = refl
-brings-call (linkEvent r) = refl
-brings-call comReset = refl
+brings-call _ = refl
 
 -- an event
 pub brought-long : (e : Event) → (asks e).brings ≡ length (brought e)
-brought-long e = go (taken e)
-  where
-    go : (b : Bool) → (pick b (callAsks e.call) quiet).brings ≡ length (pick b (callBrings e.call) [])
-    go true = brings-call e.call
-    go false = refl
+brought-long e = let c = brings-call e.call in grind arith
 
 -- ---- at the place of what is under way
 

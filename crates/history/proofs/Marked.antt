@@ -1,9 +1,8 @@
 -- While the device is halted its record is set, and so page 10h tells an error. Assumes nothing.
-use Rattle.std.proofs.Common.{Option, Ok, ◌≡◌, refl, ap, ◌∙◌, true, false, List, [], ℕ, length, get_or, eq-eqb, arith}
+use Rattle.std.proofs.Common.{Ok, ◌≡◌, true, false, List, [], ℕ, length, eq-eqb, arith}
 use mathlib.Core.Path.{subst⁻¹}
 use Rattle.bits.proofs.Picks.{pick_yes}
 use Rattle.refusals.specs.First.{first_of}
-use Rattle.refusals.specs.declared.reasons.Refusal.{Refusal}
 use Rattle.frame_parts.specs.Shared.{registerBytes}
 use Rattle.page_sum.specs.Sum.{sum256, sealed}
 use Rattle.page_10h.specs.Page10.{page10, fits10, fields10, read_log}
@@ -12,7 +11,7 @@ use Rattle.page_10h.proofs.Trip10.{length-10, sums-to-zero}
 use Rattle.device_state.specs.declared.shapes.Settings.{Settings}
 use Rattle.replies.specs.Replies.{logOf, page10Of}
 use Rattle.device.proofs.Sized.{SizedRecord}
-use Rattle.device.specs.Device.{contradictoryDevice, freshDevice, powerRefusal, powered, powerOn}
+use Rattle.device.specs.Device.{contradictoryDevice, freshDevice, powerOn}
 use Rattle.device.specs.After.{withValue}
 use Rattle.device.specs.declared.state.Device.{Device}
 use Rattle.device.proofs.Fitting.{record-fits}
@@ -29,13 +28,9 @@ unfolding withValue
 raised-marked d row k = k
 
 -- power-on, refused or not
-powered-marked : (r : Option Refusal) (s : Settings) → Marked (powered r s)
-unfolding freshDevice
-powered-marked r s h = grind arith
-
 pub marked_start : (s : Settings) → Marked (powerOn s).state
-unfolding powerOn
-marked_start s = powered-marked (powerRefusal s) s
+unfolding powerOn freshDevice
+marked_start s h = grind arith
 
 -- ---- the page
 
@@ -44,14 +39,10 @@ fields_read : (f : ErrorLog) → read_log (page10 f) ≡ Ok (fields10 (page10 f)
 unfolding read_log first_of
 fields_read f = rw (eq-eqb (length (page10 f)) 512 (length-10 f), eq-eqb (sum256 (page10 f)) 0 (sums-to-zero f))
 
--- byte 2 is its status
-status-read : (f : ErrorLog) → get_or (page10 f) 2 0 ≡ f.status
-unfolding page10 sealed registerBytes
-status-read f = refl
-
--- a page whose status has ERR
+-- a page whose status, its byte 2, has ERR
 page-tells : (f : ErrorLog) → errIn f.status ≡ true → TellsError (read_log (page10 f))
-page-tells f e = subst⁻¹ TellsError (fields_read f) (ap errIn (status-read f) ∙ e)
+unfolding page10 sealed registerBytes
+page-tells f e = subst⁻¹ TellsError (fields_read f) e
 
 -- the page of a halted device tells an error
 pub halted-tells : (d : Device) → SizedRecord d → contradictoryDevice d ≡ false → Marked d → d.status.halted ≡ true → TellsError (read_log (page10Of d.errors))

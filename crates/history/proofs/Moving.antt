@@ -4,18 +4,18 @@ use mathlib.Core.Bool.{false≢true}
 use borrow.Author.Tests.{eqb-false}
 use Rattle.std.proofs.lemmas.Bool as bools
 use Rattle.bits.specs.Bit.{bitIn}
-use Rattle.bits.proofs.Picks.{tested, pick_yes, pick_no, or_left}
+use Rattle.bits.proofs.Picks.{tested, or_left}
 use Rattle.device.proofs.Tags.{bit-with, bit-without, busy-below}
 use Rattle.device_state.specs.Table.{entry_of}
 use Rattle.device_state.specs.declared.shapes.Entry.{Entry}
 use Rattle.device.specs.declared.state.Device.{Device}
 use Rattle.history.specs.Seen.{Seen, errs, accepts}
 use Rattle.history.specs.Fates.{ends}
-use Rattle.history.specs.Carried.{load, span, belongs, positions}
+use Rattle.history.specs.Carried.{load, span, positions}
 use Rattle.history.proofs.Class as K
 use Rattle.history.proofs.Class.{Took, Carried, Ended, Class}
 use Rattle.history.proofs.Spans.{Empty, first-length-none, span-add, belongs-own, belongs-other}
-use Rattle.history.proofs.Transfers.{transferOf, transfer-open, empty_of, closing, b-halt, load-own}
+use Rattle.history.proofs.Transfers.{transferOf, transfer-open, empty_of, closing, load-own}
 use Rattle.history.proofs.Sets.{no-busy}
 
 -- the entry of a tag
@@ -51,37 +51,29 @@ pub record Moving (d : Device) (e : Seen) (d' : Device) : Type 0 where
   pub done : (t : ℕ) → busyAt d t ≡ true → e.finishes t ≡ true → (deviceEntry d t).moved ≡ 512 * (deviceEntry d t).count
   pub new : accepts e ≡ true → New e d'
 
--- a tag whose entry and whose bit stay, at an event that carries nothing
-stays : (d d' : Device) (e : Seen) (t : ℕ) → Empty e → busyAt d' t ≡ true → deviceEntry d' t ≡ deviceEntry d t → Stays d e d' t
+-- a tag whose entry and whose bit stay, at an event that carries nothing of it
+stays : (d d' : Device) (e : Seen) (t : ℕ) → ((start : ℕ) → positions start (deviceEntry d t).write t e (transferOf d) ≡ []) → busyAt d' t ≡ true → deviceEntry d' t ≡ deviceEntry d t → Stays d e d' t
 stays d d' e t y b x = record {
   busy = b;
   write = ap (λ (r : Entry). r.write) x;
   first = ap (λ (r : Entry). r.first) x;
   count = ap (λ (r : Entry). r.count) x;
   moved = λ l. rw x l;
-  carried = λ start. ap (λ (l : List ℕ). span start (deviceEntry d t).moved ++ l) (first-length-none start (deviceEntry d t).write t e (transferOf d) y)
+  carried = λ start. ap (λ (l : List ℕ). span start (deviceEntry d t).moved ++ l) (y start)
       ∙ append-nil (span start (deviceEntry d t).moved) ∙ ap (λ (r : Entry). span start r.moved) (sym x);
 }
 
 -- a tag of a state that keeps its set and its table
 kept : (d d' : Device) (e : Seen) (t : ℕ) → Empty e → d'.status.outstanding ≡ d.status.outstanding → d'.entries ≡ d.entries → busyAt d t ≡ true → Stays d e d' t
-kept d d' e t y o x b = stays d d' e t y (ap (λ (m : ℕ). bitIn 32 m t) o ∙ b) (ap (λ (es : List Entry). entry_of es t) x)
-
--- an event that ends every command leaves none
-never : (d d' : Device) (e : Seen) → errs e || e.asks.resets ≡ true → (t : ℕ) → ends t e ≡ false → Stays d e d' t
-never d d' e c t x = absurd (grind arith)
-
--- the tag of an accepted command was not outstanding
-took-other : (d d' : Device) (e : Seen) → Took d e d' → (t : ℕ) → busyAt d t ≡ true → t ≡ e.asks.tag → ⊥
-took-other d d' e k t b x = true≢false (sym b ∙ ap (λ (u : ℕ). bitIn 32 d.status.outstanding u) x ∙ k.free)
+kept d d' e t y o x b = stays d d' e t (λ start. first-length-none start _ t e _ y) (ap (λ (m : ℕ). bitIn 32 m t) o ∙ b) (ap (λ (es : List Entry). entry_of es t) x)
 
 -- a command is accepted: the tags that were outstanding stay
 took-stays : (d d' : Device) (e : Seen) → Empty e → Took d e d' → (t : ℕ) → busyAt d t ≡ true → Stays d e d' t
 took-stays d d' e y k t b =
     let l = busy-below d.status.outstanding t b in
-    stays d d' e t y
+    stays d d' e t (λ start. first-length-none start _ t e _ y)
     (ap (λ (m : ℕ). bitIn 32 m t) k.outstanding ∙ bit-with d.status.outstanding e.asks.tag t k.small l ∙ bools.or_right (eqb t e.asks.tag) (busyAt d t) b)
-    (k.others t l (took-other d d' e k t b))
+    (k.others t l (λ x. true≢false (sym b ∙ ap (busyAt d) x ∙ k.free)))
 
 -- a command is accepted: its own tag
 took-new : (d d' : Device) (e : Seen) → Took d e d' → New e d'
@@ -100,17 +92,12 @@ took-new d d' e k =
 own-positions : (d : Device) (e : Seen) (tag n : ℕ) → d.status.phase ≡ Some tag → load (not (deviceEntry d tag).write) e ≡ n
     → (start : ℕ) → positions start (deviceEntry d tag).write tag e (transferOf d) ≡ span (start + (deviceEntry d tag).moved) n
 own-positions d e tag n p l start =
-    let w = (deviceEntry d tag).write in
-    ap (positions start w tag e) (transfer-open d tag p)
-    ∙ pick_yes (belongs w tag (not w) tag) (span (start + (deviceEntry d tag).moved) (load (not w) e)) [] (belongs-own w tag)
-    ∙ ap (span (start + (deviceEntry d tag).moved)) l
+    rw (transfer-open d tag p, belongs-own (deviceEntry d tag).write tag, l) refl
 
 -- a tag whose data did not move
 other-positions : (d : Device) (e : Seen) (tag t : ℕ) (w : Bool) → d.status.phase ≡ Some tag → (t ≡ tag → ⊥) → (start : ℕ) → positions start w t e (transferOf d) ≡ []
 other-positions d e tag t w p x start =
-    let z = not (deviceEntry d tag).write in
-    ap (positions start w t e) (transfer-open d tag p)
-    ∙ pick_no (belongs w t z tag) (span (start + (deviceEntry d tag).moved) (load z e)) [] (belongs-other w z t tag (λ y. x (sym y)))
+    rw (transfer-open d tag p, belongs-other w (not (deviceEntry d tag).write) t tag (λ y. x (sym y))) refl
 
 -- n bytes of a tag moved
 module _ (d d' : Device) (e : Seen) (tag n : ℕ) (k : Carried tag n d d') (l : load (not (deviceEntry d tag).write) e ≡ n) where
@@ -131,16 +118,8 @@ module _ (d d' : Device) (e : Seen) (tag n : ℕ) (k : Carried tag n d d') (l : 
   -- each other tag stays as it was
   carried_other : (t : ℕ) → busyAt d t ≡ true → (t ≡ tag → ⊥) → Stays d e d' t
   carried_other t b x =
-      let r = k.others t (busy-below d.status.outstanding t b) x in
-      record {
-        busy = ap (λ (m : ℕ). bitIn 32 m t) k.outstanding ∙ b;
-        write = ap (λ (y : Entry). y.write) r;
-        first = ap (λ (y : Entry). y.first) r;
-        count = ap (λ (y : Entry). y.count) r;
-        moved = λ z. rw r z;
-        carried = λ start. ap (λ (y : List ℕ). span start (deviceEntry d t).moved ++ y) (other-positions d e tag t (deviceEntry d t).write k.phased x start)
-            ∙ append-nil (span start (deviceEntry d t).moved) ∙ ap (λ (y : Entry). span start y.moved) (sym r);
-      }
+      stays d d' e t (other-positions d e tag t (deviceEntry d t).write k.phased x) (ap (λ (m : ℕ). bitIn 32 m t) k.outstanding ∙ b)
+      (k.others t (busy-below d.status.outstanding t b) x)
 
   -- every outstanding tag stays
   carried-stays : (t : ℕ) → busyAt d t ≡ true → Stays d e d' t
@@ -154,48 +133,40 @@ module _ (d d' : Device) (e : Seen) (tag n : ℕ) (k : Carried tag n d d') (l : 
 ended-stays : (d d' : Device) (e : Seen) (set : ℕ) → Empty e → Ended set d d' → (t : ℕ) → busyAt d t ≡ true → bitIn 32 set t ≡ false → Stays d e d' t
 ended-stays d d' e set y k t b x =
     let l = busy-below d.status.outstanding t b in
-    stays d d' e t y
+    stays d d' e t (λ start. first-length-none start _ t e _ y)
     (ap (λ (m : ℕ). bitIn 32 m t) k.outstanding ∙ bit-without d.status.outstanding set t k.width l ∙ rw (x, b))
     (k.others t l x)
 
--- an event that accepts nothing
-no-new : (e : Seen) (d' : Device) → accepts e ≡ false → accepts e ≡ true → New e d'
-no-new e d' x y = absurd (false≢true (sym x ∙ y))
-
--- an event that finishes nothing
-no-done : (d : Device) (e : Seen) → ((t : ℕ) → e.finishes t ≡ false) → (t : ℕ) → busyAt d t ≡ true → e.finishes t ≡ true → (deviceEntry d t).moved ≡ 512 * (deviceEntry d t).count
-no-done d e x t b y = absurd (false≢true (sym (x t) ∙ y))
-
 -- a kind of effect that ends every command, or has none
 gone : (d d' : Device) (e : Seen) → Empty e → accepts e ≡ false → ((t : ℕ) → e.finishes t ≡ false) → ((t : ℕ) → busyAt d t ≡ true → ends t e ≡ false → Stays d e d' t) → Moving d e d'
-gone d d' e y a f s = record { stay = s; over = λ t x. y; done = no-done d e f; new = no-new e d' a }
+gone d d' e y a f s = record { stay = s; over = λ t x. y; done = λ t b x. absurd (false≢true (sym (f t) ∙ x)); new = λ x. absurd (false≢true (sym a ∙ x)) }
 
 -- of each kind of effect
 pub moving : (d d' : Device) (e : Seen) → Class d e d' → Moving d e d'
 moving d d' e (K.plain s u k) = gone d d' e (empty_of s) s.accepted s.finishes (λ t b x. kept d d' e t (empty_of s) k.outstanding k.entries b)
 moving d d' e (K.pages de s u y k) = gone d d' e (empty_of s) s.accepted s.finishes (λ t b x. kept d d' e t (empty_of s) k.outstanding k.entries b)
-moving d d' e (K.again q s u ha o k) = gone d d' e (empty_of s) s.accepted s.finishes (λ t b x. never d d' e (closing s) t x)
-moving d d' e (K.freely s u ha o k) = gone d d' e (empty_of s) s.accepted s.finishes (λ t b x. never d d' e (closing s) t x)
+moving d d' e (K.again q s u ha o k) = gone d d' e (empty_of s) s.accepted s.finishes (λ t b x. absurd (let c = closing s in grind arith))
+moving d d' e (K.freely s u ha o k) = gone d d' e (empty_of s) s.accepted s.finishes (λ t b x. absurd (let c = closing s in grind arith))
 moving d d' e (K.halts q ba fa s u a ha w k) =
-    gone d d' e (empty_of s) s.accepted s.finishes (λ t b x. never d d' e (closing s ∙ b-halt q (not (eqb d.status.outstanding 0)) ba fa w) t x)
-moving d d' e (K.resets s u k) = gone d d' e (empty_of s) s.accepted s.finishes (λ t b x. never d d' e (closing s) t x)
+    gone d d' e (empty_of s) s.accepted s.finishes (λ t b x. absurd (let c = closing s in grind arith))
+moving d d' e (K.resets s u k) = gone d d' e (empty_of s) s.accepted s.finishes (λ t b x. absurd (let c = closing s in grind arith))
 moving d d' e (K.sweeps cl a s u ha o p k) = gone d d' e (empty_of s) s.accepted s.finishes (λ t b x. absurd (no-busy d.status.outstanding t o b))
 moving d d' e (K.takes s u k) = record {
   stay = λ t b x. took-stays d d' e (empty_of s) k t b;
   over = λ t x. empty_of s;
-  done = no-done d e s.finishes;
+  done = λ t b x. absurd (false≢true (sym (s.finishes t) ∙ x));
   new = λ x. took-new d d' e k;
 }
 moving d d' e (K.opens tag s k) = gone d d' e (empty_of s) s.accepted s.finishes (λ t b x. kept d d' e t (empty_of s) k.outstanding k.entries b)
 moving d d' e (K.carries tag n s u k) = record {
   stay = λ t b x. carried-stays d d' e tag n k (load-own (deviceEntry d tag).write e n s.sends s.brings) t b;
   over = λ t x. absurd (false≢true (sym (ap₂ ◌||◌ (s.finishes t) (closing s)) ∙ x));
-  done = no-done d e s.finishes;
-  new = no-new e d' s.accepted;
+  done = λ t b x. absurd (false≢true (sym (s.finishes t) ∙ x));
+  new = λ x. absurd (false≢true (sym s.accepted ∙ x));
 }
 moving d d' e (K.ends set s u k) = record {
   stay = λ t b x. ended-stays d d' e set (empty_of s) k t b (sym (s.finishes t) ∙ or_left (e.finishes t) (errs e || e.asks.resets) x);
   over = λ t x. empty_of s;
   done = λ t b x. (k.ready t (busy-below d.status.outstanding t b) (sym (s.finishes t) ∙ x)).1;
-  new = no-new e d' s.accepted;
+  new = λ x. absurd (false≢true (sym s.accepted ∙ x));
 }

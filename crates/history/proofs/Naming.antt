@@ -1,5 +1,5 @@
 -- The bytes that the state keeps of a command are what the history tells of it: what each call does to them. Assumes nothing.
-use Rattle.std.proofs.Common.{Ok, Err, is_none, unwrap_or, ◌≡◌, refl, sym, ap, subst, ◌∙◌, Bool, true, false, not, ◌&&◌, ◌||◌, List, [], ◌∷◌, ⊎_elim, ℕ, ◌^◌, ◌<◌, eqb, eqb-true, arith}
+use Rattle.std.proofs.Common.{ne_eqb, Ok, Err, is_none, unwrap_or, ◌≡◌, refl, sym, ap, subst, ◌∙◌, Bool, true, false, not, ◌&&◌, ◌||◌, List, [], ◌∷◌, ⊎_elim, ℕ, ◌^◌, ◌<◌, eqb, eqb-true, arith}
 use mathlib.Core.Bool.{and-false}
 use borrow.Author.Tests.{eqb-false, not-true}
 use Rattle.bits.specs.Pick.{pick}
@@ -34,13 +34,13 @@ use Rattle.device.proofs.Fitting.{ReadFits, read_fits}
 use Rattle.device.proofs.Sized.{SizedRecord}
 use Rattle.device.proofs.Tags.{bit-with, bit-without, busy-below}
 use Rattle.history.specs.Event.{Event}
-use Rattle.history.specs.FrameAsks.{Asked, quiet, registerAsks, dataAsks}
+use Rattle.history.specs.FrameAsks.{Asked, quiet, registerAsks}
 use Rattle.history.specs.FrameReading.{frameAsks}
 use Rattle.history.specs.Reading.{callAsks}
 use Rattle.history.specs.Asked.{asks}
 use Rattle.history.specs.Replied.{FrameRead, some, collect}
 use Rattle.history.specs.Seen.{Seen, accepts}
-use Rattle.history.specs.Logged.{noTask, frameTask, callTask, namedBy}
+use Rattle.history.specs.Logged.{frameTask, callTask, namedBy}
 use Rattle.history.proofs.Views.{view, is-setup, is-brought}
 use Rattle.history.proofs.Frames.{Read, read-seen, read_step}
 use Rattle.history.proofs.Changes.{placed_same, placed-other, cleared-other}
@@ -110,10 +110,6 @@ module _ (d : Device) (h : List Event) (n : Named d h) where
   same : (t : ℕ) → busyAt d t ≡ true → (busyAt d t ≡ true) × (kept d t ≡ kept d t)
   same t b = (b, refl)
 
-  -- host data, with an Activate or without
-  data-named : (m : ℕ) (on : Bool) (task : Task) (d' : Device) → Stay d d' → Names (dataAsks m) (activateIf on) task d'
-  data-named m on task d' s = stays (dataAsks m) (activateIf on) task d' (is-brought m on).accepted s
-
   -- DMA Setup, with an Activate or without
   setup-named : (q : Queued) (task : Task) (d' : Device) → Stay d d' → Names quiet (setupReply q ∷ activateIf q.entry.write) task d'
   setup-named q task d' s = stays quiet (setupReply q ∷ activateIf q.entry.write) task d' (is-setup _ q.entry.write).accepted s
@@ -138,11 +134,8 @@ module _ (d : Device) (h : List Event) (n : Named d h) where
       rw y (ap (kept d') (sym z) ∙ ap (λ (x : Entry). taskIn x.echo) (placed_same d.entries u (entryFor f) (tag_small f.task.count)) ∙ sym i))
       (λ (y : eqb u t ≡ false).
       let z : t ≡ u → ⊥ = λ q. eqb-false u t y (sym q) in
-      rw y (ap (λ (x : Entry). taskIn x.echo) (placed-other d.entries u (entryFor f) t l z) ∙ n t (other t u z (sym (bit-with d.status.outstanding u t (tag_small f.task.count) l) ∙ b))))
+      rw y (ap (λ (x : Entry). taskIn x.echo) (placed-other d.entries u (entryFor f) t l z) ∙ n t (rw (ne_eqb t u z) at (sym (bit-with d.status.outstanding u t (tag_small f.task.count) l) ∙ b))))
       (tested (eqb u t)))
-    where
-      other : (t u : ℕ) {x : Bool} → (t ≡ u → ⊥) → eqb t u || x ≡ true → x ≡ true
-      other t u z o = ⊎_elim (λ (y : eqb t u ≡ true). absurd (z (eqb-true t u y))) (λ (y : eqb t u ≡ false). rw y at o) (tested (eqb t u))
 
   -- an act whose replies accept nothing
   by-act : (q : Asked) (part : List ℕ) (task : Task) (a : Act) → accepts (view q (repliesOf (shown d) part a)) ≡ false → Stay d (after_of d a) → Names q (repliesOf (shown d) part a) task (after_of d a)
@@ -163,7 +156,7 @@ module _ (d : Device) (h : List Event) (n : Named d h) where
   heard-named x m b {y} {a} t (by.page10 f c z p) = paged-named f d.status.halted (page10Of d.errors) f.task (after_of d a) c.command c.kind same
   heard-named x m b {y} {a} t (by.page11 f c z u p) = paged-named f false (page11Of d.settings.mask d.values) f.task (after_of d a) c.command c.kind same
   heard-named x m b {y} {a} t (by.other-bad f c z u) = by-act (frameAsks y) [] (frameTask y) a (and-false _) same
-  heard-named x m b {y} {a} t (by.due l p q z) = data-named l (not (move_of d.status (phaseEntry d) l).last) noTask (after_of d a) (moved-stay d l p)
+  heard-named x m b {y} {a} t (by.due l p q z) = by-act (frameAsks y) [] (frameTask y) a (is-brought l (not (move_of d.status (phaseEntry d) l).last)).accepted (moved-stay d l p)
   heard-named x m b {y} {a} t (by.bist z) = by-act (frameAsks y) [] (frameTask y) a refl same
 
   -- a device event that is taken

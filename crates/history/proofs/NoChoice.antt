@@ -7,7 +7,7 @@ use Rattle.frames.specs.Write.{encode}
 use Rattle.refusals.specs.First.{Rung, first_of, rung}
 use Rattle.refusals.specs.declared.reasons.Refusal.{Refusal}
 use Rattle.refusals.specs.declared.reasons.Refusal.TheVariants.{Contradiction}
-use Rattle.rules.specs.Call.{Call, hostFrame, openPhase, sendData, finishTags, mediaError, linkEvent, comReset}
+use Rattle.rules.specs.Call.{Call, hostFrame}
 use Rattle.device.specs.Lent.{Lent}
 use Rattle.history.specs.Event.{Event}
 use Rattle.history.specs.Reading.{callBrings}
@@ -23,13 +23,6 @@ same-event : {c c' : Call} {m m' b b' f f' l l' : List ℕ} {n n' : Option Refus
     → ◌≡◌ {A = Event} (record { call = c; medium = m; buffer = b; refusal = n; len = k; filled = f; left = l }) (record { call = c'; medium = m'; buffer = b'; refusal = n'; len = k'; filled = f'; left = l' })
 same-event p q r s t u v = cc
 
--- of a list that is not empty
-same-first : {A : Type 0} {x y : A} {xs ys : List A} → x ∷ xs ≡ y ∷ ys → x ≡ y
-same-first e = cc
-
-same-rest : {A : Type 0} {x y : A} {xs ys : List A} → x ∷ xs ≡ y ∷ ys → xs ≡ ys
-same-rest e = cc
-
 -- a call of which nothing came back
 abbrev unanswered : Lent → Event
 unanswered l = record { call = l.call; medium = l.medium; buffer = l.buffer; refusal = None; len = 0; filled = []; left = [] }
@@ -39,12 +32,7 @@ module _ (deep capacity mask : ℕ) (h : List Event) where
   tests-lent : (e : Event) (c : Call) → ownTests capacity mask e h c ≡ ownTests capacity mask (unanswered (lentIn e)) h c
   unfolding ownTests
   tests-lent e (hostFrame f) = refl
-  tests-lent e (openPhase t) = refl
-  tests-lent e sendData = refl
-  tests-lent e (finishTags s) = refl
-  tests-lent e (mediaError t x y) = refl
-  tests-lent e (linkEvent r) = refl
-  tests-lent e comReset = refl
+  tests-lent e _ = refl
 
   -- what the tables make of a call that is lent l
   abbrev refusalOf : Lent → Option Refusal
@@ -89,6 +77,6 @@ no-choice deep capacity mask [] [] l t t' = refl
 no-choice deep capacity mask [] (e ∷ h) l t t' = cc
 no-choice deep capacity mask (e ∷ h) [] l t t' = cc
 no-choice deep capacity mask (e ∷ h) (e' ∷ h') l t t' =
-    let i : h ≡ h' = no-choice deep capacity mask h h' (same-rest l) (keeps-rest deep capacity mask e h t) (keeps-rest deep capacity mask e' h' t') in
+    let i : h ≡ h' = no-choice deep capacity mask h h' (cc) (keeps-rest deep capacity mask e h t) (keeps-rest deep capacity mask e' h' t') in
     let k : Keeps deep capacity mask h e' = subst (λ (x : List Event). Keeps deep capacity mask x e') (sym i) (keeps-last deep capacity mask e' h' t') in
-    ap₂ (λ (x : Event) (xs : List Event). x ∷ xs) (one-event deep capacity mask h e e' (same-first l) (keeps-last deep capacity mask e h t) k) i
+    ap₂ (λ (x : Event) (xs : List Event). x ∷ xs) (one-event deep capacity mask h e e' (cc) (keeps-last deep capacity mask e h t) k) i

@@ -1,5 +1,5 @@
 -- What a command that is not queued is answered, by the tests of its rules; and those tests by the fields that were read. Assumes nothing.
-use Rattle.std.proofs.Common.{Option, Some, None, ◌≡◌, refl, ◌∙◌, Bool, true, false, not, ◌&&◌, List, [], ◌∷◌, ◌++◌, ℕ, ◌%◌, ◌^◌, ◌<◌, arith, eqb, ltb-true}
+use Rattle.std.proofs.Common.{Option, None, ◌≡◌, refl, Bool, true, false, not, ◌&&◌, List, [], ◌∷◌, ◌++◌, ℕ, ◌%◌, ◌^◌, ◌<◌, arith, eqb, ltb-true}
 use Rattle.bits.specs.Pick.{pick}
 use Rattle.bits.specs.Little.{byte_of}
 use Rattle.bits.proofs.Picks.{and_left, and_right}
@@ -8,11 +8,9 @@ use Rattle.frame_parts.specs.declared.shared.Task.{Task}
 use Rattle.frames.specs.declared.shapes.HostReg.{HostReg}
 use Rattle.frames.specs.Write.{FrameValue}
 use Rattle.device_state.specs.State.{echoOf}
-use Rattle.device_state.specs.declared.shapes.Echo.{Echo}
 use Rattle.device_state.proofs.EchoLaws.{echo-task}
 use Rattle.verdicts.specs.Other.{asksErrors, asksCounters}
 use Rattle.frame_parts.specs.declared.log_pages.LogPage.{LogPage}
-use Rattle.frame_parts.specs.declared.log_pages.LogPage.TheVariants.{Errors, Counters}
 use Rattle.frame_parts.specs.Pages.{pageNamed}
 use Rattle.rules.specs.Decide.{pageAsked, logPage, otherAct}
 use Rattle.rules.specs.declared.facts.Facts.{Facts}
@@ -37,14 +35,7 @@ module _ (v : Facts) (s : Shown) (part : List ℕ) (h : HostReg) (same : s.halte
 
   by-tests : (x : Bool) (page : Option LogPage) (busy : Bool) → v.status.halted ≡ x → pageAsked h ≡ page → not (eqb v.status.outstanding 0) ≡ busy → Answer x (asksErrors page) (asksCounters page) busy
   unfolding otherAct repliesOf
-  by-tests true None busy x p b = rw (x, p) refl
-  by-tests true (Some Counters) busy x p b = rw (x, p) refl
-  by-tests true (Some Errors) true x p b = rw (x, p, b, echo-task h.task fit) refl
-  by-tests true (Some Errors) false x p b = rw (x, p, b, same, x) refl
-  by-tests false page true x p b = rw (x, b, echo-task h.task fit) refl
-  by-tests false (Some Errors) false x p b = rw (x, p, b, same, x) refl
-  by-tests false (Some Counters) false x p b = rw (x, p, b) refl
-  by-tests false None false x p b = rw (x, p, b) refl
+  by-tests x page busy p q r = let e = echo-task h.task fit in grind arith
 
   -- as the device tests: by the page that it asks for
   pub by-other : Answer v.status.halted (asksErrors (pageAsked h)) (asksCounters (pageAsked h)) (not (eqb v.status.outstanding 0))
@@ -56,18 +47,6 @@ module _ (v : Facts) (s : Shown) (part : List ℕ) (h : HostReg) (same : s.halte
 count_one : (n : ℕ) → n < 2 ^ 16 → eqb (byte_of n 0) 1 && eqb (byte_of n 1) 0 ≡ eqb n 1
 count_one n l = grind arith
 
--- as the device tests it, and as the fields say it
-page-test : (asks : Option LogPage → Bool) (a b c g w : Bool) (page : Option LogPage) → asks None ≡ false → asks page ≡ w → asks (pick (a && (b && c) && g) page None) ≡ a && (w && (b && (c && g)))
-page-test asks a b c g w page z e = grind arith
-
--- byte 4 names page 10h
-ten-named : (n : ℕ) → asksErrors (pageNamed n) ≡ eqb n 0x10
-ten-named n = grind arith
-
--- and page 11h
-eleven-named : (n : ℕ) → asksCounters (pageNamed n) ≡ eqb n 0x11
-eleven-named n = grind arith
-
 module _ (h : HostReg) (fit : taskFits h.task ≡ true) where
   small_count : h.task.count < 2 ^ 16
   small_count = ltb-true h.task.count (2 ^ 16) (and_right (below 8 h.task.device) (below 16 h.task.count) (and_left (below 8 h.task.device && below 16 h.task.count) (below 48 h.task.lba) fit))
@@ -75,17 +54,14 @@ module _ (h : HostReg) (fit : taskFits h.task ≡ true) where
   named : (asks : Option LogPage → Bool) (n : ℕ) → asks None ≡ false → asks (pageNamed (echoOf h.task).b4) ≡ eqb (echoOf h.task).b4 n → asks (pageAsked h) ≡ wellFormed n h
   unfolding logPage echoOf
   named asks n z f =
-      let e : Echo = echoOf h.task in
-      page-test asks (eqb h.command 0x2F) (eqb e.b5 0) (eqb e.b9 0) (eqb e.b12 1 && eqb e.b13 0) (eqb e.b4 n) (pageNamed e.b4) z f
-      ∙ rw (count_one h.task.count small_count, first_byte h.task) refl
-    where
-      first_byte : (t : Task) → byte_of t.lba 0 ≡ t.lba % 256
-      first_byte t = omega arith
+      let first : byte_of h.task.lba 0 ≡ h.task.lba % 256 = omega arith in
+      let one = count_one h.task.count small_count in
+      grind arith
 
   -- page 10h
   pub names-ten : asksErrors (pageAsked h) ≡ wellFormed 0x10 h
-  names-ten = named asksErrors 0x10 refl (ten-named (echoOf h.task).b4)
+  names-ten = named asksErrors 0x10 refl (grind arith)
 
   -- page 11h
   pub names-eleven : asksCounters (pageAsked h) ≡ wellFormed 0x11 h
-  names-eleven = named asksCounters 0x11 refl (eleven-named (echoOf h.task).b4)
+  names-eleven = named asksCounters 0x11 refl (grind arith)

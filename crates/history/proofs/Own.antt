@@ -1,5 +1,5 @@
 -- All that is proved of a device event that is taken: one row an event. Assumes nothing.
-use Rattle.std.proofs.Common.{Some, None, is_some, ◌≡◌, refl, Bool, true, false, List, [], ◌∷◌, inl, inr, ℕ}
+use Rattle.std.proofs.Common.{Some, ◌≡◌, refl, Bool, true, false, List, [], ◌∷◌, inl, inr, ℕ}
 use mathlib.Core.Bool.{false≢true}
 use Rattle.bits.specs.Bit.{bitIn}
 use Rattle.frames.specs.Write.{FrameValue}
@@ -63,10 +63,6 @@ setup-replies tag q false = own-replies _ _ refl (inl refl) refl refl refl (none
 
 -- ---- each event
 
--- no phase is open
-shut : (d : Device) → is_some d.status.phase ≡ false → d.status.phase ≡ None
-shut d p = none-open d.status.phase p
-
 -- by the rule that holds
 pub own-goes : (d : Device) (m b : List ℕ) {c : Call} {a : Act} → by.Own (facts_of d (lent c m b)) c a → OwnGoes d m c a
 unfolding touch_of move_of repliesOf some collect after_of openedFor movedBy finishedBy failedBy haltWith renewed resetHeld released
@@ -76,7 +72,7 @@ own-goes d m b (by.opened t g s o p e) = record {
   replies = setup-replies t (record { tag = t; entry = entry_of d.entries t }) (entry_of d.entries t).write;
   reckons = refl;
   marked = λ k. k;
-  comes = λ _. opened-comes d [] t g o (shut d p) e;
+  comes = λ _. opened-comes d [] t g o (none-open d.status.phase p) e;
 }
 own-goes d m b (by.sent g w s p r) = record {
   lies = nowhere-lies _ m;
@@ -92,7 +88,7 @@ own-goes d m b (by.finished set g s p e r) = record {
   replies = own-replies _ _ refl (inl refl) refl refl refl ((is-finish _ refl).fails, (is-finish _ refl).finishes);
   reckons = refl;
   marked = λ k. k;
-  comes = λ l. finished-comes d [] set g l.1 (shut d p) e r;
+  comes = λ l. finished-comes d [] set g l.1 (none-open d.status.phase p) e r;
 }
 own-goes d m b (by.failed t e x g s o y w) = record {
   lies = nowhere-lies _ m;

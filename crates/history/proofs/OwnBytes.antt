@@ -35,10 +35,7 @@ each-imp P Q f (p ∷ l) a = (f p a.0, each-imp P Q f l a.1)
 each-span : (P : ℕ → Type 0) (a n : ℕ) → ((i : ℕ) → i < n → P (a + i)) → Each P (span a n)
 unfolding Each span
 each-span P a zero f = tt
-each-span P a (suc n) f = (subst P (add-zero a) (f 0 (omega arith)), each-span P (suc a) n (λ i k. subst P (next i) (f (suc i) (omega (arith, k)))))
-  where
-    next : (i : ℕ) → a + suc i ≡ suc a + i
-    next i = omega arith
+each-span P a (suc n) f = (subst P (add-zero a) (f 0 (omega arith)), each-span P (suc a) n (λ i k. subst P (let e : a + suc i ≡ suc a + i = omega arith in e) (f (suc i) (omega (arith, k)))))
 
 pub span-each : (P : ℕ → Type 0) (a n : ℕ) → Each P (span a n) → (p : ℕ) → a ≤ p → p < a + n → P p
 unfolding Each span

@@ -19,11 +19,6 @@ unfolding All howMany
 many-same p q [] a = refl
 many-same p q (c ∷ cs) a = ap₂ (λ (b : Bool) (n : ℕ). one b + n) a.0 (many-same p q cs a.1)
 
--- the open phase's data belong to the outstanding commands of its tag
-phase-own : (d : Device) (t : ℕ) (c : Command) → Following d c
-    → (outstanding c && belongs c.accepted.asks.write (ownTag c) (not (deviceEntry d t).write) t) ≡ (eqb (ownTag c) t && outstanding c)
-phase-own d t c f = grind arith
-
 module _ (d : Device) (h : List Seen) (i : Tracked d h) (counts : (t : ℕ) → t < 32 → totalWith t h ≡ one (bitIn 32 d.status.outstanding t)) where
   -- an open phase: one command
   owned-open : (t : ℕ) → d.status.phase ≡ Some t → Owned (transferFor (deviceEntry d t) t) (commands h)
@@ -31,7 +26,7 @@ module _ (d : Device) (h : List Seen) (i : Tracked d h) (counts : (t : ℕ) → 
   owned-open t p =
       let busy = i.phased.busy t p in
       many-same (λ c. outstanding c && belongs c.accepted.asks.write (ownTag c) (not (deviceEntry d t).write) t) (λ c. eqb (ownTag c) t && outstanding c) (commands h)
-      (all-imp (Following d) _ (phase-own d t) (commands h) i.commands)
+      (all-imp (Following d) _ (λ c f. grind arith) (commands h) i.commands)
       ∙ counts t (busy-below d.status.outstanding t busy) ∙ ap one busy
 
   -- what is under way is the data of exactly one command, which is outstanding

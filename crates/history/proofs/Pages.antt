@@ -1,9 +1,9 @@
 -- Every page 11h that is sent shows the events since the last zeroing before it. Assumes nothing.
-use Rattle.std.proofs.Common.{Option, Some, None, Result, Ok, ◌≡◌, refl, sym, ap, ◌∙◌, subst, Bool, true, false, List, [], ◌∷◌, map, append-nil, ℕ, ◌<◌, arith, ltb, get_or, ltb-false}
+use Rattle.std.proofs.Common.{Option, Some, None, Result, Ok, ◌≡◌, refl, sym, ap, ◌∙◌, subst, Bool, true, false, List, [], ◌∷◌, map, append-nil, ℕ, ◌<◌, arith, get_or}
 use mathlib.Core.Bool.{false≢true}
 use Rattle.std.specs.Option.{option_map}
 use Rattle.bits.specs.Pick.{pick}
-use Rattle.bits.proofs.Picks.{pick_yes, pick_no, and_left, and_right, or_left, or_right}
+use Rattle.bits.proofs.Picks.{pick_yes, pick_no, and_left, and_right}
 use Rattle.frame_parts.specs.declared.shared.Task.{Task}
 use Rattle.frames.specs.Write.{payload, encode}
 use Rattle.frames.specs.Read.{readFrame}
@@ -78,9 +78,7 @@ TellsFor mask p h number = readCounter p number ≡ counterRead (toldFor mask h 
 -- of every number 1 to FFFh
 pub page-tells : (mask : ℕ) (values : List ℕ) (h : List Event) → ValuesTell values h → (number : ℕ) → noNumber number ≡ false → TellsFor mask (page11 mask values) h number
 page-tells mask values h i number n =
-    let a = ltb-false number 1 (or_left (ltb number 1) (ltb 4095 number) n) in
-    let z = ltb-false 4095 number (or_right (ltb number 1) (ltb 4095 number) n) in
-    told-place mask values h i number (omega arith) (omega arith) (row_of number) refl
+    told-place mask values h i number (grind arith) (grind arith) (row_of number) refl
 
 -- ---- the page in the replies
 

@@ -1,14 +1,10 @@
 -- Each test of the table of refusals, by the history (Refused) and by the state. Assumes nothing.
-use Rattle.std.proofs.Common.{Option, None, Ok, is_some, is_none, unwrap_or, ◌≡◌, refl, sym, ap, ap₂, ◌∙◌, Bool, true, false, not, ◌&&◌, ◌||◌, List, [], ◌∷◌, ⊎_elim, ℕ, zero, suc, ◌-◌, ◌*◌, ◌<◌, arith, eqb, ltb}
+use Rattle.std.proofs.Common.{None, Ok, is_none, unwrap_or, ◌≡◌, refl, sym, ap, ap₂, ◌∙◌, Bool, true, false, not, ◌&&◌, ◌||◌, List, ℕ, zero, suc, ◌*◌, arith, eqb, ltb}
 use mathlib.Core.Bool.{not-not, or_assoc, or_comm}
-use borrow.Author.Tests.{not-false, not-true}
-use Rattle.bits.specs.Pick.{pick}
+use borrow.Author.Tests.{not-false}
 use Rattle.bits.specs.Bit.{bitIn}
-use Rattle.bits.proofs.Picks.{tested, or_left, or_right}
 use Rattle.frames.specs.declared.shapes.Frame.TheVariants as fs
-use Rattle.refusals.specs.First.{rung, first_of}
-use Rattle.refusals.specs.declared.reasons.Refusal.{Refusal}
-use Rattle.refusals.specs.declared.reasons.Refusal.TheVariants.{Contradiction}
+use Rattle.refusals.specs.First.{first_of}
 use Rattle.device_state.specs.State.{whole_of}
 use Rattle.device_state.specs.Table.{someBelow}
 use Rattle.device_state.specs.declared.shapes.Settings.{Settings}
@@ -27,30 +23,21 @@ use Rattle.device.proofs.Parts.{status-good}
 use Rattle.device.proofs.StatusLaws.{phase-busy}
 use Rattle.history.specs.Event.{Event}
 use Rattle.history.specs.Replied.{FrameRead}
-use Rattle.history.specs.Seen.{Transfer, underWay}
+use Rattle.history.specs.Seen.{Transfer}
 use Rattle.history.specs.ByHistory.{isOut, outstandingWith, whole, covers, isOpen, leftOf}
 use Rattle.history.specs.Powered.{Powered}
 use Rattle.history.specs.Refused.{outOfBounds, writeOpen, untimely, tooLong, someTag, unfit, noRow}
-use Rattle.history.proofs.Transfers.{transferOf, transfer-shut}
+use Rattle.history.proofs.Transfers.{transferOf}
 use Rattle.history.proofs.Moving.{deviceEntry, busyAt}
 use Rattle.history.proofs.Knows.{Known}
-use Rattle.device.proofs.Phases.{none-open, open-entry}
+use Rattle.device.proofs.Phases.{open-entry}
 
 -- ---- settings
 
--- 1, of settings
-bounds-out : (s : Settings) → outOfBounds s.depth s.capacity s.mask ≡ settingsOut s
-unfolding settingsOut
-bounds-out s = grind arith
-
--- what power-on is refused with, by whether its settings are out of bounds
-abbrev turnedFor : Bool → Option Refusal
-turnedFor out = first_of (rung Contradiction out ∷ [])
-
--- power-on is refused exactly where they are, and replies nothing
+-- power-on is refused exactly where its settings are out of bounds (1), and replies nothing
 pub powered : (s : Settings) → Powered s.depth s.capacity s.mask (powerOn s).refusal (powerOn s).len
-unfolding powerOn
-powered s = record { refusal = ap turnedFor (sym (bounds-out s)); silent = refl }
+unfolding powerOn settingsOut
+powered s = record { refusal = let b : outOfBounds s.depth s.capacity s.mask ≡ settingsOut s = grind arith in rw b refl; silent = refl }
 
 -- so a power-on that was taken had settings within them
 pub power-taken : (s : Settings) → (powerOn s).refusal ≡ None → outOfBounds s.depth s.capacity s.mask ≡ false
@@ -69,17 +56,9 @@ row-same mask r = or_assoc (eqb r 0) (eqb r 9) (ltb 15 r || not (bitIn 16 mask r
 -- ---- what is under way
 
 module _ (d : Device) where
-  -- the open phase, while one is open
-  phase-at : is_none d.status.phase ≡ false → transferOf d ≡ underWay (not (phaseEntry d).write) (unwrap_or d.status.phase 0) (phaseEntry d).moved (512 * (phaseEntry d).count)
-  phase-at n = grind arith
-
   -- 5 and 8 of a phase
   pub open-same : isOpen (transferOf d) ≡ linkBusy d.status
   open-same = grind arith
-
-  -- 5 of data: no write phase
-  write-open-same : (is_none d.status.phase || not (phaseEntry d).write) ≡ not (writeOpen (transferOf d))
-  write-open-same = grind arith
 
   module _ (g : contradictoryDevice d ≡ false) where
     -- all of the open phase's command
@@ -91,20 +70,15 @@ module _ (d : Device) where
     -- 6: what is left of an open write phase
     left-same : not (writeOpen (transferOf d)) ≡ false → left_of (phaseEntry d) ≡ leftOf false (transferOf d)
     left-same y =
-        let z : (is_none d.status.phase || not (phaseEntry d).write) ≡ false = write-open-same ∙ y in
-        let n = or_left (is_none d.status.phase) (not (phaseEntry d).write) z in
-        let w = not-false (phaseEntry d).write (or_right (is_none d.status.phase) (not (phaseEntry d).write) z) in
-        rw (phase-at n, w, phase-whole n)
+        let e = phase-whole in
+        grind arith
 
     -- 10: no read phase
     pub reading-same : (is_none d.status.phase || (phaseEntry d).write) ≡ eqb (leftOf true (transferOf d)) 0
     reading-same =
-        ⊎_elim (λ (x : is_none d.status.phase ≡ true). rw (not-true (is_some d.status.phase) x, transfer-shut d (none-open d.status.phase (not-true (is_some d.status.phase) x))))
-        (λ (x : is_none d.status.phase ≡ false). rw (not-false (is_some d.status.phase) x, phase-at x) (go (phaseEntry d).write (phaseEntry d).moved (512 * (phaseEntry d).count) (let m = moves-on d g x in let e = phase-whole x in omega arith)))
-        (tested (is_none d.status.phase))
-      where
-        go : (w : Bool) (m a : ℕ) → m < a → w ≡ eqb (pick (pick true (not w) (not (not w))) (a - m) 0) 0
-        go w m a l = grind arith
+        let m = moves-on d g in
+        let e = phase-whole in
+        grind arith
 
 -- ---- each call
 

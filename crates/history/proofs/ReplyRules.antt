@@ -54,10 +54,6 @@ ruled-utters d m b k (by.own o) = (own-goes d m b o).replies.utters
 
 -- ---- as an event of the history
 
--- a refused call finishes nothing
-quiet-finishes : (t : ℕ) → (view quiet []).finishes t ≡ false
-quiet-finishes t = (is-silent quiet refl).finishes t
-
 module _ (d : Device) (l : Lent) where
   -- what the outside sees of it, refused and done
   abbrev turned : Refusal → Event
@@ -72,9 +68,9 @@ module _ (d : Device) (l : Lent) where
 
   -- what a refused call says: nothing
   turned-spoken : (r : Refusal) → Read (turned r) [] → (s : Speech) → Spoken (turned r) s
-  turned-spoken r q noneFinished = λ u. ap (λ (e : Seen). e.finishes u) (read-seen (turned r) [] q quiet refl) ∙ quiet-finishes u
+  turned-spoken r q noneFinished = λ u. ap (λ (e : Seen). e.finishes u) (read-seen (turned r) [] q quiet refl) ∙ (is-silent quiet refl).finishes u
   turned-spoken r q (setFinished s) = λ y. absurd (false≢true y)
-  turned-spoken r q errorTold = (λ y. absurd (false≢true y), λ u. ap (λ (e : Seen). e.finishes u) (read-seen (turned r) [] q quiet refl) ∙ quiet-finishes u)
+  turned-spoken r q errorTold = (λ y. absurd (false≢true y), λ u. ap (λ (e : Seen). e.finishes u) (read-seen (turned r) [] q quiet refl) ∙ (is-silent quiet refl).finishes u)
 
   -- what a taken call says, by its replies
   heeded-spoken : (a : Act) → Read (heeded a) (sends a) → (s : Speech) → SpokenBy s (view (callAsks l.call) (sends a)) → Spoken (heeded a) s

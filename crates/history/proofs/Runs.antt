@@ -1,14 +1,13 @@
 -- Demand 3 over every run from power-on. Assumes nothing.
-use Rattle.std.proofs.Common.{None, ◌≡◌, refl, ap, subst, ◌∙◌, Bool, List, [], ◌∷◌, map, ◌≤◌, le_trans, le_of_eq, arith, ltb}
+use Rattle.std.proofs.Common.{None, ◌≡◌, refl, ap, subst, ◌∙◌, List, [], ◌∷◌, map, ◌≤◌, le_trans, le_of_eq, arith, ltb}
 use lib.Count.{ones}
-use Rattle.bits.specs.Bit.{bitIn}
 use Rattle.device_state.specs.declared.shapes.Settings.{Settings}
 use Rattle.device.specs.Device.{powerOn, freshDevice}
 use Rattle.device.specs.declared.state.Device.{Device}
 use Rattle.device.proofs.Opens.{ones-most}
 use Rattle.history.specs.Event.{Event}
 use Rattle.history.specs.Seen.{seen}
-use Rattle.history.specs.Fates.{one, total}
+use Rattle.history.specs.Fates.{total}
 use Rattle.history.specs.Demand3.{Fates, Ranges, Moves, Contents, Sactive, Waiting, Depth, OnePerTag, Counters}
 use Rattle.history.specs.ReplyRules.{AllReplyRules}
 use Rattle.history.specs.Refused.{Refusals}
@@ -19,8 +18,8 @@ use Rattle.device.specs.Lent.{Lent, Typed}
 use Rattle.history.specs.Run.{Done, done, event, result, AllTyped, run, run_from, history}
 use Rattle.history.proofs.Class.{Class}
 use Rattle.history.proofs.Steps.{comes, marked_step}
-use Rattle.history.proofs.Fated.{AllLone, lone, lone-step, lone-none, fates}
-use Rattle.history.proofs.Core.{Inv, inv-start, keeps, inv-sactive, inv-waiting, inv-total, inv-number}
+use Rattle.history.proofs.Fated.{AllLone, lone, fates}
+use Rattle.history.proofs.Core.{Inv, inv-start, keeps, inv-sactive, inv-waiting, inv-total}
 use Rattle.history.proofs.Table.{Tracked, tracked-start, tracked-step, ranges}
 use Rattle.history.proofs.Contents.{moves}
 use Rattle.history.proofs.ReplyRules.{reply-rules}
@@ -65,7 +64,7 @@ pub record Held (s : Settings) (d : Device) (h : List Event) : Type 0 where
 
 -- one call more
 pub held-step : (s : Settings) (d : Device) (a : Lent) (h : List Event) → Typed a.call → Held s d h → Held s (result d a).outcome.state (event (done a (result d a)) ∷ h)
-unfolding Contents AllReplyRules Refusals LogTold Counters Answers
+unfolding AllLone Contents AllReplyRules Refusals LogTold Counters Answers
 held-step s d a h t i =
     let d' : Device = (result d a).outcome.state in
     let x : Event = event (done a (result d a)) in
@@ -73,13 +72,13 @@ held-step s d a h t i =
     let v : Inv d'.status.outstanding d'.status.halted (seen x ∷ map seen h) = keeps d d' (seen x) (map seen h) i.inv c in
     let k : Tracked d' (seen x ∷ map seen h) = tracked-step d d' (seen x) (map seen h) i.tracked c in
     let r : Replies d a = read_step d a t i.wide.sized in
-    let m : Moves x (map seen h) = moves d a (map seen h) t i.wide.sized i.tracked (inv-number i.inv) in
+    let m : Moves x (map seen h) = moves d a (map seen h) t i.wide.sized i.tracked i.inv.number in
     record {
       wide = wide_step d a t i.wide;
       marked = marked_step d a i.marked;
       sound = sound-step s d a t i.sound;
       inv = v;
-      lone = lone-step (seen x) (map seen h) (lone c) i.lone;
+      lone = (lone c, i.lone);
       tracked = k;
       contents = (m, i.contents);
       reply-rules = (reply-rules d a (map seen h) t i.wide.sized i.marked i.inv, i.reply-rules);
@@ -96,7 +95,7 @@ held-step s d a h t i =
 
 -- power-on
 pub held-power : (s : Settings) → Held s (powerOn s).state []
-unfolding freshDevice Contents AllReplyRules Refusals LogTold Counters Answers
+unfolding freshDevice AllLone Contents AllReplyRules Refusals LogTold Counters Answers
 held-power s =
     let d : Device = (powerOn s).state in
     let v : Inv d.status.outstanding d.status.halted [] = from-power (λ (d : Device). Inv d.status.outstanding d.status.halted []) s inv-start inv-start in
@@ -106,7 +105,7 @@ held-power s =
       marked = marked_start s;
       sound = sound-power s;
       inv = v;
-      lone = lone-none;
+      lone = tt;
       tracked = k;
       contents = tt;
       reply-rules = tt;
@@ -175,10 +174,7 @@ module _ (s : Settings) (as' : List Lent) (t : AllTyped as') where
 
   -- no two commands of one tag are outstanding
   pub demand3-single : OnePerTag (map seen (history s as'))
-  demand3-single u l = le_trans (le_of_eq (inv-number (held s as' t).inv u l)) (one-most (bitIn 32 (run_from s as').state.status.outstanding u))
-    where
-      one-most : (b : Bool) → one b ≤ 1
-      one-most b = grind arith
+  demand3-single u l = let n = (held s as' t).inv.number u l in grind arith
 
   -- every event says no more than it may after those before it, and what it must
   pub demand3-reply-rules : AllReplyRules (history s as')

@@ -3,7 +3,7 @@ use Rattle.std.proofs.Common.{Option, Some, None, Ok, is_none, unwrap_or, ◌≡
 use borrow.Author.Tests.{not-false}
 use Rattle.bits.specs.Pick.{pick}
 use Rattle.bits.specs.Bit.{bitIn}
-use Rattle.bits.proofs.Picks.{pick_yes, or_left, or_right, by-test}
+use Rattle.bits.proofs.Picks.{pick_yes, by-test}
 use Rattle.frame_parts.specs.Cut.{joined}
 use Rattle.frame_parts.specs.Size.{payloadSize}
 use Rattle.frames.specs.Write.{FrameValue, setup, activate, payload, encode, fits}
@@ -110,11 +110,8 @@ module _ (d : Device) (good : contradictoryDevice d ≡ false) where
     finish-whole set m b i (by.own (by.finished u g s q n r)) =
         let ready = some-absent (unreadyAt d.entries d.status.outstanding set) 32 t r (busy-below set t i) in
         let both : not (bitIn 32 d.status.outstanding t) || not (eqb e.moved (whole_of e.count)) ≡ false = rw i at ready in
-        let o = not-false (bitIn 32 d.status.outstanding t) (or_left (not (bitIn 32 d.status.outstanding t)) (not (eqb e.moved (whole_of e.count))) both) in
-        record {
-          busy = o;
-          whole = eqb-true e.moved (whole_of e.count) (not-false (eqb e.moved (whole_of e.count)) (or_right (not (bitIn 32 d.status.outstanding t)) (not (eqb e.moved (whole_of e.count))) both)) ∙ extent o;
-        }
+        let o : bitIn 32 d.status.outstanding t ≡ true = grind arith in
+        record { busy = o; whole = (let w : e.moved ≡ whole_of e.count = grind arith in w) ∙ extent o }
 
     finishes : (set : ℕ) (m b : List ℕ) (g : Gave) → Given d (lent (finishTags set) m b) g → g.outcome.refusal ≡ None → bitIn 32 set t ≡ true → Finishes d t e
     finishes set m b g p z i = by-taken d (lent (finishTags set) m b) (λ (s : Step). Finishes d t e) (λ a r. finish-whole set m b i r) (sym p.refusal ∙ z)

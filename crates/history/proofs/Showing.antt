@@ -1,5 +1,5 @@
 -- Every page 10h that is sent tells the record that the history before it tells. Assumes nothing.
-use Rattle.std.proofs.Common.{Ok, ◌≡◌, refl, sym, ap, subst, ◌∙◌, Bool, true, false, ◌&&◌, List, [], append-nil, ℕ, ◌%◌, arith, eqb, length, drop, take_at, eqb-true}
+use Rattle.std.proofs.Common.{Ok, ◌≡◌, refl, sym, ap, subst, ◌∙◌, Bool, true, false, List, [], append-nil, ℕ, arith, length, drop, take_at}
 use mathlib.Core.Bool.{false≢true}
 use Rattle.bits.specs.Laid.{laid}
 use Rattle.bits.proofs.Picks.{pick_yes, and_left, and_right}
@@ -54,31 +54,18 @@ ten-page on task l = grind (arith, append-nil {A = ℕ})
 -- a read of page 11h is none of page 10h
 not-ten : (h : HostReg) → h.command_bit ≡ true → asksCounters (pageAsked h) ≡ true → readsLog 0x10 h ≡ true → ⊥
 not-ten h c p r =
-    let names : (n : ℕ) → readsLog n h ≡ true → h.task.lba % 256 ≡ n =
-    λ n q. eqb-true (h.task.lba % 256) n (and_right (eqb h.command 0x2F) (eqb (h.task.lba % 256) n) (and_right h.command_bit (eqb h.command 0x2F && eqb (h.task.lba % 256) n) q)) in
-    let a = names 0x10 r in
-    let b = names 0x11 (reads-counters h c p) in
-    omega arith
+    let b = reads-counters h c p in
+    grind arith
 
 module _ (d : Device) where
   -- the page sent to a host frame that reads page 10h is the record's
   heard-page : (x m b : List ℕ) {f : FrameRead} {a : Act} → by.Heard (facts_of d (lent (hostFrame x) m b)) f a → pioIn (repliesOf (shown d) [] a) ≡ true → (frameAsks f).reads 0x10 ≡ true
       → pageIn (repliesOf (shown d) [] a) ≡ page10Of d.errors
   unfolding repliesOf some
-  heard-page x m b (by.srst f c s) p q = absurd (false≢true p)
-  heard-page x m b (by.release f c s y) p q = absurd (false≢true p)
-  heard-page x m b (by.nothing f c s y) p q = absurd (false≢true p)
-  heard-page x m b (by.rule1 f c y) p q = absurd (false≢true p)
-  heard-page x m b (by.rule2 f c y z) p q = absurd (false≢true p)
-  heard-page x m b (by.rule3 f c y z v) p q = absurd (false≢true p)
-  heard-page x m b (by.rule4 f c y z v) p q = absurd (false≢true p)
-  heard-page x m b (by.other-halted f c y) p q = absurd (false≢true p)
-  heard-page x m b (by.other-busy f c y) p q = absurd (false≢true p)
   heard-page x m b (by.page10 f c y z) p q = ten-page d.status.halted f.task (page10Of d.errors)
   heard-page x m b (by.page11 f c y z v) p q = absurd (not-ten f c.command v q)
-  heard-page x m b (by.other-bad f c y z) p q = absurd (false≢true p)
   heard-page x m b (by.due l y z v) p q = absurd (false≢true q)
-  heard-page x m b (by.bist y) p q = absurd (false≢true p)
+  heard-page x m b _ p q = absurd (false≢true p)
 
   -- a taken call that reads page 10h and is answered with a page
   ruled-page : (m b : List ℕ) {c : Call} {a : Act} → by.Ruled (facts_of d (lent c m b)) c (Ok a) → pioIn (repliesOf (shown d) (part_of a m) a) ≡ true → (callAsks c).reads 0x10 ≡ true

@@ -1,9 +1,9 @@
 -- Laws of rising numbers, of what is under way, and of the positions that an event carries. Assumes nothing.
-use Rattle.std.proofs.Common.{◌≡◌, refl, ap, ap₂, ◌∙◌, Bool, true, false, not, ◌&&◌, ◌||◌, List, [], ◌∷◌, ◌++◌, append-nil, ℕ, zero, suc, ◌+◌, ◌<◌, zero-add, suc-add, arith, ltb, eq-eqb, ne_eqb}
+use Rattle.std.proofs.Common.{◌≡◌, refl, ap, ap₂, ◌∙◌, Bool, true, false, not, List, [], ◌∷◌, ◌++◌, append-nil, ℕ, zero, suc, ◌+◌, ◌<◌, zero-add, suc-add, arith, ltb, ne_eqb}
 use mathlib.Core.Bool.{false≢true}
 use Rattle.bits.specs.Pick.{pick}
 use Rattle.bits.proofs.Picks.{by-test}
-use Rattle.history.specs.Seen.{Seen, Transfer, noTransfer, underWay, errs}
+use Rattle.history.specs.Seen.{Seen, Transfer, noTransfer, underWay}
 use Rattle.history.specs.Fates.{outstandingAt, finishedAt}
 use Rattle.history.specs.Carried.{load, onward, advanced, transfer, span, belongs, positions, carriedAt}
 
@@ -43,13 +43,9 @@ first-length-none start write tag e (underWay d t a z) y =
 pub onward-some : (k : ℕ) (d : Bool) (t a z : ℕ) → 0 < k → onward k (underWay d t a z) ≡ pick (ltb (a + k) z) (underWay d t (a + k) z) noTransfer
 onward-some k d t a z l = grind arith
 
--- truth table: the data of a direction are those of a command of that direction
-pub own-way : (w : Bool) → pick w (not (not w)) (not w) ≡ true
-own-way w = grind arith
-
 -- the data of a tag in a command's direction is the command's
 pub belongs-own : (w : Bool) (t : ℕ) → belongs w t (not w) t ≡ true
-belongs-own w t = rw (eq-eqb t t refl) (own-way w)
+belongs-own w t = grind arith
 
 -- another tag's is not
 pub belongs-other : (w d : Bool) (t u : ℕ) → (u ≡ t → ⊥) → belongs w t d u ≡ false
@@ -72,16 +68,11 @@ pub carried_none : (start : ℕ) (write : Bool) (tag : ℕ) (e : Seen) (n : List
     → carriedAt start write tag (e ∷ n) ≡ carriedAt start write tag n
 unfolding carriedAt
 carried_none start write tag e n y =
-    ap (λ (l : List ℕ). carriedAt start write tag n ++ l)
-    (by-test (λ (l : List ℕ). l ≡ []) (outstandingAt tag n) (positions start write tag e (transfer n)) [] (λ _. first-length-none start write tag e (transfer n) y) (λ _. refl))
-    ∙ append-nil (carriedAt start write tag n)
-
--- truth table: a finished command is not outstanding
-b-done : (o f fi er : Bool) → (f ≡ true → o ≡ false) → (f || (o && fi)) ≡ true → (o && not (fi || er)) ≡ false
-b-done o f fi er g e = grind arith
+    let p = first-length-none start write tag e (transfer n) y in
+    grind (arith, append-nil {A = ℕ})
 
 -- a finished command is not outstanding
 pub finished-over : (t : ℕ) (n : List Seen) → finishedAt t n ≡ true → outstandingAt t n ≡ false
 unfolding finishedAt outstandingAt
 finished-over t [] f = absurd (false≢true f)
-finished-over t (e ∷ n) f = b-done (outstandingAt t n) (finishedAt t n) (e.finishes t) (errs e || e.asks.resets) (finished-over t n) f
+finished-over t (e ∷ n) f = grind (arith, finished-over t n)

@@ -1,8 +1,8 @@
 -- When a call says no more than it may, and what it must: by its replies. Assumes nothing.
-use Rattle.std.proofs.Common.{◌≡◌, refl, sym, ap, ◌∙◌, Bool, true, false, not, ◌&&◌, ◌||◌, true≢false, List, [], ◌∷◌, ⊎_elim, ℕ, arith}
+use Rattle.std.proofs.Common.{◌≡◌, refl, sym, ap, ◌∙◌, Bool, true, false, not, ◌&&◌, ◌||◌, true≢false, List, [], ◌∷◌, ℕ, arith}
 use mathlib.Core.Bool.{false≢true, and-false}
 use Rattle.bits.specs.Bit.{bitIn}
-use Rattle.bits.proofs.Picks.{tested, and_left, and_right}
+use Rattle.bits.proofs.Picks.{and_right}
 use Rattle.frames.specs.Read.{readFrame}
 use Rattle.frames.specs.Write.{FrameValue}
 use Rattle.frames.specs.declared.shapes.SetBits.{SetBits}
@@ -11,8 +11,8 @@ use Rattle.rules.specs.Call.{Call, hostFrame}
 use Rattle.history.specs.FrameAsks.{Asked}
 use Rattle.history.specs.FrameReading.{frameAsks}
 use Rattle.history.specs.Reading.{Speech, noneFinished, setFinished, errorTold, callAsks, callSays}
-use Rattle.history.specs.Replied.{FrameRead, some}
-use Rattle.history.specs.Seen.{Seen}
+use Rattle.history.specs.Replied.{FrameRead, some, errIn}
+use Rattle.history.specs.Seen.{Seen, names}
 use Rattle.history.specs.ReplyRules.{TellsError}
 use Rattle.history.proofs.Views.{pageIn, view}
 use Rattle.history.proofs.Hearing.{pioIn}
@@ -39,18 +39,13 @@ unfolding some
 some-none p [] e = refl
 some-none p (f ∷ l) e = absurd (true≢false e)
 
--- a frame that reads a page is a command
-reads-command : (n : ℕ) (f : FrameRead) → (frameAsks f).reads n ≡ true → (frameAsks f).command ≡ true
-reads-command n f e = grind arith
-
 -- no host frame finishes anything
 pub host-finishes : (f : FrameRead) (rs : List FrameValue) → FrameSays f rs → (t : ℕ) → (view (frameAsks f) rs).finishes t ≡ false
 unfolding view
 host-finishes f rs y t =
-    ⊎_elim
-    (λ (a : someBits rs ≡ true). let c = reads-command 0x10 f (and_left ((frameAsks f).reads 0x10) (pioIn rs) (y.swept a)) in rw c)
-    (λ (a : someBits rs ≡ false). ap (λ (b : Bool). not (frameAsks f).command && b) (some-none _ (bitsIn rs) a) ∙ and-false (not (frameAsks f).command))
-    (tested (someBits rs))
+    let s = y.swept in
+    let n = some-none (λ b. not (errIn b.status) && names t b) (bitsIn rs) in
+    grind arith
 
 -- ---- every call
 

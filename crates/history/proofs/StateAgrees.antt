@@ -1,5 +1,5 @@
 -- The state at the end of every run is what its history tells. Assumes nothing.
-use Rattle.std.proofs.Common.{◌≡◌, refl, sym, ap, ap₂, subst, ◌∙◌, Bool, true, false, not, List, ℕ, ◌≤◌, Option, Some, None, is_none, is_some, min, ⊎_elim, arith}
+use Rattle.std.proofs.Common.{◌≡◌, refl, sym, ap, ap₂, subst, ◌∙◌, Bool, true, false, not, List, ℕ, ◌≤◌, Option, Some, None, is_none, is_some, ⊎_elim, arith}
 use Rattle.page_11h.specs.Page11.{noNumber}
 use Rattle.refusals.specs.First.{first_of, unless}
 use Rattle.refusals.specs.Ladders.{powerLadder, counterLadder}
@@ -9,9 +9,7 @@ use Rattle.device.proofs.Never.{zeros-contradict}
 use Rattle.device_state.specs.declared.shapes.Settings.{Settings}
 use Rattle.device.specs.Lent.{Lent}
 use mathlib.Core.Bool.{false≢true}
-use Rattle.bits.proofs.Picks.{tested, pick_yes, pick_no, and_left, and_right}
-use Rattle.rules.specs.Positions.{left_of}
-use Rattle.device_state.specs.Table.{entry_of}
+use Rattle.bits.proofs.Picks.{tested, pick_no, and_left, and_right}
 use Rattle.device.specs.DataDue.{phaseEntry, writing, dataDue}
 use Rattle.device.specs.declared.state.Device.{Device}
 use Rattle.device.proofs.Due.{due-none}
@@ -22,16 +20,12 @@ use Rattle.history.specs.Run.{AllTyped, run_from, history}
 use Rattle.history.specs.Refused.{outOfBounds, writeOpen}
 use Rattle.history.specs.Polled.{noCounter}
 use Rattle.history.specs.StateAgrees.{AgreesOutstanding, AgreesWaits, AgreesCounters, AgreesAsked, AgreesDepth, AgreesCount, AgreesConsistent, AgreesDue}
-use Rattle.history.proofs.Core.{inv-waits, inv-number, inv-total}
+use Rattle.history.proofs.Core.{inv-total}
 use Rattle.history.proofs.Counters.{counting-true}
 use Rattle.history.proofs.Asked11.{counter-true}
 use Rattle.history.proofs.Soundness.{by-power}
 use Rattle.history.proofs.RefusedTests.{power-taken, power-refused}
 use Rattle.history.proofs.Runs.{held, demand3-depth}
-
--- 23, by the state's rules and the history's
-number-same : (number : ℕ) → noNumber number ≡ noCounter number
-number-same number = grind arith
 
 -- the same answer of rows that agree, and values that do where 1 does not hold
 asked-same : {A : Type 0} {c o n m : Bool} {x y : A} → c ≡ o → n ≡ m → (o ≡ false → x ≡ y) → unless (first_of (counterLadder c n)) x ≡ unless (first_of (counterLadder o m)) y
@@ -41,11 +35,11 @@ asked-same {A} {c} {o} {n} {m} {x} {y} e f g = grind arith
 module _ (s : Settings) (as' : List Lent) (t : AllTyped as') where
   -- bit t of the mask is set exactly when a command with tag t is outstanding by the history, and there is at most one
   pub told-outstanding : AgreesOutstanding (run_from s as').state (history s as')
-  told-outstanding = inv-number (held s as' t).inv
+  told-outstanding = (held s as' t).inv.number
 
   -- halted exactly while an error waits
   pub told-waits : AgreesWaits (run_from s as').state (history s as')
-  told-waits = inv-waits (held s as' t).inv
+  told-waits = (held s as' t).inv.waiting
 
   -- every counter is its events since the last zeroing, held at the top
   pub told-counters : AgreesCounters (run_from s as').state (history s as')
@@ -57,14 +51,10 @@ module _ (s : Settings) (as' : List Lent) (t : AllTyped as') where
       let i = (held s as' t).sound in
       by-power s (λ z. i.good z ∙ sym (power-taken s z)) (λ n. ap contradictoryDevice (i.zeros n) ∙ zeros-contradict ∙ sym (power-refused s n))
 
-  -- so where that is none the state does not contradict itself
-  within : outOfBounds s.depth s.capacity s.mask ≡ false → contradictoryDevice (run_from s as').state ≡ false
-  within e = one-same ∙ e
-
   -- and so is the answer of `Device::counter`
   pub told-asked : AgreesAsked s (run_from s as').state (history s as')
   unfolding counterOf first_of
-  told-asked number c p = p.answer ∙ asked-same one-same (number-same number) (λ e. counter-true s as' t number (within e))
+  told-asked number c p = p.answer ∙ asked-same one-same (let n : noNumber number ≡ noCounter number = grind arith in n) (λ e. counter-true s as' t number (one-same ∙ e))
 
   -- the ones of the mask are the commands outstanding, at most the depth
   pub told-depth : AgreesDepth s.depth (run_from s as').state (history s as')
@@ -84,11 +74,7 @@ module _ (s : Settings) (as' : List Lent) (t : AllTyped as') where
   -- a write phase is open by the history exactly where one is by the state
   write-same : (phase : Option ℕ) → (run_from s as').state.status.phase ≡ phase → writeOpen (underWayAfter (history s as')) ≡ writing (run_from s as').state
   write-same None e = ap writeOpen ((held s as' t).knows.phase ∙ transfer-shut (run_from s as').state e) ∙ rw e refl
-  write-same (Some u) e = ap writeOpen ((held s as' t).knows.phase ∙ transfer-open (run_from s as').state u e) ∙ rw e (not-not (entry_of (run_from s as').state.entries u).write)
-    where
-      not-not : (b : Bool) → not (not b) ≡ b
-      not-not true = refl
-      not-not false = refl
+  write-same (Some u) e = ap writeOpen ((held s as' t).knows.phase ∙ transfer-open (run_from s as').state u e) ∙ rw e (grind arith)
 
   -- the length that is due in an open write phase is what is left by the history
   due-open : contradictoryDevice (run_from s as').state ≡ false → writing (run_from s as').state ≡ true → AgreesDue (run_from s as').state (history s as')
@@ -98,9 +84,7 @@ module _ (s : Settings) (as' : List Lent) (t : AllTyped as') where
       let d : Device = (run_from s as').state in
       let k : Stands d (history s as') = record { sized = i.wide.sized; known = i.knows; inv = i.inv; tracked = i.tracked; logged = i.logged; counting = i.counting } in
       let p : is_none d.status.phase ≡ false = ap not (and_left (is_some d.status.phase) (phaseEntry d).write w) in
-      pick_yes (writing d) (Some (min 8192 (left_of (phaseEntry d)))) None w
-      ∙ ap (λ (n : ℕ). Some (min 8192 n)) (sym (left-is d (history s as') k g p false (and_right (is_some d.status.phase) (phaseEntry d).write w)))
-      ∙ sym (pick_yes (writeOpen (underWayAfter (history s as'))) _ None (write-same d.status.phase refl ∙ w))
+      rw (w, write-same d.status.phase refl ∙ w, left-is d (history s as') k g p false (and_right (is_some d.status.phase) (phaseEntry d).write w)) refl
 
   -- and so is the answer of `Device::data_due`
   pub told-due : AgreesDue (run_from s as').state (history s as')

@@ -15,10 +15,9 @@ use Rattle.device.proofs.Refusals.{refused-keeps}
 use Rattle.history.specs.Event.{Event}
 use Rattle.history.specs.FrameAsks.{quiet}
 use Rattle.history.specs.Reading.{callAsks}
-use Rattle.history.specs.Asked.{asks}
 use Rattle.history.specs.Seen.{Seen, seen}
 use Rattle.history.specs.Run.{result, done, event}
-use Rattle.history.proofs.Sets.{is_none-true, is_none-false, is_none-some}
+use Rattle.history.proofs.Sets.{is_none-true, is_none-false}
 use Rattle.history.proofs.Decided.{by-decided, by-taken}
 use Rattle.history.proofs.Class.{Class, plain}
 use Rattle.history.proofs.Views.{view, is-silent, silent-unbegun}
@@ -28,17 +27,6 @@ use Rattle.history.proofs.Marked.{Marked}
 use Rattle.history.proofs.Hosts.{Comes}
 use Rattle.history.proofs.Hosted.{host-goes}
 use Rattle.history.proofs.Own.{own-goes}
-
--- what is asked, taken and refused
-pub asks-taken : (x : Event) → x.refusal ≡ None → asks x ≡ callAsks x.call
-asks-taken x z = rw z
-
-pub asks-refused : (x : Event) → (x.refusal ≡ None → ⊥) → asks x ≡ quiet
-asks-refused x n = rw (is_none-some x.refusal n)
-
--- nothing happens in a refused call
-nothing_seen : (d d' : Device) → d' ≡ d → Class d (view quiet []) d'
-nothing_seen d d' e = rw e (plain (is-silent quiet refl) (silent-unbegun quiet) (same d))
 
 module _ (d : Device) (l : Lent) (t : Typed l.call) (s : SizedRecord d) where
   abbrev x : Event
@@ -51,10 +39,10 @@ module _ (d : Device) (l : Lent) (t : Typed l.call) (s : SizedRecord d) where
       ⊎_elim
       (λ (y : is_none (step d l).refusal ≡ true).
       let z = is_none-true (step d l).refusal y in
-      subst P (sym (read-seen x (step d l).frames r (callAsks l.call) (asks-taken x z))) (go z))
+      subst P (sym (read-seen x (step d l).frames r (callAsks l.call) (rw z))) (go z))
       (λ (y : is_none (step d l).refusal ≡ false).
       let n = is_none-false (step d l).refusal y in
-      subst P (sym (read-seen x (step d l).frames r quiet (asks-refused x n) ∙ ap (view quiet) (refused-keeps d l n).frames)) (keep n))
+      subst P (sym (read-seen x (step d l).frames r quiet (rw y) ∙ ap (view quiet) (refused-keeps d l n).frames)) (keep n))
       (tested (is_none (step d l).refusal))
 
 -- a taken call, by the rule that holds
@@ -67,7 +55,7 @@ pub comes : (d : Device) (l : Lent) → Typed l.call → SizedRecord d → Class
 comes d l t s =
     by-view d l t s (λ (e : Seen). Class d e (step d l).state)
     (by-taken d l (λ (x : Step). Class d (view (callAsks l.call) x.frames) x.state) (λ a r. ruled-comes d l.medium l.buffer t r))
-    (λ n. nothing_seen d (step d l).state (refused-keeps d l n).state)
+    (λ n. subst (Class d (view quiet [])) (sym (refused-keeps d l n).state) (plain (is-silent quiet refl) (silent-unbegun quiet) (same d)))
 
 -- a taken call, by the rule that holds: a halt keeps its record
 ruled-marked : (d : Device) (m b : List ℕ) {c : Call} {a : Act} → by.Ruled (facts_of d (lent c m b)) c (Ok a) → Marked d → Marked (after_of d a)

@@ -1,6 +1,6 @@
 -- Refused calls struck out of a sequence change no later refusal, reply, medium or state. Assumes nothing.
 use Rattle.std.proofs.Common.{is_none, ◌≡◌, refl, sym, ap, subst, ◌∙◌, true, false, List, [], ◌∷◌, ⊎_elim}
-use Rattle.bits.proofs.Picks.{tested, pick_yes, pick_no}
+use Rattle.bits.proofs.Picks.{tested}
 use Rattle.device_state.specs.declared.shapes.Settings.{Settings}
 use Rattle.device.specs.Device.{powerOn}
 use Rattle.device.specs.Lent.{Lent, Gave}
@@ -22,15 +22,10 @@ ran d h = record { state = d; calls = h }
 keeps : (d : Device) (a : Lent) → is_none (result d a).outcome.refusal ≡ false → (result d a).outcome.state ≡ d
 keeps d a n = (refused-keeps d a (is_none-false (step d a).refusal n)).state
 
--- a taken call stays
-taken-yes : (x : Done) (xs : List Done) → is_none x.gave.outcome.refusal ≡ true → takenOf (x ∷ xs) ≡ x ∷ takenOf xs
-unfolding takenOf
-taken-yes x xs y = pick_yes (is_none x.gave.outcome.refusal) (x ∷ takenOf xs) _ y
-
--- a refused one is struck out
+-- a refused call is struck out
 taken-no : (x : Done) (xs : List Done) → is_none x.gave.outcome.refusal ≡ false → takenOf (x ∷ xs) ≡ takenOf xs
 unfolding takenOf
-taken-no x xs n = pick_no (is_none x.gave.outcome.refusal) (x ∷ takenOf xs) (takenOf xs) n
+taken-no x xs n = rw n
 
 -- from any state on, behind any calls
 pub struck-run : (as' : List Lent) (d : Device) (h : List Done) → run d (takenOf h) (lentTaken d as') ≡ ran (run d h as').state (takenOf (run d h as').calls)
@@ -40,14 +35,10 @@ struck-run (a ∷ as') d h =
     let b = is_none (result d a).outcome.refusal in
     let d' : Device = (result d a).outcome.state in
     let x : Done = done a (result d a) in
-    let rest = lentTaken d' as' in
     let more = struck-run as' d' (x ∷ h) in
     ⊎_elim
-    (λ (y : b ≡ true).
-    ap (λ (l : List Lent). run d (takenOf h) l) (pick_yes b (a ∷ rest) rest y) ∙ ap (λ (k : List Done). run d' k rest) (sym (taken-yes x h y)) ∙ more)
-    (λ (n : b ≡ false).
-    ap (λ (l : List Lent). run d (takenOf h) l) (pick_no b (a ∷ rest) rest n) ∙ ap (λ (z : Device). run z (takenOf h) rest) (sym (keeps d a n))
-    ∙ ap (λ (k : List Done). run d' k rest) (sym (taken-no x h n)) ∙ more)
+    (λ (y : b ≡ true). rw y (rw y at more))
+    (λ (n : b ≡ false). rw n (ap (λ (z : Device). run z (takenOf h) (lentTaken d' as')) (sym (keeps d a n)) ∙ (rw (taken-no x h n) at more)))
     (tested b)
 
 -- from power-on
@@ -73,11 +64,10 @@ struck-follows (x ∷ xs) d f =
     let d' : Device = x.gave.outcome.state in
     let more = struck-follows xs d' f.1 in
     ⊎_elim
-    (λ (y : b ≡ true). subst (λ (ys : List Done). Goes d (x ∷ xs) ys) (sym (pick_yes b (x ∷ takenOf xs) (takenOf xs) y)) ((f.0, more.0), more.1))
+    (λ (y : b ≡ true). rw y ((f.0, more.0), more.1))
     (λ (n : b ≡ false).
     let e : d' ≡ d = keeps-code d x f.0 n in
-    subst (λ (ys : List Done). Goes d (x ∷ xs) ys) (sym (pick_no b (x ∷ takenOf xs) (takenOf xs) n))
-    (subst (λ (z : Device). FollowsBy Allowed z (takenOf xs)) e more.0, ap (λ (z : Device). final z (takenOf xs)) (sym e) ∙ more.1))
+    rw n (subst (λ (z : Device). FollowsBy Allowed z (takenOf xs)) e more.0, ap (λ (z : Device). final z (takenOf xs)) (sym e) ∙ more.1))
     (tested b)
 
 -- of the code: without its refused calls a sequence of results that the contracts allow is still one, every other result as it was, and ends in the same state

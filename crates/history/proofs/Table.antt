@@ -1,9 +1,8 @@
 -- The commands of a history against the device's table: what each carried is what its entry says has moved. Assumes nothing.
-use Rattle.std.proofs.Common.{None, ◌≡◌, sym, ap, ap₂, ◌∙◌, ⊎_elim, Bool, true, false, not, ◌&&◌, ◌||◌, true≢false, List, [], ◌∷◌, ◌++◌, ℕ, ◌*◌, ◌≤◌, arith}
+use Rattle.std.proofs.Common.{None, ◌≡◌, sym, ap, ap₂, ◌∙◌, ⊎_elim, Bool, true, false, List, [], ◌∷◌, ◌++◌, ℕ, ◌*◌, ◌≤◌, arith}
 use mathlib.Core.Bool.{false≢true}
-use borrow.Author.Tests.{not-true}
 use Rattle.std.proofs.lemmas.Bool.{or_left}
-use Rattle.bits.proofs.Picks.{tested, and_right}
+use Rattle.bits.proofs.Picks.{tested}
 use Rattle.device.specs.declared.state.Device.{Device}
 use Rattle.history.specs.Seen.{Seen, Transfer}
 use Rattle.history.specs.Fates.{Command, later, commands, ownTag, ends, outstandingAt, finishedAt, outstanding, finished, All}
@@ -33,14 +32,7 @@ pub record Following (d : Device) (c : Command) : Type 0 where
 
 -- what an outstanding command carried is a beginning of its range
 stands-begins : (d : Device) (c : Command) → Standing d c → Beginning (base c) (size c) (carried c)
-stands-begins d c s = record { long = (deviceEntry d (ownTag c)).moved; within = stands-within s.moved s.count; is = s.bytes }
-  where
-    stands-within : {m n k : ℕ} → m ≤ 512 * n → n ≡ k → m ≤ 512 * k
-    stands-within l e = omega arith
-
--- the same positions, the same beginning
-same-begins : (a n : ℕ) (l m : List ℕ) → l ≡ m → Beginning a n m → Beginning a n l
-same-begins a n l m e b = record { long = b.long; within = b.within; is = e ∙ b.is }
+stands-begins d c s = record { long = (deviceEntry d (ownTag c)).moved; within = omega arith; is = s.bytes }
 
 -- an accepted command
 follows-new : (d' : Device) (e : Seen) → New e d' → Following d' (freshCommand e)
@@ -77,18 +69,6 @@ stands-later d d' e c m f o s x =
           ∙ k.carried (base c);
     }
 
--- truth table: what was not outstanding is not
-b-gone : (o x : Bool) → o ≡ false → (o && not x) ≡ true → ⊥
-b-gone o x e f = grind arith
-
--- truth table: what was outstanding and is finished is finished now
-b-now : (f o g : Bool) → (f || (o && g)) ≡ true → (f ≡ true → o ≡ false) → o ≡ true → g ≡ true
-b-now f o g e n y = grind arith
-
--- truth table: what had already ended was finished before
-b-before : (f o g : Bool) → (f || (o && g)) ≡ true → o ≡ false → f ≡ true
-b-before f o g e y = grind arith
-
 module _ (d d' : Device) (e : Seen) (c : Command) (m : Moving d e d') (k : Following d c) (u : transfer (e ∷ c.after) ≡ transferOf d') where
   -- a command that had already ended
   old : outstanding c ≡ false → Following d' (later e c)
@@ -97,9 +77,9 @@ module _ (d d' : Device) (e : Seen) (c : Command) (m : Moving d e d') (k : Follo
       let same = carried-after (base c) c.accepted.asks.write (ownTag c) e c.after o in
       record {
         under = u;
-        stands = λ x. absurd (b-gone (outstanding c) (ends (ownTag c) e) o x);
-        whole = λ f. same ∙ k.whole (b-before (finished c) (outstanding c) (e.finishes (ownTag c)) f o);
-        begins = same-begins (base c) (size c) (carried (later e c)) (carried c) same k.begins;
+        stands = λ x. absurd (grind arith);
+        whole = λ f. same ∙ k.whole (grind arith);
+        begins = record { long = k.begins.long; within = k.begins.within; is = same ∙ k.begins.is };
       }
 
   -- finished at this event
@@ -107,7 +87,7 @@ module _ (d d' : Device) (e : Seen) (c : Command) (m : Moving d e d') (k : Follo
   unfolding finishedAt
   now o s f =
       let t = ownTag c in
-      let g = b-now (finished c) (outstanding c) (e.finishes t) f (finished-over t c.after) o in
+      let g : e.finishes t ≡ true = grind (arith, finished-over t c.after) in
       carried_none (base c) c.accepted.asks.write t e c.after (m.over t (or_left (e.finishes t) _ g))
       ∙ s.bytes ∙ ap (span (base c)) (m.done t s.busy g ∙ ap (λ (n : ℕ). 512 * n) s.count)
 
@@ -116,10 +96,9 @@ module _ (d d' : Device) (e : Seen) (c : Command) (m : Moving d e d') (k : Follo
   unfolding outstandingAt
   ended o s x = record {
     under = u;
-    stands = λ y. absurd (true≢false (sym x ∙ not-true (ends (ownTag c) e) (and_right (outstanding c) (not (ends (ownTag c) e)) y)));
+    stands = λ y. absurd (grind arith);
     whole = now o s;
-    begins = same-begins (base c) (size c) (carried (later e c)) (carried c)
-        (carried_none (base c) c.accepted.asks.write (ownTag c) e c.after (m.over (ownTag c) x)) k.begins;
+    begins = record { long = k.begins.long; within = k.begins.within; is = carried_none (base c) c.accepted.asks.write (ownTag c) e c.after (m.over (ownTag c) x) ∙ k.begins.is };
   }
 
   -- outstanding still
@@ -135,10 +114,6 @@ module _ (d d' : Device) (e : Seen) (c : Command) (m : Moving d e d') (k : Follo
       (λ (o : outstanding c ≡ true). ⊎_elim (ended o (k.stands o)) (stays o (k.stands o)) (tested (ends (ownTag c) e)))
       old
       (tested (outstanding c))
-
--- before any call
-pub follows-start : (d : Device) → All (Following d) (commands [])
-follows-start d = all_start (Following d)
 
 -- each kind of effect keeps every command with the table
 pub following-step : (d d' : Device) (e : Seen) (h : List Seen) → Phased d → All (Following d) (commands h) → Class d e d' → All (Following d') (commands (e ∷ h))
@@ -161,7 +136,7 @@ pub record Tracked (d : Device) (h : List Seen) : Type 0 where
 
 -- before any call, with no phase open
 pub tracked-start : (d : Device) → d.status.phase ≡ None → Tracked d []
-tracked-start d p = record { phased = phased-shut d p; under = whole-transfer-start d p; commands = follows-start d }
+tracked-start d p = record { phased = phased-shut d p; under = whole-transfer-start d p; commands = all_start (Following d) }
 
 -- each kind of effect keeps it
 pub tracked-step : (d d' : Device) (e : Seen) (h : List Seen) → Tracked d h → Class d e d' → Tracked d' (e ∷ h)

@@ -1,5 +1,5 @@
 -- What is under way, by the history and by the state: each kind of effect keeps them equal. Assumes nothing.
-use Rattle.std.proofs.Common.{Option, Some, None, is_some, unwrap_or, true≢false, ◌≡◌, refl, sym, ap, ap₂, ◌∙◌, Bool, true, false, not, ◌&&◌, ◌||◌, List, [], ◌∷◌, ℕ, ◌+◌, ◌*◌, eqb, ltb, leb, lt-ltb, le-ltb, leb-true, leb-false, arith}
+use Rattle.std.proofs.Common.{Option, Some, None, is_some, true≢false, ◌≡◌, refl, sym, ap, ap₂, ◌∙◌, Bool, true, false, not, ◌&&◌, ◌||◌, List, [], ◌∷◌, ℕ, ◌+◌, ◌*◌, eqb, ltb, leb, arith}
 use Rattle.bits.specs.Pick.{pick}
 use Rattle.bits.specs.Bit.{bitIn}
 use Rattle.bits.proofs.Picks.{pick_yes, pick_no}
@@ -57,14 +57,6 @@ phased-shut d p = record { busy = λ t e. absurd (true≢false (ap is_some (sym 
 pub phased-same : (d d' : Device) → Phased d → d'.status.phase ≡ d.status.phase → d'.status.outstanding ≡ d.status.outstanding → Phased d'
 phased-same d d' i p o = record { busy = λ t e. ap (λ (m : ℕ). bitIn 32 m t) o ∙ i.busy t (sym p ∙ e) }
 
--- data moved: the phase is closed, or as it was
-phased-on : (d d' : Device) (b : Bool) → Phased d → d'.status.phase ≡ pick b None d.status.phase → d'.status.outstanding ≡ d.status.outstanding → Phased d'
-phased-on d d' b i p o = grind arith
-
--- a phase is open for one tag only
-opened-tag : (t u : ℕ) (phase : Option ℕ) → phase ≡ Some t → phase ≡ Some u → t ≡ u
-opened-tag t u phase x y = ap (λ (p : Option ℕ). unwrap_or p 0) (sym x ∙ y)
-
 -- each kind of effect keeps it so
 pub phased-step : (d d' : Device) (e : Seen) → Phased d → Class d e d' → Phased d'
 phased-step d d' e i (plain s u k) = phased-same d d' i k.phase k.outstanding
@@ -75,8 +67,8 @@ phased-step d d' e i (halts q ba fa s u a ha w k) = phased-shut d' k.phase
 phased-step d d' e i (resets s u k) = phased-shut d' k.phase
 phased-step d d' e i (sweeps cl a s u ha o p k) = phased-shut d' k.phase
 phased-step d d' e i (takes s u k) = phased-shut d' (k.phase ∙ k.shut)
-phased-step d d' e i (opens tag s k) = record { busy = λ t x. ap₂ (bitIn 32) k.outstanding (opened-tag t tag d'.status.phase x k.phase) ∙ k.busy }
-phased-step d d' e i (carries tag n s u k) = phased-on d d' (leb (512 * (entry_of d.entries tag).count) ((entry_of d.entries tag).moved + n)) i k.phase k.outstanding
+phased-step d d' e i (opens tag s k) = record { busy = λ t x. ap₂ (bitIn 32) k.outstanding (let y : t ≡ tag = cc in y) ∙ k.busy }
+phased-step d d' e i (carries tag n s u k) = grind arith
 phased-step d d' e i (ends set s u k) = phased-shut d' (k.phase ∙ k.shut)
 
 -- ---- what is under way after one event more
@@ -115,12 +107,7 @@ load-own w e k s b = grind arith
 on-transfer : (b : Bool) (d' : Device) (x : Entry) (tag : ℕ) (p : Option ℕ) (n : ℕ) → b ≡ leb (512 * x.count) (x.moved + n) → p ≡ Some tag → d'.status.phase ≡ pick b None p
     → (entry_of d'.entries tag).write ≡ x.write → (entry_of d'.entries tag).count ≡ x.count → (entry_of d'.entries tag).moved ≡ x.moved + n
     → transferOf d' ≡ pick (ltb (x.moved + n) (512 * x.count)) (underWay (not x.write) tag (x.moved + n) (512 * x.count)) noTransfer
-on-transfer true d' x tag p n b y z w c m =
-    let l = leb-true (512 * x.count) (x.moved + n) (sym b) in
-    rw (le-ltb (x.moved + n) (512 * x.count) l) (transfer-shut d' z)
-on-transfer false d' x tag p n b y z w c m =
-    let l = leb-false (512 * x.count) (x.moved + n) (sym b) in
-    rw (lt-ltb (x.moved + n) (512 * x.count) l) (transfer-open d' tag (z ∙ y) ∙ rw (w, c, m))
+on-transfer b d' x tag p n e y z w c m = grind arith
 
 -- data moved: the history's and the state's go on alike
 pub transfer-carries : (d d' : Device) (e : Seen) (n : List Seen) (tag k : ℕ) → transfer n ≡ transferOf d → errs e || e.asks.resets ≡ false → Unbegun e

@@ -3,7 +3,7 @@ use Rattle.std.proofs.Common.{Ok, ◌≡◌, refl, ap, ap₂, ◌∙◌, Bool, t
 use Rattle.bits.specs.Pick.{pick}
 use Rattle.bits.specs.Bit.{bitIn}
 use Rattle.frames.specs.Read.{readFrame}
-use Rattle.frames.specs.Write.{FrameValue, host, device, setBits, setup, activate, payload, bist, pio, encode}
+use Rattle.frames.specs.Write.{FrameValue, device, setBits, setup, payload, pio, encode}
 use Rattle.frames.specs.RoundTrip as trip
 use Rattle.frames.specs.declared.shapes.DevReg.{DevReg}
 use Rattle.frames.specs.declared.shapes.SetBits.{SetBits}
@@ -27,14 +27,8 @@ readIn fs = map readAs fs
 
 -- the payload of a frame that is sent
 abbrev pub payloadOf : FrameValue → List ℕ
-payloadOf (host f) = []
-payloadOf (device f) = []
-payloadOf (setBits f) = []
-payloadOf (setup f) = []
-payloadOf activate = []
 payloadOf (payload p) = p
-payloadOf bist = []
-payloadOf (pio f) = []
+payloadOf _ = []
 
 -- the payloads of frames, one behind the other
 abbrev pub payloadsOf : List FrameValue → List ℕ
@@ -61,14 +55,8 @@ all_read (f ∷ fs) h = ap₂ (λ (x : FrameRead) (l : List FrameRead). x ∷ l)
 
 data_of : (f : FrameValue) → dataIn (encode f) (readAs f) ≡ payloadOf f
 unfolding encode
-data_of (host f) = refl
-data_of (device f) = refl
-data_of (setBits f) = refl
-data_of (setup f) = refl
-data_of activate = refl
 data_of (payload p) = refl
-data_of bist = refl
-data_of (pio f) = refl
+data_of _ = refl
 
 -- and their payloads are those that were sent
 pub all-payloads : (fs : List FrameValue) → Fitting fs → payloads (map encode fs) ≡ payloadsOf fs

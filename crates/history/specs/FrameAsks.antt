@@ -36,8 +36,8 @@ registerAsks h = record {
 
 -- 46h brings its payload
 abbrev pub dataAsks : ℕ → Asked
-dataAsks n = record { command = false; queued = false; write = false; tag = 0; first = 0; count = 0; reads = λ page. false; resets = false; brings = n }
+dataAsks n = record quiet { brings = n }
 
 -- COMRESET is a reset
 abbrev pub resetAsks : Asked
-resetAsks = record { command = false; queued = false; write = false; tag = 0; first = 0; count = 0; reads = λ page. false; resets = true; brings = 0 }
+resetAsks = record quiet { resets = true }

@@ -1,10 +1,9 @@
 -- The other bytes of page 10h: how many there can be, and what holds where there are none. Assumes nothing.
-use Rattle.std.proofs.Common.{◌≡◌, refl, ◌∙◌, ℕ, zero, suc, ◌+◌, ◌≤◌, ◌<◌, Bool, true, false, not, List, [], ◌∷◌, length, get_or, cond, None, arith, ⊎_elim, zero-add, not-suc-le-zero, le_of_suc-le-suc, eqb, lit<, eqb-true}
+use Rattle.std.proofs.Common.{◌≡◌, refl, ◌∙◌, ℕ, ◌≤◌, ◌<◌, Bool, true, false, not, List, length, get_or, cond, None, arith, zero-add, eqb, lit<, eqb-true}
 use Rattle.std.specs.List.{count_by, enumerate_from}
-use Rattle.std.proofs.lemmas.List.Sums.{count_by-le-length, sum_by-cons}
+use Rattle.std.proofs.lemmas.List.Sums.{count_by-le-length, get_or-le-sum_by}
 use Rattle.std.proofs.lemmas.List.FromFn.{length-enumerate_from, get_or-enumerate_from}
 use Rattle.bits.specs.Bit.{clearIn}
-use Rattle.bits.proofs.Picks.{tested}
 use Rattle.refusals.specs.First.{first_of}
 use Rattle.refusals.proofs.FirstLaws as firsts
 use Rattle.page_10h.specs.Page10.{ladder10}
@@ -20,18 +19,10 @@ others-most page e =
     let l = eqb-true (length page) 512 (not-false (eqb (length page) 512) short) in
     omega (arith, count_by-le-length hasOther (enumerate_from 0 page), length-enumerate_from 0 page, l)
 
-none-here : (byte : ℕ × ℕ) (bytes : List (ℕ × ℕ)) → count_by hasOther (byte ∷ bytes) ≡ 0 → (hasOther byte ≡ false) × (count_by hasOther bytes ≡ 0)
-none-here byte bytes z =
-    let s = sum_by-cons (λ (x : ℕ × ℕ). cond (hasOther x) 1 0) byte bytes in
-    ⊎_elim
-    (λ (o : hasOther byte ≡ true). absurd (let t : count_by hasOther (byte ∷ bytes) ≡ 1 + count_by hasOther bytes = s ∙ rw o refl in omega (arith, t)))
-    (λ (o : hasOther byte ≡ false). (o, (let t : count_by hasOther (byte ∷ bytes) ≡ 0 + count_by hasOther bytes = s ∙ rw o refl in omega (arith, t))))
-    (tested (hasOther byte))
-
 none-counted : (bytes : List (ℕ × ℕ)) → count_by hasOther bytes ≡ 0 → (i : ℕ) → i < length bytes → hasOther (get_or bytes i (0, 0)) ≡ false
-none-counted [] z i h = absurd (not-suc-le-zero h)
-none-counted (byte ∷ bytes) z zero h = (none-here byte bytes z).0
-none-counted (byte ∷ bytes) z (suc i) h = none-counted bytes (none-here byte bytes z).1 i (le_of_suc-le-suc h)
+none-counted bytes z i h =
+    let s : cond (hasOther (get_or bytes i (0, 0))) 1 0 ≤ count_by hasOther bytes = get_or-le-sum_by (λ (x : ℕ × ℕ). cond (hasOther x) 1 0) bytes i (0, 0) h in
+    grind (arith, s)
 
 -- where a page has no other bytes, each byte has set bits of named fields alone
 pub no-others : (page : List ℕ) → count_by hasOther (enumerate_from 0 page) ≡ 0 → (at : ℕ) → at < length page → clearIn 8 (get_or page at 0) (namedBits at (get_or page at 0)) ≡ 0

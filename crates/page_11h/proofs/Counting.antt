@@ -1,14 +1,14 @@
 -- The count of the entries that are none of the sixteen counters, over the walk. Assumes nothing.
-use Rattle.std.proofs.Common.{◌≡◌, refl, ap, sym, ◌∙◌, Bool, true, false, List, [], ◌∷◌, length, ℕ, zero, suc, ◌+◌, ◌-◌, ◌≤◌, ◌<◌, Option, Some, None, Result, Ok, Err, cond, arith, ◌||◌, ⊎_elim, eq-eqb, zero-add}
+use Rattle.std.proofs.Common.{◌≡◌, refl, ap, sym, ◌∙◌, Bool, true, false, List, [], ◌∷◌, length, ℕ, zero, suc, ◌+◌, ◌-◌, ◌≤◌, Option, Some, None, Result, Ok, Err, cond, arith, eq-eqb, zero-add}
 use Rattle.std.specs.List.{count_by}
 use Rattle.std.proofs.lemmas.List.Sums.{sum_by-cons, count_by-le-length}
 use Rattle.bits.specs.Pick.{pick}
-use Rattle.bits.proofs.Picks.{by-test, pick_yes, tested}
+use Rattle.bits.proofs.Picks.{pick_yes}
 use Rattle.page_sum.specs.Sum.{sum256}
 use Rattle.refusals.specs.First.{first_of, unless}
 use Rattle.refusals.specs.declared.reasons.Refusal.{Refusal}
 use Rattle.refusals.specs.declared.reasons.Refusal.TheVariants.{PageDamaged}
-use Rattle.page_11h.specs.Entries.{CounterEntry, entry_at, id_at, bytesIn, end_of, wrongWidth, pastEnd, entriesFrom, entries}
+use Rattle.page_11h.specs.Entries.{CounterEntry, entry_at, id_at, bytesIn, end_of, entriesFrom, entries}
 use Rattle.page_11h.specs.Page11.{anyFault, damaged, readCounter}
 use Rattle.page_11h.specs.Others.{idOther, entryOther, countOthers}
 use Rattle.page_11h.specs.WalkStep.{faulty, walkEntry, stepAt, Stepped}
@@ -75,11 +75,9 @@ module _ (page : List ℕ) (at n : ℕ) where
   -- the count from a place on is by the step there
   pub turn : counted (ahead page at) n ≡ after_step page n (stepAt page at)
   turn =
-      ⊎_elim
-      (λ (t : ends page at ≡ true).
-      ap (λ (rest : List CounterEntry). counted rest n) (entries-end page at (508 - at) t) ∙ counted-none n ∙ ap (after_step page n) (sym (step_end page at t)))
-      (λ (more : ends page at ≡ false). ⊎_elim (fault-step more) (row-step more) (tested (faulty (entry_at page at))))
-      (tested (ends page at))
+      let last = entries-end page at (508 - at) in
+      let none = counted-none n in
+      grind (arith, last, none, step_end page at, fault-step, row-step)
 
 -- the count of a page that is refused for nothing but its entries
 abbrev pub total : List ℕ → Result ℕ Refusal
@@ -109,26 +107,16 @@ module _ {page : List ℕ} {w w' : Walk} {r : Option (Result WalkEntry Refusal)}
   counts-all q = step-rest ∙ ap (after_step page n) q
 
   module _ (e : WalkEntry) (q : r ≡ Some (Ok e)) where
-    -- one that is counted has a place before the end
-    pub counts-lt : n < 508
-    counts-lt =
-        let l = entry_lies w.page.now w.at e (sym t.answer ∙ q) in
-        omega (arith, a.most, l.within, l.next)
-
     pub counts-one : Counts page w' (n + cond (idOther e.id.0) 1 0)
     counts-one =
         let l = entry_lies w.page.now w.at e (sym t.answer ∙ q) in
         let at : w'.at ≡ e.start + e.bytes = t.at ∙ rw q refl in
-        let one : cond (idOther e.id.0) 1 0 ≤ 1 = at-most-one (idOther e.id.0) in
+        let one : cond (idOther e.id.0) 1 0 ≤ 1 = grind arith in
         record {
           same = rw t.page a.same;
           rest = step-rest ∙ ap (after_step page n) q ∙ rw at refl;
           most = omega (arith, at, one, a.most, l.next, l.some);
         }
-      where
-        at-most-one : (b : Bool) → cond b 1 0 ≤ 1
-        at-most-one true = omega arith
-        at-most-one false = omega arith
 
     pub counts-other : idOther e.id.0 ≡ true → Counts page w' (n + 1)
     counts-other h = let c = counts-one in rw h at c
@@ -150,10 +138,7 @@ counts-total page l s = rw (eq-eqb (length page) 512 l, eq-eqb (sum256 page) 0 s
 entries-most : (page : List ℕ) (fuel at : ℕ) → length (entriesFrom page fuel at) ≤ fuel
 unfolding entriesFrom
 entries-most page zero at = omega arith
-entries-most page (suc fuel) at =
-    by-test (λ (es : List CounterEntry). length es ≤ suc fuel) (ends page at) [] _ (λ _. omega arith)
-    (λ _. by-test (λ (es : List CounterEntry). suc (length es) ≤ suc fuel) (wrongWidth (entry_at page at) || pastEnd (entry_at page at)) [] _ (λ _. omega arith)
-    (λ _. omega (arith, entries-most page fuel (end_of (entry_at page at)))))
+entries-most page (suc fuel) at = grind (arith, entries-most page fuel (end_of (entry_at page at)))
 
 pub others-most : (page : List ℕ) → count_by entryOther (entries page) ≤ 508
 unfolding entries

@@ -1,11 +1,11 @@
 -- A value is said to be at the top exactly where it is the largest of the entry that it was read from. Assumes nothing.
-use Rattle.std.proofs.Common.{Some, None, Ok, ◌≡◌, ap, sym, ◌∙◌, true, false, ◌||◌, ⊎_elim, List, [], ◌∷◌, ℕ, suc, ◌*◌, ◌-◌, ◌^◌, ◌<◌, ◌≤◌, min, suc-le-suc, zero-lt-suc, arith, ltb, leb, lit<, length, get_or, ltb-false, eqb-true, eq-eqb}
-use Rattle.std.specs.List.{list_any, count_by}
+use Rattle.std.proofs.Common.{Some, None, Ok, ◌≡◌, ap, sym, ◌∙◌, true, false, ⊎_elim, List, [], ◌∷◌, ℕ, suc, ◌*◌, ◌-◌, ◌^◌, ◌<◌, ◌≤◌, min, suc-le-suc, zero-lt-suc, arith, ltb, lit<, length, get_or, ltb-false, eqb-true, eq-eqb}
+use Rattle.std.specs.List.{list_any}
 use Rattle.refusals.specs.First.{first_of, Iff}
 use Rattle.refusals.proofs.FirstLaws as firsts
 use Rattle.refusals.proofs.FirstLaws.{unless-ok}
 use Rattle.bits.proofs.Picks.{tested, or_left, or_right}
-use Rattle.page_11h.specs.Entries.{CounterEntry, width_of, bytesIn, wrongWidth, pastEnd, nameless, entryAsked, entries}
+use Rattle.page_11h.specs.Entries.{CounterEntry, width_of, bytesIn, wrongWidth, entryAsked, entries}
 use Rattle.page_11h.specs.Page11.{damaged, valueOf, valueIn, ladder11, readCounter}
 use Rattle.page_11h.specs.Top.{topOf, atTop}
 use Rattle.page_11h.specs.declared.value.CounterValue.{CounterValue}
@@ -53,8 +53,7 @@ answered page number v e =
     let es = entries page in
     let u = unless-ok (first_of (ladder11 page number)) (valueIn page number es) (Some v) (sym e) in
     let d = (firsts.first-exactly (ladder11 page number) tt).none.0 u.0 3 (lit< tt) in
-    let f = or_left ((list_any wrongWidth es || list_any pastEnd es) || list_any nameless es) (leb 2 (count_by (entryAsked number) es)) d in
-    (or_left (list_any wrongWidth es) (list_any pastEnd es) (or_left (list_any wrongWidth es || list_any pastEnd es) (list_any nameless es) f), sym u.1)
+    (grind (arith, d), sym u.1)
 
 -- a value at the top is the largest of the entry that it was read from
 pub record Topped (page : List ℕ) (number : ℕ) (v : CounterValue) : Type 0 where

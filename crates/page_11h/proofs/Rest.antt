@@ -1,6 +1,6 @@
 -- The answer for a list of entries, with what is found so far, entry by entry: from it the four clauses of refusal 22 follow. Assumes nothing.
 use Rattle.std.proofs.Common.{◌≡◌, refl, ap, sym, ◌∙◌, Bool, true, false, List, [], ◌∷◌, ℕ, suc, Option, Some, None, Result, Ok, Err, cond, ◌||◌, one-add, zero-add, leb, arith}
-use Rattle.std.specs.List.{list_any, count_by}
+use Rattle.std.specs.List.{count_by}
 use Rattle.std.proofs.lemmas.List.Sums.{sum_by-cons}
 use mathlib.Core.Bool.{or-true}
 use lib.Dec.{leb-zero, leb-suc-suc}
@@ -8,7 +8,7 @@ use Rattle.bits.specs.Pick.{pick}
 use Rattle.bits.proofs.Picks.{pick_yes}
 use Rattle.refusals.specs.declared.reasons.Refusal.{Refusal}
 use Rattle.refusals.specs.declared.reasons.Refusal.TheVariants.{PageDamaged}
-use Rattle.page_11h.specs.Entries.{CounterEntry, wrongWidth, pastEnd, nameless, entryAsked}
+use Rattle.page_11h.specs.Entries.{CounterEntry, entryAsked}
 use Rattle.page_11h.specs.Page11.{anyFault, damaged, valueOf, valueIn}
 use Rattle.page_11h.specs.WalkStep.{faulty}
 use Rattle.page_11h.specs.declared.value.CounterValue.{CounterValue}
@@ -22,18 +22,12 @@ unfoldable pub rest_of : List ℕ → ℕ → List CounterEntry → Option Count
 rest_of page number es None = pick (damaged number es) (Err PageDamaged) (Ok (valueIn page number es))
 rest_of page number es (Some v) = pick (spoilt number es) (Err PageDamaged) (Ok (Some v))
 
--- the three clauses of one entry, taken together
-or-six : (a b c w p n : Bool) → ((a || w) || (b || p)) || (c || n) ≡ ((a || b) || c) || ((w || p) || n)
-or-six a b c w p n = grind arith
-
-fault-more : (e : CounterEntry) (es : List CounterEntry) → anyFault (e ∷ es) ≡ faulty e || anyFault es
-fault-more e es = or-six (wrongWidth e) (pastEnd e) (nameless e) (list_any wrongWidth es) (list_any pastEnd es) (list_any nameless es)
-
+-- an entry that may not stand there is a fault of the list, and any other none
 pub fault-here : (e : CounterEntry) (es : List CounterEntry) → faulty e ≡ true → anyFault (e ∷ es) ≡ true
-fault-here e es h = fault-more e es ∙ ap (λ (b : Bool). b || anyFault es) h
+fault-here e es h = grind arith
 
 pub fault-not : (e : CounterEntry) (es : List CounterEntry) → faulty e ≡ false → anyFault (e ∷ es) ≡ anyFault es
-fault-not e es h = fault-more e es ∙ ap (λ (b : Bool). b || anyFault es) h
+fault-not e es h = grind arith
 
 damaged-any : (number : ℕ) (es : List CounterEntry) → damaged number es ≡ anyFault es || leb 2 (count_by (entryAsked number) es)
 unfolding damaged

@@ -1,5 +1,5 @@
 -- The round trip of page 11h: of every number 1 to 4095, a kept row's value is read, and any other number is absent. Assumes nothing.
-use Rattle.std.proofs.Common.{Option, Some, None, Ok, ◌≡◌, refl, ap, sym, ◌∙◌, Bool, true, false, ◌&&◌, ⊎_elim, List, ℕ, zero, suc, ◌+◌, ◌^◌, ◌<◌, ◌≤◌, arith, eq-eqb, ne_eqb, eqb-true, eqb, get_or}
+use Rattle.std.proofs.Common.{Option, Some, None, Ok, ◌≡◌, refl, ap, sym, ◌∙◌, Bool, true, false, ◌&&◌, ⊎_elim, List, ℕ, zero, suc, ◌+◌, ◌^◌, ◌<◌, ◌≤◌, arith, ne_eqb, eqb-true, eqb, get_or}
 use borrow.Author.Tests.{lt-leb, eqb-false}
 use Rattle.bits.specs.Pick.{pick}
 use Rattle.bits.proofs.Picks.{pick_yes, pick_no, tested}
@@ -87,9 +87,7 @@ module _ (mask : ℕ) (values : List ℕ) where
         ⊎_elim
         (λ (t : eqb n k ≡ true).
         let s : n ≡ k = eqb-true n k t in
-        let q : eqb (id_of k) number ≡ true = eq-eqb (id_of k) number e in
-        let i = found_before k (omega arith) e in
-        ⊎_elim (λ (y : kept mask k ≡ true). rw s (simp (y, q))) (λ (y : kept mask k ≡ false). rw s (simp (y, i))) (tested (kept mask k)))
+        rw s (grind (arith, e, found_before k (omega arith) e)))
         (λ (f : eqb n k ≡ false).
         let o = eqb-false n k f in
         let q = ne_eqb (id_of n) number (λ s. id_other n k (omega arith) (omega arith) o (s ∙ sym e)) in
@@ -117,11 +115,7 @@ module _ (mask : ℕ) (values : List ℕ) where
 
     -- one row further on
     page-more : (n : ℕ) → n < 16 → fromHere page number (behind n) (foundTo n) ≡ fromHere page number (behind (suc n)) (foundTo (suc n))
-    page-more n h =
-        ⊎_elim
-        (λ (t : kept mask n ≡ true). page-turn n h t)
-        (λ (f : kept mask n ≡ false). rw (length-skip mask values n f, found-skip n (simp f)))
-        (tested (kept mask n))
+    page-more n h = grind (arith, page-turn n h, length-skip mask values n, found-skip n)
 
     -- the walk as far as the first n rows
     page-walk : (n : ℕ) → n ≤ 16 → fromHere page number 4 None ≡ fromHere page number (behind n) (foundTo n)

@@ -1,11 +1,11 @@
 -- The value of an entry is read at each width: one law over the width, for every page. Assumes nothing.
-use Rattle.std.proofs.Common.{Some, None, Ok, cond, ◌≡◌, true, false, ◌||◌, List, [], ◌∷◌, ⊎_elim, ℕ, zero, suc, ◌+◌, ◌*◌, ◌^◌, ◌≤◌, ◌<◌, not-suc-le-zero, le_of_suc-le-suc, arith, leb, lit<, length, get_or, leb-false}
+use Rattle.std.proofs.Common.{Some, None, Ok, cond, ◌≡◌, true, ◌||◌, List, [], ◌∷◌, ℕ, zero, suc, ◌+◌, ◌*◌, ◌^◌, ◌≤◌, ◌<◌, not-suc-le-zero, le_of_suc-le-suc, arith, leb, lit<, length, get_or, leb-false}
 use Rattle.refusals.specs.First.{first_of}
 use Rattle.bits.specs.Little.{le_bytes}
-use Rattle.bits.proofs.Picks.{tested, or_right}
+use Rattle.bits.proofs.Picks.{or_right}
 use Rattle.refusals.proofs.FirstLaws as firsts
 use Rattle.std.specs.List.{list_any, count_by}
-use Rattle.std.proofs.lemmas.List.Sums.{sum_by-cons}
+use Rattle.std.proofs.lemmas.List.Sums.{sum_by-cons, get_or-le-sum_by}
 use Rattle.page_11h.specs.Entries.{CounterEntry, counterEntry, width_of, entryAsked, entries, wrongWidth, pastEnd, nameless}
 use Rattle.page_11h.specs.Page11.{damaged, valueOf, valueIn, ladder11, readCounter}
 use Rattle.page_11h.proofs.ByWidth.{le-stands}
@@ -20,11 +20,7 @@ count-more number e es = sum_by-cons (λ (x : CounterEntry). cond (entryAsked nu
 
 -- a hit somewhere in a list is counted
 hit-counts : (number : ℕ) (es : List CounterEntry) (i : ℕ) → i < length es → entryAsked number (get_or es i noEntry) ≡ true → 1 ≤ count_by (entryAsked number) es
-hit-counts number [] i h t = absurd (not-suc-le-zero h)
-hit-counts number (e ∷ es) zero h t = rw (count-more number e es, t) (omega arith)
-hit-counts number (e ∷ es) (suc i) h t =
-    let r = hit-counts number es i (le_of_suc-le-suc h) t in
-    rw (count-more number e es) (omega arith)
+hit-counts number es i h t = rw t at (get_or-le-sum_by (λ (x : CounterEntry). cond (entryAsked number x) 1 0) es i noEntry h)
 
 -- where no number is found twice, a hit is the answer
 hit-reads : (page : List ℕ) (number : ℕ) (es : List CounterEntry) (i : ℕ) → count_by (entryAsked number) es < 2 → i < length es → entryAsked number (get_or es i noEntry) ≡ true
@@ -36,12 +32,8 @@ hit-reads page number (e ∷ es) (suc i) m h t =
     let k = le_of_suc-le-suc h in
     let r = hit-counts number es i k t in
     let c = count-more number e es in
-    ⊎_elim
-    (λ (y : entryAsked number e ≡ true). let one : ◌≡◌ {A = ℕ} (cond (entryAsked number e) 1 0) 1 = rw y in absurd (omega (arith, one)))
-    (λ (n : entryAsked number e ≡ false).
-    let none : ◌≡◌ {A = ℕ} (cond (entryAsked number e) 1 0) 0 = rw n in
-    rw n (hit-reads page number es i (omega arith) k t))
-    (tested (entryAsked number e))
+    let q = hit-reads page number es i (omega (arith, c)) k t in
+    grind (arith, r, c, q)
 
 -- a page that is not refused has the asked number at most once
 found-once : (page : List ℕ) (number : ℕ) → first_of (ladder11 page number) ≡ None → count_by (entryAsked number) (entries page) < 2

@@ -1,13 +1,14 @@
 -- The reader's walk: an entry lies within 508 bytes and leads on, and one step of the walk is one entry of the page. Assumes nothing.
-use Rattle.std.proofs.Common.{◌≡◌, refl, ap, ap₂, sym, ◌∙◌, Bool, true, false, List, [], ◌∷◌, ℕ, zero, suc, ◌+◌, ◌-◌, ◌<◌, ◌≤◌, length, arith, Option, Some, None, Result, Ok, Err, ◌||◌, ⊎_elim, min, ltb, leb, eqb, ltb-false, leb-false, le-leb, le-ltb, eq-eqb}
+use Rattle.std.proofs.Common.{◌≡◌, refl, ap, ap₂, sym, ◌∙◌, Bool, true, false, List, [], ◌∷◌, ℕ, zero, suc, ◌+◌, ◌-◌, ◌<◌, ◌≤◌, length, arith, Option, Some, None, Result, Ok, Err, ◌||◌, ⊎_elim, min, leb, eqb, le-leb, le-ltb, eq-eqb}
+use Rattle.std.proofs.lemmas.Bool.Decides.{nat_tests}
 use Rattle.bits.specs.Pick.{pick}
 use Rattle.bits.specs.Little.{leAt, NumberGiven}
-use Rattle.bits.proofs.Picks.{by-test, pick_yes, pick_no, tested, or_left, or_right}
+use Rattle.bits.proofs.Picks.{pick_yes, pick_no, tested}
 use Rattle.refusals.specs.First.{first_of, unless}
 use Rattle.refusals.specs.declared.reasons.Refusal.{Refusal}
 use Rattle.refusals.specs.declared.reasons.Refusal.TheVariants.{PageDamaged}
 use Rattle.page_sum.specs.Sum.{sum256}
-use Rattle.page_11h.specs.Entries.{CounterEntry, entry_at, id_at, end_of, bytesIn, width_of, wrongWidth, pastEnd, nameless, idAsked, entryAsked, entriesFrom, entries}
+use Rattle.page_11h.specs.Entries.{CounterEntry, entry_at, id_at, end_of, bytesIn, wrongWidth, pastEnd, idAsked, entriesFrom, entries}
 use Rattle.page_11h.specs.Page11.{damaged, valueIn, readCounter}
 use Rattle.page_11h.specs.WalkStep.{faulty, walkEntry, stepAt, placeAfter, Stepped}
 use Rattle.page_11h.specs.declared.value.CounterValue.{CounterValue}
@@ -15,10 +16,6 @@ use Rattle.page_11h.specs.declared.walk.Walk.{Walk}
 use Rattle.page_11h.specs.declared.walk.WalkEntry.{WalkEntry}
 use Rattle.std.specs.Option.{is_some}
 use Rattle.page_11h.proofs.Rest.{rest_of, rest-none, rest-fault, rest-hit, rest-twice, rest-miss}
-
-pub id-read : (page : List ℕ) (at r : ℕ) → NumberGiven page at 2 r → r ≡ id_at page at
-unfolding id_at
-id-read page at r n = n.value
 
 -- a value is never wider than 8 bytes, so that the reader of numbers takes all of it
 pub value_read : (page : List ℕ) (start len r : ℕ) → len ≤ 8 → NumberGiven page start (min len 8) r → r ≡ leAt page start len
@@ -34,43 +31,25 @@ pub record Lies (at start len : ℕ) : Type 0 where
   pub most : len ≤ 8
   pub within : start + len ≤ 508
 
-some-width : (w : ℕ) → (ltb w 1 || ltb 4 w) ≡ false → (1 ≤ w) × (w ≤ 4)
-some-width w h = (ltb-false w 1 (or_left (ltb w 1) (ltb 4 w) h), ltb-false 4 w (or_right (ltb w 1) (ltb 4 w) h))
-
 -- an entry whose width and end are right
 sized : (e : CounterEntry) → (wrongWidth e || pastEnd e) ≡ false → Lies e.place (e.place + 2) (bytesIn e.id)
-sized e h =
-    let w = some-width (width_of e.id) (or_left (wrongWidth e) (pastEnd e) h) in
-    let past : end_of e ≤ 508 = ltb-false 508 (end_of e) (or_right (wrongWidth e) (pastEnd e) h) in
-    record { next = refl; some = omega arith; most = omega arith; within = past }
+sized e h = record { next = refl; some = grind (arith, nat_tests); most = grind (arith, nat_tests); within = grind (arith, nat_tests) }
 
-sound : (e : CounterEntry) → faulty e ≡ false → Lies e.place (e.place + 2) (bytesIn e.id)
-sound e h = sized e (or_left (wrongWidth e || pastEnd e) (nameless e) h)
-
--- of a step at a place: if it is an entry, where its value lies; if it is a fault, that the end is not reached
-unfoldable pub Placed : ℕ → Option (Result WalkEntry Refusal) → Type 0
-Placed at None = Unit
-Placed at (Some (Err r)) = at < 508
-Placed at (Some (Ok e)) = Lies at e.start e.bytes
-
-pub step-placed : (page : List ℕ) (at : ℕ) → Placed at (stepAt page at)
-unfolding stepAt Placed
-step-placed page at =
-    by-test (Placed at) _ _ _ (λ _. tt)
-    (λ n. by-test (λ r. Placed at (Some r)) _ _ _ (λ _. leb-false 508 at (or_left (leb 508 at) (eqb (id_at page at) 0) n)) (λ h. sound (entry_at page at) h))
-
+-- where the value of an entry lies that a step finds
 pub entry_lies : (page : List ℕ) (at : ℕ) (e : WalkEntry) → stepAt page at ≡ Some (Ok e) → Lies at e.start e.bytes
-unfolding Placed
-entry_lies page at e q = rw q at (step-placed page at)
+unfolding stepAt
+entry_lies page at e q =
+    let i : e ≡ walkEntry (id_at page at) (at + 2) (bytesIn (id_at page at)) = grind arith in
+    rw i (sized (entry_at page at) (grind arith))
 
 pub end_within : (page : List ℕ) (at : ℕ) (e : WalkEntry) → stepAt page at ≡ Some (Ok e) → e.start + e.bytes ≤ 508
 end_within page at e q = (entry_lies page at e q).within
 
 -- what stands at a place leads on
 pub leads-on : (page : List ℕ) (at : ℕ) (r : Result WalkEntry Refusal) → stepAt page at ≡ Some r → 508 - placeAfter at (Some r) < 508 - at
-unfolding Placed
+unfolding stepAt
 leads-on page at (Ok e) q = let l = entry_lies page at e q in omega arith
-leads-on page at (Err r) q = let l : at < 508 = rw q at (step-placed page at) in omega arith
+leads-on page at (Err r) q = grind (arith, nat_tests)
 
 -- ---- the entries from a place on
 
@@ -94,11 +73,8 @@ module _ (page : List ℕ) (at : ℕ) where
 
   pub entries-row : (fuel : ℕ) → ends ≡ false → faulty (entry_at page at) ≡ false
       → entriesFrom page (suc fuel) at ≡ entry_at page at ∷ entriesFrom page fuel (end_of (entry_at page at))
-  entries-row fuel h s =
-      entries-some fuel h
-      ∙ ap (λ (es : List CounterEntry). entry_at page at ∷ es)
-      (pick_no (wrongWidth (entry_at page at) || pastEnd (entry_at page at)) [] (entriesFrom page fuel (end_of (entry_at page at)))
-      (or_left (wrongWidth (entry_at page at) || pastEnd (entry_at page at)) (nameless (entry_at page at)) s))
+  unfolding entriesFrom
+  entries-row fuel h s = grind arith
 
   pub step_end : ends ≡ true → stepAt page at ≡ None
   unfolding stepAt
@@ -161,19 +137,12 @@ module _ (page : List ℕ) (number fuel at : ℕ) where
   entry-rest : (found : Option CounterValue) → faulty (entry_at page at) ≡ false
       → rest_of page number (entry_at page at ∷ entriesFrom page fuel (end_of (entry_at page at))) found
       ≡ after_step (fromPlace page number fuel) page number found (Some (Ok here))
-  entry-rest found s =
-      ⊎_elim
-      (λ (t : entryAsked number (entry_at page at) ≡ true).
-      hit-rest found t ∙ sym (pick_yes (idAsked number (id_at page at)) (after_hit (fromPlace page number fuel) page here found) _ t))
-      (λ (m : entryAsked number (entry_at page at) ≡ false).
-      rest-miss page number (entry_at page at) _ found s m ∙ sym (pick_no (idAsked number (id_at page at)) (after_hit (fromPlace page number fuel) page here found) _ m))
-      (tested (entryAsked number (entry_at page at)))
-    where
-      hit-rest : (more : Option CounterValue) → entryAsked number (entry_at page at) ≡ true
-          → rest_of page number (entry_at page at ∷ entriesFrom page fuel (end_of (entry_at page at))) more
-          ≡ after_hit (fromPlace page number fuel) page here more
-      hit-rest None t = rest-hit page number (entry_at page at) _ s t
-      hit-rest (Some v) t = rest-twice page number (entry_at page at) _ v t
+  entry-rest None s =
+      let es = entriesFrom page fuel (end_of (entry_at page at)) in
+      grind (arith, rest-hit page number (entry_at page at) es s, rest-miss page number (entry_at page at) es None s)
+  entry-rest (Some v) s =
+      let es = entriesFrom page fuel (end_of (entry_at page at)) in
+      grind (arith, rest-twice page number (entry_at page at) es v, rest-miss page number (entry_at page at) es (Some v) s)
 
   -- the answer from a place on, whatever the fuel, is what the step there answers, or the answer from where it leads
   pub turn-rest : (found : Option CounterValue) → rest_of page number (entriesFrom page (suc fuel) at) found ≡ after_step (fromPlace page number fuel) page number found (stepAt page at)
@@ -256,16 +225,14 @@ module _ {page : List ℕ} {number : ℕ} {w w' : Walk} {r : Option (Result Walk
         record { same = step-same; rest = step-rest ∙ rw (next-at, q, h, value_read page e.start e.bytes v l.most n) (first found o) }
       where
         first : (f : Option CounterValue) → is_some f ≡ false → after_hit (fromHere page number) page e f ≡ fromHere page number (e.start + e.bytes) (Some (readOf page e))
-        first None o = refl
-        first (Some x) o = absurd (let z : true ≡ false = o in cc)
+        first f o = grind arith
 
     -- and a second is a fault
     pub hit-twice : idAsked number e.id.0 ≡ true → is_some found ≡ true → asked_of page number ≡ Err PageDamaged
     hit-twice h o = step-rest ∙ rw (q, h) (second found o)
       where
         second : (f : Option CounterValue) → is_some f ≡ true → after_hit (fromHere page number) page e f ≡ Err PageDamaged
-        second None o = absurd (let z : false ≡ true = o in cc)
-        second (Some x) o = refl
+        second f o = grind arith
 
 -- the last rung alone: 22, or what is found
 pub last_rung : (d : Bool) (v : Option CounterValue) → pick d (Err PageDamaged) (Ok v) ≡ unless (pick d (Some PageDamaged) None) v

@@ -1,7 +1,6 @@
 -- Page 11h as a writer wrote it, read for any number: the value of a kept row, and else absent. Assumes nothing.
-use Rattle.std.proofs.Common.{Option, Some, None, Ok, ◌≡◌, refl, sym, ap, ◌∙◌, true, false, List, ⊎_elim, ℕ, ◌^◌, ◌<◌, eqb, length, get_or, take, drop, take_at, eqb-true}
-use borrow.Author.Tests.{eqb-false}
-use Rattle.bits.proofs.Picks.{pick_yes, pick_no, tested}
+use Rattle.std.proofs.Common.{Option, Some, None, Ok, ◌≡◌, refl, false, List, ℕ, ◌^◌, ◌<◌, arith, length, get_or, take, drop, take_at}
+use Rattle.std.proofs.lemmas.Bool.Decides.{nat_tests}
 use Rattle.frame_parts.specs.Emit.{WriteGiven}
 use Rattle.frame_parts.proofs.EmitLaws.{wrote-all}
 use Rattle.page_rows.specs.Rows.{id_of, kept, keepsBoth, row_of}
@@ -22,18 +21,16 @@ module _ (mask : ℕ) (values : List ℕ) where
     -- no other row has the number
     only_row : (k : ℕ) → k < 16 → id_of k ≡ number → kept mask k ≡ false → (j : ℕ) → j < 16 → id_of j ≡ number → kept mask j ≡ false
     only_row k hk ek off j hj ej =
-        ⊎_elim (λ (t : eqb j k ≡ true). ap (kept mask) (eqb-true j k t) ∙ off)
-        (λ (f : eqb j k ≡ false). absurd (id_other j k hj hk (eqb-false j k f) (ej ∙ sym ek))) (tested (eqb j k))
+        let d = id_other j k hj hk in
+        grind (arith, nat_tests, d)
 
     by_row : (row : Option ℕ) → row_of number ≡ row → readCounter (page11 mask values) number ≡ Ok (option_map rowValue (onRow mask values row))
     unfolding onRow
     by_row (Some k) e =
         let o = row-only number k e in
-        ⊎_elim
-        (λ (t : kept mask k ≡ true).
-        ap (readCounter (page11 mask values)) (sym o.1) ∙ kept-reads mask values small k o.0 t ∙ rw (pick_yes (kept mask k) (Some (get_or values k 0)) None t))
-        (λ (f : kept mask k ≡ false).
-        unkept-absent mask values small number some most (only_row k o.0 o.1 f) ∙ rw (pick_no (kept mask k) (Some (get_or values k 0)) None f)) (tested (kept mask k))
+        let yes = kept-reads mask values small k o.0 in
+        let no = λ (f : kept mask k ≡ false). unkept-absent mask values small number some most (only_row k o.0 o.1 f) in
+        grind (arith, yes, no, o.1)
     by_row None e = unkept-absent mask values small number some most (λ k h q. absurd (row-missing number e k h q))
 
     read_made : readCounter (page11 mask values) number ≡ Ok (option_map rowValue (shownFor mask values number))

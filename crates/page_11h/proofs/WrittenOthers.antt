@@ -1,6 +1,5 @@
 -- A page 11h as a writer wrote it has no entry but the sixteen counters'. Assumes nothing.
-use Rattle.std.proofs.Common.{◌≡◌, refl, ap, ◌∙◌, true, false, List, length, take, drop, ℕ, zero, suc, ◌+◌, ◌<◌, ◌≤◌, Ok, arith, ⊎_elim, take_at}
-use Rattle.bits.proofs.Picks.{tested}
+use Rattle.std.proofs.Common.{◌≡◌, refl, ap, ◌∙◌, true, false, List, length, take, drop, ℕ, zero, suc, ◌+◌, ◌<◌, ◌≤◌, Ok, arith, take_at}
 use Rattle.frame_parts.specs.Emit.{WriteGiven}
 use Rattle.frame_parts.proofs.EmitLaws.{wrote-all}
 use Rattle.page_rows.specs.Rows.{id_of, kept, keepsBoth}
@@ -28,11 +27,7 @@ module _ (mask : ℕ) (values : List ℕ) where
       turn page (behind mask values n) 0 ∙ ap (after_step page 0) (page-step mask values n h e) ∙ rw (row-no-other n h, a) refl
 
   none-more : (n : ℕ) → n < 16 → counted (ahead page (behind mask values n)) 0 ≡ counted (ahead page (behind mask values (suc n))) 0
-  none-more n h =
-      ⊎_elim
-      (λ (t : kept mask n ≡ true). none-kept n h t)
-      (λ (f : kept mask n ≡ false). rw (length-skip mask values n f) refl)
-      (tested (kept mask n))
+  none-more n h = grind (arith, none-kept n h, length-skip mask values n)
 
   -- nor at the first n rows
   none-walked : (n : ℕ) → n ≤ 16 → counted (ahead page 4) 0 ≡ counted (ahead page (behind mask values n)) 0

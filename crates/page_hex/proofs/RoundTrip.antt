@@ -1,8 +1,7 @@
 -- A page that was written in hex is read back. Assumes nothing.
-use Rattle.std.proofs.Common.{◌≡◌, ℕ, zero, suc, ◌/◌, ◌%◌, Bool, true, false, not, List, [], ◌∷◌, length, slice_index, Some, refl, ap, ◌∙◌, arith}
+use Rattle.std.proofs.Common.{◌≡◌, ℕ, zero, suc, ◌/◌, ◌%◌, true, false, not, List, [], ◌∷◌, length, slice_index, Some, refl, ap, ◌∙◌, arith}
 use Rattle.std.specs.Char.{is_ascii_whitespace}
 use Rattle.std.specs.List.{All, list_all}
-use Rattle.std.proofs.lemmas.Bool.{and_parts}
 use Rattle.std.proofs.lemmas.List.Elements.{All-cons, All-head, All-nil, All-tail}
 use Rattle.std.proofs.lemmas.List.Splits.{slice_split_none}
 use Rattle.hex.specs.Hex.{IsBytes, encode_lower, encode_with, lower_digits}
@@ -16,15 +15,11 @@ use Rattle.page_hex.specs.Words.{swapped}
 abbrev IsDark : ℕ → Type 0
 IsDark c = is_ascii_whitespace c ≡ false
 
--- a test that fails
-dark-from_not : (b : Bool) → not b ≡ true → b ≡ false
-dark-from_not b h = grind arith
-
 -- no digit of a table is white space, which computes
 dark-at : (table : List ℕ) → list_all (λ c. not (is_ascii_whitespace c)) table ≡ true → (d : ℕ) → IsDark (slice_index table d)
 dark-at [] h d = refl
-dark-at (x ∷ xs) h zero = dark-from_not (is_ascii_whitespace x) (and_parts (not (is_ascii_whitespace x)) (list_all (λ c. not (is_ascii_whitespace c)) xs) h).0
-dark-at (x ∷ xs) h (suc d) = dark-at xs (and_parts (not (is_ascii_whitespace x)) (list_all (λ c. not (is_ascii_whitespace c)) xs) h).1 d
+dark-at (x ∷ xs) h zero = grind arith
+dark-at (x ∷ xs) h (suc d) = dark-at xs (grind arith) d
 
 -- nor a text of its digits
 All-encode_with : (table bytes : List ℕ) → ((d : ℕ) → IsDark (slice_index table d)) → All IsDark (encode_with table bytes)

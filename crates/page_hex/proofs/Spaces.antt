@@ -2,7 +2,6 @@
 use Rattle.std.proofs.Common.{◌≡◌, ℕ, ◌+◌, ◌%◌, ◌==◌, ◌&&◌, Bool, true, false, not, cond, List, [], ◌∷◌, ◌++◌, length, None, refl, sym, ap, ◌∙◌, arith, eqb-true}
 use Rattle.std.specs.Char.{is_ascii_whitespace}
 use Rattle.std.specs.List.{filter, list_all, onto_first, slice_split}
-use Rattle.std.proofs.lemmas.Bool.{and_parts}
 use Rattle.std.proofs.lemmas.List.Elements.{filter-append}
 use Rattle.page_hex.specs.declared.parsing.Notation.{Notation}
 use Rattle.page_hex.specs.Text.{digits_each, digits_in, in_units, page_of}
@@ -21,10 +20,6 @@ abbrev fits_on : Notation → ℕ → List ℕ → Bool
 fits_on notation n [] = is_whole notation n
 fits_on notation n (c ∷ rest) = cond (is_ascii_whitespace c) (is_whole notation n && fits_on notation 0 rest) (fits_on notation (n + 1) rest)
 
--- what is said of two tests
-and-true : (b : Bool) → (b && true) ≡ b
-and-true b = grind arith
-
 -- with none before it
 fits-none : (notation : Notation) (groups : List (List ℕ)) → list_all (λ g. is_whole notation (length g)) groups ≡ fits notation 0 groups
 fits-none notation groups = grind arith
@@ -37,9 +32,7 @@ fits-cons notation n c white groups rest none more = grind arith
 
 -- group by group is digit by digit
 fits-slice_split : (notation : Notation) (n : ℕ) (text : List ℕ) → fits notation n (slice_split is_ascii_whitespace text) ≡ fits_on notation n text
-fits-slice_split notation n [] =
-    let e : n + 0 ≡ n = omega arith in
-    and-true (is_whole notation (n + 0)) ∙ ap (is_whole notation) e
+fits-slice_split notation n [] = let e : n + 0 ≡ n = omega arith in grind (arith, e)
 fits-slice_split notation n (c ∷ rest) =
     fits-cons notation n c (is_ascii_whitespace c) (slice_split is_ascii_whitespace rest) rest (fits-slice_split notation 0 rest) (fits-slice_split notation (n + 1) rest)
 
@@ -70,24 +63,15 @@ is_whole-alike notation n m h = grind arith
 -- so many before the first group, or so many
 fits_on-alike : (notation : Notation) (n m : ℕ) (text : List ℕ) → n % digits_each notation ≡ m % digits_each notation → fits_on notation n text ≡ fits_on notation m text
 fits_on-alike notation n m [] h = ap (λ (k : ℕ). k == 0) h
-fits_on-alike notation n m (c ∷ rest) h =
-    ap (λ (k : ℕ). cond (is_ascii_whitespace c) (k == 0 && fits_on notation 0 rest) (fits_on notation (n + 1) rest)) h
-    ∙ ap (λ (b : Bool). cond (is_ascii_whitespace c) (is_whole notation m && fits_on notation 0 rest) b)
-    (fits_on-alike notation (n + 1) (m + 1) rest (is_whole-alike notation n m h))
+fits_on-alike notation n m (c ∷ rest) h = let more = fits_on-alike notation (n + 1) (m + 1) rest (is_whole-alike notation n m h) in grind (arith, more)
 
 -- behind whole units all is as at the start
 fits_on-behind : (notation : Notation) (n : ℕ) (front back : List ℕ) → fits_on notation n front ≡ true → fits_on notation n (front ++ back) ≡ fits_on notation 0 back
 fits_on-behind notation n [] back whole = fits_on-alike notation n 0 back (eqb-true (n % digits_each notation) 0 whole ∙ sym (none-left notation))
 fits_on-behind notation n (c ∷ rest) back whole =
-    behind (is_ascii_whitespace c) whole (fits_on-behind notation 0 rest back) (fits_on-behind notation (n + 1) rest back) where
-      behind : (b : Bool) → cond b (is_whole notation n && fits_on notation 0 rest) (fits_on notation (n + 1) rest) ≡ true
-          → (fits_on notation 0 rest ≡ true → fits_on notation 0 (rest ++ back) ≡ fits_on notation 0 back)
-          → (fits_on notation (n + 1) rest ≡ true → fits_on notation (n + 1) (rest ++ back) ≡ fits_on notation 0 back)
-          → cond b (is_whole notation n && fits_on notation 0 (rest ++ back)) (fits_on notation (n + 1) (rest ++ back)) ≡ fits_on notation 0 back
-      behind true whole none more =
-          let both = and_parts (is_whole notation n) (fits_on notation 0 rest) whole in
-          rw both.0 (none both.1)
-      behind false whole none more = more whole
+    let none = fits_on-behind notation 0 rest back in
+    let more = fits_on-behind notation (n + 1) rest back in
+    grind (arith, none, more)
 
 -- white space parts a text in two, and either has whole units
 in_units-parted : (notation : Notation) (front back : List ℕ) (w : ℕ) → is_ascii_whitespace w ≡ true

@@ -44,7 +44,7 @@ module _ (mask : ℕ) (values : List ℕ) where
       ∙ get_or-append (rows_to mask values 16) (replicate (508 - L 16) 0) 0 i h
 
   rows_grow : (n : ℕ) → L n ≤ L (suc n)
-  rows_grow n = ⊎_elim (λ e. omega (arith, length-kept mask values n e)) (λ e. omega (arith, length-skip mask values n e)) (tested (kept mask n))
+  rows_grow n = grind (arith, length-kept mask values n, length-skip mask values n)
 
   rows_same : (n i : ℕ) → i < L n → get_or (rows_to mask values (suc n)) i 0 ≡ get_or (rows_to mask values n) i 0
   unfolding rows_to

@@ -1,5 +1,5 @@
 -- Page 11h as it is filled, kept row by kept row, in place. Assumes nothing.
-use Rattle.std.proofs.Common.{◌≡◌, refl, ap, ap₂, sym, ◌∙◌, Bool, true, false, ⊎_elim, List, [], ◌∷◌, ◌++◌, append_assoc, append-nil, ℕ, zero, suc, ◌+◌, ◌*◌, ◌-◌, ◌<◌, ◌≤◌, le_of_eq, add-one, arith, length, get_or, replicate, take, drop, length-append, drop_of_length-le, take_all, take_at, drop_at, Bor, length-take-le}
+use Rattle.std.proofs.Common.{◌≡◌, refl, ap, ap₂, sym, ◌∙◌, Bool, true, false, List, [], ◌∷◌, ◌++◌, append_assoc, append-nil, ℕ, zero, suc, ◌+◌, ◌*◌, ◌-◌, ◌<◌, ◌≤◌, le_of_eq, add-one, arith, length, get_or, replicate, take, drop, length-append, drop_of_length-le, take_all, take_at, drop_at, Bor, length-take-le}
 use lib.ListN.{length-replicate}
 use Rattle.std.specs.List.{All, enumerate_from, zip, filter, flat_map}
 use Rattle.std.specs.Fn.{CalledAt}
@@ -14,7 +14,7 @@ use Rattle.std.proofs.lemmas.Iterator.{YieldsList, YieldsList-from_slice, Yields
 use Rattle.std.proofs.lemmas.Iterator.Consumers.{YieldsList-from_enumerate, YieldsList-from_filter}
 use denote.Param.Members.{Mut}
 use Rattle.std.proofs.lemmas.Grind.{flat_map-append}
-use Rattle.std.proofs.lemmas.List.{take_more}
+use Rattle.std.proofs.lemmas.List.{take_more, drop-replicate}
 use Rattle.std.proofs.lemmas.List.Elements.{filter-append, All-from_get_or, All-get_or, All-filter}
 use Rattle.std.proofs.lemmas.List.Sums.{length-filter, count_by-le-length}
 use Rattle.page_rows.proofs.RowLaws.{id-small}
@@ -23,7 +23,6 @@ use Rattle.std.proofs.lemmas.Slice.Zip.{length-zip, get_or-zip}
 use Rattle.bits.specs.Pick.{pick}
 use borrow.Rule.Slice.PartMut.{mid_of, put_mid}
 use Rattle.bits.specs.Laid.{over}
-use Rattle.bits.proofs.Picks.{pick_yes, pick_no, tested}
 use Rattle.bits.proofs.Fronts.{over_yes}
 use Rattle.page_rows.specs.Rows.{ids, id_of, kept}
 use Rattle.page_sum.specs.Sum.{sealed}
@@ -36,11 +35,11 @@ length-row id v = refl
 module _ (mask : ℕ) (values : List ℕ) (n : ℕ) where
   pub rows-kept : kept mask n ≡ true → rows_to mask values (suc n) ≡ rows_to mask values n ++ rowBytes (id_of n) (get_or values n 0)
   unfolding rows_to
-  rows-kept e = ap (λ (l : List ℕ). rows_to mask values n ++ l) (pick_yes (kept mask n) (rowBytes (id_of n) (get_or values n 0)) _ e)
+  rows-kept e = grind arith
 
   pub rows-skip : kept mask n ≡ false → rows_to mask values (suc n) ≡ rows_to mask values n
   unfolding rows_to
-  rows-skip e = ap (λ (l : List ℕ). rows_to mask values n ++ l) (pick_no (kept mask n) (rowBytes (id_of n) (get_or values n 0)) [] e) ∙ append-nil (rows_to mask values n)
+  rows-skip e = grind (arith, append-nil (rows_to mask values n))
 
   pub length-kept : kept mask n ≡ true → length (rows_to mask values (suc n)) ≡ length (rows_to mask values n) + 6
   length-kept e = rw (rows-kept e, length-append, length-row)
@@ -53,16 +52,9 @@ unfolding rows_to
 rows_short mask values zero = omega arith
 rows_short mask values (suc n) =
     let ih = rows_short mask values n in
-    ⊎_elim (λ e. omega (arith, length-kept mask values n e)) (λ e. omega (arith, length-skip mask values n e)) (tested (kept mask n))
+    grind (arith, ih, length-kept mask values n, length-skip mask values n)
 
 -- ---- bytes laid into zeros
-
-drop-zeros : (k m : ℕ) → drop k (replicate {A = ℕ} m 0) ≡ replicate (m - k) 0
-drop-zeros zero m = let e : m - 0 ≡ m = omega arith in rw e
-drop-zeros (suc k) zero = let e : 0 - suc k ≡ 0 = omega arith in rw e
-drop-zeros (suc k) (suc m) =
-    let e : suc m - suc k ≡ m - k = omega arith in
-    rw e (drop-zeros k m)
 
 -- b laid over the front of the zeros behind h
 lay-zeros : (h b : List ℕ) (at m : ℕ) → length h ≡ at → length b ≤ m
@@ -74,7 +66,7 @@ lay-zeros h b at m e r =
     let mid : mid_of at m (h ++ replicate m 0) ≡ replicate m 0 = ap (take m) d ∙ take_all m (replicate m 0) (le_of_eq z) in
     let post : drop m (drop at (h ++ replicate m 0)) ≡ [] = ap (drop m) d ∙ drop_of_length-le (replicate {A = ℕ} m 0) (le_of_eq z) in
     let o : over b (mid_of at m (h ++ replicate m 0)) ≡ b ++ replicate (m - length b) 0 =
-    ap (over b) mid ∙ over_yes b (replicate m 0) (omega arith) ∙ ap (λ (l : List ℕ). b ++ l) (drop-zeros (length b) m) in
+    ap (over b) mid ∙ over_yes b (replicate m 0) (omega arith) ∙ ap (λ (l : List ℕ). b ++ l) (drop-replicate (length b) m 0) in
     ap₂ (λ (x y : List ℕ). x ++ y) t (ap₂ (λ (x y : List ℕ). x ++ y) o post ∙ append-nil (b ++ replicate (m - length b) 0))
     ∙ sym (append_assoc h b (replicate (m - length b) 0))
 
@@ -173,7 +165,7 @@ module _ (mask : ℕ) (values : List ℕ) (l : length values ≡ 16) where
   kept-small n row k e = rw e (All-get_or (λ row. row.1.0 < 4096) (kept_rows mask values) n row k (All-filter (is_kept mask) (λ row. row.1.0 < 4096) (all_rows values) all-small))
 
   one-row : (row : Row) → flat_map bytes_in (filter (is_kept mask) (row ∷ [])) ≡ pick (kept mask row.0) (bytes_in row) []
-  one-row row = ⊎_elim (λ (t : kept mask row.0 ≡ true). rw t (append-nil (bytes_in row))) (λ (f : kept mask row.0 ≡ false). rw f refl) (tested (kept mask row.0))
+  one-row row = grind (arith, append-nil (bytes_in row))
 
   kept-first : (n : ℕ) → n ≤ 16 → flat_map bytes_in (filter (is_kept mask) (take n (all_rows values))) ≡ rows_to mask values n
   unfolding rows_to

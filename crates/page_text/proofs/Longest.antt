@@ -1,12 +1,11 @@
 -- How long a page's text is at most. Assumes nothing.
-use Rattle.std.proofs.Common.{◌≡◌, ℕ, ◌+◌, ◌*◌, ◌^◌, ◌<◌, ◌≤◌, Bool, true, false, List, [], ◌∷◌, length, get_or, refl, sym, ap, Option, Some, None, Ok, arith, length-append, decimal, codes, ⊎_elim, lt_of_lt_of_le, ltb, pow_mono, ltb-true}
+use Rattle.std.proofs.Common.{◌≡◌, ℕ, ◌+◌, ◌*◌, ◌^◌, ◌<◌, ◌≤◌, Bool, true, List, [], ◌∷◌, length, get_or, refl, sym, ap, Option, Some, None, Ok, arith, length-append, decimal, codes, lt_of_lt_of_le, ltb, pow_mono, ltb-true}
 use Rattle.std.proofs.lemmas.Fmt.{length-decimal-le}
 use Rattle.std.specs.List.{list_all, count_by, enumerate_from}
 use Rattle.bits.specs.Little.{leAt, Bytes}
 use Rattle.bits.specs.Answer.{bitNumber}
-use Rattle.bits.specs.Bit.{bitIn}
 use Rattle.bits.proofs.Littles.{le-lt}
-use Rattle.bits.proofs.Picks.{tested, and_left, and_right, by-test}
+use Rattle.bits.proofs.Picks.{and_left, and_right}
 use Rattle.refusals.specs.First.{first_of}
 use Rattle.refusals.proofs.FirstLaws.{unless-ok}
 use Rattle.page_rows.specs.Rows.{ids}
@@ -16,7 +15,6 @@ use Rattle.page_10h.proofs.OtherLaws.{others-most as other-bytes-most}
 use Rattle.page_10h.specs.declared.page10.ErrorLog.{ErrorLog}
 use Rattle.page_11h.specs.Entries.{bytesIn, entries}
 use Rattle.page_11h.specs.Page11.{readCounter}
-use Rattle.page_11h.specs.Top.{atTop}
 use Rattle.page_11h.specs.Others.{entryOther, countOthers}
 use Rattle.page_11h.proofs.Counting.{others-most}
 use Rattle.page_11h.specs.declared.value.CounterValue.{CounterValue}
@@ -59,7 +57,7 @@ module _ (page : List ℕ) (bytes : Bytes page) where
   -- what is read of page 10h fits
   read-fits : Fits (fields10 page)
   read-fits = record {
-    tag = by-test (λ tag. tag < 32) (bitIn 8 (get_or page 0 0) 7) 0 _ (λ _. omega arith) (λ _. omega arith);
+    tag = grind arith;
     status = bytes 2;
     error = bytes 3;
     lba = omega (arith, le-lt page bytes 8 3, le-lt page bytes 4 3);
@@ -96,10 +94,7 @@ module _ (page : List ℕ) (bytes : Bytes page) where
     shown-most (Some v) e =
         let h = value-lt v e in
         let d = length-decimal-le 20 v.value (omega arith) (omega (arith, h)) h in
-        ⊎_elim
-        (λ (top : atTop v ≡ true). rw top (omega (arith, length-append (decimal v.value) (codes " top"))))
-        (λ (below : atTop v ≡ false). rw below (omega (arith, length-append (decimal v.value) [])))
-        (tested (atTop v))
+        grind (arith, d, length-append (decimal v.value) (codes " top"), length-append (decimal v.value) [])
 
     line-most : (shown : Option CounterValue) → number < 4096 → readCounter page number ≡ Ok shown → length (line_text (number, shown)) ≤ 30
     line-most shown h e =

@@ -1,9 +1,8 @@
 -- How long the pieces of a page's text are. Assumes nothing.
-use Rattle.std.proofs.Common.{◌≡◌, ℕ, zero, suc, ◌+◌, ◌/◌, ◌%◌, ◌^◌, ◌<◌, ◌≤◌, true, false, List, [], ◌∷◌, length, refl, Result, Ok, Err, arith, length-append, ⊎_elim, pow-suc, eqb, eq-eqb}
+use Rattle.std.proofs.Common.{◌≡◌, ℕ, zero, suc, ◌+◌, ◌/◌, ◌%◌, ◌^◌, ◌<◌, ◌≤◌, true, List, [], ◌∷◌, length, refl, Result, Ok, Err, arith, length-append, pow-suc, eq-eqb}
 use lib.ListN.{length-replicate}
 use Rattle.std.proofs.lemmas.Fmt.{length-decimal-le}
 use Rattle.std.specs.Fmt.{digit_glyph, digits_onto, digits, padded_integral, char_count}
-use Rattle.bits.proofs.Picks.{tested}
 use Rattle.refusals.specs.Number.{number}
 use Rattle.refusals.specs.declared.reasons.Refusal.{Refusal}
 use Rattle.page_text.specs.Words.{upper, refusal_text}
@@ -16,10 +15,8 @@ hex-most : (k j n : ℕ) (acc : List ℕ) → n < 16 ^ suc j → length (digits_
 hex-most zero j n acc h = omega arith
 hex-most (suc k) zero n acc h = rw (eq-eqb (n / 16) 0 (omega arith)) (omega arith)
 hex-most (suc k) (suc j) n acc h =
-    ⊎_elim
-    (λ (y : eqb (n / 16) 0 ≡ true). rw y (omega arith))
-    (λ (y : eqb (n / 16) 0 ≡ false). rw y (omega (arith, hex-most k j (n / 16) (digit_glyph true (n % 16) ∷ acc) (omega (arith, pow-suc 16 (suc j))))))
-    (tested (eqb (n / 16) 0))
+    let m = hex-most k j (n / 16) (digit_glyph true (n % 16) ∷ acc) (omega (arith, pow-suc 16 (suc j))) in
+    grind (arith, m)
 
 -- a number that fits its width is as long as that
 pub length-upper : (width n : ℕ) → 0 < width → n < 16 ^ width → length (upper width n) ≡ width

@@ -81,15 +81,12 @@ module _ (s : Shown) (part : List ℕ) where
   -- by the act
   pub replies-fit : (a : Act) → Fit s part a → Fitting (repliesOf s part a)
   unfolding Fit Fitting repliesOf fits
-  replies-fit Nothing h = tt
   replies-fit (Bad b) h = (register-fits true 0x41 b.error b.task (omega arith) h.0 h.1, tt)
   replies-fit (BadAndHalt f) h = (register-fits true 0x41 f.error (taskIn f.echo) (omega arith) h.0 (echo-fits f.echo h.1), tt)
   replies-fit (Accept q) h = (register-fits false 0x40 0 (taskIn q.entry.echo) (omega arith) (omega arith) (echo-fits q.entry.echo h), tt)
   replies-fit (Log10 task) h = log-fits s.halted task (page10Of s.errors) h.0 (page10-long s.errors h.1)
   replies-fit (Log11 l) h = log-fits false l.task (page11Of s.mask s.values) h.0 (page11-long s.mask s.values h.1)
-  replies-fit Reset h = tt
   replies-fit Release h = (refl, tt)
-  replies-fit ZeroCounters h = tt
   replies-fit (Store m) h = activate-fits (not m.last)
   replies-fit (Open q) h =
       let most : whole_of q.entry.count < 2 ^ 32 = omega arith in
@@ -97,28 +94,22 @@ module _ (s : Shown) (part : List ℕ) where
   replies-fit (Send m) h = (h, tt)
   replies-fit (Finish set) h = (rw (lt-ltb set (2 ^ 32) h), tt)
   replies-fit (Media f) h = (rw (lt-ltb f.error 256 h), tt)
-  replies-fit (Count r) h = tt
   replies-fit Renew h = (refl, tt)
+  replies-fit _ h = tt
 
   -- a data frame comes last
   pub replies-data-last : (a : Act) → DataLast (repliesOf s part a)
   unfolding DataLast repliesOf
   replies-data-last Nothing = tt
-  replies-data-last (Bad x) = (off, tt)
-  replies-data-last (BadAndHalt x) = (off, tt)
-  replies-data-last (Accept x) = (off, tt)
+  replies-data-last Reset = tt
+  replies-data-last ZeroCounters = tt
+  replies-data-last (Count r) = tt
   replies-data-last (Log10 task) = log-data-last s.halted task (page10Of s.errors)
   replies-data-last (Log11 l) = log-data-last false l.task (page11Of s.mask s.values)
-  replies-data-last Reset = tt
-  replies-data-last Release = (off, tt)
-  replies-data-last ZeroCounters = tt
   replies-data-last (Store m) = activate-data-last (not m.last)
   replies-data-last (Open q) = (off, activate-data-last q.entry.write)
   replies-data-last (Send m) = (λ _. refl, tt)
-  replies-data-last (Finish x) = (off, tt)
-  replies-data-last (Media x) = (off, tt)
-  replies-data-last (Count r) = tt
-  replies-data-last Renew = (off, tt)
+  replies-data-last _ = (off, tt)
 
 -- cut by kind and length, the replies in the buffer are the frames that were sent
 pub cut-replies : (fs : List FrameValue) (d : List ℕ) (n : ℕ) (d' : List ℕ) → Fitting fs → DataLast fs → RepliesGiven fs d n d' → cut (take n d') ≡ map encode fs

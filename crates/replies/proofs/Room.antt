@@ -1,5 +1,5 @@
 -- The room that every call asks for is enough for the replies of any act. Assumes nothing.
-use Rattle.std.proofs.Common.{◌≡◌, refl, Bool, true, false, not, ◌&&◌, List, [], ◌∷◌, ⊎_elim, ℕ, ◌+◌, ◌≤◌, ◌<◌, arith, length}
+use Rattle.std.proofs.Common.{◌≡◌, refl, Bool, true, false, not, List, [], ◌∷◌, ⊎_elim, ℕ, ◌+◌, ◌≤◌, ◌<◌, arith, length}
 use Rattle.bits.specs.Pick.{pick}
 use Rattle.bits.proofs.Picks.{by-test}
 use Rattle.std.proofs.lemmas.Bool.{cases_lt}
@@ -16,7 +16,7 @@ use Rattle.page_rows.proofs.Bytes11.{page-length}
 use Rattle.device_state.specs.declared.shapes.ErrorRecord.{ErrorRecord}
 use Rattle.rules.specs.declared.acts.Queued.{Queued}
 use Rattle.rules.specs.declared.acts.Act.{Act}
-use Rattle.rules.specs.declared.acts.Act.TheVariants.{Nothing, Bad, BadAndHalt, Accept, Log10, Log11, Reset, Release, ZeroCounters, Store, Open, Send, Finish, Media, Count, Renew}
+use Rattle.rules.specs.declared.acts.Act.TheVariants.{Nothing, Log10, Log11, Reset, ZeroCounters, Store, Open, Count}
 use Rattle.replies.specs.declared.shown.Shown.{Shown}
 use Rattle.replies.specs.Replies.{sweep, sweepIf, activateIf, pioReply, setupReply, logOf, page10Of, page11Of, logReplies, openReplies, repliesOf, sentBytes, sentAll}
 use Rattle.replies.proofs.Sending.{sent-one, length-sent}
@@ -24,9 +24,6 @@ use Rattle.replies.proofs.Sending.{sent-one, length-sent}
 -- what is sent of a list is no longer than the list
 picked-short : (b : Bool) (s : List ℕ) → length (pick b s []) ≤ length s
 picked-short b s = by-test (λ (t : List ℕ). length t ≤ length s) b s [] (λ _. omega arith) (λ _. omega arith)
-
-and-never : (a b : Bool) → (a && false) && b ≡ false
-and-never a b = grind arith
 
 -- a payload that is too long is not sent
 long-unsent : (p : List ℕ) → 8192 < length p → sentBytes (payload p) ≡ []
@@ -90,18 +87,11 @@ none-room = omega arith
 pub replies_room : (s : Shown) (part : List ℕ) (a : Act) → length (sentAll (repliesOf s part a)) ≤ 8196
 unfolding repliesOf
 replies_room s part Nothing = none-room
-replies_room s part (Bad b) = one-room _
-replies_room s part (BadAndHalt f) = one-room _
-replies_room s part (Accept q) = one-room _
+replies_room s part Reset = none-room
+replies_room s part ZeroCounters = none-room
+replies_room s part (Count r) = none-room
 replies_room s part (Log10 task) = log-room s.halted task (page10Of s.errors) (page10-short s.errors)
 replies_room s part (Log11 l) = log-room false l.task (page11Of s.mask s.values) (page11-short s.mask s.values)
-replies_room s part Reset = none-room
-replies_room s part Release = one-room _
-replies_room s part ZeroCounters = none-room
 replies_room s part (Store m) = omega (arith, activate-room (not m.last))
 replies_room s part (Open q) = open-room q
-replies_room s part (Send m) = one-room _
-replies_room s part (Finish set) = one-room _
-replies_room s part (Media f) = one-room _
-replies_room s part (Count r) = none-room
-replies_room s part Renew = one-room _
+replies_room s part _ = one-room _

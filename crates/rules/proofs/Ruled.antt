@@ -1,6 +1,5 @@
 -- How a call is decided: the rule that holds, with what it found. A proof about calls goes by these cases. Assumes nothing.
-use Rattle.std.proofs.Common.{Some, None, is_none, Result, Ok, Err, ◌≡◌, refl, Bool, true, false, not, ◌&&◌, ◌||◌, true≢false, List, [], ℕ, ◌+◌, eqb, ltb, leb, lit<, arith}
-use mathlib.Core.Bool.{false≢true}
+use Rattle.std.proofs.Common.{Some, None, is_none, Result, Ok, Err, ◌≡◌, Bool, true, false, not, ◌&&◌, ◌||◌, true≢false, List, [], ℕ, ◌+◌, eqb, ltb, leb, lit<, arith}
 use borrow.Author.Tests.{not-false, not-true}
 use Rattle.bits.specs.Pick.{pick}
 use Rattle.bits.specs.Bit.{bitIn}
@@ -94,12 +93,7 @@ pub record OwnLaws (v : Facts) (c : Call) (a : Act) : Type 0 where
 
 pub own-laws : (v : Facts) {c : Call} {a : Act} → Own v c a → OwnLaws v c a
 unfolding touch_of
-own-laws v (opened t g s o q e) = record { sound = g; room = λ _. s; leaving = λ _. refl }
-own-laws v (sent g w s p r) = record { sound = g; room = λ _. s; leaving = λ h. absurd (true≢false h) }
-own-laws v (finished t g s q e r) = record { sound = g; room = λ _. s; leaving = λ _. refl }
-own-laws v (failed t e x g s o y w) = record { sound = g; room = λ _. s; leaving = λ _. refl }
-own-laws v (linked r g x) = record { sound = g; room = λ h. absurd (false≢true h); leaving = λ _. refl }
-own-laws v (renewed g s) = record { sound = g; room = λ _. s; leaving = λ _. refl }
+own-laws v y = grind arith
 
 -- a taken call is not refused for its reply buffer, where it is lent one
 pub ruled-room : (v : Facts) {c : Call} {a : Act} → (handed c).buffer ≡ true → Ruled v c (Ok a) → v.reply_short ≡ false
@@ -107,8 +101,7 @@ ruled-room v p y = grind arith
 
 -- a taken call that is lent no medium leaves it
 pub ruled-leaves : (v : Facts) {c : Call} {a : Act} → (handed c).medium ≡ false → Ruled v c (Ok a) → touch_of a ≡ leaves
-ruled-leaves v u (host f a g w s h) = absurd (true≢false u)
-ruled-leaves v u (own o) = (own-laws v o).leaving u
+ruled-leaves v u y = grind (arith, own-laws)
 
 -- of one that does not hold beside one that does
 and-other : (a b : Bool) → a && not b ≡ false → b ≡ false → a ≡ false

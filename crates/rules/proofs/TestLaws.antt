@@ -4,7 +4,7 @@ use Rattle.refusals.specs.First.{Rung, first_of, fresh, apart}
 use Rattle.refusals.specs.Number.{number}
 use Rattle.refusals.specs.declared.reasons.Refusal.TheVariants.{Contradiction, NoFrame}
 use Rattle.bits.proofs.Picks.{pick_yes}
-use Rattle.rules.specs.Call.{Call, hostFrame, openPhase, sendData, finishTags, mediaError, linkEvent, comReset}
+use Rattle.rules.specs.Call.{Call, hostFrame, sendData, linkEvent}
 use Rattle.rules.specs.Handed.{handed}
 use Rattle.rules.specs.Tests.{tests}
 use Rattle.rules.specs.Act.{does, act}
@@ -37,9 +37,6 @@ pub record TestLaws (v : Facts) (c : Call) : Type 0 where
 pub test-laws : (v : Facts) (c : Call) → TestLaws v c
 unfolding tests does act
 test-laws v (hostFrame f) = record { once = tt; rising = refl; one = first_holds _ _; no-24 = refl; unlent = λ h. absurd (true≢false h); unbuffered = λ h. absurd (true≢false h) }
-test-laws v (openPhase t) = record { once = tt; rising = refl; one = first_holds _ _; no-24 = refl; unlent = λ h w. refl; unbuffered = λ h. absurd (true≢false h) }
 test-laws v sendData = record { once = tt; rising = refl; one = first_holds _ _; no-24 = refl; unlent = λ h. absurd (true≢false h); unbuffered = λ h. absurd (true≢false h) }
-test-laws v (finishTags s) = record { once = tt; rising = refl; one = first_holds _ _; no-24 = refl; unlent = λ h w. refl; unbuffered = λ h. absurd (true≢false h) }
-test-laws v (mediaError t e s) = record { once = tt; rising = refl; one = first_holds _ _; no-24 = refl; unlent = λ h w. refl; unbuffered = λ h. absurd (true≢false h) }
 test-laws v (linkEvent r) = record { once = tt; rising = refl; one = first_holds _ _; no-24 = refl; unlent = λ h w. refl; unbuffered = λ h s. refl }
-test-laws v comReset = record { once = tt; rising = refl; one = first_holds _ _; no-24 = refl; unlent = λ h w. refl; unbuffered = λ h. absurd (true≢false h) }
+test-laws v _ = record { once = tt; rising = refl; one = first_holds _ _; no-24 = refl; unlent = λ h w. refl; unbuffered = λ h. absurd (true≢false h) }

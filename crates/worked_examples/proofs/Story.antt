@@ -1,9 +1,8 @@
 -- The theorems over every run are not empty: a run in which all that they speak of comes up, computed by the definitions. Assumes nothing.
-use Rattle.std.proofs.Common.{◌≡◌, refl, Bool, true, ◌&&◌, List, [], ◌∷◌, ℕ, zero, suc, ◌^◌, arith, ltb, ltb-true}
+use Rattle.std.proofs.Common.{◌≡◌, refl, Bool, true, ◌&&◌, List, [], ◌∷◌, ℕ, zero, suc, ◌^◌, arith, ltb}
 use Rattle.bits.specs.Little.{Bytes}
-use Rattle.bits.proofs.Picks.{and_left, and_right}
 use Rattle.rules.specs.Call.{Call}
-use Rattle.rules.specs.Handed.{Handed, handed}
+use Rattle.rules.specs.Handed.{handed}
 use Rattle.refusals.specs.First.{first_of}
 use Rattle.bits.specs.Laid.{over}
 use Rattle.frame_parts.specs.Cut.{joined, cut, cut_to, firstLength}
@@ -49,8 +48,8 @@ small (x ∷ l) = ltb x 256 && small l
 bytes : (l : List ℕ) → small l ≡ true → Bytes l
 unfolding small
 bytes [] h i = omega arith
-bytes (x ∷ l) h zero = ltb-true x 256 (and_left (ltb x 256) (small l) h)
-bytes (x ∷ l) h (suc k) = bytes l (and_right (ltb x 256) (small l) h) k
+bytes (x ∷ l) h zero = grind arith
+bytes (x ∷ l) h (suc k) = bytes l (grind arith) k
 
 -- a call's arguments are of their types, as a test
 unfoldable pub fine : Call → Bool
@@ -60,12 +59,7 @@ fine c = small (handed c).frame && (ltb (handed c).set (2 ^ 32) && ltb (handed c
 fine-typed : (c : Call) → fine c ≡ true → Typed c
 unfolding fine
 fine-typed c h =
-    let k : Handed = handed c in
-    let r = and_right (small k.frame) (ltb k.set (2 ^ 32) && ltb k.error 256) h in (
-      bytes k.frame (and_left (small k.frame) (ltb k.set (2 ^ 32) && ltb k.error 256) h),
-      ltb-true k.set (2 ^ 32) (and_left (ltb k.set (2 ^ 32)) (ltb k.error 256) r),
-      ltb-true k.error 256 (and_right (ltb k.set (2 ^ 32)) (ltb k.error 256) r),
-    )
+    (bytes (handed c).frame (grind arith), grind arith, grind arith)
 
 -- the same test of every call of a list
 unfoldable pub allFine : List Lent → Bool
@@ -76,7 +70,7 @@ allFine (a ∷ l) = fine a.call && allFine l
 pub all_typed : (l : List Lent) → allFine l ≡ true → AllTyped l
 unfolding allFine AllTyped
 all_typed [] h = tt
-all_typed (a ∷ l) h = (fine-typed a.call (and_left (fine a.call) (allFine l) h), all_typed l (and_right (fine a.call) (allFine l) h))
+all_typed (a ∷ l) h = (fine-typed a.call (grind arith), all_typed l (grind arith))
 
 -- those of the run are
 typed : AllTyped calls

@@ -1,8 +1,8 @@
-use Rattle.std.proofs.Common.{arith, ◌≡◌, ◌+◌, ◌≤◌, sym, List, ℕ, [], Err}
+use Rattle.std.proofs.Common.{◌≡◌, sym, List, ℕ, [], Err}
 use Rattle.event_kinds.specs.declared.kinds.InputEnd.TheVariants.{NoEvent}
 use Rattle.event_kinds.specs.Kinds.{next_of}
 use Rattle.event_program.proofs.Fronts.{on_err}
-use Rattle.event_program.proofs.Nexts.{begun, placed-named, stop-unplaced, ends-empty, short-body}
+use Rattle.event_program.proofs.Nexts.{begun, placed-named, stop-unplaced, ends-empty}
 use Rattle.event_program.proofs.Parts.{body-stuck, body-short, body-whole}
 use Rattle.event_program.proofs.reading.read_event.Goals as goal
 
@@ -13,14 +13,6 @@ pub returns-in_default-placed_kind-clause-ok : goal.returns-in_default-placed_ki
 returns-in_default-placed_kind-clause-ok g c =
     let read = rw c.in-Some.is at c.in_ok-byte.ensures.ok in
     begun (λ (l : List ℕ). next_of c.args.first l ≡ Err NoEvent) _ _ _ read (λ more. stop-unplaced c.args.first c.in-Some.byte more (sym c.in_default-placed_kind.ensures))
-
-pub overflow_add-event : goal.overflow_add-event
-overflow_add-event g c = omega (arith, c.body_length-body.ensures, short-body _ _ (placed-named _ _ _ (sym c.in-Some-placed_kind.ensures)).0)
-
-pub slice_bounds-event-end : goal.slice_bounds-event-end
-slice_bounds-event-end g c =
-    let fits : c.body_length-body.result + 1 ≤ 20 = omega (arith, c.body_length-body.ensures, short-body _ _ (placed-named _ _ _ (sym c.in-Some-placed_kind.ensures)).0) in
-    fits
 
 pub returns-in_err-read_body-clause-err : goal.returns-in_err-read_body-clause-err
 returns-in_err-read_body-clause-err g c =
