@@ -22,7 +22,7 @@ use Rattle.event_kinds.specs.declared.kinds.Kind.{Kind}
 use Rattle.event_kinds.specs.declared.kinds.Kind.TheVariants as kinds
 use Rattle.std.specs.Option.{option_and_then}
 use Rattle.event_kinds.specs.Settings.{asked_of}
-use Rattle.event_kinds.specs.Requests.{callByKind, requestOf}
+use Rattle.event_kinds.specs.Requests.{requestByKind, requestOf}
 use Rattle.event_kinds.specs.declared.asked.Request.{Request}
 use Rattle.events.specs.HostData.{dataFrame, hostData}
 use Rattle.events.specs.Start.{start_by, start_of}
@@ -55,8 +55,8 @@ data-bytes n b h (suc (suc zero)) = omega arith
 data-bytes n b h (suc (suc (suc zero))) = omega arith
 data-bytes n b h (suc (suc (suc (suc i)))) = same_bytes n b i h
 
-typed-kind : (d : Device) (e : List ℕ) (kind : Option Kind) → Bytes e → TypedFor d e (option_and_then (callByKind e) kind)
-unfolding callByKind call_of
+typed-kind : (d : Device) (e : List ℕ) (kind : Option Kind) → Bytes e → TypedFor d e (option_and_then (requestByKind e) kind)
+unfolding requestByKind call_of
 typed-kind d e None w = tt
 typed-kind d e (Some kinds.Settings) w = tt
 typed-kind d e (Some kinds.FinishTags) w = set_typed _ (le-lt e w 1 4)

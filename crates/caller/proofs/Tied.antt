@@ -2,7 +2,8 @@
 use Rattle.std.proofs.Common.{[], IfSome}
 use Rattle.bits.specs.Contract.{Says, SaysOver}
 use Rattle.bits.proofs.Tying.{say}
-use Rattle.rules.specs.Call.{hostFrame, openPhase, sendData, finishTags, mediaError, linkEvent, comReset}
+use Rattle.rules.specs.Call.{hostFrame, happens}
+use Rattle.rules.specs.declared.event.DeviceEvent.TheVariants.{OpenPhase, SendData, FinishTags, MediaError, LinkEvent, Comreset}
 use Rattle.device.specs.Lent.{lent, gave, answered}
 use Rattle.device.specs.Sealing.{poweredOf}
 use Rattle.event_kinds.specs.Settings.{asked_of}
@@ -31,26 +32,26 @@ pub tied-host-frame : Says calling-said.host_frame.ended calling.host_frame.Read
     (λ κs a r ws. Continues a.0 (lent (hostFrame a.1.0.now) a.1.1.0.now a.1.1.1.0.now) (gave r ws.1.1.0 ws.1.1.1.0))
 tied-host-frame = say (λ κs a. tt) (λ κs a r ws p. p)
 
-pub tied-open : Says calling-said.open.ended calling.open.Reads.Asked calling.open.Reads.Post (λ κs a r ws. ContinuesReplying a.0 (openPhase a.1.0) a.1.1.0.now r ws.1.1.0)
+pub tied-open : Says calling-said.open.ended calling.open.Reads.Asked calling.open.Reads.Post (λ κs a r ws. ContinuesReplying a.0 (happens (OpenPhase a.1.0)) a.1.1.0.now r ws.1.1.0)
 tied-open = say (λ κs a. tt) (λ κs a r ws p. p)
 
-pub tied-send : Says calling-said.send.ended calling.send.Reads.Asked calling.send.Reads.Post (λ κs a r ws. Continues a.0 (lent sendData a.1.0.now a.1.1.0.now) (gave r a.1.0.now ws.1.1.0))
+pub tied-send : Says calling-said.send.ended calling.send.Reads.Asked calling.send.Reads.Post (λ κs a r ws. Continues a.0 (lent (happens SendData) a.1.0.now a.1.1.0.now) (gave r a.1.0.now ws.1.1.0))
 tied-send = say (λ κs a. tt) (λ κs a r ws p. p)
 
-pub tied-finish : Says calling-said.finish.ended calling.finish.Reads.Asked calling.finish.Reads.Post (λ κs a r ws. ContinuesReplying a.0 (finishTags a.1.0) a.1.1.0.now r ws.1.1.0)
+pub tied-finish : Says calling-said.finish.ended calling.finish.Reads.Asked calling.finish.Reads.Post (λ κs a r ws. ContinuesReplying a.0 (happens (FinishTags a.1.0)) a.1.1.0.now r ws.1.1.0)
 tied-finish = say (λ κs a. tt) (λ κs a r ws p. p)
 
 pub tied-media-error : Says calling-said.media_error.ended calling.media_error.Reads.Asked calling.media_error.Reads.Post
-    (λ κs a r ws. ContinuesReplying a.0 (mediaError a.1.0 a.1.1.0 a.1.1.1.0) a.1.1.1.1.0.now r ws.1.1.1.1.0)
+    (λ κs a r ws. ContinuesReplying a.0 (happens (MediaError a.1.0 a.1.1.0 a.1.1.1.0)) a.1.1.1.1.0.now r ws.1.1.1.1.0)
 tied-media-error = say (λ κs a. tt) (λ κs a r ws p. p)
 
-pub tied-link-event : Says calling-said.link_event.ended calling.link_event.Reads.Asked calling.link_event.Reads.Post (λ κs a r ws. ContinuesAlone a.0 (linkEvent a.1.0) r)
+pub tied-link-event : Says calling-said.link_event.ended calling.link_event.Reads.Asked calling.link_event.Reads.Post (λ κs a r ws. ContinuesAlone a.0 (happens (LinkEvent a.1.0)) r)
 tied-link-event = say (λ κs a. tt) (λ κs a r ws p. p)
 
-pub tied-comreset : Says calling-said.comreset.ended calling.comreset.Reads.Asked calling.comreset.Reads.Post (λ κs a r ws. ContinuesReplying a.0 comReset a.1.0.now r ws.1.0)
+pub tied-comreset : Says calling-said.comreset.ended calling.comreset.Reads.Asked calling.comreset.Reads.Post (λ κs a r ws. ContinuesReplying a.0 (happens Comreset) a.1.0.now r ws.1.0)
 tied-comreset = say (λ κs a. tt) (λ κs a r ws p. p)
 
-pub tied-first-link : Says calling-said.first_link.ended calling.first_link.Reads.Asked calling.first_link.Reads.Post (λ κs a r ws. FirstCall a.0 (linkEvent a.1.0) r)
+pub tied-first-link : Says calling-said.first_link.ended calling.first_link.Reads.Asked calling.first_link.Reads.Post (λ κs a r ws. FirstCall a.0 (happens (LinkEvent a.1.0)) r)
 tied-first-link = say (λ κs a. tt) (λ κs a r ws p. p)
 
 -- the event program's run, by any reader to any writer
@@ -67,22 +68,22 @@ tied-keep = say (λ κs a. tt) (λ κs a r ws p. p)
 pub tied-kept-host-frame : Says keeping-said.kept_host_frame.ended keeping.kept_host_frame.Reads.Asked keeping.kept_host_frame.Reads.Post (λ κs a r ws. Continues a.0.now.device (lent (hostFrame a.1.0.now) a.1.1.0.now a.1.1.1.0.now) (gave (answered ws.0.device r) ws.1.1.0 ws.1.1.1.0))
 tied-kept-host-frame = say (λ κs a. tt) (λ κs a r ws p. p)
 
-pub tied-kept-open : Says keeping-said.kept_open.ended keeping.kept_open.Reads.Asked keeping.kept_open.Reads.Post (λ κs a r ws. ContinuesReplying a.0.now.device (openPhase a.1.0) a.1.1.0.now (answered ws.0.device r) ws.1.1.0)
+pub tied-kept-open : Says keeping-said.kept_open.ended keeping.kept_open.Reads.Asked keeping.kept_open.Reads.Post (λ κs a r ws. ContinuesReplying a.0.now.device (happens (OpenPhase a.1.0)) a.1.1.0.now (answered ws.0.device r) ws.1.1.0)
 tied-kept-open = say (λ κs a. tt) (λ κs a r ws p. p)
 
-pub tied-kept-send : Says keeping-said.kept_send.ended keeping.kept_send.Reads.Asked keeping.kept_send.Reads.Post (λ κs a r ws. Continues a.0.now.device (lent sendData a.1.0.now a.1.1.0.now) (gave (answered ws.0.device r) a.1.0.now ws.1.1.0))
+pub tied-kept-send : Says keeping-said.kept_send.ended keeping.kept_send.Reads.Asked keeping.kept_send.Reads.Post (λ κs a r ws. Continues a.0.now.device (lent (happens SendData) a.1.0.now a.1.1.0.now) (gave (answered ws.0.device r) a.1.0.now ws.1.1.0))
 tied-kept-send = say (λ κs a. tt) (λ κs a r ws p. p)
 
-pub tied-kept-finish : Says keeping-said.kept_finish.ended keeping.kept_finish.Reads.Asked keeping.kept_finish.Reads.Post (λ κs a r ws. ContinuesReplying a.0.now.device (finishTags a.1.0) a.1.1.0.now (answered ws.0.device r) ws.1.1.0)
+pub tied-kept-finish : Says keeping-said.kept_finish.ended keeping.kept_finish.Reads.Asked keeping.kept_finish.Reads.Post (λ κs a r ws. ContinuesReplying a.0.now.device (happens (FinishTags a.1.0)) a.1.1.0.now (answered ws.0.device r) ws.1.1.0)
 tied-kept-finish = say (λ κs a. tt) (λ κs a r ws p. p)
 
-pub tied-kept-media-error : Says keeping-said.kept_media_error.ended keeping.kept_media_error.Reads.Asked keeping.kept_media_error.Reads.Post (λ κs a r ws. ContinuesReplying a.0.now.device (mediaError a.1.0 a.1.1.0 a.1.1.1.0) a.1.1.1.1.0.now (answered ws.0.device r) ws.1.1.1.1.0)
+pub tied-kept-media-error : Says keeping-said.kept_media_error.ended keeping.kept_media_error.Reads.Asked keeping.kept_media_error.Reads.Post (λ κs a r ws. ContinuesReplying a.0.now.device (happens (MediaError a.1.0 a.1.1.0 a.1.1.1.0)) a.1.1.1.1.0.now (answered ws.0.device r) ws.1.1.1.1.0)
 tied-kept-media-error = say (λ κs a. tt) (λ κs a r ws p. p)
 
-pub tied-kept-link-event : Says keeping-said.kept_link_event.ended keeping.kept_link_event.Reads.Asked keeping.kept_link_event.Reads.Post (λ κs a r ws. ContinuesAlone a.0.now.device (linkEvent a.1.0) (answered ws.0.device r))
+pub tied-kept-link-event : Says keeping-said.kept_link_event.ended keeping.kept_link_event.Reads.Asked keeping.kept_link_event.Reads.Post (λ κs a r ws. ContinuesAlone a.0.now.device (happens (LinkEvent a.1.0)) (answered ws.0.device r))
 tied-kept-link-event = say (λ κs a. tt) (λ κs a r ws p. p)
 
-pub tied-kept-comreset : Says keeping-said.kept_comreset.ended keeping.kept_comreset.Reads.Asked keeping.kept_comreset.Reads.Post (λ κs a r ws. ContinuesReplying a.0.now.device comReset a.1.0.now (answered ws.0.device r) ws.1.0)
+pub tied-kept-comreset : Says keeping-said.kept_comreset.ended keeping.kept_comreset.Reads.Asked keeping.kept_comreset.Reads.Post (λ κs a r ws. ContinuesReplying a.0.now.device (happens Comreset) a.1.0.now (answered ws.0.device r) ws.1.0)
 tied-kept-comreset = say (λ κs a. tt) (λ κs a r ws p. p)
 
 -- ---- of events

@@ -1,5 +1,6 @@
 // One call of a kept device each: what is proved is what its contracts tell a caller, and it is what those of the device that is handed on tell.
-ghost use Rattle.rules.specs.Call.{hostFrame, openPhase, sendData, finishTags, mediaError, linkEvent, comReset};
+ghost use Rattle.rules.specs.Call.{hostFrame, happens};
+ghost use Rattle.rules.specs.declared.event.DeviceEvent.TheVariants.{OpenPhase, SendData, FinishTags, MediaError, LinkEvent, Comreset};
 ghost use Rattle.device.specs.Lent.{lent, gave, answered};
 ghost use Rattle.device.specs.Sealing.{poweredOf};
 ghost use Rattle.caller.specs.Continued.{Begins, Continues, ContinuesReplying, ContinuesAlone};
@@ -29,21 +30,21 @@ pub fn kept_host_frame(
 
 /// Open a phase for a tag.
 pub fn kept_open(sealed: &mut Sealed, tag: u8, reply: &mut [u8]) -> Result<usize, Refusal>
-    ensures { ContinuesReplying sealed.old.device (openPhase tag) reply.old (answered sealed.new.device result) reply.new }
+    ensures { ContinuesReplying sealed.old.device (happens (OpenPhase tag)) reply.old (answered sealed.new.device result) reply.new }
 {
     sealed.open(tag, reply)
 }
 
 /// Send, in a read phase: one data frame.
 pub fn kept_send(sealed: &mut Sealed, medium: &[u8], reply: &mut [u8]) -> Result<usize, Refusal>
-    ensures { Continues sealed.old.device (lent sendData medium.now reply.old) (gave (answered sealed.new.device result) medium.now reply.new) }
+    ensures { Continues sealed.old.device (lent (happens SendData) medium.now reply.old) (gave (answered sealed.new.device result) medium.now reply.new) }
 {
     sealed.send(medium, reply)
 }
 
 /// Finish a set of tags.
 pub fn kept_finish(sealed: &mut Sealed, set: u32, reply: &mut [u8]) -> Result<usize, Refusal>
-    ensures { ContinuesReplying sealed.old.device (finishTags set) reply.old (answered sealed.new.device result) reply.new }
+    ensures { ContinuesReplying sealed.old.device (happens (FinishTags set)) reply.old (answered sealed.new.device result) reply.new }
 {
     sealed.finish(set, reply)
 }
@@ -56,21 +57,21 @@ pub fn kept_media_error(
     sector: u32,
     reply: &mut [u8],
 ) -> Result<usize, Refusal>
-    ensures { ContinuesReplying sealed.old.device (mediaError tag error sector) reply.old (answered sealed.new.device result) reply.new }
+    ensures { ContinuesReplying sealed.old.device (happens (MediaError tag error sector)) reply.old (answered sealed.new.device result) reply.new }
 {
     sealed.media_error(tag, error, sector, reply)
 }
 
 /// Link event: adds one to that counter.
 pub fn kept_link_event(sealed: &mut Sealed, row: u8) -> Result<usize, Refusal>
-    ensures { ContinuesAlone sealed.old.device (linkEvent row) (answered sealed.new.device result) }
+    ensures { ContinuesAlone sealed.old.device (happens (LinkEvent row)) (answered sealed.new.device result) }
 {
     sealed.link_event(row)
 }
 
 /// COMRESET.
 pub fn kept_comreset(sealed: &mut Sealed, reply: &mut [u8]) -> Result<usize, Refusal>
-    ensures { ContinuesReplying sealed.old.device comReset reply.old (answered sealed.new.device result) reply.new }
+    ensures { ContinuesReplying sealed.old.device (happens Comreset) reply.old (answered sealed.new.device result) reply.new }
 {
     sealed.comreset(reply)
 }

@@ -91,7 +91,7 @@ unlent-both d c m b r u k h =
     alone-by d c m b r (actOf d (lent c m b)) u k refl (subst (λ (x : Result Act Refusal). Gives (stepBy d (lent c [] []) x) [] (gave r [] [])) (act-alone d c m b u k) h)
 
 -- so an empty buffer stays as it is
-pub given-silent : (d : Device) (c : Call) (b' : List ℕ) (r : Outcome) → (handed c).buffer ≡ false → Given d (lent c [] []) (gave r [] b') → Given d (lent c [] []) (gave r [] [])
+pub given_silent : (d : Device) (c : Call) (b' : List ℕ) (r : Outcome) → (handed c).buffer ≡ false → Given d (lent c [] []) (gave r [] b') → Given d (lent c [] []) (gave r [] [])
 unfolding sentAll joined
-given-silent d c b' r k h =
+given_silent d c b' r k h =
     record { state = h.state; refusal = h.refusal; len = h.len; reply = sym (ap (λ (x : List FrameValue). laid (sentAll x) []) (silent-frames d c [] [] k)); medium = h.medium }

@@ -8,7 +8,8 @@ use Rattle.refusals.specs.declared.reasons.Refusal.{Refusal}
 use Rattle.refusals.specs.declared.reasons.Refusal.TheVariants.{TooLong}
 use Rattle.device_state.specs.declared.shapes.Entry.{Entry}
 use Rattle.rules.specs.Positions.{left_of, move_of}
-use Rattle.rules.specs.Call.{hostFrame, sendData}
+use Rattle.rules.specs.Call.{hostFrame, happens}
+use Rattle.rules.specs.declared.event.DeviceEvent.TheVariants.{SendData}
 use Rattle.rules.specs.Medium.{touch_of, part_of}
 use Rattle.rules.specs.declared.acts.Act.{Act}
 use Rattle.rules.proofs.Ruled as by
@@ -79,12 +80,12 @@ six-exactly d f m b k kind long some most c w s o u =
     ∙ ap (λ (x : ℕ). told (ltb x (length f - 4))) (left_is d c o) ∙ ap (λ (x : ℕ). told (ltb (left d) x)) size
 
 -- a taken send
-ruled-carries : (d : Device) (m b : List ℕ) {a : Act} → by.Ruled (facts_of d (lent sendData m b)) sendData (Ok a) → repliesOf (shown d) (part_of a m) a ≡ payload (take (min 8192 (left d)) (drop (place d) m)) ∷ []
+ruled-carries : (d : Device) (m b : List ℕ) {a : Act} → by.Ruled (facts_of d (lent (happens SendData) m b)) (happens SendData) (Ok a) → repliesOf (shown d) (part_of a m) a ≡ payload (take (min 8192 (left d)) (drop (place d) m)) ∷ []
 unfolding touch_of repliesOf move_of
 ruled-carries d m b (by.own (by.sent g w s p r)) = ap (λ (x : ℕ). payload (take (min 8192 x) (drop (place d) m)) ∷ []) (left_is d g p)
 
 -- a taken send: one data frame of min(8,192, what is left) bytes of the medium, from the command's place on
-pub send-carries : (d : Device) (m b : List ℕ) → (step d (lent sendData m b)).refusal ≡ None → (step d (lent sendData m b)).frames ≡ payload (take (min 8192 (left d)) (drop (place d) m)) ∷ []
+pub send-carries : (d : Device) (m b : List ℕ) → (step d (lent (happens SendData) m b)).refusal ≡ None → (step d (lent (happens SendData) m b)).frames ≡ payload (take (min 8192 (left d)) (drop (place d) m)) ∷ []
 send-carries d m b =
-    let l = lent sendData m b in
+    let l = lent (happens SendData) m b in
     by-turn d l (λ s. s.refusal ≡ None → s.frames ≡ payload (take (min 8192 (left d)) (drop (place d) m)) ∷ []) (λ r _ z. absurd (none-some r z)) (λ a q _. ruled-carries d m b (act-ruled d l a q))

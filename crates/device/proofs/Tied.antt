@@ -1,6 +1,7 @@
 -- Each public function's own contract: what it says, and that two answers which it allows are equal. Assumes nothing.
 use Rattle.std.proofs.Common.{[], ◌≡◌, refl}
-use Rattle.rules.specs.Call.{hostFrame, openPhase, sendData, finishTags, mediaError, linkEvent, comReset}
+use Rattle.rules.specs.Call.{hostFrame, happens}
+use Rattle.rules.specs.declared.event.DeviceEvent.TheVariants.{OpenPhase, SendData, FinishTags, MediaError, LinkEvent, Comreset}
 use Rattle.device.specs.After.{after_of}
 use Rattle.device.specs.Counter.{CountGiven, CounterGiven}
 use Rattle.device.specs.DataDue.{dataDue}
@@ -19,22 +20,22 @@ tied-after = by (say (λ κs a. tt) (λ κs a r ws p. p)) (λ κs a r r' ws ws' 
 pub tied-host-frame : Tied state-said.Device.host_frame.ended state.Device.host_frame.Reads.Asked state.Device.host_frame.Reads.Post (λ κs a r ws. Given a.0 (lent (hostFrame a.1.0.now) a.1.1.0.now a.1.1.1.0.now) (gave r ws.1.1.0 ws.1.1.1.0))
 tied-host-frame = by (say (λ κs a. tt) (λ κs a r ws p. p)) (λ κs a r r' ws ws' p q. let e = given-once _ _ r r' ws.1.1.0 ws'.1.1.0 ws.1.1.1.0 ws'.1.1.1.0 p q in (e.0, λ i. (tt, (tt, (e.1.0 i, (e.1.1 i, tt))))))
 
-pub tied-open : Tied state-said.Device.open.ended state.Device.open.Reads.Asked state.Device.open.Reads.Post (λ κs a r ws. GivenReplying a.0 (openPhase a.1.0) a.1.1.0.now r ws.1.1.0)
+pub tied-open : Tied state-said.Device.open.ended state.Device.open.Reads.Asked state.Device.open.Reads.Post (λ κs a r ws. GivenReplying a.0 (happens (OpenPhase a.1.0)) a.1.1.0.now r ws.1.1.0)
 tied-open = by (say (λ κs a. tt) (λ κs a r ws p. p)) (λ κs a r r' ws ws' p q. let e = given-once _ _ r r' [] [] ws.1.1.0 ws'.1.1.0 p q in (e.0, λ i. (tt, (tt, (e.1.1 i, tt)))))
 
-pub tied-send : Tied state-said.Device.send.ended state.Device.send.Reads.Asked state.Device.send.Reads.Post (λ κs a r ws. Given a.0 (lent sendData a.1.0.now a.1.1.0.now) (gave r a.1.0.now ws.1.1.0))
+pub tied-send : Tied state-said.Device.send.ended state.Device.send.Reads.Asked state.Device.send.Reads.Post (λ κs a r ws. Given a.0 (lent (happens SendData) a.1.0.now a.1.1.0.now) (gave r a.1.0.now ws.1.1.0))
 tied-send = by (say (λ κs a. tt) (λ κs a r ws p. p)) (λ κs a r r' ws ws' p q. let e = given-once _ _ r r' a.1.0.now a.1.0.now ws.1.1.0 ws'.1.1.0 p q in (e.0, λ i. (tt, (tt, (e.1.1 i, tt)))))
 
-pub tied-finish : Tied state-said.Device.finish.ended state.Device.finish.Reads.Asked state.Device.finish.Reads.Post (λ κs a r ws. GivenReplying a.0 (finishTags a.1.0) a.1.1.0.now r ws.1.1.0)
+pub tied-finish : Tied state-said.Device.finish.ended state.Device.finish.Reads.Asked state.Device.finish.Reads.Post (λ κs a r ws. GivenReplying a.0 (happens (FinishTags a.1.0)) a.1.1.0.now r ws.1.1.0)
 tied-finish = by (say (λ κs a. tt) (λ κs a r ws p. p)) (λ κs a r r' ws ws' p q. let e = given-once _ _ r r' [] [] ws.1.1.0 ws'.1.1.0 p q in (e.0, λ i. (tt, (tt, (e.1.1 i, tt)))))
 
-pub tied-media-error : Tied state-said.Device.media_error.ended state.Device.media_error.Reads.Asked state.Device.media_error.Reads.Post (λ κs a r ws. GivenReplying a.0 (mediaError a.1.0 a.1.1.0 a.1.1.1.0) a.1.1.1.1.0.now r ws.1.1.1.1.0)
+pub tied-media-error : Tied state-said.Device.media_error.ended state.Device.media_error.Reads.Asked state.Device.media_error.Reads.Post (λ κs a r ws. GivenReplying a.0 (happens (MediaError a.1.0 a.1.1.0 a.1.1.1.0)) a.1.1.1.1.0.now r ws.1.1.1.1.0)
 tied-media-error = by (say (λ κs a. tt) (λ κs a r ws p. p)) (λ κs a r r' ws ws' p q. let e = given-once _ _ r r' [] [] ws.1.1.1.1.0 ws'.1.1.1.1.0 p q in (e.0, λ i. (tt, (tt, (tt, (tt, (e.1.1 i, tt)))))))
 
-pub tied-link-event : Tied state-said.Device.link_event.ended state.Device.link_event.Reads.Asked state.Device.link_event.Reads.Post (λ κs a r ws. GivenAlone a.0 (linkEvent a.1.0) r)
+pub tied-link-event : Tied state-said.Device.link_event.ended state.Device.link_event.Reads.Asked state.Device.link_event.Reads.Post (λ κs a r ws. GivenAlone a.0 (happens (LinkEvent a.1.0)) r)
 tied-link-event = by (say (λ κs a. tt) (λ κs a r ws p. p)) (λ κs a r r' ws ws' p q. let e = given-once _ _ r r' [] [] [] [] p q in (e.0, λ i. (tt, (tt, tt))))
 
-pub tied-comreset : Tied state-said.Device.comreset.ended state.Device.comreset.Reads.Asked state.Device.comreset.Reads.Post (λ κs a r ws. GivenReplying a.0 comReset a.1.0.now r ws.1.0)
+pub tied-comreset : Tied state-said.Device.comreset.ended state.Device.comreset.Reads.Asked state.Device.comreset.Reads.Post (λ κs a r ws. GivenReplying a.0 (happens Comreset) a.1.0.now r ws.1.0)
 tied-comreset = by (say (λ κs a. tt) (λ κs a r ws p. p)) (λ κs a r r' ws ws' p q. let e = given-once _ _ r r' [] [] ws.1.0 ws'.1.0 p q in (e.0, λ i. (tt, (e.1.1 i, tt))))
 
 pub tied-data-due : Tied state-said.Device.data_due.ended state.Device.data_due.Reads.Asked state.Device.data_due.Reads.Post (λ κs a r ws. r ≡ dataDue a.0.now)

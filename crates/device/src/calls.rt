@@ -2,7 +2,8 @@
 #![tactic(auto, using(crate::proofs::Contradicted::given_contradicted))]
 
 ghost use Rattle.std.specs.Prelude.{◌≡◌};
-ghost use Rattle.rules.specs.Call.{hostFrame, openPhase, sendData, finishTags, mediaError, linkEvent, comReset};
+ghost use Rattle.rules.specs.Call.{hostFrame, happens};
+ghost use Rattle.rules.specs.declared.event.DeviceEvent.TheVariants.{OpenPhase, SendData, FinishTags, MediaError, LinkEvent, Comreset};
 ghost use Rattle.device.specs.Lent.{lent, gave};
 ghost use Rattle.device.specs.DataDue.{dataDue};
 ghost use Rattle.device.specs.Step.{Given, GivenReplying, GivenAlone};
@@ -40,7 +41,7 @@ impl Device {
     /// Refused with the first that holds of `Contradiction` (1), `ReplyShort` (3), `TagIdle` (7), `PhaseOpen` (8),
     /// `AllMoved` (9).
     pub fn open(mut self, tag: u8, reply: &mut [u8]) -> Outcome
-        ensures { GivenReplying self (openPhase tag) reply.old result reply.new }
+        ensures { GivenReplying self (happens (OpenPhase tag)) reply.old result reply.new }
     {
         kept!(self.open(tag, reply))
     }
@@ -50,7 +51,7 @@ impl Device {
     /// Refused with the first that holds of `Contradiction` (1), `MediumLength` (2), `ReplyShort` (3),
     /// `NoReadPhase` (10).
     pub fn send(mut self, medium: &[u8], reply: &mut [u8]) -> Outcome
-        ensures { Given self (lent sendData medium.now reply.old) (gave result medium.now reply.new) }
+        ensures { Given self (lent (happens SendData) medium.now reply.old) (gave result medium.now reply.new) }
     {
         kept!(self.send(medium, reply))
     }
@@ -60,7 +61,7 @@ impl Device {
     /// Refused with the first that holds of `Contradiction` (1), `ReplyShort` (3), `PhaseOpen` (8),
     /// `SetUnready` (11).
     pub fn finish(mut self, set: u32, reply: &mut [u8]) -> Outcome
-        ensures { GivenReplying self (finishTags set) reply.old result reply.new }
+        ensures { GivenReplying self (happens (FinishTags set)) reply.old result reply.new }
     {
         kept!(self.finish(set, reply))
     }
@@ -71,7 +72,7 @@ impl Device {
     /// Refused with the first that holds of `Contradiction` (1), `ReplyShort` (3), `TagIdle` (7),
     /// `OutsideCommand` (12).
     pub fn media_error(mut self, tag: u8, error: u8, sector: u32, reply: &mut [u8]) -> Outcome
-        ensures { GivenReplying self (mediaError tag error sector) reply.old result reply.new }
+        ensures { GivenReplying self (happens (MediaError tag error sector)) reply.old result reply.new }
     {
         kept!(self.media_error(tag, error, sector, reply))
     }
@@ -80,7 +81,7 @@ impl Device {
     ///
     /// Refused with the first that holds of `Contradiction` (1), `NoRow` (13).
     pub fn link_event(mut self, row: u8) -> Outcome
-        ensures { GivenAlone self (linkEvent row) result }
+        ensures { GivenAlone self (happens (LinkEvent row)) result }
     {
         kept!(self.link_event(row))
     }
@@ -89,7 +90,7 @@ impl Device {
     ///
     /// Refused with the first that holds of `Contradiction` (1), `ReplyShort` (3).
     pub fn comreset(mut self, reply: &mut [u8]) -> Outcome
-        ensures { GivenReplying self comReset reply.old result reply.new }
+        ensures { GivenReplying self (happens Comreset) reply.old result reply.new }
     {
         kept!(self.comreset(reply))
     }

@@ -1,14 +1,15 @@
 // The calls of a device that is kept: each comes to an act, and the act says the rest. It answers the length of its replies, or the refusal, and leaves the new state in place.
-#![tactic(auto, using(crate::proofs::Doing::plain_act, crate::proofs::Doing::unlent_act))]
+#![tactic(auto)]
 
-ghost use Rattle.std.specs.Prelude.{◌≡◌, false, [], leb, length};
+ghost use Rattle.std.specs.Prelude.{◌≡◌, ◌<◌, ◌^◌, [], leb, length};
 ghost use Rattle.bits.specs.Pick.{pick};
 ghost use Rattle.rules.specs.Handed.{handed};
-ghost use Rattle.rules.specs.Call.{Call, hostFrame, openPhase, sendData, finishTags, mediaError, linkEvent, comReset};
+ghost use Rattle.rules.specs.Call.{hostFrame, happens};
+ghost use Rattle.rules.specs.declared.event.DeviceEvent.TheVariants.{OpenPhase, SendData, FinishTags, MediaError, LinkEvent, Comreset};
 ghost use Rattle.replies.specs.Replies.{repliesOf, RepliesGiven};
 ghost use Rattle.device.specs.Device.{powerOn};
 ghost use Rattle.device.specs.Lent.{lent, gave, answered};
-ghost use Rattle.device.specs.FactsOf.{entryMeant, mediumWrong, factsWith};
+ghost use Rattle.device.specs.FactsOf.{entryMeant, mediumWrong, factsWith, unreadyIn};
 ghost use Rattle.device.specs.After.{after_of};
 ghost use Rattle.device.specs.Step.{shown, actOf, Given, GivenReplying, GivenAlone};
 ghost use Rattle.device.specs.Sealing.{poweredOf};
@@ -18,7 +19,7 @@ use crate::state::Device;
 use device_state::{Entry, Settings};
 use refusals::Refusal;
 use replies::Shown;
-use rules::{Act, Facts};
+use rules::{Act, DeviceEvent, Facts};
 
 impl Device {
     // The entry of the tag that is meant; where none is, an idle one.
@@ -57,58 +58,62 @@ impl Device {
         self.after(act);
         len
     }
-
-    // A call that is lent no medium, as it was decided: the refusal, or its act done.
-    fn answer(&mut self, decided: Result<Act, Refusal>, reply: &mut [u8]) -> Result<usize, Refusal>
-        ensures { (c : Call) → (handed c).medium ≡ false → decided ≡ actOf self.old (lent c [] reply.old) → GivenReplying self.old c reply.old (answered self.new result) reply.new }
-    {
-        let act = decided?;
-        Ok(self.done(act, b"", reply))
-    }
 }
 
 impl Sealed {
-    // What a decision looks at, of a call that names no set and is lent no medium: that the device does not contradict itself is known by its field.
-    fn facts(&self, tag: Option<u32>, reply: &[u8]) -> Facts
-        ensures { result ≡ factsWith self.now.device tag false false (length reply.now) }
+    // What a decision looks at, of a call about a tag's entry, if it is about one: that the device does not contradict
+    // itself is known by its field.
+    fn facts(&self, tag: Option<u32>, unready: bool, medium: &[u8], reply: &[u8]) -> Facts
+        ensures { let device = self.now.device in result ≡ factsWith device tag (mediumWrong device.settings.capacity (length medium.now)) unready (length reply.now) }
     {
         let device = &self.device;
         Facts {
             contradicts: false,
-            medium_wrong: false,
+            medium_wrong: device.medium_wrong(medium),
             reply_short: reply.len() < Device::REPLY_SIZE,
             settings: device.settings,
             status: device.status,
             entry: device.entry_meant(tag),
-            unready: false,
+            unready,
         }
     }
 
-    // The same of a call that is lent the medium, which is about the open phase.
-    fn facts_lent(&self, medium: &[u8], reply: &[u8]) -> Facts
-        ensures { let device = self.now.device in result ≡ factsWith device device.status.phase (mediumWrong device.settings.capacity (length medium.now)) false (length reply.now) }
-    {
-        Facts {
-            medium_wrong: self.device.medium_wrong(medium),
-            ..self.facts(self.device.status.phase, reply)
-        }
-    }
-
-    // What a host frame comes to.
+    // What a host frame comes to: it is about the open phase.
     #[tactic(auto, using(crate::proofs::Doing::host_act))]
     fn frame_act(&self, frame: &[u8], medium: &[u8], reply: &[u8]) -> Result<Act, Refusal>
         ensures { result ≡ actOf self.now.device (lent (hostFrame frame.now) medium.now reply.now) }
     {
-        let facts = self.facts_lent(medium, reply);
+        let facts = self.facts(self.device.status.phase, false, medium, reply);
         facts.frame_act(frames::read_frame(frame))
     }
 
-    // What a send comes to.
-    #[tactic(auto, using(crate::proofs::Doing::send_act))]
-    fn send_act(&self, medium: &[u8], reply: &[u8]) -> Result<Act, Refusal>
-        ensures { result ≡ actOf self.now.device (lent sendData medium.now reply.now) }
+    // The set that it names has a tag that is not ready; an event that names no set has none.
+    #[tactic(auto, using(crate::proofs::Doing::none_unready))]
+    fn is_unready(&self, event: DeviceEvent) -> bool
+        ensures unready { result ≡ unreadyIn self.now.device (happens event) }
+        ensures typed { (handed (happens event)).set < 2 ^ 32 }
     {
-        self.facts_lent(medium, reply).send_act()
+        match event {
+            DeviceEvent::FinishTags(set) => {
+                rules::some_unready(&self.device.entries, self.device.status, set)
+            }
+            DeviceEvent::OpenPhase(_)
+            | DeviceEvent::SendData
+            | DeviceEvent::MediaError { .. }
+            | DeviceEvent::LinkEvent(_)
+            | DeviceEvent::Comreset => false,
+        }
+    }
+
+    // What a device event comes to.
+    #[tactic(auto, unfolding(crate::specs::Step::actOf))]
+    fn event_act(&self, event: DeviceEvent, medium: &[u8], reply: &[u8]) -> Result<Act, Refusal>
+        ensures act { result ≡ actOf self.now.device (lent (happens event) medium.now reply.now) }
+        ensures typed { (handed (happens event)).set < 2 ^ 32 }
+    {
+        let tag = event.tag(self.device.status.phase);
+        let facts = self.facts(tag, self.is_unready(event), medium, reply);
+        facts.event_act(event)
     }
 
     /// Power-on: idle, record blank, counters 0.
@@ -146,15 +151,31 @@ impl Sealed {
         Ok(self.device.done(act, b"", reply))
     }
 
+    /// A device event. Of what is lent, it looks at the medium for a send alone, and for a link event not at the reply
+    /// buffer.
+    ///
+    /// # Errors
+    /// Those of the method that it has below.
+    pub fn event(
+        &mut self,
+        event: DeviceEvent,
+        medium: &[u8],
+        reply: &mut [u8],
+    ) -> Result<usize, Refusal>
+        ensures { Given self.old.device (lent (happens event) medium.now reply.old) (gave (answered self.new.device result) medium.now reply.new) }
+    {
+        let act = self.event_act(event, medium, reply)?;
+        Ok(self.device.done(act, act.part(medium), reply))
+    }
+
     /// Open a phase for an outstanding tag: DMA Setup, and for a write an Activate.
     ///
     /// # Errors
     /// The first that holds of `ReplyShort` (3), `TagIdle` (7), `PhaseOpen` (8), `AllMoved` (9).
     pub fn open(&mut self, tag: u8, reply: &mut [u8]) -> Result<usize, Refusal>
-        ensures { GivenReplying self.old.device (openPhase tag) reply.old (answered self.new.device result) reply.new }
+        ensures { GivenReplying self.old.device (happens (OpenPhase tag)) reply.old (answered self.new.device result) reply.new }
     {
-        let facts = self.facts(Some(u32::from(tag)), reply);
-        self.device.answer(facts.open_act(tag), reply)
+        self.event(DeviceEvent::OpenPhase(tag), b"", reply)
     }
 
     /// Send, in a read phase: one data frame, of 8,192 bytes or what is left of the command.
@@ -162,10 +183,9 @@ impl Sealed {
     /// # Errors
     /// The first that holds of `MediumLength` (2), `ReplyShort` (3), `NoReadPhase` (10).
     pub fn send(&mut self, medium: &[u8], reply: &mut [u8]) -> Result<usize, Refusal>
-        ensures { Given self.old.device (lent sendData medium.now reply.old) (gave (answered self.new.device result) medium.now reply.new) }
+        ensures { Given self.old.device (lent (happens SendData) medium.now reply.old) (gave (answered self.new.device result) medium.now reply.new) }
     {
-        let act = self.send_act(medium, reply)?;
-        Ok(self.device.done(act, act.part(medium), reply))
+        self.event(DeviceEvent::SendData, medium, reply)
     }
 
     /// Finish a set of tags, bit t for tag t, whose data have all moved: Set Device Bits.
@@ -173,14 +193,9 @@ impl Sealed {
     /// # Errors
     /// The first that holds of `ReplyShort` (3), `PhaseOpen` (8), `SetUnready` (11).
     pub fn finish(&mut self, set: u32, reply: &mut [u8]) -> Result<usize, Refusal>
-        ensures { GivenReplying self.old.device (finishTags set) reply.old (answered self.new.device result) reply.new }
+        ensures { GivenReplying self.old.device (happens (FinishTags set)) reply.old (answered self.new.device result) reply.new }
     {
-        let device = &self.device;
-        let facts = Facts {
-            unready: rules::some_unready(&device.entries, device.status, set),
-            ..self.facts(None, reply)
-        };
-        self.device.answer(facts.finish_act(set), reply)
+        self.event(DeviceEvent::FinishTags(set), b"", reply)
     }
 
     /// Media error at a sector of an outstanding tag's command, counted from the medium's first: Set Device Bits, and the
@@ -195,22 +210,20 @@ impl Sealed {
         sector: u32,
         reply: &mut [u8],
     ) -> Result<usize, Refusal>
-        ensures { GivenReplying self.old.device (mediaError tag error sector) reply.old (answered self.new.device result) reply.new }
+        ensures { GivenReplying self.old.device (happens (MediaError tag error sector)) reply.old (answered self.new.device result) reply.new }
     {
-        let facts = self.facts(Some(u32::from(tag)), reply);
-        self.device
-            .answer(facts.media_act(tag, error, sector), reply)
+        self.event(DeviceEvent::MediaError { tag, error, sector }, b"", reply)
     }
 
     /// Link event: adds one to the counter of a kept row of page 11h, 1 to 15 but not 9. It replies nothing: 0 bytes.
     ///
     /// # Errors
     /// `NoRow` (13).
+    #[tactic(auto, using(crate::proofs::Lending::given_silent))]
     pub fn link_event(&mut self, row: u8) -> Result<usize, Refusal>
-        ensures { GivenAlone self.old.device (linkEvent row) (answered self.new.device result) }
+        ensures { GivenAlone self.old.device (happens (LinkEvent row)) (answered self.new.device result) }
     {
-        let facts = self.facts(None, &[]);
-        self.device.answer(facts.link_act(row), &mut [])
+        self.event(DeviceEvent::LinkEvent(row), b"", &mut [])
     }
 
     /// COMRESET: as SRST and release together, and one link reset more: the signature.
@@ -218,9 +231,8 @@ impl Sealed {
     /// # Errors
     /// `ReplyShort` (3).
     pub fn comreset(&mut self, reply: &mut [u8]) -> Result<usize, Refusal>
-        ensures { GivenReplying self.old.device comReset reply.old (answered self.new.device result) reply.new }
+        ensures { GivenReplying self.old.device (happens Comreset) reply.old (answered self.new.device result) reply.new }
     {
-        let facts = self.facts(None, reply);
-        self.device.answer(facts.comreset_act(), reply)
+        self.event(DeviceEvent::Comreset, b"", reply)
     }
 }

@@ -2,14 +2,14 @@
 use Rattle.std.proofs.Common.{◌≡◌, refl, ◌∙◌, true, false, List, ℕ, ◌≤◌, ◌<◌, arith, eqb, length, get_or, take, length-take-le, Option, is_none, option_map, Ok}
 use Rattle.std.proofs.lemmas.List.{get_or-take}
 use Rattle.event_kinds.specs.Kinds.{kindNamed, bodyOf, bodyLength, misplaced, nextWhole, nextBy, next_of, fitsLength, isEvent, eventKind}
-use Rattle.event_kinds.specs.Requests.{callByKind, requestOf}
+use Rattle.event_kinds.specs.Requests.{requestByKind, requestOf}
 use Rattle.event_kinds.specs.Stops.{noCall}
 use Rattle.std.specs.Option.{option_and_then}
 use Rattle.event_kinds.specs.declared.kinds.Kind.{Kind}
 
 -- what has a body of its length asks for something, and of a kind other than the settings
-asked : (k : ℕ) (e : List ℕ) (n : ℕ) → fitsLength (option_map bodyOf (kindNamed k)) n ≡ true → is_none (option_and_then (callByKind e) (kindNamed k)) ≡ eqb k 0x00
-unfolding callByKind kindNamed fitsLength
+asked : (k : ℕ) (e : List ℕ) (n : ℕ) → fitsLength (option_map bodyOf (kindNamed k)) n ≡ true → is_none (option_and_then (requestByKind e) (kindNamed k)) ≡ eqb k 0x00
+unfolding requestByKind kindNamed fitsLength
 asked k e n h = grind arith
 
 -- nothing is asked for exactly by what is no event, and by settings, which have their own call

@@ -5,7 +5,7 @@ use Rattle.bits.specs.Pick.{pick}
 use Rattle.frame_parts.specs.Size.{sizeOf}
 use Rattle.frame_parts.specs.declared.kinds.FrameKind.TheVariants.{HostRegister, BistActivate}
 use Rattle.event_kinds.specs.declared.kinds.Kind.{Kind}
-use Rattle.event_kinds.specs.declared.kinds.Kind.TheVariants.{Settings, OpenPhase, SendData, FinishTags, MediaError, LinkEvent, ComReset, HostData, HostFrame}
+use Rattle.event_kinds.specs.declared.kinds.Kind.TheVariants.{Settings, OpenPhase, SendData, FinishTags, MediaError, LinkEvent, Comreset, HostData, HostFrame}
 use Rattle.event_kinds.specs.declared.kinds.InputEnd.{InputEnd}
 use Rattle.event_kinds.specs.declared.kinds.InputEnd.TheVariants.{Clean, NoEvent}
 
@@ -18,7 +18,7 @@ kindNamed k =
     (pick (eqb k 0x03) (Some FinishTags)
     (pick (eqb k 0x04) (Some MediaError)
     (pick (eqb k 0x05) (Some LinkEvent)
-    (pick (eqb k 0x06) (Some ComReset)
+    (pick (eqb k 0x06) (Some Comreset)
     (pick (eqb k 0x07) (Some HostData)
     (pick (eqb k 0x27) (Some (HostFrame HostRegister))
     (pick (eqb k 0x58) (Some (HostFrame BistActivate)) None)))))))))
@@ -31,7 +31,7 @@ bodyOf SendData = 0
 bodyOf FinishTags = 4
 bodyOf MediaError = 6
 bodyOf LinkEvent = 1
-bodyOf ComReset = 0
+bodyOf Comreset = 0
 bodyOf HostData = 1
 bodyOf (HostFrame kind) = option_map_or (λ size. size - 1) (sizeOf kind) 0
 

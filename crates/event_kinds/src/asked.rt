@@ -4,29 +4,13 @@ ghost use Rattle.event_kinds.specs.Requests.{requestOf};
 
 use crate::kinds::{Kind, event_kind};
 use frame_parts::byte_of;
+use rules::DeviceEvent;
 
-/// The calls of the device, with their arguments.
+/// What an event asks of the device.
 #[derive(Clone, Copy, Debug, PartialEq, Eq)]
 pub enum Request {
-    /// Open a phase for a tag.
-    OpenPhase(u8),
-    /// Send the next data frame.
-    SendData,
-    /// Finish a set of tags.
-    FinishTags(u32),
-    /// A command fails at a sector.
-    MediaError {
-        /// The tag of the command.
-        tag: u8,
-        /// Its error byte; the device refuses 0.
-        error: u8,
-        /// The sector that it fails at, counted from the medium's first.
-        sector: u32,
-    },
-    /// One more in a row's counter.
-    LinkEvent(u8),
-    /// COMRESET.
-    ComReset,
+    /// A device event.
+    Event(DeviceEvent),
     /// Host data of the length due, all of one byte.
     HostData(u8),
     /// A frame from the host: the event itself.
@@ -34,23 +18,24 @@ pub enum Request {
 }
 
 /// What the bytes of an event ask for; `None` for what is no event, and for settings.
-#[tactic(auto, unfolding(crate::specs::Requests::requestOf, crate::specs::Requests::callByKind))]
+#[tactic(auto, unfolding(crate::specs::Requests::requestOf, crate::specs::Requests::requestByKind))]
 pub fn request_of(event: &[u8]) -> Option<Request>
     ensures { result ≡ requestOf event.now }
 {
-    match event_kind(event)? {
-        Kind::Settings => None,
-        Kind::OpenPhase => Some(Request::OpenPhase(byte_of(event, 1))),
-        Kind::SendData => Some(Request::SendData),
-        Kind::FinishTags => Some(Request::FinishTags(bits::le32(event, 1))),
-        Kind::MediaError => Some(Request::MediaError {
+    let device_event = match event_kind(event)? {
+        Kind::Settings => return None,
+        Kind::HostData => return Some(Request::HostData(byte_of(event, 1))),
+        Kind::HostFrame(_) => return Some(Request::HostFrame),
+        Kind::OpenPhase => DeviceEvent::OpenPhase(byte_of(event, 1)),
+        Kind::SendData => DeviceEvent::SendData,
+        Kind::FinishTags => DeviceEvent::FinishTags(bits::le32(event, 1)),
+        Kind::MediaError => DeviceEvent::MediaError {
             tag: byte_of(event, 1),
             error: byte_of(event, 2),
             sector: bits::le32(event, 3),
-        }),
-        Kind::LinkEvent => Some(Request::LinkEvent(byte_of(event, 1))),
-        Kind::ComReset => Some(Request::ComReset),
-        Kind::HostData => Some(Request::HostData(byte_of(event, 1))),
-        Kind::HostFrame(_) => Some(Request::HostFrame),
-    }
+        },
+        Kind::LinkEvent => DeviceEvent::LinkEvent(byte_of(event, 1)),
+        Kind::Comreset => DeviceEvent::Comreset,
+    };
+    Some(Request::Event(device_event))
 }

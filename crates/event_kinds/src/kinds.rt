@@ -32,7 +32,7 @@ pub enum Kind {
     /// 05h: one more in a row's counter.
     LinkEvent,
     /// 06h: COMRESET.
-    ComReset,
+    Comreset,
     /// 07h: host data, all of one byte.
     HostData,
     /// 27h or 58h: a frame from the host, whose type is the event's kind.
@@ -52,7 +52,7 @@ impl Kind {
             0x03 => Some(Kind::FinishTags),
             0x04 => Some(Kind::MediaError),
             0x05 => Some(Kind::LinkEvent),
-            0x06 => Some(Kind::ComReset),
+            0x06 => Some(Kind::Comreset),
             0x07 => Some(Kind::HostData),
             // a data frame is no event: its length is what is due
             _ => match FrameKind::from_byte(byte)? {
@@ -72,7 +72,7 @@ impl Kind {
         match self {
             Kind::Settings => 7,
             Kind::OpenPhase | Kind::LinkEvent | Kind::HostData => 1,
-            Kind::SendData | Kind::ComReset => 0,
+            Kind::SendData | Kind::Comreset => 0,
             Kind::FinishTags => 4,
             Kind::MediaError => 6,
             Kind::HostFrame(kind) => kind.size().map_or(0, |size| size.saturating_sub(1)),

@@ -1,20 +1,15 @@
 -- Which call of the device an event makes. Assumes nothing.
 use Rattle.std.specs.Prelude.{List, ℕ, Option, option_map}
-use Rattle.rules.specs.Call.{Call, hostFrame, openPhase, sendData, finishTags, mediaError, linkEvent, comReset}
+use Rattle.rules.specs.Call.{Call, hostFrame, happens}
 use Rattle.device.specs.declared.state.Device.{Device}
 use Rattle.event_kinds.specs.Requests.{requestOf}
 use Rattle.event_kinds.specs.declared.asked.Request.{Request}
-use Rattle.event_kinds.specs.declared.asked.Request.TheVariants.{OpenPhase, SendData, FinishTags, MediaError, LinkEvent, ComReset, HostData, HostFrame}
+use Rattle.event_kinds.specs.declared.asked.Request.TheVariants.{Event, HostData, HostFrame}
 use Rattle.events.specs.HostData.{hostData}
 
 -- the call that a request makes in the state d; host data has the length due, and a frame is the event's bytes e themselves
 unfoldable pub call_of : Device → List ℕ → Request → Call
-call_of d e (OpenPhase tag) = openPhase tag
-call_of d e SendData = sendData
-call_of d e (FinishTags set) = finishTags set
-call_of d e (MediaError tag error sector) = mediaError tag error sector
-call_of d e (LinkEvent row) = linkEvent row
-call_of d e ComReset = comReset
+call_of d e (Event event) = happens event
 call_of d e (HostData b) = hostFrame (hostData d b)
 call_of d e HostFrame = hostFrame e
 

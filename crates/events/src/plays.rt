@@ -22,12 +22,7 @@ pub(crate) fn make_call(
     ensures { Gives (stepFor sealed.old.device medium.old reply.old (Some (call_of sealed.old.device event.now request))) reply.old (gave (answered sealed.new.device result) medium.new reply.new) }
 {
     match request {
-        Request::OpenPhase(tag) => sealed.open(tag, reply),
-        Request::SendData => sealed.send(medium, reply),
-        Request::FinishTags(set) => sealed.finish(set, reply),
-        Request::MediaError { tag, error, sector } => sealed.media_error(tag, error, sector, reply),
-        Request::LinkEvent(row) => sealed.link_event(row),
-        Request::ComReset => sealed.comreset(reply),
+        Request::Event(event) => sealed.event(event, medium, reply),
         Request::HostData(byte) => host_data(sealed, byte, medium, reply),
         Request::HostFrame => sealed.host_frame(event, medium, reply),
     }

@@ -8,7 +8,8 @@ use Rattle.device.specs.declared.state.Device.{Device}
 use Rattle.device.specs.declared.state.Outcome.{Outcome}
 use Rattle.device.proofs.state.Device as calls
 use Rattle.device.specs.contracts.state.Device as said
-use Rattle.rules.specs.Call.{hostFrame, openPhase, sendData, finishTags, mediaError, linkEvent, comReset}
+use Rattle.rules.specs.Call.{hostFrame, happens}
+use Rattle.rules.specs.declared.event.DeviceEvent.TheVariants.{OpenPhase, SendData, FinishTags, MediaError, LinkEvent, Comreset}
 use Rattle.device.specs.Lent.{Lent, lent, Gave, gave}
 use Rattle.history.specs.Run.{Done}
 use Rattle.history.specs.Follows.{FollowsBy}
@@ -19,17 +20,17 @@ pub data Allowed (d : Device) : Lent → Gave → Type 0 where
   hosted : (κs : Lfts 3) (f : Bor (List ℕ)) (m b : MutBor (List ℕ)) (r : Outcome) (m' b' : List ℕ)
       → Allows said.host_frame.ended calls.host_frame.Reads.Post κs (d, (f, (m, (b, tt)))) r (tt, (tt, (m', (b', tt)))) → Allowed d (lent (hostFrame f.now) m.now b.now) (gave r m' b')
   opened : (κs : Lfts 1) (t : ℕ) (b : MutBor (List ℕ)) (r : Outcome) (m b' : List ℕ)
-      → Allows said.open.ended calls.open.Reads.Post κs (d, (t, (b, tt))) r (tt, (tt, (b', tt))) → Allowed d (lent (openPhase t) m b.now) (gave r m b')
+      → Allows said.open.ended calls.open.Reads.Post κs (d, (t, (b, tt))) r (tt, (tt, (b', tt))) → Allowed d (lent (happens (OpenPhase t)) m b.now) (gave r m b')
   sent : (κs : Lfts 2) (m : Bor (List ℕ)) (b : MutBor (List ℕ)) (r : Outcome) (b' : List ℕ)
-      → Allows said.send.ended calls.send.Reads.Post κs (d, (m, (b, tt))) r (tt, (tt, (b', tt))) → Allowed d (lent sendData m.now b.now) (gave r m.now b')
+      → Allows said.send.ended calls.send.Reads.Post κs (d, (m, (b, tt))) r (tt, (tt, (b', tt))) → Allowed d (lent (happens SendData) m.now b.now) (gave r m.now b')
   finished : (κs : Lfts 1) (s : ℕ) (b : MutBor (List ℕ)) (r : Outcome) (m b' : List ℕ)
-      → Allows said.finish.ended calls.finish.Reads.Post κs (d, (s, (b, tt))) r (tt, (tt, (b', tt))) → Allowed d (lent (finishTags s) m b.now) (gave r m b')
+      → Allows said.finish.ended calls.finish.Reads.Post κs (d, (s, (b, tt))) r (tt, (tt, (b', tt))) → Allowed d (lent (happens (FinishTags s)) m b.now) (gave r m b')
   failed : (κs : Lfts 1) (t e s : ℕ) (b : MutBor (List ℕ)) (r : Outcome) (m b' : List ℕ)
-      → Allows said.media_error.ended calls.media_error.Reads.Post κs (d, (t, (e, (s, (b, tt))))) r (tt, (tt, (tt, (tt, (b', tt))))) → Allowed d (lent (mediaError t e s) m b.now) (gave r m b')
+      → Allows said.media_error.ended calls.media_error.Reads.Post κs (d, (t, (e, (s, (b, tt))))) r (tt, (tt, (tt, (tt, (b', tt))))) → Allowed d (lent (happens (MediaError t e s)) m b.now) (gave r m b')
   linked : (row : ℕ) (r : Outcome) (m b : List ℕ)
-      → Allows said.link_event.ended calls.link_event.Reads.Post tt (d, (row, tt)) r (tt, (tt, tt)) → Allowed d (lent (linkEvent row) m b) (gave r m b)
+      → Allows said.link_event.ended calls.link_event.Reads.Post tt (d, (row, tt)) r (tt, (tt, tt)) → Allowed d (lent (happens (LinkEvent row)) m b) (gave r m b)
   reset : (κs : Lfts 1) (b : MutBor (List ℕ)) (r : Outcome) (m b' : List ℕ)
-      → Allows said.comreset.ended calls.comreset.Reads.Post κs (d, (b, tt)) r (tt, (b', tt)) → Allowed d (lent comReset m b.now) (gave r m b')
+      → Allows said.comreset.ended calls.comreset.Reads.Post κs (d, (b, tt)) r (tt, (b', tt)) → Allowed d (lent (happens Comreset) m b.now) (gave r m b')
 
 -- from power-on: its outcome as its contract allows it, and a sequence of results from the state that it returned, each allowed by its call's contract
 pub record BeganCode (s : Settings) (r : Outcome) (xs : List Done) : Type 0 where

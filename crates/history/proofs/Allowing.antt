@@ -6,14 +6,15 @@ use Rattle.frame_parts.specs.Cut.{joined}
 use Rattle.frames.specs.Write.{FrameValue}
 use Rattle.replies.specs.Replies.{sentAll}
 use Rattle.rules.specs.Medium.{Touch, keptBy}
-use Rattle.rules.specs.Call.{Call, hostFrame, openPhase, sendData, finishTags, mediaError, linkEvent, comReset}
+use Rattle.rules.specs.Call.{Call, hostFrame, happens}
+use Rattle.rules.specs.declared.event.DeviceEvent.TheVariants.{OpenPhase, SendData, FinishTags, MediaError, LinkEvent, Comreset}
 use Rattle.device_state.specs.declared.shapes.Settings.{Settings}
 use Rattle.device.specs.Device.{powerOn}
 use Rattle.device.specs.Step.{Step, step, Given}
 use Rattle.device.specs.Lent.{Lent, lent, Gave, gave, frameIn}
 use Rattle.device.specs.declared.state.Device.{Device}
 use Rattle.device.proofs.Turns.{by-turn}
-use Rattle.device.proofs.Doing.{send-left}
+use Rattle.device.proofs.Doing.{event-left}
 use Rattle.device.proofs.Lending.{Unlent, act-leaves, silent-frames}
 use Rattle.history.specs.Run.{Done, done, result}
 use Rattle.history.specs.Follows.{FollowsBy, lents}
@@ -30,13 +31,13 @@ lentFor l = record { ref_ptr = (0, 0); ghost_name = 0; now = l }
 unlent-left : (d : Device) (c : Call) (m b : List ℕ) → Unlent c → (step d (lent c m b)).medium ≡ m
 unlent-left d c m b u = by-turn d (lent c m b) (λ (s : Step). s.medium ≡ m) (λ r q. refl) (λ a q. ap (λ (t : Touch). keptBy t (frameIn c) m) (act-leaves d c m b a u q))
 
-sent-left : (d : Device) (m b : List ℕ) → (step d (lent sendData m b)).medium ≡ m
-sent-left d m b = by-turn d (lent sendData m b) (λ (s : Step). s.medium ≡ m) (λ r q. refl) (λ a q. sym (send-left d m b a q))
+sent-left : (d : Device) (m b : List ℕ) → (step d (lent (happens SendData) m b)).medium ≡ m
+sent-left d m b = by-turn d (lent (happens SendData) m b) (λ (s : Step). s.medium ≡ m) (λ r q. refl) (λ a q. sym (event-left d SendData m b a q))
 
 -- a link event is lent no buffer, and leaves the empty one as it is
-link-left : (d : Device) (r : ℕ) → (result d (lent (linkEvent r) [] [])).buffer ≡ []
+link-left : (d : Device) (r : ℕ) → (result d (lent (happens (LinkEvent r)) [] [])).buffer ≡ []
 unfolding sentAll joined
-link-left d r = ap (λ (x : List FrameValue). laid (sentAll x) []) (silent-frames d (linkEvent r) [] [] refl)
+link-left d r = ap (λ (x : List FrameValue). laid (sentAll x) []) (silent-frames d (happens (LinkEvent r)) [] [] refl)
 
 -- what the definitions give is as the one contract promises it, with a medium and a buffer that are the same
 gives : (d : Device) (l : Lent) (m b : List ℕ) → (result d l).medium ≡ m → (result d l).buffer ≡ b → Given d l (gave (result d l).outcome m b)
@@ -49,12 +50,12 @@ bare d c b u = gives d (lent c [] b) [] _ (unlent-left d c [] b u) refl
 -- every call is allowed some result, in every state and with anything lent
 pub allowed-some : (d : Device) (c : Call) (m b : List ℕ) → (g : Gave) × Allowed d (lent c m b) g
 allowed-some d (hostFrame f) m b = (_, hosted ([], ([], ([], tt))) (lentTo f) (lentFor m) (lentFor b) _ _ _ (gives d (lent (hostFrame f) m b) _ _ refl refl))
-allowed-some d (openPhase t) m b = (_, opened ([], tt) t (lentFor b) _ m _ (bare d (openPhase t) b refl))
-allowed-some d sendData m b = (_, sent ([], ([], tt)) (lentTo m) (lentFor b) _ _ (gives d (lent sendData m b) m _ (sent-left d m b) refl))
-allowed-some d (finishTags s) m b = (_, finished ([], tt) s (lentFor b) _ m _ (bare d (finishTags s) b refl))
-allowed-some d (mediaError t e s) m b = (_, failed ([], tt) t e s (lentFor b) _ m _ (bare d (mediaError t e s) b refl))
-allowed-some d (linkEvent r) m b = (_, linked r _ m b (gives d (lent (linkEvent r) [] []) [] [] (unlent-left d (linkEvent r) [] [] refl) (link-left d r)))
-allowed-some d comReset m b = (_, reset ([], tt) (lentFor b) _ m _ (bare d comReset b refl))
+allowed-some d (happens (OpenPhase t)) m b = (_, opened ([], tt) t (lentFor b) _ m _ (bare d (happens (OpenPhase t)) b refl))
+allowed-some d (happens SendData) m b = (_, sent ([], ([], tt)) (lentTo m) (lentFor b) _ _ (gives d (lent (happens SendData) m b) m _ (sent-left d m b) refl))
+allowed-some d (happens (FinishTags s)) m b = (_, finished ([], tt) s (lentFor b) _ m _ (bare d (happens (FinishTags s)) b refl))
+allowed-some d (happens (MediaError t e s)) m b = (_, failed ([], tt) t e s (lentFor b) _ m _ (bare d (happens (MediaError t e s)) b refl))
+allowed-some d (happens (LinkEvent r)) m b = (_, linked r _ m b (gives d (lent (happens (LinkEvent r)) [] []) [] [] (unlent-left d (happens (LinkEvent r)) [] [] refl) (link-left d r)))
+allowed-some d (happens Comreset) m b = (_, reset ([], tt) (lentFor b) _ m _ (bare d (happens Comreset) b refl))
 
 -- and so is every sequence of calls
 follows-some : (d : Device) (as' : List Lent) → (xs : List Done) × (FollowsBy Allowed d xs × (lents xs ≡ as'))

@@ -1,7 +1,8 @@
 -- From contracts to runs: what the public calls' contracts allow, call by call, is the run of the definitions. Assumes nothing.
 use Rattle.std.proofs.Common.{Option, Result, ◌≡◌, refl, sym, ap, subst, ◌∙◌, List, [], ◌∷◌, map, ℕ}
 use Rattle.device_state.specs.declared.shapes.Settings.{Settings}
-use Rattle.rules.specs.Call.{openPhase, finishTags, mediaError, linkEvent, comReset}
+use Rattle.rules.specs.Call.{happens}
+use Rattle.rules.specs.declared.event.DeviceEvent.TheVariants.{OpenPhase, FinishTags, MediaError, LinkEvent, Comreset}
 use Rattle.device.specs.Step.{Given}
 use Rattle.device.proofs.Lending.{unlent, unlent-both}
 use Rattle.device.specs.declared.state.Device.{Device}
@@ -25,12 +26,12 @@ given-only d l g a = same-gave a.state a.refusal a.len a.medium a.reply
 -- each call's own contract is the one contract; what it is not lent stays as it was
 pub allowed-given : {d : Device} {l : Lent} {g : Gave} → Allowed d l g → Given d l g
 allowed-given {d} (hosted κs f m b r m' b' p) = p
-allowed-given {d} (opened κs t b r m b' p) = unlent d (openPhase t) m b.now b' r refl p
+allowed-given {d} (opened κs t b r m b' p) = unlent d (happens (OpenPhase t)) m b.now b' r refl p
 allowed-given {d} (sent κs m b r b' p) = p
-allowed-given {d} (finished κs s b r m b' p) = unlent d (finishTags s) m b.now b' r refl p
-allowed-given {d} (failed κs t e s b r m b' p) = unlent d (mediaError t e s) m b.now b' r refl p
-allowed-given {d} (linked row r m b p) = unlent-both d (linkEvent row) m b r refl refl p
-allowed-given {d} (reset κs b r m b' p) = unlent d comReset m b.now b' r refl p
+allowed-given {d} (finished κs s b r m b' p) = unlent d (happens (FinishTags s)) m b.now b' r refl p
+allowed-given {d} (failed κs t e s b r m b' p) = unlent d (happens (MediaError t e s)) m b.now b' r refl p
+allowed-given {d} (linked row r m b p) = unlent-both d (happens (LinkEvent row)) m b r refl refl p
+allowed-given {d} (reset κs b r m b' p) = unlent d (happens Comreset) m b.now b' r refl p
 
 -- a sequence that the contracts allow is one of results as the one contract promises them
 allowed-follows : (xs : List Done) (d : Device) → FollowsBy Allowed d xs → FollowsBy Given d xs

@@ -13,7 +13,8 @@ use Rattle.device.proofs.sealed.Sealed as calls
 use Rattle.device.specs.contracts.sealed.Sealed as said
 use Rattle.device.proofs.Lending.{unlent, unlent-both}
 use Rattle.device.proofs.Kept.{answered-state}
-use Rattle.rules.specs.Call.{hostFrame, openPhase, sendData, finishTags, mediaError, linkEvent, comReset}
+use Rattle.rules.specs.Call.{hostFrame, happens}
+use Rattle.rules.specs.declared.event.DeviceEvent.TheVariants.{OpenPhase, SendData, FinishTags, MediaError, LinkEvent, Comreset}
 use Rattle.device.specs.Lent.{Lent, lent, Gave, gave, answered}
 use Rattle.history.specs.Run.{Done, done, AllTyped}
 use Rattle.history.specs.Follows.{FollowsBy, final, lents, historyOf, Began}
@@ -25,17 +26,17 @@ pub data Keeps : Sealed → Lent → Gave → Sealed → Type 0 where
   hosted : (κs : Lfts 4) (k : MutBor Sealed) (f : Bor (List ℕ)) (m b : MutBor (List ℕ)) (r : Result ℕ Refusal) (k' : Sealed) (m' b' : List ℕ)
       → Allows said.host_frame.ended calls.host_frame.Reads.Post κs (k, (f, (m, (b, tt)))) r (k', (tt, (m', (b', tt)))) → Keeps k.now (lent (hostFrame f.now) m.now b.now) (gave (answered k'.device r) m' b') k'
   opened : (κs : Lfts 2) (k : MutBor Sealed) (t : ℕ) (b : MutBor (List ℕ)) (r : Result ℕ Refusal) (k' : Sealed) (m b' : List ℕ)
-      → Allows said.open.ended calls.open.Reads.Post κs (k, (t, (b, tt))) r (k', (tt, (b', tt))) → Keeps k.now (lent (openPhase t) m b.now) (gave (answered k'.device r) m b') k'
+      → Allows said.open.ended calls.open.Reads.Post κs (k, (t, (b, tt))) r (k', (tt, (b', tt))) → Keeps k.now (lent (happens (OpenPhase t)) m b.now) (gave (answered k'.device r) m b') k'
   sent : (κs : Lfts 3) (k : MutBor Sealed) (m : Bor (List ℕ)) (b : MutBor (List ℕ)) (r : Result ℕ Refusal) (k' : Sealed) (b' : List ℕ)
-      → Allows said.send.ended calls.send.Reads.Post κs (k, (m, (b, tt))) r (k', (tt, (b', tt))) → Keeps k.now (lent sendData m.now b.now) (gave (answered k'.device r) m.now b') k'
+      → Allows said.send.ended calls.send.Reads.Post κs (k, (m, (b, tt))) r (k', (tt, (b', tt))) → Keeps k.now (lent (happens SendData) m.now b.now) (gave (answered k'.device r) m.now b') k'
   finished : (κs : Lfts 2) (k : MutBor Sealed) (s : ℕ) (b : MutBor (List ℕ)) (r : Result ℕ Refusal) (k' : Sealed) (m b' : List ℕ)
-      → Allows said.finish.ended calls.finish.Reads.Post κs (k, (s, (b, tt))) r (k', (tt, (b', tt))) → Keeps k.now (lent (finishTags s) m b.now) (gave (answered k'.device r) m b') k'
+      → Allows said.finish.ended calls.finish.Reads.Post κs (k, (s, (b, tt))) r (k', (tt, (b', tt))) → Keeps k.now (lent (happens (FinishTags s)) m b.now) (gave (answered k'.device r) m b') k'
   failed : (κs : Lfts 2) (k : MutBor Sealed) (t e s : ℕ) (b : MutBor (List ℕ)) (r : Result ℕ Refusal) (k' : Sealed) (m b' : List ℕ)
-      → Allows said.media_error.ended calls.media_error.Reads.Post κs (k, (t, (e, (s, (b, tt))))) r (k', (tt, (tt, (tt, (b', tt))))) → Keeps k.now (lent (mediaError t e s) m b.now) (gave (answered k'.device r) m b') k'
+      → Allows said.media_error.ended calls.media_error.Reads.Post κs (k, (t, (e, (s, (b, tt))))) r (k', (tt, (tt, (tt, (b', tt))))) → Keeps k.now (lent (happens (MediaError t e s)) m b.now) (gave (answered k'.device r) m b') k'
   linked : (κs : Lfts 1) (k : MutBor Sealed) (row : ℕ) (r : Result ℕ Refusal) (k' : Sealed) (m b : List ℕ)
-      → Allows said.link_event.ended calls.link_event.Reads.Post κs (k, (row, tt)) r (k', (tt, tt)) → Keeps k.now (lent (linkEvent row) m b) (gave (answered k'.device r) m b) k'
+      → Allows said.link_event.ended calls.link_event.Reads.Post κs (k, (row, tt)) r (k', (tt, tt)) → Keeps k.now (lent (happens (LinkEvent row)) m b) (gave (answered k'.device r) m b) k'
   reset : (κs : Lfts 2) (k : MutBor Sealed) (b : MutBor (List ℕ)) (r : Result ℕ Refusal) (k' : Sealed) (m b' : List ℕ)
-      → Allows said.comreset.ended calls.comreset.Reads.Post κs (k, (b, tt)) r (k', (b', tt)) → Keeps k.now (lent comReset m b.now) (gave (answered k'.device r) m b') k'
+      → Allows said.comreset.ended calls.comreset.Reads.Post κs (k, (b, tt)) r (k', (b', tt)) → Keeps k.now (lent (happens Comreset) m b.now) (gave (answered k'.device r) m b') k'
 
 -- calls one after the other, the oldest first, each of what the last one kept
 pub data KeepsOn : Sealed → List Done → Sealed → Type 0 where
@@ -49,12 +50,12 @@ pub data BeganKept (s : Settings) (xs : List Done) : Sealed → Type 0 where
 -- each call's own contract is the one contract, and what is given back is what is kept
 pub keeps-given : {k k' : Sealed} {l : Lent} {g : Gave} → Keeps k l g k' → Given k.device l g × (g.outcome.state ≡ k'.device)
 keeps-given (hosted κs k f m b r k' m' b' p) = (p, answered-state k'.device r)
-keeps-given (opened κs k t b r k' m b' p) = (unlent k.now.device (openPhase t) m b.now b' (answered k'.device r) refl p, answered-state k'.device r)
+keeps-given (opened κs k t b r k' m b' p) = (unlent k.now.device (happens (OpenPhase t)) m b.now b' (answered k'.device r) refl p, answered-state k'.device r)
 keeps-given (sent κs k m b r k' b' p) = (p, answered-state k'.device r)
-keeps-given (finished κs k s b r k' m b' p) = (unlent k.now.device (finishTags s) m b.now b' (answered k'.device r) refl p, answered-state k'.device r)
-keeps-given (failed κs k t e s b r k' m b' p) = (unlent k.now.device (mediaError t e s) m b.now b' (answered k'.device r) refl p, answered-state k'.device r)
-keeps-given (linked κs k row r k' m b p) = (unlent-both k.now.device (linkEvent row) m b (answered k'.device r) refl refl p, answered-state k'.device r)
-keeps-given (reset κs k b r k' m b' p) = (unlent k.now.device comReset m b.now b' (answered k'.device r) refl p, answered-state k'.device r)
+keeps-given (finished κs k s b r k' m b' p) = (unlent k.now.device (happens (FinishTags s)) m b.now b' (answered k'.device r) refl p, answered-state k'.device r)
+keeps-given (failed κs k t e s b r k' m b' p) = (unlent k.now.device (happens (MediaError t e s)) m b.now b' (answered k'.device r) refl p, answered-state k'.device r)
+keeps-given (linked κs k row r k' m b p) = (unlent-both k.now.device (happens (LinkEvent row)) m b (answered k'.device r) refl refl p, answered-state k'.device r)
+keeps-given (reset κs k b r k' m b' p) = (unlent k.now.device (happens Comreset) m b.now b' (answered k'.device r) refl p, answered-state k'.device r)
 
 -- so a sequence is one of results as the one contract promises them, and ends with what is kept
 pub keeps-follows : {k end : Sealed} {xs : List Done} → KeepsOn k xs end → FollowsBy Given k.device xs × (final k.device xs ≡ end.device)

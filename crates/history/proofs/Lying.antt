@@ -7,7 +7,8 @@ use Rattle.frame_parts.specs.Size.{kindNamed, readable}
 use Rattle.frame_parts.specs.declared.kinds.FrameKind.{FrameKind}
 use Rattle.frame_parts.specs.declared.kinds.FrameKind.TheVariants as kinds
 use Rattle.frames.specs.Read.{frameOf, frameByKind, readFrame}
-use Rattle.rules.specs.Call.{Call, hostFrame}
+use Rattle.rules.specs.Call.{Call, hostFrame, happens}
+use Rattle.rules.specs.declared.event.DeviceEvent.TheVariants.{SendData}
 use Rattle.history.specs.Event.{Event}
 use Rattle.history.specs.FrameReading.{frameAsks}
 use Rattle.history.specs.Reading.{callAsks, callBrings}
@@ -42,6 +43,7 @@ brings-frame p = by-test Long (readable (get_or p 0 0) (length p)) (frameByKind 
 -- a call
 brings-call : (c : Call) → (callAsks c).brings ≡ length (callBrings c)
 brings-call (hostFrame f) = brings-frame f
+brings-call (happens SendData) = refl
 brings-call _ = refl
 
 -- an event

@@ -7,7 +7,8 @@ use Rattle.frames.specs.Write.{encode}
 use Rattle.refusals.specs.First.{Rung, first_of, rung}
 use Rattle.refusals.specs.declared.reasons.Refusal.{Refusal}
 use Rattle.refusals.specs.declared.reasons.Refusal.TheVariants.{Contradiction}
-use Rattle.rules.specs.Call.{Call, hostFrame}
+use Rattle.rules.specs.Call.{Call, hostFrame, happens}
+use Rattle.rules.specs.declared.event.DeviceEvent.TheVariants.{SendData}
 use Rattle.device.specs.Lent.{Lent}
 use Rattle.history.specs.Event.{Event}
 use Rattle.history.specs.Reading.{callBrings}
@@ -32,6 +33,7 @@ module _ (deep capacity mask : ℕ) (h : List Event) where
   tests-lent : (e : Event) (c : Call) → ownTests capacity mask e h c ≡ ownTests capacity mask (unanswered (lentIn e)) h c
   unfolding ownTests
   tests-lent e (hostFrame f) = refl
+  tests-lent e (happens SendData) = refl
   tests-lent e _ = refl
 
   -- what the tables make of a call that is lent l

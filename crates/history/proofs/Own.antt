@@ -4,7 +4,8 @@ use mathlib.Core.Bool.{false≢true}
 use Rattle.bits.specs.Bit.{bitIn}
 use Rattle.frames.specs.Write.{FrameValue}
 use Rattle.device_state.specs.Table.{entry_of}
-use Rattle.rules.specs.Call.{Call, openPhase}
+use Rattle.rules.specs.Call.{Call, happens}
+use Rattle.rules.specs.declared.event.DeviceEvent.TheVariants.{OpenPhase}
 use Rattle.rules.specs.Positions.{place_of, move_of}
 use Rattle.rules.specs.Act.{failing}
 use Rattle.rules.specs.Medium.{touch_of, part_of, mediumAfter}
@@ -56,7 +57,7 @@ own-replies : (c : Call) (rs : List FrameValue) → (callAsks c).command ≡ fal
 own-replies c rs k o e f p s = record { pageless = p; shaped = unblamed rs k o e f; utters = event-utters c rs k p s }
 
 -- DMA Setup, and for a write an Activate
-setup-replies : (tag : ℕ) (q : Queued) (on : Bool) → OwnReplies (openPhase tag) (setupReply q ∷ activateIf on)
+setup-replies : (tag : ℕ) (q : Queued) (on : Bool) → OwnReplies (happens (OpenPhase tag)) (setupReply q ∷ activateIf on)
 unfolding some collect
 setup-replies tag q true = own-replies _ _ refl (inr (inl refl)) refl refl refl (none-finished _ _ refl)
 setup-replies tag q false = own-replies _ _ refl (inl refl) refl refl refl (none-finished _ _ refl)

@@ -5,7 +5,8 @@ use Rattle.refusals.specs.declared.reasons.Refusal.{Refusal}
 use Rattle.refusals.specs.declared.reasons.Refusal.TheVariants.{Contradiction, MediumLength, ReplyShort, NoHostFrame, WrongTime, TooLong, TagIdle, PhaseOpen, AllMoved, NoReadPhase, SetUnready, OutsideCommand, NoRow}
 use Rattle.frames.specs.Read.{readFrame}
 use Rattle.device_state.specs.declared.shapes.Settings.{Settings}
-use Rattle.rules.specs.Call.{Call, hostFrame, openPhase, sendData, finishTags, mediaError, linkEvent, comReset}
+use Rattle.rules.specs.Call.{Call, hostFrame, happens}
+use Rattle.rules.specs.declared.event.DeviceEvent.TheVariants.{OpenPhase, SendData, FinishTags, MediaError, LinkEvent, Comreset}
 use Rattle.rules.specs.Tests.{tests}
 use Rattle.device.specs.Device.{contradictoryDevice}
 use Rattle.device.specs.FactsOf.{facts_of}
@@ -44,18 +45,18 @@ module _ (d : Device) (h : List Event) (k : Known d h) (g : contradictoryDevice 
   row (hostFrame x) =
       let f = readFrame x in
       cons-same Contradiction _ _ g (λ _. cons-same MediumLength _ _ refl (λ _. cons-same ReplyShort _ _ refl (λ _. cons-same NoHostFrame _ _ (kind-same x) (λ _. cons-same WrongTime _ _ (time-same d h k m b x f) (λ t. cons-same TooLong _ _ (size-same d h k g m b x f t) (λ _. refl))))))
-  row (openPhase t) =
+  row (happens (OpenPhase t)) =
       cons-same Contradiction _ _ g (λ _. cons-same ReplyShort _ _ refl (λ _. cons-same TagIdle _ _ (ap not (sym (k.out t)))
       (λ o. cons-same PhaseOpen _ _ (sym (ap isOpen k.phase ∙ open-same d)) (λ _. cons-same AllMoved _ _ (moved-same d h k g t (passed d h k t o)) (λ _. refl)))))
-  row sendData =
+  row (happens SendData) =
       cons-same Contradiction _ _ g (λ _. cons-same MediumLength _ _ refl (λ _. cons-same ReplyShort _ _ refl (λ _. cons-same NoReadPhase _ _ (reading-same d g ∙ ap (λ (x : Transfer). eqb (leftOf true x) 0) (sym k.phase)) (λ _. refl))))
-  row (finishTags set) =
+  row (happens (FinishTags set)) =
       cons-same Contradiction _ _ g (λ _. cons-same ReplyShort _ _ refl (λ _. cons-same PhaseOpen _ _ (sym (ap isOpen k.phase ∙ open-same d)) (λ _. cons-same SetUnready _ _ (set-same d h k g set) (λ _. refl))))
-  row (mediaError t e sector) =
+  row (happens (MediaError t e sector)) =
       cons-same Contradiction _ _ g (λ _. cons-same ReplyShort _ _ refl (λ _. cons-same TagIdle _ _ (ap not (sym (k.out t)))
       (λ o. cons-same OutsideCommand _ _ (ap (λ (x : Bool). eqb e 0 || x) (sector-same d h k g t sector (passed d h k t o))) (λ _. refl))))
-  row (linkEvent r) = cons-same Contradiction _ _ g (λ _. cons-same NoRow _ _ (row-same d.settings.mask r) (λ _. refl))
-  row comReset = cons-same Contradiction _ _ g (λ _. cons-same ReplyShort _ _ refl (λ _. refl))
+  row (happens (LinkEvent r)) = cons-same Contradiction _ _ g (λ _. cons-same NoRow _ _ (row-same d.settings.mask r) (λ _. refl))
+  row (happens Comreset) = cons-same Contradiction _ _ g (λ _. cons-same ReplyShort _ _ refl (λ _. refl))
 
 -- what a call is turned down for, after a history
 abbrev pub Turned : Settings → Event → List Event → Type 0

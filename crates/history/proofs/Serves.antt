@@ -14,7 +14,8 @@ use Rattle.device_state.specs.State.{whole_of}
 use Rattle.device_state.specs.Table.{entry_of, placed}
 use Rattle.device_state.specs.declared.shapes.Entry.{Entry}
 use Rattle.device_state.proofs.TableLaws.{getD-placed, some-absent}
-use Rattle.rules.specs.Call.{hostFrame, openPhase, sendData, finishTags, mediaError}
+use Rattle.rules.specs.Call.{hostFrame, happens}
+use Rattle.rules.specs.declared.event.DeviceEvent.TheVariants.{OpenPhase, SendData, FinishTags, MediaError}
 use Rattle.rules.specs.Tests.{unreadyAt, someUnready, tests, outside}
 use Rattle.rules.specs.declared.acts.Act.{Act}
 use Rattle.rules.specs.declared.acts.Act.TheVariants.{Open}
@@ -84,7 +85,7 @@ module _ (d : Device) (good : contradictoryDevice d ≡ false) where
 
     -- ---- an open
 
-    open-sends : (m b : List ℕ) {a : Act} → by.Ruled (facts_of d (lent (openPhase t) m b)) (openPhase t) (Ok a) → Opens d t e (bytes_of (stepBy d (lent (openPhase t) m b) (Ok a)))
+    open-sends : (m b : List ℕ) {a : Act} → by.Ruled (facts_of d (lent (happens (OpenPhase t)) m b)) (happens (OpenPhase t)) (Ok a) → Opens d t e (bytes_of (stepBy d (lent (happens (OpenPhase t)) m b) (Ok a)))
     unfolding repliesOf Fit
     open-sends m b (by.own (by.opened u g s o q more)) =
         let k : Queued = record { tag = t; entry = e } in
@@ -98,14 +99,14 @@ module _ (d : Device) (good : contradictoryDevice d ≡ false) where
               ∙ ap (λ (n : ℕ). encode (setup (record { auto = false; interrupt = false; to_host = not e.write; tag = t; offset = 0; count = n })) ++ pick e.write (encode activate) []) (extent o);
         }
 
-    opens : (m b : List ℕ) (g : Gave) → Given d (lent (openPhase t) m b) g → g.outcome.refusal ≡ None → Opens d t e (replyOf g)
+    opens : (m b : List ℕ) (g : Gave) → Given d (lent (happens (OpenPhase t)) m b) g → g.outcome.refusal ≡ None → Opens d t e (replyOf g)
     opens m b g p z =
         subst (Opens d t e) (sym (reply-is d _ g p))
-        (by-taken d (lent (openPhase t) m b) (λ (s : Step). Opens d t e (bytes_of s)) (λ a r. open-sends m b r) (sym p.refusal ∙ z))
+        (by-taken d (lent (happens (OpenPhase t)) m b) (λ (s : Step). Opens d t e (bytes_of s)) (λ a r. open-sends m b r) (sym p.refusal ∙ z))
 
     -- ---- a finish
 
-    finish-whole : (set : ℕ) (m b : List ℕ) {a : Act} → bitIn 32 set t ≡ true → by.Ruled (facts_of d (lent (finishTags set) m b)) (finishTags set) (Ok a) → Finishes d t e
+    finish-whole : (set : ℕ) (m b : List ℕ) {a : Act} → bitIn 32 set t ≡ true → by.Ruled (facts_of d (lent (happens (FinishTags set)) m b)) (happens (FinishTags set)) (Ok a) → Finishes d t e
     unfolding someUnready
     finish-whole set m b i (by.own (by.finished u g s q n r)) =
         let ready = some-absent (unreadyAt d.entries d.status.outstanding set) 32 t r (busy-below set t i) in
@@ -113,8 +114,8 @@ module _ (d : Device) (good : contradictoryDevice d ≡ false) where
         let o : bitIn 32 d.status.outstanding t ≡ true = grind arith in
         record { busy = o; whole = (let w : e.moved ≡ whole_of e.count = grind arith in w) ∙ extent o }
 
-    finishes : (set : ℕ) (m b : List ℕ) (g : Gave) → Given d (lent (finishTags set) m b) g → g.outcome.refusal ≡ None → bitIn 32 set t ≡ true → Finishes d t e
-    finishes set m b g p z i = by-taken d (lent (finishTags set) m b) (λ (s : Step). Finishes d t e) (λ a r. finish-whole set m b i r) (sym p.refusal ∙ z)
+    finishes : (set : ℕ) (m b : List ℕ) (g : Gave) → Given d (lent (happens (FinishTags set)) m b) g → g.outcome.refusal ≡ None → bitIn 32 set t ≡ true → Finishes d t e
+    finishes set m b g p z i = by-taken d (lent (happens (FinishTags set)) m b) (λ (s : Step). Finishes d t e) (λ a r. finish-whole set m b i r) (sym p.refusal ∙ z)
 
     -- ---- a media error
 
@@ -122,11 +123,11 @@ module _ (d : Device) (good : contradictoryDevice d ≡ false) where
     by-sector : bitIn 32 d.status.outstanding t ≡ true → (sector : ℕ) → pick (outside e sector) (Some OutsideCommand) None ≡ pick (covered e sector) None (Some OutsideCommand)
     by-sector o sector = rw (first-named d t good o, count-named d t good o, covers-not e.first e.count sector) (grind arith)
 
-    fails : (error sector : ℕ) (m b : List ℕ) (g : Gave) → bitIn 32 d.status.outstanding t ≡ true → eqb error 0 ≡ false → 8196 ≤ length b → Given d (lent (mediaError t error sector) m b) g
+    fails : (error sector : ℕ) (m b : List ℕ) (g : Gave) → bitIn 32 d.status.outstanding t ≡ true → eqb error 0 ≡ false → 8196 ≤ length b → Given d (lent (happens (MediaError t error sector)) m b) g
         → g.outcome.refusal ≡ pick (covered e sector) None (Some OutsideCommand)
     unfolding tests first_of
     fails error sector m b g o x room p =
-        p.refusal ∙ step-refusal d (lent (mediaError t error sector) m b) ∙ rw (good, le-ltb (length b) 8196 room, o, x) (by-sector o sector)
+        p.refusal ∙ step-refusal d (lent (happens (MediaError t error sector)) m b) ∙ rw (good, le-ltb (length b) 8196 room, o, x) (by-sector o sector)
 
     -- ---- data
 
@@ -167,15 +168,15 @@ module _ (d : Device) (good : contradictoryDevice d ≡ false) where
                 ∙ ap₂ (λ (k a : ℕ). encode (payload (take k (drop a m)))) size (next busy);
           })
 
-      send-serves : (m b : List ℕ) {a : Act} → by.Ruled (facts_of d (lent sendData m b)) sendData (Ok a)
-          → Sends e (entry_of (stepBy d (lent sendData m b) (Ok a)).state.entries t) m (bytes_of (stepBy d (lent sendData m b) (Ok a)))
+      send-serves : (m b : List ℕ) {a : Act} → by.Ruled (facts_of d (lent (happens SendData) m b)) (happens SendData) (Ok a)
+          → Sends e (entry_of (stepBy d (lent (happens SendData) m b) (Ok a)).state.entries t) m (bytes_of (stepBy d (lent (happens SendData) m b) (Ok a)))
       unfolding after_of movedBy move_of touch_of repliesOf
       send-serves m b (by.own (by.sent g w s p r)) = send-as m (phaseEntry d) (sym meant) r (part-sized d m good w p) w
 
-      sends : (m b : List ℕ) (g : Gave) → Given d (lent sendData m b) g → g.outcome.refusal ≡ None → Sends e (entryAfter g t) m (replyOf g)
+      sends : (m b : List ℕ) (g : Gave) → Given d (lent (happens SendData) m b) g → g.outcome.refusal ≡ None → Sends e (entryAfter g t) m (replyOf g)
       sends m b g p z =
           subst (λ (x : Device). Sends e (entry_of x.entries t) m (replyOf g)) (sym p.state)
-          (subst (Sends e _ m) (sym (reply-is d _ g p)) (by-taken d (lent sendData m b) (λ (s : Step). Sends e (entry_of s.state.entries t) m (bytes_of s)) (λ a r. send-serves m b r) (sym p.refusal ∙ z)))
+          (subst (Sends e _ m) (sym (reply-is d _ g p)) (by-taken d (lent (happens SendData) m b) (λ (s : Step). Sends e (entry_of s.state.entries t) m (bytes_of s)) (λ a r. send-serves m b r) (sym p.refusal ∙ z)))
 
       -- host data
       stores : (f m b : List ℕ) (g : Gave) → get_or f 0 0 ≡ 0x46 → Given d (lent (hostFrame f) m b) g → g.outcome.refusal ≡ None → Stores e (entryAfter g t) m g.medium (drop 4 f)

@@ -11,7 +11,8 @@ use Rattle.frames.specs.declared.shapes.HostReg.{HostReg}
 use Rattle.frames.specs.declared.shapes.Frame.TheVariants.{Host, Data}
 use Rattle.page_rows.specs.Made11.{page11}
 use Rattle.page_10h.specs.Page10.{page10}
-use Rattle.rules.specs.Call.{Call, hostFrame, openPhase, sendData, finishTags, mediaError, linkEvent, comReset}
+use Rattle.rules.specs.Call.{Call, hostFrame, happens}
+use Rattle.rules.specs.declared.event.DeviceEvent.TheVariants.{OpenPhase, SendData, FinishTags, MediaError, LinkEvent, Comreset}
 use Rattle.history.specs.Event.{Event, taken}
 use Rattle.history.specs.Replied.{FrameRead}
 use Rattle.history.specs.Seen.{seen}
@@ -112,12 +113,12 @@ sentReply h medium = payload (take (min 8192 (leftOf true (underWayAfter h))) (d
 -- what a taken call c is answered after a history h, with the medium lent to it
 unfoldable pub repliesBy : ℕ → ℕ → ℕ → List Event → List ℕ → Call → List FrameValue
 repliesBy deep capacity mask h medium (hostFrame f) = hostReplies deep capacity mask h (readFrame f)
-repliesBy deep capacity mask h medium (openPhase t) = openedReplies t (commands (map seen h))
-repliesBy deep capacity mask h medium sendData = sentReply h medium ∷ []
-repliesBy deep capacity mask h medium (finishTags s) = finishedReply s ∷ []
-repliesBy deep capacity mask h medium (mediaError t error sector) = failedReply error ∷ []
-repliesBy deep capacity mask h medium (linkEvent r) = []
-repliesBy deep capacity mask h medium comReset = signatureReply ∷ []
+repliesBy deep capacity mask h medium (happens (OpenPhase t)) = openedReplies t (commands (map seen h))
+repliesBy deep capacity mask h medium (happens SendData) = sentReply h medium ∷ []
+repliesBy deep capacity mask h medium (happens (FinishTags s)) = finishedReply s ∷ []
+repliesBy deep capacity mask h medium (happens (MediaError t error sector)) = failedReply error ∷ []
+repliesBy deep capacity mask h medium (happens (LinkEvent r)) = []
+repliesBy deep capacity mask h medium (happens Comreset) = signatureReply ∷ []
 
 -- the bytes of an event's replies, one frame behind the other; a refused call has none
 abbrev pub answer : ℕ → ℕ → ℕ → List Event → Event → List ℕ

@@ -4,7 +4,8 @@ use Rattle.bits.specs.Pick.{pick}
 use Rattle.frame_parts.specs.Shared.{srstOf}
 use Rattle.frames.specs.Read.{readFrame}
 use Rattle.frames.specs.declared.shapes.Frame.TheVariants.{Host}
-use Rattle.rules.specs.Call.{Call, hostFrame, comReset}
+use Rattle.rules.specs.Call.{Call, hostFrame, happens}
+use Rattle.rules.specs.declared.event.DeviceEvent.TheVariants.{Comreset}
 use Rattle.history.specs.Event.{Event, taken}
 use Rattle.history.specs.Asked.{asks}
 use Rattle.history.specs.Replied.{FrameRead, some}
@@ -50,7 +51,7 @@ frameFrees _ = false
 -- and so does COMRESET, which is SRST and release together
 abbrev pub frees : Call → Bool
 frees (hostFrame f) = frameFrees (readFrame f)
-frees comReset = true
+frees (happens Comreset) = true
 frees _ = false
 
 -- reset is held: SRST was taken, and since then neither its release nor COMRESET

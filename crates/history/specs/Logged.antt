@@ -8,7 +8,8 @@ use Rattle.frames.specs.declared.shapes.DevReg.{DevReg}
 use Rattle.frames.specs.declared.shapes.Frame.TheVariants.{Host}
 use Rattle.page_10h.specs.Page10.{page10, read_log}
 use Rattle.page_10h.specs.declared.page10.ErrorLog.{ErrorLog}
-use Rattle.rules.specs.Call.{Call, hostFrame, mediaError}
+use Rattle.rules.specs.Call.{Call, hostFrame, happens}
+use Rattle.rules.specs.declared.event.DeviceEvent.TheVariants.{MediaError}
 use Rattle.history.specs.Event.{Event}
 use Rattle.history.specs.FrameAsks.{registerAsks}
 use Rattle.history.specs.Replied.{FrameRead, frames, registerIn, collect, page}
@@ -67,7 +68,7 @@ mediaLog t error sector task = record { nq = false; tag = t; status = 0x41; erro
 -- what a call that raises an error leaves to be read, if a command was answered with this error byte; no other call raises one
 abbrev pub callLog : ℕ → List Event → Call → ErrorLog
 callLog answered h (hostFrame f) = frameLog answered (readFrame f)
-callLog answered h (mediaError t error sector) = mediaLog t error sector (namedBy t h)
+callLog answered h (happens (MediaError t error sector)) = mediaLog t error sector (namedBy t h)
 callLog answered h _ = blankLog
 
 -- ---- the record

@@ -3,7 +3,8 @@ use Rattle.std.specs.Prelude.{Bool, false, List, [], ◌∷◌, ℕ}
 use Rattle.bits.specs.Pick.{pick}
 use Rattle.bits.specs.Bit.{bitIn}
 use Rattle.frames.specs.Read.{readFrame}
-use Rattle.rules.specs.Call.{Call, hostFrame, openPhase, sendData, finishTags, mediaError, linkEvent, comReset}
+use Rattle.rules.specs.Call.{Call, hostFrame, happens}
+use Rattle.rules.specs.declared.event.DeviceEvent.TheVariants.{OpenPhase, SendData, FinishTags, MediaError, LinkEvent, Comreset}
 use Rattle.history.specs.Replied.{FrameRead, dataIn}
 use Rattle.history.specs.FrameAsks.{Asked, quiet, resetAsks}
 use Rattle.history.specs.FrameReading.{frameAsks, frameZeroes, frameReplies}
@@ -37,12 +38,12 @@ deviceEvent k r s rs = record { asks = k; hostData = []; row = r; zeroes = λ on
 -- Finish says just its set and no ERR, a media error says ERR, and no other call finishes anything
 abbrev pub reading_of : Call → Reading
 reading_of (hostFrame f) = hostReading f (readFrame f)
-reading_of (openPhase t) = deviceEvent quiet 16 noneFinished ((0x41 ∷ []) ∷ (0x41 ∷ 0x39 ∷ []) ∷ [])
-reading_of sendData = deviceEvent quiet 16 noneFinished ((0x46 ∷ []) ∷ [])
-reading_of (finishTags s) = deviceEvent quiet 16 (setFinished s) ((0xA1 ∷ []) ∷ [])
-reading_of (mediaError t e s) = deviceEvent quiet (pick (bitIn 8 e 7) 0 16) errorTold ((0xA1 ∷ []) ∷ [])
-reading_of (linkEvent r) = deviceEvent quiet r noneFinished ([] ∷ [])
-reading_of comReset = deviceEvent resetAsks 9 noneFinished ((0x34 ∷ []) ∷ [])
+reading_of (happens (OpenPhase t)) = deviceEvent quiet 16 noneFinished ((0x41 ∷ []) ∷ (0x41 ∷ 0x39 ∷ []) ∷ [])
+reading_of (happens SendData) = deviceEvent quiet 16 noneFinished ((0x46 ∷ []) ∷ [])
+reading_of (happens (FinishTags s)) = deviceEvent quiet 16 (setFinished s) ((0xA1 ∷ []) ∷ [])
+reading_of (happens (MediaError t e s)) = deviceEvent quiet (pick (bitIn 8 e 7) 0 16) errorTold ((0xA1 ∷ []) ∷ [])
+reading_of (happens (LinkEvent r)) = deviceEvent quiet r noneFinished ([] ∷ [])
+reading_of (happens Comreset) = deviceEvent resetAsks 9 noneFinished ((0x34 ∷ []) ∷ [])
 
 -- ---- each column
 

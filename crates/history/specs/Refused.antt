@@ -6,7 +6,8 @@ use Rattle.refusals.specs.First.{Rung, rung, first_of}
 use Rattle.refusals.specs.declared.reasons.Refusal.TheVariants.{Contradiction, MediumLength, ReplyShort, NoHostFrame, WrongTime, TooLong, TagIdle, PhaseOpen, AllMoved, NoReadPhase, SetUnready, OutsideCommand, NoRow}
 use Rattle.frames.specs.Read.{readFrame}
 use Rattle.frames.specs.declared.shapes.Frame.TheVariants.{Host, Data, Bist}
-use Rattle.rules.specs.Call.{Call, hostFrame, openPhase, sendData, finishTags, mediaError, linkEvent, comReset}
+use Rattle.rules.specs.Call.{Call, hostFrame, happens}
+use Rattle.rules.specs.declared.event.DeviceEvent.TheVariants.{OpenPhase, SendData, FinishTags, MediaError, LinkEvent, Comreset}
 use Rattle.history.specs.Event.{Event}
 use Rattle.history.specs.Replied.{FrameRead}
 use Rattle.history.specs.Seen.{Transfer, noTransfer, underWay}
@@ -70,13 +71,13 @@ noRow mask r = eqb r 0 || (eqb r 9 || (ltb 15 r || not (bitIn 16 mask r)))
 unfoldable pub ownTests : ℕ → ℕ → Event → List Event → Call → List Rung
 ownTests capacity mask e h (hostFrame f) =
     rung MediumLength (wrongMedium capacity e) ∷ rung ReplyShort (shortBuffer e) ∷ rung NoHostFrame (notHeard f) ∷ rung WrongTime (untimely (readFrame f) h) ∷ rung TooLong (tooLong (readFrame f) h) ∷ []
-ownTests capacity mask e h (openPhase t) =
+ownTests capacity mask e h (happens (OpenPhase t)) =
     rung ReplyShort (shortBuffer e) ∷ rung TagIdle (not (isOut t h)) ∷ rung PhaseOpen (isOpen (underWayAfter h)) ∷ rung AllMoved (outstandingWith t whole h) ∷ []
-ownTests capacity mask e h sendData = rung MediumLength (wrongMedium capacity e) ∷ rung ReplyShort (shortBuffer e) ∷ rung NoReadPhase (eqb (leftOf true (underWayAfter h)) 0) ∷ []
-ownTests capacity mask e h (finishTags s) = rung ReplyShort (shortBuffer e) ∷ rung PhaseOpen (isOpen (underWayAfter h)) ∷ rung SetUnready (unfit s h) ∷ []
-ownTests capacity mask e h (mediaError t error sector) = rung ReplyShort (shortBuffer e) ∷ rung TagIdle (not (isOut t h)) ∷ rung OutsideCommand (wrongError t error sector h) ∷ []
-ownTests capacity mask e h (linkEvent r) = rung NoRow (noRow mask r) ∷ []
-ownTests capacity mask e h comReset = rung ReplyShort (shortBuffer e) ∷ []
+ownTests capacity mask e h (happens SendData) = rung MediumLength (wrongMedium capacity e) ∷ rung ReplyShort (shortBuffer e) ∷ rung NoReadPhase (eqb (leftOf true (underWayAfter h)) 0) ∷ []
+ownTests capacity mask e h (happens (FinishTags s)) = rung ReplyShort (shortBuffer e) ∷ rung PhaseOpen (isOpen (underWayAfter h)) ∷ rung SetUnready (unfit s h) ∷ []
+ownTests capacity mask e h (happens (MediaError t error sector)) = rung ReplyShort (shortBuffer e) ∷ rung TagIdle (not (isOut t h)) ∷ rung OutsideCommand (wrongError t error sector h) ∷ []
+ownTests capacity mask e h (happens (LinkEvent r)) = rung NoRow (noRow mask r) ∷ []
+ownTests capacity mask e h (happens Comreset) = rung ReplyShort (shortBuffer e) ∷ []
 
 -- every event is refused with the first that holds, and taken where none does: so no event that should be heard is turned down
 unfoldable pub Refusals : ℕ → ℕ → ℕ → List Event → Type 0

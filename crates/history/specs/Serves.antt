@@ -8,7 +8,8 @@ use Rattle.refusals.specs.declared.reasons.Refusal.TheVariants.{OutsideCommand}
 use Rattle.device_state.specs.State.{taskIn, tagIn, zeroEntry}
 use Rattle.device_state.specs.Table.{entry_of}
 use Rattle.device_state.specs.declared.shapes.Entry.{Entry}
-use Rattle.rules.specs.Call.{hostFrame, openPhase, sendData, finishTags, mediaError}
+use Rattle.rules.specs.Call.{hostFrame, happens}
+use Rattle.rules.specs.declared.event.DeviceEvent.TheVariants.{OpenPhase, SendData, FinishTags, MediaError}
 use Rattle.device.specs.Lent.{Lent, lent, Gave}
 use Rattle.device.specs.declared.state.Device.{Device}
 use Rattle.history.specs.Reading.{callBrings}
@@ -70,12 +71,12 @@ replyOf g = take g.outcome.len g.buffer
 
 -- all of it, of each result of a call of the device d as R allows it; a media error of an outstanding command, with an error and room for its reply, is taken exactly for a sector of its range; a tag that is not outstanding has no command; and no call changes the medium but by host data
 pub record Serves (R : Device → Lent → Gave → Type 0) (d : Device) : Type 0 where
-  pub opens : (t : ℕ) (m b : List ℕ) (g : Gave) → R d (lent (openPhase t) m b) g → g.outcome.refusal ≡ None → Opens d t (entry_of d.entries t) (replyOf g)
-  pub sends : (t : ℕ) (m b : List ℕ) (g : Gave) → d.status.phase ≡ Some t → R d (lent sendData m b) g → g.outcome.refusal ≡ None → Sends (entry_of d.entries t) (entryAfter g t) m (replyOf g)
+  pub opens : (t : ℕ) (m b : List ℕ) (g : Gave) → R d (lent (happens (OpenPhase t)) m b) g → g.outcome.refusal ≡ None → Opens d t (entry_of d.entries t) (replyOf g)
+  pub sends : (t : ℕ) (m b : List ℕ) (g : Gave) → d.status.phase ≡ Some t → R d (lent (happens SendData) m b) g → g.outcome.refusal ≡ None → Sends (entry_of d.entries t) (entryAfter g t) m (replyOf g)
   pub stores : (t : ℕ) (f m b : List ℕ) (g : Gave) → d.status.phase ≡ Some t → get_or f 0 0 ≡ 0x46 → R d (lent (hostFrame f) m b) g → g.outcome.refusal ≡ None
       → Stores (entry_of d.entries t) (entryAfter g t) m g.medium (drop 4 f)
-  pub finishes : (set t : ℕ) (m b : List ℕ) (g : Gave) → R d (lent (finishTags set) m b) g → g.outcome.refusal ≡ None → bitIn 32 set t ≡ true → Finishes d t (entry_of d.entries t)
-  pub fails : (t error sector : ℕ) (m b : List ℕ) (g : Gave) → bitIn 32 d.status.outstanding t ≡ true → eqb error 0 ≡ false → 8196 ≤ length b → R d (lent (mediaError t error sector) m b) g
+  pub finishes : (set t : ℕ) (m b : List ℕ) (g : Gave) → R d (lent (happens (FinishTags set)) m b) g → g.outcome.refusal ≡ None → bitIn 32 set t ≡ true → Finishes d t (entry_of d.entries t)
+  pub fails : (t error sector : ℕ) (m b : List ℕ) (g : Gave) → bitIn 32 d.status.outstanding t ≡ true → eqb error 0 ≡ false → 8196 ≤ length b → R d (lent (happens (MediaError t error sector)) m b) g
       → g.outcome.refusal ≡ pick (covered (entry_of d.entries t) sector) None (Some OutsideCommand)
   pub idle : (t : ℕ) → t < 32 → bitIn 32 d.status.outstanding t ≡ false → entry_of d.entries t ≡ zeroEntry
   pub leaves : (l : Lent) (g : Gave) → R d l g → callBrings l.call ≡ [] → g.medium ≡ l.medium

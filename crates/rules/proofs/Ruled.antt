@@ -20,7 +20,8 @@ use Rattle.verdicts.specs.declared.commands.Bad as verdict
 use Rattle.verdicts.proofs.Rules.{by-page}
 use Rattle.device_state.specs.UnderWay.{linkBusy}
 use Rattle.contradictions.specs.Clauses.{rowRefused}
-use Rattle.rules.specs.Call.{Call, hostFrame, openPhase, sendData, finishTags, mediaError, linkEvent, comReset}
+use Rattle.rules.specs.Call.{Call, hostFrame, happens}
+use Rattle.rules.specs.declared.event.DeviceEvent.TheVariants.{OpenPhase, SendData, FinishTags, MediaError, LinkEvent, Comreset}
 use Rattle.rules.specs.Handed.{handed}
 use Rattle.rules.specs.Positions.{left_of, move_of}
 use Rattle.rules.specs.Tests.{wrongKind, wrongTime, wrongSize, allMoved, outside, tests}
@@ -66,13 +67,13 @@ pub data Heard (v : Facts) : Result Frame Refusal → Act → Type 0 where
 -- a device event that is taken
 pub data Own (v : Facts) : Call → Act → Type 0 where
   opened : (t : ℕ) → v.contradicts ≡ false → v.reply_short ≡ false → bitIn 32 v.status.outstanding t ≡ true → linkBusy v.status ≡ false → allMoved v.entry ≡ false
-      → Own v (openPhase t) (Open (record { tag = t; entry = v.entry }))
-  sent : v.contradicts ≡ false → v.medium_wrong ≡ false → v.reply_short ≡ false → is_none v.status.phase ≡ false → v.entry.write ≡ false → Own v sendData (Send (move_of v.status v.entry 8192))
-  finished : (s : ℕ) → v.contradicts ≡ false → v.reply_short ≡ false → linkBusy v.status ≡ false → eqb s 0 ≡ false → v.unready ≡ false → Own v (finishTags s) (Finish s)
+      → Own v (happens (OpenPhase t)) (Open (record { tag = t; entry = v.entry }))
+  sent : v.contradicts ≡ false → v.medium_wrong ≡ false → v.reply_short ≡ false → is_none v.status.phase ≡ false → v.entry.write ≡ false → Own v (happens SendData) (Send (move_of v.status v.entry 8192))
+  finished : (s : ℕ) → v.contradicts ≡ false → v.reply_short ≡ false → linkBusy v.status ≡ false → eqb s 0 ≡ false → v.unready ≡ false → Own v (happens (FinishTags s)) (Finish s)
   failed : (t e s : ℕ) → v.contradicts ≡ false → v.reply_short ≡ false → bitIn 32 v.status.outstanding t ≡ true → eqb e 0 ≡ false → outside v.entry s ≡ false
-      → Own v (mediaError t e s) (Media (record { tag = Some t; error = e; echo = failing v.entry.echo s }))
-  linked : (r : ℕ) → v.contradicts ≡ false → rowRefused v.settings.mask r ≡ false → Own v (linkEvent r) (Count r)
-  renewed : v.contradicts ≡ false → v.reply_short ≡ false → Own v comReset Renew
+      → Own v (happens (MediaError t e s)) (Media (record { tag = Some t; error = e; echo = failing v.entry.echo s }))
+  linked : (r : ℕ) → v.contradicts ≡ false → rowRefused v.settings.mask r ≡ false → Own v (happens (LinkEvent r)) (Count r)
+  renewed : v.contradicts ≡ false → v.reply_short ≡ false → Own v (happens Comreset) Renew
 
 -- a call with what it comes to: refused, or taken; refusal 1 never holds of a taken one
 pub data Ruled (v : Facts) : Call → Result Act Refusal → Type 0 where
@@ -158,26 +159,26 @@ module _ (v : Facts) where
   taken (hostFrame f) z =
       let none = (firsts.first-exactly (tests v (hostFrame f)) tt).none.0 z in
       host f _ (none 0 (lit< tt)) (none 1 (lit< tt)) (none 2 (lit< tt)) (heard (readFrame f) (none 3 (lit< tt)) (none 4 (lit< tt)) (none 5 (lit< tt)))
-  taken (openPhase t) z =
-      let none = (firsts.first-exactly (tests v (openPhase t)) tt).none.0 z in
+  taken (happens (OpenPhase t)) z =
+      let none = (firsts.first-exactly (tests v (happens (OpenPhase t))) tt).none.0 z in
       own (opened t (none 0 (lit< tt)) (none 1 (lit< tt)) (not-false (bitIn 32 v.status.outstanding t) (none 2 (lit< tt))) (none 3 (lit< tt)) (none 4 (lit< tt)))
-  taken sendData z =
-      let none = (firsts.first-exactly (tests v sendData) tt).none.0 z in
+  taken (happens SendData) z =
+      let none = (firsts.first-exactly (tests v (happens SendData)) tt).none.0 z in
       let last = none 3 (lit< tt) in
       own (sent (none 0 (lit< tt)) (none 1 (lit< tt)) (none 2 (lit< tt)) (or_left (is_none v.status.phase) v.entry.write last) (or_right (is_none v.status.phase) v.entry.write last))
-  taken (finishTags s) z =
-      let none = (firsts.first-exactly (tests v (finishTags s)) tt).none.0 z in
+  taken (happens (FinishTags s)) z =
+      let none = (firsts.first-exactly (tests v (happens (FinishTags s))) tt).none.0 z in
       let last = none 3 (lit< tt) in
       own (finished s (none 0 (lit< tt)) (none 1 (lit< tt)) (none 2 (lit< tt)) (or_left (eqb s 0) v.unready last) (or_right (eqb s 0) v.unready last))
-  taken (mediaError t e s) z =
-      let none = (firsts.first-exactly (tests v (mediaError t e s)) tt).none.0 z in
+  taken (happens (MediaError t e s)) z =
+      let none = (firsts.first-exactly (tests v (happens (MediaError t e s))) tt).none.0 z in
       let last = none 3 (lit< tt) in
       own (failed t e s (none 0 (lit< tt)) (none 1 (lit< tt)) (not-false (bitIn 32 v.status.outstanding t) (none 2 (lit< tt))) (or_left (eqb e 0) (outside v.entry s) last) (or_right (eqb e 0) (outside v.entry s) last))
-  taken (linkEvent r) z =
-      let none = (firsts.first-exactly (tests v (linkEvent r)) tt).none.0 z in
+  taken (happens (LinkEvent r)) z =
+      let none = (firsts.first-exactly (tests v (happens (LinkEvent r))) tt).none.0 z in
       own (linked r (none 0 (lit< tt)) (none 1 (lit< tt)))
-  taken comReset z =
-      let none = (firsts.first-exactly (tests v comReset) tt).none.0 z in
+  taken (happens Comreset) z =
+      let none = (firsts.first-exactly (tests v (happens Comreset)) tt).none.0 z in
       own (renewed (none 0 (lit< tt)) (none 1 (lit< tt)))
 
   -- every call is decided by one of the rules

@@ -4,7 +4,8 @@ use Rattle.refusals.specs.First.{Rung, first_of, fresh, apart}
 use Rattle.refusals.specs.Number.{number}
 use Rattle.refusals.specs.declared.reasons.Refusal.TheVariants.{Contradiction, NoFrame}
 use Rattle.bits.proofs.Picks.{pick_yes}
-use Rattle.rules.specs.Call.{Call, hostFrame, sendData, linkEvent}
+use Rattle.rules.specs.Call.{Call, hostFrame, happens}
+use Rattle.rules.specs.declared.event.DeviceEvent.TheVariants.{SendData, LinkEvent}
 use Rattle.rules.specs.Handed.{handed}
 use Rattle.rules.specs.Tests.{tests}
 use Rattle.rules.specs.Act.{does, act}
@@ -37,6 +38,6 @@ pub record TestLaws (v : Facts) (c : Call) : Type 0 where
 pub test-laws : (v : Facts) (c : Call) → TestLaws v c
 unfolding tests does act
 test-laws v (hostFrame f) = record { once = tt; rising = refl; one = first_holds _ _; no-24 = refl; unlent = λ h. absurd (true≢false h); unbuffered = λ h. absurd (true≢false h) }
-test-laws v sendData = record { once = tt; rising = refl; one = first_holds _ _; no-24 = refl; unlent = λ h. absurd (true≢false h); unbuffered = λ h. absurd (true≢false h) }
-test-laws v (linkEvent r) = record { once = tt; rising = refl; one = first_holds _ _; no-24 = refl; unlent = λ h w. refl; unbuffered = λ h s. refl }
+test-laws v (happens SendData) = record { once = tt; rising = refl; one = first_holds _ _; no-24 = refl; unlent = λ h. absurd (true≢false h); unbuffered = λ h. absurd (true≢false h) }
+test-laws v (happens (LinkEvent r)) = record { once = tt; rising = refl; one = first_holds _ _; no-24 = refl; unlent = λ h w. refl; unbuffered = λ h s. refl }
 test-laws v _ = record { once = tt; rising = refl; one = first_holds _ _; no-24 = refl; unlent = λ h w. refl; unbuffered = λ h. absurd (true≢false h) }

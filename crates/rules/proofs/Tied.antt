@@ -1,6 +1,7 @@
 -- Each public function's own contract: what it says, and that two answers which it allows are equal. Assumes nothing.
 use Rattle.std.proofs.Common.{◌≡◌, refl}
-use Rattle.rules.specs.Call.{openPhase, sendData, finishTags, mediaError, linkEvent, comReset}
+use Rattle.rules.specs.Call.{happens}
+use Rattle.rules.specs.Handed.{handed}
 use Rattle.rules.specs.Tests.{someUnready}
 use Rattle.rules.specs.Act.{act, heardAct}
 use Rattle.rules.specs.Positions.{moveFor}
@@ -12,29 +13,19 @@ use Rattle.rules.proofs.acts
 use Rattle.rules.specs.contracts.acts as acts-said
 use Rattle.rules.proofs.device_events
 use Rattle.rules.specs.contracts.device_events as device_events-said
+use Rattle.rules.proofs.event
+use Rattle.rules.specs.contracts.event as event-said
 use Rattle.rules.proofs.facts
 use Rattle.rules.specs.contracts.facts as facts-said
 
 pub tied-frame-act : Tied facts-said.Facts.frame_act.ended facts.Facts.frame_act.Reads.Asked facts.Facts.frame_act.Reads.Post (λ κs a r ws. r ≡ heardAct a.0.now a.1.0)
 tied-frame-act = named (say (λ κs a. tt) (λ κs a r ws p. p)) (λ κs a ws ws'. refl)
 
-pub tied-open-act : Tied facts-said.Facts.open_act.ended facts.Facts.open_act.Reads.Asked facts.Facts.open_act.Reads.Post (λ κs a r ws. r ≡ act a.0.now (openPhase a.1.0))
-tied-open-act = named (say (λ κs a. tt) (λ κs a r ws p. p)) (λ κs a ws ws'. refl)
+pub tied-event-act : Tied facts-said.Facts.event_act.ended facts.Facts.event_act.Reads.Asked facts.Facts.event_act.Reads.Post (λ κs a r ws. r ≡ act a.0.now (happens a.1.0))
+tied-event-act = named (say (λ κs a. tt) (λ κs a r ws p. p)) (λ κs a ws ws'. refl)
 
-pub tied-send-act : Tied facts-said.Facts.send_act.ended facts.Facts.send_act.Reads.Asked facts.Facts.send_act.Reads.Post (λ κs a r ws. r ≡ act a.0.now sendData)
-tied-send-act = named (say (λ κs a. tt) (λ κs a r ws p. p)) (λ κs a ws ws'. refl)
-
-pub tied-finish-act : Tied facts-said.Facts.finish_act.ended facts.Facts.finish_act.Reads.Asked facts.Facts.finish_act.Reads.Post (λ κs a r ws. r ≡ act a.0.now (finishTags a.1.0))
-tied-finish-act = named (say (λ κs a. tt) (λ κs a r ws p. p)) (λ κs a ws ws'. refl)
-
-pub tied-media-act : Tied facts-said.Facts.media_act.ended facts.Facts.media_act.Reads.Asked facts.Facts.media_act.Reads.Post (λ κs a r ws. r ≡ act a.0.now (mediaError a.1.0 a.1.1.0 a.1.1.1.0))
-tied-media-act = named (say (λ κs a. tt) (λ κs a r ws p. p)) (λ κs a ws ws'. refl)
-
-pub tied-link-act : Tied facts-said.Facts.link_act.ended facts.Facts.link_act.Reads.Asked facts.Facts.link_act.Reads.Post (λ κs a r ws. r ≡ act a.0.now (linkEvent a.1.0))
-tied-link-act = named (say (λ κs a. tt) (λ κs a r ws p. p)) (λ κs a ws ws'. refl)
-
-pub tied-comreset-act : Tied facts-said.Facts.comreset_act.ended facts.Facts.comreset_act.Reads.Asked facts.Facts.comreset_act.Reads.Post (λ κs a r ws. r ≡ act a.0.now comReset)
-tied-comreset-act = named (say (λ κs a. tt) (λ κs a r ws p. p)) (λ κs a ws ws'. refl)
+pub tied-tag : Tied event-said.DeviceEvent.tag.ended event.DeviceEvent.tag.Reads.Asked event.DeviceEvent.tag.Reads.Post (λ κs a r ws. r ≡ (handed (happens a.0)).tag a.1.0)
+tied-tag = named (say (λ κs a. tt) (λ κs a r ws p. p)) (λ κs a ws ws'. refl)
 
 pub tied-some-unready : Tied device_events-said.some_unready.ended device_events.some_unready.Reads.Asked device_events.some_unready.Reads.Post (λ κs a r ws. r ≡ someUnready a.0.now a.1.0.outstanding a.1.1.0)
 tied-some-unready = named (say (λ κs a. tt) (λ κs a r ws p. p)) (λ κs a ws ws'. refl)

@@ -6,7 +6,8 @@ use Rattle.refusals.specs.declared.reasons.Refusal.{Refusal}
 use Rattle.frames.specs.Read.{readFrame}
 use Rattle.frames.specs.declared.shapes.Frame.{Frame}
 use Rattle.device_state.specs.declared.shapes.Echo.{Echo}
-use Rattle.rules.specs.Call.{Call, hostFrame, openPhase, sendData, finishTags, mediaError, linkEvent, comReset}
+use Rattle.rules.specs.Call.{Call, hostFrame, happens}
+use Rattle.rules.specs.declared.event.DeviceEvent.TheVariants.{OpenPhase, SendData, FinishTags, MediaError, LinkEvent, Comreset}
 use Rattle.rules.specs.Positions.{move_of}
 use Rattle.rules.specs.Tests.{kindTests, frameTests, tests}
 use Rattle.rules.specs.Decide.{frameAct}
@@ -28,12 +29,12 @@ failing e sector = record e {
 -- a call that is not turned down: a host frame by its rules; open a phase for a tag; send min(8,192, what is left) bytes; finish a set; media error; link event; COMRESET
 unfoldable pub does : Facts → Call → Act
 does v (hostFrame f) = frameAct v (readFrame f)
-does v (openPhase t) = Open (record { tag = t; entry = v.entry })
-does v sendData = Send (move_of v.status v.entry 8192)
-does v (finishTags s) = Finish s
-does v (mediaError t e s) = Media (record { tag = Some t; error = e; echo = failing v.entry.echo s })
-does v (linkEvent r) = Count r
-does v comReset = Renew
+does v (happens (OpenPhase t)) = Open (record { tag = t; entry = v.entry })
+does v (happens SendData) = Send (move_of v.status v.entry 8192)
+does v (happens (FinishTags s)) = Finish s
+does v (happens (MediaError t e s)) = Media (record { tag = Some t; error = e; echo = failing v.entry.echo s })
+does v (happens (LinkEvent r)) = Count r
+does v (happens Comreset) = Renew
 
 -- a refusal, lowest number first; otherwise the call is done
 unfoldable pub act : Facts → Call → Result Act Refusal

@@ -16,7 +16,8 @@ use Rattle.device_state.specs.Table.{someBelow, entry_of}
 use Rattle.device_state.specs.UnderWay.{linkBusy}
 use Rattle.contradictions.specs.Clauses.{rowRefused}
 use Rattle.device_state.specs.declared.shapes.Entry.{Entry}
-use Rattle.rules.specs.Call.{Call, hostFrame, openPhase, sendData, finishTags, mediaError, linkEvent, comReset}
+use Rattle.rules.specs.Call.{Call, hostFrame, happens}
+use Rattle.rules.specs.declared.event.DeviceEvent.TheVariants.{OpenPhase, SendData, FinishTags, MediaError, LinkEvent, Comreset}
 use Rattle.rules.specs.Positions.{left_of}
 use Rattle.rules.specs.declared.facts.Facts.{Facts}
 
@@ -78,9 +79,9 @@ outside e sector = outsideOf e.first e.count sector
 -- the refusal table: a call's tests, the lowest number first
 unfoldable pub tests : Facts → Call → List Rung
 tests v (hostFrame f) = frameTests v (readFrame f)
-tests v (openPhase t) = openLadder v.contradicts v.reply_short (idleTag v t) (linkBusy v.status) (allMoved v.entry)
-tests v sendData = sendLadder v.contradicts v.medium_wrong v.reply_short (noReadPhase v)
-tests v (finishTags s) = finishLadder v.contradicts v.reply_short (linkBusy v.status) (eqb s 0 || v.unready)
-tests v (mediaError t e s) = mediaLadder v.contradicts v.reply_short (idleTag v t) (eqb e 0 || outside v.entry s)
-tests v (linkEvent r) = linkLadder v.contradicts (rowRefused v.settings.mask r)
-tests v comReset = comresetLadder v.contradicts v.reply_short
+tests v (happens (OpenPhase t)) = openLadder v.contradicts v.reply_short (idleTag v t) (linkBusy v.status) (allMoved v.entry)
+tests v (happens SendData) = sendLadder v.contradicts v.medium_wrong v.reply_short (noReadPhase v)
+tests v (happens (FinishTags s)) = finishLadder v.contradicts v.reply_short (linkBusy v.status) (eqb s 0 || v.unready)
+tests v (happens (MediaError t e s)) = mediaLadder v.contradicts v.reply_short (idleTag v t) (eqb e 0 || outside v.entry s)
+tests v (happens (LinkEvent r)) = linkLadder v.contradicts (rowRefused v.settings.mask r)
+tests v (happens Comreset) = comresetLadder v.contradicts v.reply_short

@@ -1,13 +1,15 @@
-// What a device event that is about no phase makes the device do, or what it is refused with.
+// What a device event makes the device do, or what it is refused with.
 ghost use Rattle.std.specs.Prelude.{◌≡◌};
-ghost use Rattle.rules.specs.Call.{finishTags, mediaError, linkEvent, comReset};
-ghost use Rattle.rules.specs.Tests.{someUnready};
-ghost use Rattle.rules.specs.Act.{failing, act};
+ghost use Rattle.refusals.specs.First.{first_of, unless};
+ghost use Rattle.rules.specs.Call.{happens};
+ghost use Rattle.rules.specs.Tests.{tests, someUnready};
+ghost use Rattle.rules.specs.Act.{does, failing, act};
 
-use crate::acts::{Act, Fault};
-use crate::facts::Facts;
+use crate::acts::{Act, Fault, Queued};
+use crate::event::DeviceEvent;
+use crate::facts::{Facts, next_move};
 use device_state::{Echo, Entries, Status};
-use frame_parts::Task;
+use frame_parts::{PAYLOAD_LIMIT, Task};
 use refusals::{Refusal, check};
 
 /// True where a tag of the set is not outstanding, or not wholly moved: one walk over the thirty-two entries.
@@ -35,82 +37,108 @@ fn failing(echo: Echo, sector: u32) -> Echo
 }
 
 impl Facts {
-    /// What finishing a set of tags, bit t for tag t, makes the device do. One bad tag refuses the whole set.
-    ///
-    /// # Errors
-    /// The first that holds of `Contradiction` (1), `ReplyShort` (3), `PhaseOpen` (8), `SetUnready` (11).
-    #[tactic(auto, unfolding(crate::specs::Act::act, crate::specs::Act::does, crate::specs::Tests::tests))]
-    pub fn finish_act(&self, set: u32) -> Result<Act, Refusal>
-        ensures { result ≡ act self.now (finishTags set) }
+    // What a device event is turned down for: its row of the refusal table.
+    #[tactic(auto, unfolding(crate::specs::Tests::tests))]
+    fn check_event(&self, event: DeviceEvent) -> Result<(), Refusal>
+        ensures { result ≡ unless (first_of (tests self.now (happens event))) tt }
     {
-        check(&[
-            (self.contradicts, Refusal::Contradiction),
-            (self.reply_short, Refusal::ReplyShort),
-            (self.status.is_link_busy(), Refusal::PhaseOpen),
-            (set == 0 || self.unready, Refusal::SetUnready),
-        ])?;
-        Ok(Act::Finish(set))
+        match event {
+            // a tag of 32 or more is not outstanding
+            DeviceEvent::OpenPhase(tag) => check(&[
+                (self.contradicts, Refusal::Contradiction),
+                (self.reply_short, Refusal::ReplyShort),
+                (
+                    !self.status.is_outstanding(u32::from(tag)),
+                    Refusal::TagIdle,
+                ),
+                (self.status.is_link_busy(), Refusal::PhaseOpen),
+                (self.entry.progress().is_whole(), Refusal::AllMoved),
+            ]),
+            DeviceEvent::SendData => check(&[
+                (self.contradicts, Refusal::Contradiction),
+                (self.medium_wrong, Refusal::MediumLength),
+                (self.reply_short, Refusal::ReplyShort),
+                (
+                    self.status.phase.is_none() || self.entry.write,
+                    Refusal::NoReadPhase,
+                ),
+            ]),
+            // one bad tag refuses the whole set
+            DeviceEvent::FinishTags(set) => check(&[
+                (self.contradicts, Refusal::Contradiction),
+                (self.reply_short, Refusal::ReplyShort),
+                (self.status.is_link_busy(), Refusal::PhaseOpen),
+                (set == 0 || self.unready, Refusal::SetUnready),
+            ]),
+            // in any phase
+            DeviceEvent::MediaError { tag, error, sector } => check(&[
+                (self.contradicts, Refusal::Contradiction),
+                (self.reply_short, Refusal::ReplyShort),
+                (
+                    !self.status.is_outstanding(u32::from(tag)),
+                    Refusal::TagIdle,
+                ),
+                (
+                    error == 0 || self.entry.sectors().leaves_out(sector),
+                    Refusal::OutsideCommand,
+                ),
+            ]),
+            DeviceEvent::LinkEvent(row) => check(&[
+                (self.contradicts, Refusal::Contradiction),
+                (
+                    contradictions::row_refused(self.settings.mask, row),
+                    Refusal::NoRow,
+                ),
+            ]),
+            DeviceEvent::Comreset => check(&[
+                (self.contradicts, Refusal::Contradiction),
+                (self.reply_short, Refusal::ReplyShort),
+            ]),
+        }
     }
 
-    /// What a media error at a sector of an outstanding command makes the device do, in any phase.
-    ///
-    /// # Errors
-    /// The first that holds of `Contradiction` (1), `ReplyShort` (3), `TagIdle` (7), `OutsideCommand` (12: or the error
-    /// byte is 0).
-    #[tactic(auto, unfolding(crate::specs::Act::act, crate::specs::Act::does, crate::specs::Tests::tests))]
-    pub fn media_act(&self, tag: u8, error: u8, sector: u32) -> Result<Act, Refusal>
-        ensures { result ≡ act self.now (mediaError tag error sector) }
+    // What one that is not turned down makes the device do.
+    #[tactic(auto, unfolding(crate::specs::Act::does, crate::specs::Positions::move_of))]
+    fn does(&self, event: DeviceEvent) -> Act
+        ensures { result ≡ does self.now (happens event) }
     {
-        check(&[
-            (self.contradicts, Refusal::Contradiction),
-            (self.reply_short, Refusal::ReplyShort),
-            (
-                !self.status.is_outstanding(u32::from(tag)),
-                Refusal::TagIdle,
-            ),
-            (
-                error == 0 || self.entry.sectors().leaves_out(sector),
-                Refusal::OutsideCommand,
-            ),
-        ])?;
-        let fault = Fault {
-            tag: Some(tag),
-            error,
-            echo: failing(self.entry.echo, sector),
-        };
-        Ok(Act::Media(fault))
+        let entry = self.entry;
+        match event {
+            DeviceEvent::OpenPhase(tag) => Act::Open(Queued { tag, entry }),
+            // a send that is not turned down is in a phase
+            DeviceEvent::SendData => {
+                let tag = self.status.phase.unwrap_or(0);
+                Act::Send(next_move(tag, entry, PAYLOAD_LIMIT))
+            }
+            DeviceEvent::FinishTags(set) => Act::Finish(set),
+            DeviceEvent::MediaError { tag, error, sector } => Act::Media(Fault {
+                tag: Some(tag),
+                error,
+                echo: failing(entry.echo, sector),
+            }),
+            DeviceEvent::LinkEvent(row) => Act::Count(row),
+            DeviceEvent::Comreset => Act::Renew,
+        }
     }
 
-    /// What a link event makes the device do. `row`: of page 11h.
+    /// What a device event makes the device do.
     ///
     /// # Errors
-    /// The first that holds of `Contradiction` (1), `NoRow` (13).
-    #[tactic(auto, unfolding(crate::specs::Act::act, crate::specs::Act::does, crate::specs::Tests::tests))]
-    pub fn link_act(&self, row: u8) -> Result<Act, Refusal>
-        ensures { result ≡ act self.now (linkEvent row) }
-    {
-        check(&[
-            (self.contradicts, Refusal::Contradiction),
-            (
-                contradictions::row_refused(self.settings.mask, row),
-                Refusal::NoRow,
-            ),
-        ])?;
-        Ok(Act::Count(row))
-    }
-
-    /// What COMRESET makes the device do.
+    /// The first that holds of its row:
     ///
-    /// # Errors
-    /// The first that holds of `Contradiction` (1), `ReplyShort` (3).
-    #[tactic(auto, unfolding(crate::specs::Act::act, crate::specs::Act::does, crate::specs::Tests::tests))]
-    pub fn comreset_act(&self) -> Result<Act, Refusal>
-        ensures { result ≡ act self.now comReset }
+    /// | event | refused with |
+    /// |---|---|
+    /// | open a phase | `Contradiction` (1), `ReplyShort` (3), `TagIdle` (7), `PhaseOpen` (8), `AllMoved` (9) |
+    /// | send | `Contradiction` (1), `MediumLength` (2), `ReplyShort` (3), `NoReadPhase` (10) |
+    /// | finish | `Contradiction` (1), `ReplyShort` (3), `PhaseOpen` (8), `SetUnready` (11) |
+    /// | media error | `Contradiction` (1), `ReplyShort` (3), `TagIdle` (7), `OutsideCommand` (12: or the error byte is 0) |
+    /// | link event | `Contradiction` (1), `NoRow` (13) |
+    /// | COMRESET | `Contradiction` (1), `ReplyShort` (3) |
+    #[tactic(auto, unfolding(crate::specs::Act::act))]
+    pub fn event_act(&self, event: DeviceEvent) -> Result<Act, Refusal>
+        ensures { result ≡ act self.now (happens event) }
     {
-        check(&[
-            (self.contradicts, Refusal::Contradiction),
-            (self.reply_short, Refusal::ReplyShort),
-        ])?;
-        Ok(Act::Renew)
+        self.check_event(event)?;
+        Ok(self.does(event))
     }
 }

@@ -6,7 +6,7 @@ use crate::acts::Move;
 use device_state::{Entry, Settings, Status};
 
 /// The tests of `Contradiction` (1), `MediumLength` (2), `ReplyShort` (3) and `SetUnready` (11), settings and control values,
-/// and the one entry that the call is about. A method for each call says what it makes the device do.
+/// and the one entry that the call is about. `frame_act` and `event_act` say what a call makes the device do.
 #[derive(Clone, Copy, Debug, PartialEq, Eq)]
 pub struct Facts {
     /// `Contradiction` (1): the state contradicts itself

@@ -5,10 +5,11 @@ mod acts;
 mod command;
 mod decide;
 mod device_events;
+mod event;
 mod facts;
 mod medium;
-mod phases;
 
 pub use acts::{Act, BadReply, CountersRead, Fault, Move, Queued};
 pub use device_events::some_unready;
+pub use event::DeviceEvent;
 pub use facts::Facts;

@@ -3,6 +3,7 @@
 use device::{Device, Outcome, Sealed};
 use event_kinds::{EVENT_LIMIT, Kind, RUN_CAPACITY_LIMIT, Request};
 use frame_parts::{DATA_FRAME_LIMIT, DATA_HEAD, DATA_HEAD_SIZE};
+use rules::DeviceEvent;
 
 const MEDIUM_LIMIT: usize = (RUN_CAPACITY_LIMIT as usize) * Device::SECTOR_SIZE;
 
@@ -50,12 +51,14 @@ fn call(
     reply: &mut [u8],
 ) -> Outcome {
     match request {
-        Request::OpenPhase(tag) => device.open(tag, reply),
-        Request::SendData => device.send(medium, reply),
-        Request::FinishTags(set) => device.finish(set, reply),
-        Request::MediaError { tag, error, sector } => device.media_error(tag, error, sector, reply),
-        Request::LinkEvent(row) => device.link_event(row),
-        Request::ComReset => device.comreset(reply),
+        Request::Event(DeviceEvent::OpenPhase(tag)) => device.open(tag, reply),
+        Request::Event(DeviceEvent::SendData) => device.send(medium, reply),
+        Request::Event(DeviceEvent::FinishTags(set)) => device.finish(set, reply),
+        Request::Event(DeviceEvent::MediaError { tag, error, sector }) => {
+            device.media_error(tag, error, sector, reply)
+        }
+        Request::Event(DeviceEvent::LinkEvent(row)) => device.link_event(row),
+        Request::Event(DeviceEvent::Comreset) => device.comreset(reply),
         Request::HostData(byte) => host_data(device, byte, medium, reply),
         Request::HostFrame => device.host_frame(event, medium, reply),
     }

@@ -1,5 +1,5 @@
 -- The examples hold: each side computes to the other. Assumes nothing.
-use Rattle.std.proofs.Common.{Result, Ok, Err, ◌≡◌, refl, sym, ap, subst, ◌∙◌, Bool, false, List, [], ℕ, ◌*◌, length, eq-eqb}
+use Rattle.std.proofs.Common.{Result, Ok, Err, ◌≡◌, refl, sym, ap, subst, ◌∙◌, Bool, false, List, [], ℕ, ◌*◌, length, take, drop, arith, eq-eqb}
 use lib.ListN.{length-replicate}
 use Rattle.refusals.specs.First.{first_of}
 use Rattle.refusals.specs.declared.reasons.Refusal.{Refusal}
@@ -22,7 +22,7 @@ use Rattle.rules.specs.Tests.{wrongKind, wrongTime, wrongSize, someUnready, test
 use Rattle.rules.specs.Decide.{queuedAct, logPage, otherAct, controlAct, registerAct, frameAct}
 use Rattle.rules.specs.Act.{failing, does, act}
 use Rattle.rules.specs.Call.{hostFrame}
-use Rattle.rules.specs.Medium.{touch_of}
+use Rattle.rules.specs.Medium.{Touch, leaves, sends, stores, sentBy, touch_of}
 use Rattle.rules.specs.declared.acts.Act.{Act}
 use Rattle.replies.specs.Replies.{repliesOf}
 use Rattle.device.specs.Device.{contradictoryDevice, freshDevice}
@@ -30,7 +30,7 @@ use Rattle.device.specs.After.{withValue, haltWith, acceptedBy, unhalted, movedB
 use Rattle.device.specs.Lent.{lent}
 use Rattle.device.specs.FactsOf.{mediumWrong, factsWith}
 use Rattle.device.specs.declared.state.Device.{Device}
-use Rattle.device.proofs.Doing.{part_none, host-unsent, none-unready}
+use Rattle.device.proofs.Doing.{host-unsent, none_unready}
 use Rattle.device.specs.Step.{Step, shown, stepBy, actOf, step}
 use Rattle.worked_examples.specs.Points.{Hold, examples as all, room, replyTo}
 
@@ -46,16 +46,28 @@ same-act d f m h =
     let right : mediumWrong d.settings.capacity (length m) ≡ false = rw (eq-eqb (length m) (512 * d.settings.capacity) h) refl in
     ap (λ (n : ℕ). act (factsWith d t false false n) (hostFrame f)) (sym (length-replicate {A = ℕ} 8196 0))
     ∙ ap (λ (w : Bool). act (factsWith d t w false (length room)) (hostFrame f)) (sym right)
-    ∙ ap (λ (s : Bool). act (factsWith d t (mediumWrong d.settings.capacity (length m)) s (length room)) (hostFrame f)) (sym (none-unready d))
+    ∙ ap (λ (s : Bool). act (factsWith d t (mediumWrong d.settings.capacity (length m)) s (length room)) (hostFrame f)) (sym (none_unready d))
 
 -- state, refusal and frames
 abbrev pub Same : Step → Step → Type 0
 Same s s' = (s.state ≡ s'.state) × ((s.refusal ≡ s'.refusal) × (s.frames ≡ s'.frames))
 
+-- of no medium nothing is sent
+none-dropped : (n : ℕ) → drop {A = ℕ} n [] ≡ []
+none-dropped n = grind arith
+
+none-taken : (n : ℕ) → take {A = ℕ} n [] ≡ []
+none-taken n = grind arith
+
+part-none : (t : Touch) → [] ≡ sentBy t []
+part-none leaves = refl
+part-none (sends k) = sym (ap (take k.size) (none-dropped k.at) ∙ none-taken k.size)
+part-none (stores k) = refl
+
 -- what a host frame comes to leaves the same behind with no medium at all
 same-step : (d : Device) (f m : List ℕ) (x : Result Act Refusal) → x ≡ actOf d (lent (hostFrame f) m room) → Same (stepBy d (lent (hostFrame f) [] room) x) (stepBy d (lent (hostFrame f) m room) x)
 same-step d f m (Err r) e = (refl, (refl, refl))
-same-step d f m (Ok a) e = (refl, (refl, ap (λ (q : List ℕ). repliesOf (shown d) q a) (sym (part_none (touch_of a)) ∙ host-unsent d f m room a e)))
+same-step d f m (Ok a) e = (refl, (refl, ap (λ (q : List ℕ). repliesOf (shown d) q a) (sym (part-none (touch_of a)) ∙ host-unsent d f m room a e)))
 
 -- a host frame of the examples is the machine's own step, whatever the medium of the right length holds
 pub reply-to-is : (d : Device) (f m : List ℕ) → length m ≡ 512 * d.settings.capacity → Same (replyTo d f) (step d (lent (hostFrame f) m room))

@@ -10,7 +10,8 @@ use Rattle.device_state.specs.State.{blankRecord}
 use Rattle.replies.specs.Replies.{page10Of, page11Of}
 use Rattle.device.specs.Device.{freshDevice}
 use Rattle.device.specs.Step.{Step, stepBy, step}
-use Rattle.rules.specs.Call.{hostFrame, openPhase, sendData, finishTags, mediaError}
+use Rattle.rules.specs.Call.{hostFrame, happens}
+use Rattle.rules.specs.declared.event.DeviceEvent.TheVariants.{OpenPhase, SendData, FinishTags, MediaError}
 use Rattle.rules.specs.Act.{act}
 use Rattle.device.specs.Lent.{lent}
 use Rattle.device.specs.FactsOf.{factsWith}
@@ -67,11 +68,11 @@ reading = (replyTo (freshWith 256) (queuedRead 8 0x60 5)).state
 
 -- its media error: tag 5, error 40h, sector 64h
 abbrev pub failed : Step
-failed = step reading (lent (mediaError 5 0x40 0x64) [] room)
+failed = step reading (lent (happens (MediaError 5 0x40 0x64)) [] room)
 
 -- reads of a sector each with tags 0 and 5, both sent
 abbrev pub sentWith : Device → ℕ → Device
-sentWith d tag = (step (step d (lent (openPhase tag) [] room)).state (lent sendData (replicate 512 0) room)).state
+sentWith d tag = (step (step d (lent (happens (OpenPhase tag)) [] room)).state (lent (happens SendData) (replicate 512 0) room)).state
 
 -- of a device of one sector
 abbrev pub bothSent : Device
@@ -90,11 +91,11 @@ unfoldable pub examples : List Example
 examples =
     record { number = 1; given = lastByte (page10Of blankRecord); wanted = 0x80 ∷ [] }
     ∷ record { number = 2; given = lastByte (page10Of failed.state.errors); wanted = 0xAE ∷ [] }
-    ∷ record { number = 3; given = replyBytes (step bothSent (lent (finishTags 0x21) [] room)); wanted = 0xA1 ∷ 0x40 ∷ 0x40 ∷ 0x00 ∷ 0x21 ∷ 0x00 ∷ 0x00 ∷ 0x00 ∷ [] }
+    ∷ record { number = 3; given = replyBytes (step bothSent (lent (happens (FinishTags 0x21)) [] room)); wanted = 0xA1 ∷ 0x40 ∷ 0x40 ∷ 0x00 ∷ 0x21 ∷ 0x00 ∷ 0x00 ∷ 0x00 ∷ [] }
     ∷ record { number = 4; given = take 8 (replyBytes (replyTo failed.state readLog10)); wanted = 0xA1 ∷ 0x00 ∷ 0x40 ∷ 0x00 ∷ 0xFF ∷ 0xFF ∷ 0xFF ∷ 0xFF ∷ [] }
     ∷ record { number = 5; given = replyBytes failed; wanted = 0xA1 ∷ 0x40 ∷ 0x41 ∷ 0x40 ∷ 0x00 ∷ 0x00 ∷ 0x00 ∷ 0x00 ∷ [] }
-    ∷ record { number = 6; given = take 1 (drop 1 (replyBytes (step reading (lent (openPhase 5) [] room)))); wanted = 0x20 ∷ [] }
-    ∷ record { number = 6; given = take 4 (drop 20 (replyBytes (step reading (lent (openPhase 5) [] room)))); wanted = 0x00 ∷ 0x10 ∷ 0x00 ∷ 0x00 ∷ [] }
+    ∷ record { number = 6; given = take 1 (drop 1 (replyBytes (step reading (lent (happens (OpenPhase 5)) [] room)))); wanted = 0x20 ∷ [] }
+    ∷ record { number = 6; given = take 4 (drop 20 (replyBytes (step reading (lent (happens (OpenPhase 5)) [] room)))); wanted = 0x00 ∷ 0x10 ∷ 0x00 ∷ 0x00 ∷ [] }
     ∷ record { number = 7; given = lastByte twoRows; wanted = 0xB2 ∷ [] }
     ∷ record { number = 7; given = said (readCounter twoRows 0x001); wanted = 0 ∷ 0 ∷ [] }
     ∷ record { number = 7; given = said (readCounter twoRows 0x00A); wanted = 0 ∷ 3 ∷ [] }

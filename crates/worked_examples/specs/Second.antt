@@ -9,7 +9,8 @@ use Rattle.page_10h.specs.Page10.{page10, read_log}
 use Rattle.page_10h.specs.declared.page10.ErrorLog.{ErrorLog}
 use Rattle.refusals.specs.declared.reasons.Refusal.TheVariants.{Contradiction}
 use Rattle.device.specs.Device.{powerOn}
-use Rattle.rules.specs.Call.{Call, hostFrame, openPhase, sendData, finishTags, comReset}
+use Rattle.rules.specs.Call.{Call, hostFrame, happens}
+use Rattle.rules.specs.declared.event.DeviceEvent.TheVariants.{OpenPhase, SendData, FinishTags, Comreset}
 use Rattle.history.specs.Event.{Event, replied}
 use Rattle.history.specs.Replied.{page, sent}
 use Rattle.history.specs.Asked.{brought}
@@ -48,7 +49,7 @@ seenTo n h = map seen (upTo n h)
 
 -- its n-th call, from 1 on; of any other number one that nothing was seen of
 abbrev pub call_of : ℕ → List Event → Event
-call_of n h = get_or (upTo n h) 0 (record { call = comReset; medium = []; buffer = []; refusal = Some Contradiction; len = 0; filled = []; left = [] })
+call_of n h = get_or (upTo n h) 0 (record { call = (happens Comreset); medium = []; buffer = []; refusal = Some Contradiction; len = 0; filled = []; left = [] })
 
 -- its commands, the oldest first
 abbrev pub commandsOf : List Event → List Command
@@ -147,8 +148,8 @@ sectors a b = replicate 8192 a ++ replicate 512 b
 -- all calls, the oldest first: a read and a write of the whole medium, finished as one set; the medium is lent as the write has left it
 abbrev pub longCalls : List Lent
 longCalls =
-    map (lentRoom (sectors 5 6)) (queuedOf 17 0x60 0 ∷ openPhase 0 ∷ sendData ∷ sendData ∷ queuedOf 17 0x61 1 ∷ openPhase 1 ∷ hostDataOf 8192 7 ∷ [])
-    ++ (lentRoom (sectors 7 6) (hostDataOf 512 8) ∷ lentRoom (sectors 7 8) (finishTags 3) ∷ [])
+    map (lentRoom (sectors 5 6)) (queuedOf 17 0x60 0 ∷ happens (OpenPhase 0) ∷ (happens SendData) ∷ (happens SendData) ∷ queuedOf 17 0x61 1 ∷ happens (OpenPhase 1) ∷ hostDataOf 8192 7 ∷ [])
+    ++ (lentRoom (sectors 7 6) (hostDataOf 512 8) ∷ lentRoom (sectors 7 8) (happens (FinishTags 3)) ∷ [])
 
 -- what the outside saw of it, the newest event first
 unfoldable pub long : List Event

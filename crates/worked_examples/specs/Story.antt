@@ -6,7 +6,8 @@ use Rattle.page_11h.specs.Page11.{readCounter, rowValue}
 use Rattle.refusals.specs.Number.{number_told}
 use Rattle.refusals.specs.declared.reasons.Refusal.TheVariants.{Contradiction}
 use Rattle.device.specs.Device.{powerOn}
-use Rattle.rules.specs.Call.{Call, hostFrame, openPhase, sendData, finishTags, mediaError, comReset}
+use Rattle.rules.specs.Call.{Call, hostFrame, happens}
+use Rattle.rules.specs.declared.event.DeviceEvent.TheVariants.{OpenPhase, SendData, FinishTags, MediaError, Comreset}
 use Rattle.history.specs.Event.{Event}
 use Rattle.history.specs.Replied.{repliesIn, page, sent}
 use Rattle.history.specs.Asked.{brought}
@@ -51,12 +52,12 @@ hostDataCall byte = hostFrame (0x46 ∷ 0 ∷ 0 ∷ 0 ∷ replicate 256 byte)
 -- the first nine calls: a read with tag 0 that is finished, and is not before it has moved; a write with tag 0 again, half of which is brought, and a read with tag 3
 abbrev pub firstCalls : List Call
 firstCalls =
-    queued 0x60 0 ∷ finishTags 1 ∷ openPhase 0 ∷ sendData ∷ finishTags 1
-    ∷ queued 0x61 0 ∷ queued 0x60 3 ∷ openPhase 0 ∷ hostDataCall 7 ∷ []
+    queued 0x60 0 ∷ happens (FinishTags 1) ∷ happens (OpenPhase 0) ∷ (happens SendData) ∷ happens (FinishTags 1)
+    ∷ queued 0x61 0 ∷ queued 0x60 3 ∷ happens (OpenPhase 0) ∷ hostDataCall 7 ∷ []
 
 -- the last seven, behind the other half of the write: a media error, a read answered bad, the error is read; a write with tag 0 once more that COMRESET drops, page 11h, a read that stays outstanding
 abbrev pub lastCalls : List Call
-lastCalls = mediaError 3 0x84 0 ∷ queued 0x60 4 ∷ readLogCall 0x10 ∷ queued 0x61 0 ∷ comReset ∷ readLogCall 0x11 ∷ queued 0x60 5 ∷ []
+lastCalls = happens (MediaError 3 0x84 0) ∷ queued 0x60 4 ∷ readLogCall 0x10 ∷ queued 0x61 0 ∷ (happens Comreset) ∷ readLogCall 0x11 ∷ queued 0x60 5 ∷ []
 
 -- all calls, the oldest first: the medium holds 5 until the write has brought 7, and then its other half until it has brought 8
 abbrev pub calls : List Lent
@@ -76,7 +77,7 @@ seenAfter n = map seen (after n)
 
 -- the n-th call, from 1 on; of any other number one that nothing was seen of
 abbrev pub nth : ℕ → Event
-nth n = get_or (after n) 0 (record { call = comReset; medium = []; buffer = []; refusal = Some Contradiction; len = 0; filled = []; left = [] })
+nth n = get_or (after n) 0 (record { call = (happens Comreset); medium = []; buffer = []; refusal = Some Contradiction; len = 0; filled = []; left = [] })
 
 -- every command of the run, the oldest first
 abbrev pub accepted : List Command
