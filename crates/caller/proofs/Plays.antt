@@ -2,7 +2,7 @@
 use Rattle.std.proofs.Common.{append-nil, append_assoc, ◌≡◌, refl, sym, ap, subst, List, [], ◌∷◌, ◌++◌, ℕ, zero, suc, ◌+◌, ◌<◌, arith, get_or, replicate, Option, Some, None, unwrap_or, option_map, option_to_list, Result, Err}
 use Rattle.bits.specs.Little.{Bytes}
 use Rattle.bits.proofs.Littles.{le-lt}
-use Rattle.frame_parts.specs.Cut.{joined}
+use Rattle.frames.specs.Cut.{joined}
 use Rattle.replies.specs.Replies.{sentAll}
 use Rattle.refusals.specs.declared.reasons.Refusal.{Refusal}
 use Rattle.refusals.specs.declared.reasons.Refusal.TheVariants.{Contradiction}
@@ -17,18 +17,18 @@ use Rattle.device.specs.declared.state.Device.{Device}
 use Rattle.device.specs.declared.state.Outcome.{Outcome}
 use Rattle.device.proofs.Kept.{powered-once}
 use Rattle.device.proofs.Typing.{none-typed, frame-typed, set_typed, error-typed}
-use Rattle.event_kinds.specs.Kinds.{eventKind}
-use Rattle.event_kinds.specs.declared.kinds.Kind.{Kind}
-use Rattle.event_kinds.specs.declared.kinds.Kind.TheVariants as kinds
+use Rattle.events.specs.Kinds.{eventKind}
+use Rattle.events.specs.declared.kinds.Kind.{Kind}
+use Rattle.events.specs.declared.kinds.Kind.TheVariants as kinds
 use Rattle.std.specs.Option.{option_and_then}
-use Rattle.event_kinds.specs.Settings.{asked_of}
-use Rattle.event_kinds.specs.Requests.{requestByKind, requestOf}
-use Rattle.event_kinds.specs.declared.asked.Request.{Request}
+use Rattle.events.specs.Settings.{asked_of}
+use Rattle.events.specs.Requests.{requestByKind, requestOf}
+use Rattle.events.specs.declared.asked.Request.{Request}
 use Rattle.events.specs.HostData.{dataFrame, hostData}
 use Rattle.events.specs.Start.{start_by, start_of}
 use Rattle.events.specs.Calls.{call_of, callFor}
 use Rattle.events.specs.Played.{stepFor}
-use Rattle.event_program.specs.Running.{told}
+use Rattle.events.specs.Running.{told}
 use Rattle.history.specs.Run.{Done, done}
 use Rattle.caller.specs.Continued.{Reached, Holds}
 use Rattle.caller.specs.Playing.{Play, BeginsBy, doneBy, donesAll, endState, ContinuesBy, PlayContinues, PlayGiven, EachPlay, PlaysContinue, GivenPlaysHold, EachTold, GivenPlaysTold, HeldBy}

@@ -12,7 +12,7 @@ use Rattle.device.specs.declared.sealed.Sealed.{Sealed}
 use Rattle.device.specs.declared.state.Device.{Device}
 use Rattle.device.specs.declared.state.Outcome.{Outcome}
 use Rattle.device.proofs.Kept.{never-zeros}
-use Rattle.event_kinds.specs.Settings.{asked_of}
+use Rattle.events.specs.Settings.{asked_of}
 use Rattle.events.specs.Start.{start_by, start_of}
 use Rattle.events.proofs.play as playing
 use Rattle.events.proofs.start as starting

@@ -5,17 +5,17 @@ use lib.ListN.{get_or-append}
 use Rattle.std.proofs.lemmas.List.{get_or_past}
 use Rattle.std.specs.Io.KnownBytes.{Appends, Consumes}
 use Rattle.bits.specs.Little.{Bytes}
-use Rattle.event_kinds.specs.declared.kinds.InputEnd.{InputEnd}
-use Rattle.event_kinds.specs.declared.kinds.InputEnd.TheVariants.{Clean, NoEvent}
-use Rattle.event_program.specs.declared.errors.RunError.{RunError}
-use Rattle.event_program.specs.declared.errors.RunError.TheVariants.{Input, Output, Memory, TooMany}
+use Rattle.events.specs.declared.kinds.InputEnd.{InputEnd}
+use Rattle.events.specs.declared.kinds.InputEnd.TheVariants.{Clean, NoEvent}
+use Rattle.events.specs.declared.errors.RunError.{RunError}
+use Rattle.events.specs.declared.errors.RunError.TheVariants.{Input, Output, Memory, TooMany}
 use Rattle.streams.specs.Fronts.{AppendsFront}
-use Rattle.event_program.specs.Running.{Plays, run_lines, ending, next_behind}
-use Rattle.event_program.specs.Runs.{Ran}
-use Rattle.frame_parts.specs.Cut.{joined}
-use Rattle.event_program.specs.Reading.{Ends}
+use Rattle.events.specs.Running.{Plays, run_lines, ending, next_behind}
+use Rattle.events.specs.Runs.{Ran}
+use Rattle.frames.specs.Cut.{joined}
+use Rattle.events.specs.Reading.{Ends}
 use Rattle.streams.proofs.Fronts.{front-of}
-use Rattle.event_program.proofs.Runs.{begins}
+use Rattle.events.proofs.Runs.{begins}
 use Rattle.caller.specs.Program.{RunHistory}
 use Rattle.caller.proofs.Programs.{AllBytes, program-history}
 

@@ -11,14 +11,14 @@ use Rattle.device.specs.Sealing.{poweredOf}
 use Rattle.device.specs.Step.{Step, step, bytes_of}
 use Rattle.device.specs.declared.state.Device.{Device}
 use Rattle.device.specs.declared.state.Outcome.{Outcome}
-use Rattle.event_kinds.specs.Settings.{asked_of}
+use Rattle.events.specs.Settings.{asked_of}
 use Rattle.events.specs.Start.{start_by, start_of}
 use Rattle.events.specs.Calls.{callFor}
 use Rattle.events.specs.Played.{stepFor}
 use Rattle.events.proofs.Playable.{run-plays}
-use Rattle.event_program.specs.Lines.{line_of}
-use Rattle.event_program.specs.Reading.{IsEvent}
-use Rattle.event_program.specs.Running.{Kept, kept, after, told, started, refused, kept_after, AllEvents, Plays}
+use Rattle.events.specs.Lines.{line_of}
+use Rattle.events.specs.Reading.{IsEvent}
+use Rattle.events.specs.Running.{Kept, kept, after, told, started, refused, kept_after, AllEvents, Plays}
 use Rattle.history.specs.Run.{result, Done, done, event, run_from}
 use Rattle.history.specs.Follows.{newestFirst, lents, historyOf}
 use Rattle.history.specs.Lasting.{mediumBy, HandedOn, Lasting}

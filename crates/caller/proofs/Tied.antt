@@ -6,7 +6,7 @@ use Rattle.rules.specs.Call.{hostFrame, happens}
 use Rattle.rules.specs.declared.event.DeviceEvent.TheVariants.{OpenPhase, SendData, FinishTags, MediaError, LinkEvent, Comreset}
 use Rattle.device.specs.Lent.{lent, gave, answered}
 use Rattle.device.specs.Sealing.{poweredOf}
-use Rattle.event_kinds.specs.Settings.{asked_of}
+use Rattle.events.specs.Settings.{asked_of}
 use Rattle.bits.specs.Little.{Bytes}
 use denote.RattleType.{RattleType}
 use denote.Param.Laws.{Laws}

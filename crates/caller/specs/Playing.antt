@@ -13,8 +13,8 @@ use Rattle.device.specs.declared.state.Device.{Device}
 use Rattle.device.specs.declared.state.Outcome.{Outcome}
 use Rattle.events.specs.Calls.{callFor}
 use Rattle.events.specs.Played.{eventStep}
-use Rattle.event_program.specs.Lines.{line_of}
-use Rattle.event_program.specs.Running.{kept, told}
+use Rattle.events.specs.Lines.{line_of}
+use Rattle.events.specs.Running.{kept, told}
 use Rattle.history.specs.Run.{Done, done}
 use Rattle.caller.specs.Continued.{Reached, Holds, Continues, Begins}
 

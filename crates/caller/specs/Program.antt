@@ -5,12 +5,12 @@ use Rattle.device_state.specs.declared.shapes.Settings.{Settings}
 use Rattle.device.specs.Device.{zeroDevice, powerOn}
 use Rattle.device.specs.Lent.{lent, gave}
 use Rattle.device.specs.Step.{bytes_of}
-use Rattle.event_kinds.specs.Settings.{asked_of}
-use Rattle.event_kinds.specs.declared.kinds.InputEnd.TheVariants.{NoEvent}
-use Rattle.event_program.specs.Lines.{line_of}
+use Rattle.events.specs.Settings.{asked_of}
+use Rattle.events.specs.declared.kinds.InputEnd.TheVariants.{NoEvent}
+use Rattle.events.specs.Lines.{line_of}
 use Rattle.streams.specs.Fronts.{AppendsFront}
-use Rattle.event_program.specs.Running.{Kept, kept, stepIn, after, told, started, start_line, run_lines, kept_after, ending, Plays}
-use Rattle.frame_parts.specs.Cut.{joined}
+use Rattle.events.specs.Running.{Kept, kept, stepIn, after, told, started, start_line, run_lines, kept_after, ending, Plays}
+use Rattle.frames.specs.Cut.{joined}
 use Rattle.events.specs.Calls.{callFor}
 use Rattle.history.specs.Event.{replied}
 use Rattle.history.specs.Run.{result, Done, done, event}

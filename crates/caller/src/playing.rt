@@ -2,7 +2,7 @@
 #![tactic(auto, using(crate::proofs::Plays::events))]
 
 ghost use Rattle.device.specs.Lent.{gave, answered};
-ghost use Rattle.event_kinds.specs.Settings.{asked_of};
+ghost use Rattle.events.specs.Settings.{asked_of};
 ghost use Rattle.caller.specs.Playing.{play as played, BeginsBy, PlayContinues, PlaysContinue, GivenPlaysHold, GivenPlaysTold};
 
 use device::{Device, Outcome, Sealed};

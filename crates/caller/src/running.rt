@@ -3,12 +3,12 @@ ghost use Rattle.std.specs.Prelude.{IfSome};
 ghost use Rattle.bits.specs.Little.{Bytes};
 ghost use Rattle.caller.specs.Program.{RunHistory};
 
-use event_program::{Format, RunError};
+use events::{Format, RunError};
 use std::io::{Read, Write};
 
 /// The run of an event file. An input is of bytes, as what stands in a slice of them always is.
 pub fn run<R: Read, W: Write>(format: Format, reader: &mut R, out: &mut W) -> Result<(), RunError>
     ensures { IfSome (R.remaining reader.old) (λ input. Bytes input → RunHistory format.traced input (W.contents out.old) (W.contents out.new)) }
 {
-    event_program::run(format, reader, out)
+    events::run(format, reader, out)
 }

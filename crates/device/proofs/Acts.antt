@@ -1,7 +1,7 @@
 -- SRST, release, a halt and its end, a media error and zeroed counters leave a state that does not contradict itself. Assumes nothing.
 use Rattle.std.proofs.Common.{Option, is_none, unwrap_or, ◌≡◌, Bool, true, false, not, ◌&&◌, ℕ, eqb, ltb, arith}
 use Rattle.bits.specs.Bit.{bitIn}
-use Rattle.contradictions.specs.Clauses.{statusBad, recordBad, contradictory}
+use Rattle.device_state.specs.Contradictory.{statusBad, recordBad, contradictory}
 use Rattle.bits.proofs.Picks.{by-test}
 use Rattle.rules.specs.declared.acts.Fault.{Fault}
 use Rattle.device.specs.Device.{contradictoryDevice}

@@ -3,7 +3,7 @@ use Rattle.std.proofs.Common.{is_none, unwrap_or, ◌≡◌, Bool, true, false, 
 use Rattle.bits.specs.Bit.{bitIn}
 use Rattle.device_state.specs.State.{whole_of}
 use Rattle.device_state.specs.Table.{entry_of}
-use Rattle.contradictions.specs.Clauses.{movedBad, busyBad, entryBad}
+use Rattle.device_state.specs.Contradictory.{movedBad, busyBad, entryBad}
 use Rattle.device_state.specs.declared.shapes.Entry.{Entry}
 use Rattle.rules.specs.Positions.{left_of}
 use Rattle.device.specs.Device.{contradictoryDevice}

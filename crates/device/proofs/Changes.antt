@@ -5,7 +5,7 @@ use Rattle.bits.specs.Bit.{bitIn, withBitIn, clearIn}
 use Rattle.device_state.specs.State.{whole_of}
 use Rattle.device_state.specs.Table.{entry_of, placed, cleared}
 use Rattle.rules.specs.Positions.{left_of, advancedBy, move_of}
-use Rattle.contradictions.specs.Clauses.{busyBad}
+use Rattle.device_state.specs.Contradictory.{busyBad}
 use Rattle.rules.specs.declared.acts.Queued.{Queued}
 use Rattle.device.specs.Device.{contradictoryDevice}
 use Rattle.device.specs.After.{acceptedBy, movedBy, openedFor, finishedBy}

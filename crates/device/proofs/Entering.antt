@@ -1,11 +1,11 @@
 -- The entry of a queued command that is taken is right for its tag: its bytes name that tag and its range. Assumes nothing.
 use Rattle.std.proofs.Common.{◌≡◌, refl, false, ℕ, ◌+◌, ◌^◌, ◌≤◌, ◌<◌, arith, ltb, leb, eqb, eq-eqb, ltb-false}
-use Rattle.frame_parts.specs.Shared.{tag_of, sectorsOf}
+use Rattle.frames.specs.Shared.{tag_of, sectorsOf}
 use Rattle.frames.specs.declared.shapes.HostReg.{HostReg}
 use Rattle.device_state.specs.State.{whole_of}
 use Rattle.device_state.proofs.EchoLaws.{echo-tag, echo-lba}
 use Rattle.rules.specs.Decide.{tagAsked, countAsked, entryFor}
-use Rattle.contradictions.specs.Clauses.{settingsOut, movedBad, busyBad}
+use Rattle.device_state.specs.Contradictory.{settingsOut, movedBad, busyBad}
 use Rattle.device_state.specs.declared.shapes.Settings.{Settings}
 use Rattle.device.proofs.Tags.{moved_none}
 

@@ -3,7 +3,7 @@ use Rattle.std.proofs.Common.{sym, subst}
 use Rattle.refusals.specs.First.{FirstExactly}
 use Rattle.refusals.specs.Ladders.{powerLadder}
 use Rattle.refusals.proofs.FirstLaws as firsts
-use Rattle.contradictions.specs.Clauses.{settingsOut}
+use Rattle.device_state.specs.Contradictory.{settingsOut}
 use Rattle.device_state.specs.declared.shapes.Settings.{Settings}
 use Rattle.rules.specs.Tests.{tests}
 use Rattle.rules.proofs.TestLaws.{test-laws}

@@ -2,21 +2,21 @@
 use Rattle.std.proofs.Common.{Some, Result, Ok, ◌≡◌, refl, Bool, true, false, not, ◌&&◌, ◌||◌, List, [], ◌∷◌, ℕ, zero, suc, ◌<◌, arith, eqb, length, get_or, lt-ltb, ltb-true, ltb-false}
 use Rattle.bits.specs.Little.{byte_of, Bytes}
 use Rattle.bits.proofs.Picks.{by-test, and_left, or_left, or_right}
-use Rattle.frame_parts.specs.Shared.{taskFits, below}
-use Rattle.frame_parts.specs.Size.{kindNamed, allows}
-use Rattle.frame_parts.specs.declared.kinds.FrameKind.{FrameKind}
-use Rattle.frame_parts.specs.declared.kinds.FrameKind.TheVariants as kinds
-use Rattle.frame_parts.specs.declared.shared.Task.{Task}
-use Rattle.frame_parts.proofs.TaskLaws.{task-fits}
+use Rattle.frames.specs.Shared.{taskFits, below}
+use Rattle.frames.specs.Size.{kindNamed, allows}
+use Rattle.frames.specs.declared.kinds.FrameKind.{FrameKind}
+use Rattle.frames.specs.declared.kinds.FrameKind.TheVariants as kinds
+use Rattle.frames.specs.declared.shared.Task.{Task}
+use Rattle.frames.proofs.TaskLaws.{task-fits}
 use Rattle.frames.specs.Read.{frameOf, readFrame}
 use Rattle.frames.specs.declared.shapes.Frame.{Frame}
 use Rattle.frames.specs.declared.shapes.Frame.TheVariants as fs
 use Rattle.frames.proofs.ReadLaws.{by-kind}
 use Rattle.refusals.specs.declared.reasons.Refusal.{Refusal}
-use Rattle.page_10h.specs.Page10.{fits10}
-use Rattle.page_10h.specs.declared.page10.ErrorLog.{ErrorLog}
+use Rattle.pages.specs.Page10.{fits10}
+use Rattle.pages.specs.declared.page10.ErrorLog.{ErrorLog}
 use Rattle.device_state.specs.State.{placedBytes, taskIn, echoOf}
-use Rattle.contradictions.specs.Clauses.{tagTooLarge, tagUnderNq, blankNotZero, recordBad}
+use Rattle.device_state.specs.Contradictory.{tagTooLarge, tagUnderNq, blankNotZero, recordBad}
 use Rattle.replies.specs.Replies.{logOf}
 use Rattle.device.specs.Device.{contradictoryDevice}
 use Rattle.device.proofs.Sized.{SizedRecord}

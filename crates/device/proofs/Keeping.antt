@@ -1,8 +1,8 @@
 -- A taken link event never makes a state that contradicts itself. Assumes nothing.
 use Rattle.std.proofs.Common.{◌≡◌, true, false, ◌||◌, List, ℕ, get_or, set, get_or-set_other, arith}
-use Rattle.page_rows.specs.Rows.{kept, keepsBoth}
-use Rattle.counter_values.specs.Counts.{bumped}
-use Rattle.contradictions.specs.Clauses.{settingsOut, tableBad, statusBad, recordBad, rowBadAt, rowsBad, contradictory}
+use Rattle.counters.specs.Rows.{kept, keepsBoth}
+use Rattle.counters.specs.Counts.{bumped}
+use Rattle.device_state.specs.Contradictory.{settingsOut, tableBad, statusBad, recordBad, rowBadAt, rowsBad, contradictory}
 use Rattle.device_state.proofs.TableLaws.{some-never, some-absent}
 use Rattle.device.specs.Device.{contradictoryDevice}
 use Rattle.device.specs.After.{withValue}

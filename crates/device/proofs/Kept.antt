@@ -3,7 +3,7 @@ use Rattle.std.proofs.Common.{Option, Some, None, Result, Ok, Err, ◌≡◌, sy
 use mathlib.Core.Bool.{Bool-set}
 use mathlib.Core.HLevel.{is_prop→PathP}
 use Rattle.refusals.specs.declared.reasons.Refusal.{Refusal}
-use Rattle.contradictions.specs.Clauses.{settingsOut}
+use Rattle.device_state.specs.Contradictory.{settingsOut}
 use Rattle.device_state.specs.declared.shapes.Settings.{Settings}
 use Rattle.device.specs.Device.{contradictoryDevice, freshDevice, zeroDevice}
 use Rattle.device.specs.Lent.{answered}

@@ -1,7 +1,7 @@
 -- A call that reads nothing of the medium leaves it as it was, whatever it holds; one that is lent no reply buffer leaves that too. Assumes nothing.
 use Rattle.std.proofs.Common.{Result, Ok, Err, ◌≡◌, refl, sym, ap, subst, ◌∙◌, true, false, true≢false, List, [], ℕ, length}
 use Rattle.bits.specs.Laid.{laid}
-use Rattle.frame_parts.specs.Cut.{joined}
+use Rattle.frames.specs.Cut.{joined}
 use Rattle.frames.specs.Write.{FrameValue}
 use Rattle.refusals.specs.declared.reasons.Refusal.{Refusal}
 use Rattle.rules.specs.Call.{Call}

@@ -2,7 +2,7 @@
 use Rattle.std.proofs.Common.{Option, Some, None, Result, Ok, is_none, unwrap_or, ◌≡◌, refl, sym, ap, ◌∙◌, Bool, true, false, List, [], ◌∷◌, ◌++◌, ℕ, ◌+◌, ◌-◌, ◌*◌, ◌%◌, ◌≤◌, min, arith, ltb, length, get_or, take, drop, length-drop, le-leb, le-ltb, eq-eqb}
 use Rattle.bits.specs.Pick.{pick}
 use Rattle.bits.proofs.Picks.{not-leb}
-use Rattle.frame_parts.specs.Size.{payloadSize}
+use Rattle.frames.specs.Size.{payloadSize}
 use Rattle.frames.specs.Write.{activate, payload}
 use Rattle.refusals.specs.declared.reasons.Refusal.{Refusal}
 use Rattle.refusals.specs.declared.reasons.Refusal.TheVariants.{TooLong}

@@ -3,9 +3,9 @@ use Rattle.std.proofs.Common.{None, ◌≡◌, refl, Bool, true, false, not, ℕ
 use mathlib.Core.Bool.{and-false}
 use lib.ListN.{get_or-replicate}
 use Rattle.bits.proofs.Masks.{no-bit}
-use Rattle.page_rows.specs.Rows.{kept}
+use Rattle.counters.specs.Rows.{kept}
 use Rattle.device_state.specs.State.{zeroEntry}
-use Rattle.contradictions.specs.Clauses.{settingsOut, entryBad, idleBad, tagBad, tableBad, statusBad, recordBad, rowBadAt, rowsBad, contradictory}
+use Rattle.device_state.specs.Contradictory.{settingsOut, entryBad, idleBad, tagBad, tableBad, statusBad, recordBad, rowBadAt, rowsBad, contradictory}
 use Rattle.device_state.specs.declared.shapes.Settings.{Settings}
 use Rattle.device_state.proofs.TableLaws.{some-never}
 use Rattle.device.specs.Device.{freshDevice, zeroDevice, contradictoryDevice, powerOn}

@@ -10,7 +10,7 @@ use Rattle.std.specs.List.{sum_by}
 use Rattle.std.proofs.lemmas.List.Sums.{sum_by-cons}
 use Rattle.device_state.specs.State.{zeroEntry}
 use Rattle.device_state.specs.Table.{entry_of}
-use Rattle.contradictions.specs.Clauses.{movedBad, busyBad, idleBad, entryBad}
+use Rattle.device_state.specs.Contradictory.{movedBad, busyBad, idleBad, entryBad}
 use Rattle.device_state.specs.declared.shapes.Settings.{Settings}
 use Rattle.device_state.specs.declared.shapes.Entry.{Entry}
 use Rattle.device.specs.Device.{contradictoryDevice}

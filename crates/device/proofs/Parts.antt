@@ -1,6 +1,6 @@
 -- The clauses of a state that does not contradict itself, one by one, and such a state from its clauses. Assumes nothing.
 use Rattle.std.proofs.Common.{arith, ◌≡◌, false, List, ℕ, ◌<◌}
-use Rattle.contradictions.specs.Clauses.{tagBad, tableBad, statusBad, recordBad, contradictory}
+use Rattle.device_state.specs.Contradictory.{tagBad, tableBad, statusBad, recordBad, contradictory}
 use Rattle.device_state.specs.declared.shapes.Entry.{Entry}
 use Rattle.device_state.specs.declared.shapes.Status.{Status}
 use Rattle.device_state.proofs.TableLaws.{some-never, some-absent}

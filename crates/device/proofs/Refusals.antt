@@ -1,7 +1,7 @@
 -- What a refusal hands back: the very state that came in, no frames, and every byte as it was. Assumes nothing.
 use Rattle.std.proofs.Common.{Option, None, ◌≡◌, refl, ap, ◌∙◌, List, [], ℕ, length, arith}
 use Rattle.bits.specs.Laid.{laid}
-use Rattle.frame_parts.specs.Cut.{joined}
+use Rattle.frames.specs.Cut.{joined}
 use Rattle.frames.specs.Write.{FrameValue}
 use Rattle.refusals.specs.declared.reasons.Refusal.{Refusal}
 use Rattle.device_state.specs.declared.shapes.Settings.{Settings}

@@ -5,7 +5,7 @@ use Rattle.bits.specs.Bit.{bitIn, withBitIn, clearIn}
 use Rattle.device_state.specs.State.{whole_of}
 use Rattle.device_state.specs.Table.{entry_of, placed, cleared}
 use Rattle.rules.specs.Positions.{left_of, advancedBy}
-use Rattle.contradictions.specs.Clauses.{movedBad, busyBad, entryBad, tagBad}
+use Rattle.device_state.specs.Contradictory.{movedBad, busyBad, entryBad, tagBad}
 use Rattle.device_state.specs.declared.shapes.Settings.{Settings}
 use Rattle.device_state.specs.declared.shapes.Entry.{Entry}
 use Rattle.device_state.proofs.TableLaws.{getD-placed, getD-cleared}

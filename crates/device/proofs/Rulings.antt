@@ -2,7 +2,7 @@
 use Rattle.std.proofs.Common.{Option, Some, None, Result, is_none, unwrap_or, ◌≡◌, refl, subst, sym, Bool, ◌&&◌, false, true, List, [], ◌%◌, ◌*◌, ◌+◌, ◌<◌, ◌^◌, ◌≤◌, min, ℕ, arith, eqb, leb, ltb, lit<, length, take, drop, length-drop, length-take, eq-eqb, eqb-true, le-leb, le-ltb}
 use Rattle.bits.specs.Bit.{bitIn}
 use Rattle.bits.proofs.Picks.{and_right}
-use Rattle.frame_parts.specs.Size.{payloadSize}
+use Rattle.frames.specs.Size.{payloadSize}
 use Rattle.frames.specs.declared.shapes.HostReg.{HostReg}
 use Rattle.frames.specs.declared.shapes.Frame.{Frame}
 use Rattle.frames.proofs.ReadLaws.{DataRead}

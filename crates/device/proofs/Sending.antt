@@ -1,6 +1,6 @@
 -- What a call replies stands in the buffer whole, frame by frame. Assumes nothing.
 use Rattle.std.proofs.Common.{Ok, Err, ◌≡◌, subst, List, map, ℕ, length, take}
-use Rattle.frame_parts.specs.Cut.{cut, joined}
+use Rattle.frames.specs.Cut.{cut, joined}
 use Rattle.frames.proofs.ReadLaws.{read-data}
 use Rattle.frames.specs.Write.{encode}
 use Rattle.frames.specs.DataLast.{DataLast}

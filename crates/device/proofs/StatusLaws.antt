@@ -2,7 +2,7 @@
 use Rattle.std.proofs.Common.{Option, Some, None, is_some, is_none, unwrap_or, ◌≡◌, Bool, true, false, not, ℕ, arith, eqb}
 use Rattle.bits.specs.Pick.{pick}
 use Rattle.bits.specs.Bit.{bitIn, clearIn}
-use Rattle.contradictions.specs.Clauses.{phaseIdle, statusBad}
+use Rattle.device_state.specs.Contradictory.{phaseIdle, statusBad}
 use Rattle.device_state.specs.declared.shapes.Status.{Status}
 use Rattle.device.proofs.Phases.{none-open}
 

@@ -6,7 +6,7 @@ use Rattle.refusals.specs.declared.reasons.Refusal.{Refusal}
 use Rattle.refusals.specs.declared.reasons.Refusal.TheVariants.{NoFrame, TooLong}
 use Rattle.bits.proofs.Fronts.{over_yes}
 use Rattle.bits.proofs.Picks.{tested}
-use Rattle.frame_parts.specs.Size.{readable, payloadSize}
+use Rattle.frames.specs.Size.{readable, payloadSize}
 use Rattle.frames.specs.Read.{frameByKind, readFrame}
 use Rattle.frames.specs.declared.shapes.Frame.{Frame}
 use Rattle.frames.specs.declared.shapes.Frame.TheVariants.{Data}

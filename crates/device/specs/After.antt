@@ -8,7 +8,7 @@ use Rattle.device_state.specs.UnderWay.{noneUnderWay, with_tag, withoutTags}
 use Rattle.device_state.specs.declared.shapes.Status.{Status}
 use Rattle.device_state.specs.declared.shapes.Entry.{Entry}
 use Rattle.device_state.specs.declared.shapes.ErrorRecord.{ErrorRecord}
-use Rattle.counter_values.specs.Counts.{countedAt}
+use Rattle.counters.specs.Counts.{countedAt}
 use Rattle.rules.specs.Record.{recordOf}
 use Rattle.rules.specs.declared.acts.Fault.{Fault}
 use Rattle.rules.specs.declared.acts.Queued.{Queued}

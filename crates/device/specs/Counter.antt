@@ -4,8 +4,8 @@ use Rattle.std.specs.Int.Count.{ones}
 use Rattle.refusals.specs.First.{Rung, first_of, unless, refusal_in}
 use Rattle.refusals.specs.Ladders.{powerLadder, counterLadder}
 use Rattle.refusals.specs.declared.reasons.Refusal.{Refusal}
-use Rattle.page_11h.specs.Page11.{noNumber}
-use Rattle.page_rows.specs.Made11.{shownFor}
+use Rattle.pages.specs.Read11.{noNumber}
+use Rattle.counters.specs.Shown.{shownFor}
 use Rattle.device.specs.Device.{contradictoryDevice}
 use Rattle.device.specs.declared.state.Device.{Device}
 

@@ -1,7 +1,7 @@
 -- The host data that is due. Assumes nothing.
 use Rattle.std.specs.Prelude.{Bool, ◌&&◌, ℕ, Option, Some, None, is_some}
 use Rattle.bits.specs.Pick.{pick}
-use Rattle.moves.specs.Amounts.{dueIn}
+use Rattle.device_state.specs.Progress.{dueIn}
 use Rattle.device_state.specs.State.{progress_of}
 use Rattle.device_state.specs.declared.shapes.Entry.{Entry}
 use Rattle.device.specs.FactsOf.{entryMeant}

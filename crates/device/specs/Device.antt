@@ -2,7 +2,7 @@
 use Rattle.std.specs.Prelude.{Bool, false, replicate, Option, Some, None}
 use Rattle.device_state.specs.State.{zeroEntry, blankRecord}
 use Rattle.device_state.specs.UnderWay.{noneUnderWay}
-use Rattle.contradictions.specs.Clauses.{settingsOut, contradictory}
+use Rattle.device_state.specs.Contradictory.{settingsOut, contradictory}
 use Rattle.refusals.specs.First.{first_of}
 use Rattle.refusals.specs.Ladders.{powerLadder}
 use Rattle.refusals.specs.declared.reasons.Refusal.{Refusal}

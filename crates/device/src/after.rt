@@ -5,8 +5,8 @@ ghost use Rattle.std.specs.Prelude.{◌≡◌, true};
 ghost use Rattle.device.specs.After.{withValue, emptied, haltWith, acceptedBy, unhalted, zeroedIf, resetHeld, released, movedBy, openedFor, finishedBy, failedBy, renewed, after_of};
 
 use crate::state::Device;
+use counters::{COMRESET_ROW, INTERFACE_CRC_ROW, ROWS};
 use device_state::{Entry, ErrorRecord, Settings, Status};
-use page_rows::{COMRESET_ROW, INTERFACE_CRC_ROW, ROWS};
 use rules::{Act, Fault, Move, Queued};
 
 impl Device {
@@ -14,7 +14,7 @@ impl Device {
     fn count(&mut self, row: u8)
         ensures { self.new ≡ withValue self.old row }
     {
-        counter_values::count(&mut self.values, row);
+        counters::count(&mut self.values, row);
     }
 
     // Nothing is under way any more; settings and counters stay.
@@ -96,7 +96,7 @@ impl Device {
     fn fail(&mut self, fault: Fault)
         ensures { self.new ≡ failedBy self.old fault }
     {
-        if frame_parts::flag(fault.error, 7) {
+        if frames::flag(fault.error, 7) {
             self.count(INTERFACE_CRC_ROW);
         }
         self.halt(fault);

@@ -2,7 +2,7 @@
 ghost use Rattle.device.specs.Counter.{CounterGiven, CountGiven};
 
 use crate::state::Device;
-use page_11h::is_counter_number;
+use pages::is_counter_number;
 use refusals::{Refusal, check};
 
 impl Device {
@@ -10,7 +10,7 @@ impl Device {
     ///
     /// # Errors
     /// The first that holds of `Contradiction` (1), `NoCounter` (23): a number that is not 1 to FFFh.
-    #[tactic(auto, unfolding(crate::specs::Counter::counterOf, page_rows::specs::Made11::shownFor, refusals::specs::First::first_of))]
+    #[tactic(auto, unfolding(crate::specs::Counter::counterOf, counters::specs::Shown::shownFor, refusals::specs::First::first_of))]
     pub fn counter(&self, number: u16) -> Result<Option<u64>, Refusal>
         ensures { CounterGiven self.now number result }
     {
@@ -18,8 +18,8 @@ impl Device {
             (self.contradicts(), Refusal::Contradiction),
             (!is_counter_number(number), Refusal::NoCounter),
         ])?;
-        let row = page_rows::row_of(number);
-        Ok(page_rows::shown_at(self.settings.mask, &self.values, row))
+        let row = counters::row_of(number);
+        Ok(counters::shown_at(self.settings.mask, &self.values, row))
     }
 
     /// How many commands are outstanding, 0 to 32.

@@ -124,7 +124,7 @@ impl Sealed {
     pub fn power_on(settings: Settings) -> Result<Sealed, Refusal>
         ensures { poweredOf result ≡ powerOn settings }
     {
-        if contradictions::settings_out(settings) {
+        if device_state::settings_out(settings) {
             return Err(Refusal::Contradiction);
         }
         let device = Device {

@@ -4,8 +4,8 @@ ghost use Rattle.device.specs.Device.{contradictoryDevice, powerOn};
 ghost use Rattle.device.specs.Lent.{answered};
 
 use crate::sealed::Sealed;
+use counters::Counters;
 use device_state::{Entries, ErrorRecord, Settings, Status};
-use page_rows::Counters;
 use refusals::Refusal;
 
 /// Settings, what is under way, the entry of each tag, the error record, and the counters by row: a row that is not kept
@@ -42,13 +42,13 @@ impl Device {
     pub const DEPTH_LIMIT: u32 = Settings::DEPTH_LIMIT;
 
     /// Bytes of a sector.
-    pub const SECTOR_SIZE: usize = moves::SECTOR_SIZE;
+    pub const SECTOR_SIZE: usize = device_state::SECTOR_SIZE;
 
     /// The most bytes of a data frame's payload.
-    pub const FRAME_SIZE: usize = frame_parts::PAYLOAD_LIMIT;
+    pub const FRAME_SIZE: usize = frames::PAYLOAD_LIMIT;
 
     /// The fewest bytes of a reply buffer that no call turns down.
-    pub const REPLY_SIZE: usize = frame_parts::DATA_FRAME_LIMIT;
+    pub const REPLY_SIZE: usize = frames::DATA_FRAME_LIMIT;
 
     /// Power-on: idle, record blank, counters 0.
     ///
@@ -80,7 +80,7 @@ impl Device {
     pub fn contradicts(&self) -> bool
         ensures { result ≡ contradictoryDevice self.now }
     {
-        contradictions::contradicts(
+        device_state::contradicts(
             self.settings,
             self.status,
             &self.entries,

@@ -2,9 +2,9 @@
 use Rattle.std.proofs.Common.{◌≡◌, refl, ap, ap₂, ◌∙◌, true, ◌&&◌, ℕ, ◌+◌, ◌*◌, ◌^◌, ◌<◌, arith}
 use Rattle.bits.proofs.Picks.{and_left, and_right}
 use Rattle.bits.proofs.Littles.{le-bytesFrom}
-use Rattle.frame_parts.specs.Shared.{tag_of, below, taskFits}
-use Rattle.frame_parts.specs.declared.shared.Task.{Task}
-use Rattle.frame_parts.proofs.TaskLaws.{small, same-task}
+use Rattle.frames.specs.Shared.{tag_of, below, taskFits}
+use Rattle.frames.specs.declared.shared.Task.{Task}
+use Rattle.frames.proofs.TaskLaws.{small, same-task}
 use Rattle.device_state.specs.State.{taskIn, tagIn, echoOf}
 
 -- the bytes of what a frame named name its tag

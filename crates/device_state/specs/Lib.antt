@@ -1,3 +1,7 @@
+pub mod Progress
+pub mod Stored
+pub mod Range
+pub mod Contradictory
 pub mod State
 pub mod Table
 pub mod UnderWay

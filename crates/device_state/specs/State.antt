@@ -1,10 +1,10 @@
 -- What the state holds of a command and of an error. Assumes nothing.
 use Rattle.std.specs.Prelude.{false, List, [], ◌∷◌, ℕ, ◌*◌, min}
 use Rattle.bits.specs.Little.{byte_of}
-use Rattle.frame_parts.specs.Shared.{task_of, tag_of}
-use Rattle.frame_parts.specs.declared.shared.Task.{Task}
-use Rattle.moves.specs.declared.amounts.Progress.{Progress}
-use Rattle.moves.specs.declared.ranges.Sectors.{Sectors}
+use Rattle.frames.specs.Shared.{task_of, tag_of}
+use Rattle.frames.specs.declared.shared.Task.{Task}
+use Rattle.device_state.specs.declared.progress.Progress.{Progress}
+use Rattle.device_state.specs.declared.ranges.Sectors.{Sectors}
 use Rattle.device_state.specs.declared.shapes.Echo.{Echo}
 use Rattle.device_state.specs.declared.shapes.Entry.{Entry}
 use Rattle.device_state.specs.declared.shapes.ErrorRecord.{ErrorRecord}

@@ -2,8 +2,8 @@
 ghost use Rattle.std.specs.Prelude.{◌≡◌};
 ghost use Rattle.device_state.specs.State.{taskIn, echoOf, medium_size, whole_of, progress_of, sectors_of};
 
-use frame_parts::Task;
-use moves::{Progress, Sectors};
+use crate::{Progress, Sectors};
+use frames::Task;
 
 /// Queue depth, capacity in sectors, and which rows of page 11h are kept.
 #[derive(Clone, Copy, Debug, Default, PartialEq, Eq)]
@@ -30,7 +30,7 @@ impl Settings {
     pub fn medium_size(&self) -> usize
         ensures { result ≡ medium_size self.now.capacity }
     {
-        moves::SECTOR_SIZE * self.capacity as usize
+        crate::SECTOR_SIZE * self.capacity as usize
     }
 }
 
@@ -81,7 +81,7 @@ impl Entry {
     pub fn whole(&self) -> u32
         ensures { result ≡ whole_of self.now.count }
     {
-        moves::SECTOR_SIZE as u32 * self.count.min(Settings::CAPACITY_LIMIT)
+        crate::SECTOR_SIZE as u32 * self.count.min(Settings::CAPACITY_LIMIT)
     }
 
     /// The bytes of the whole command, and what has moved of them.

@@ -4,12 +4,12 @@ use Rattle.bits.specs.Pick.{pick}
 use Rattle.refusals.specs.First.{FirstExactly, first_of}
 use Rattle.refusals.specs.Ladders.{powerLadder}
 use Rattle.refusals.proofs.FirstLaws.{first-exactly}
-use Rattle.contradictions.specs.Clauses.{settingsOut}
+use Rattle.device_state.specs.Contradictory.{settingsOut}
 use Rattle.device_state.specs.declared.shapes.Settings.{Settings}
 use Rattle.device.specs.Sealing.{poweredOf}
 use Rattle.device.proofs.Exactly.{first-exactly-power}
-use Rattle.event_kinds.specs.Settings.{settingsOf, inLimit}
-use Rattle.event_kinds.specs.Stops.{startOut}
+use Rattle.events.specs.Settings.{settingsOf, inLimit}
+use Rattle.events.specs.Stops.{startOut}
 use Rattle.events.specs.Start.{start_by, start_of}
 
 -- out of the limit it is 1, and in it what power-on gives

@@ -2,11 +2,11 @@
 use Rattle.std.proofs.Common.{◌≡◌, refl, ◌∙◌, false, List, ℕ, take, Option, Some, None, is_none, option_map, Ok}
 use Rattle.rules.specs.Call.{Call}
 use Rattle.device.specs.declared.state.Device.{Device}
-use Rattle.event_kinds.specs.Kinds.{next_of}
-use Rattle.event_kinds.specs.Stops.{noCall}
-use Rattle.event_kinds.specs.declared.asked.Request.{Request}
-use Rattle.event_kinds.specs.Requests.{requestOf}
-use Rattle.event_kinds.proofs.Asking.{nothing-exactly, next-asks}
+use Rattle.events.specs.Kinds.{next_of}
+use Rattle.events.specs.Stops.{noCall}
+use Rattle.events.specs.declared.asked.Request.{Request}
+use Rattle.events.specs.Requests.{requestOf}
+use Rattle.events.proofs.Asking.{nothing-exactly, next-asks}
 use Rattle.events.specs.Calls.{call_of, callFor}
 
 -- what is asked for, and nothing else, makes a call

@@ -14,7 +14,7 @@ use Rattle.device.specs.FactsOf.{facts_of}
 use Rattle.device.specs.Step.{step}
 use Rattle.device.specs.declared.state.Device.{Device}
 use Rattle.device.proofs.Exactly.{first-exactly}
-use Rattle.event_kinds.specs.Stops.{noCall}
+use Rattle.events.specs.Stops.{noCall}
 use Rattle.events.specs.Calls.{callFor}
 use Rattle.events.specs.Played.{stepFor, testsFor, eventStep, eventTests}
 use Rattle.events.proofs.Playable.{no-call-exactly}

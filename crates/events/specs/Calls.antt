@@ -2,9 +2,9 @@
 use Rattle.std.specs.Prelude.{List, ℕ, Option, option_map}
 use Rattle.rules.specs.Call.{Call, hostFrame, happens}
 use Rattle.device.specs.declared.state.Device.{Device}
-use Rattle.event_kinds.specs.Requests.{requestOf}
-use Rattle.event_kinds.specs.declared.asked.Request.{Request}
-use Rattle.event_kinds.specs.declared.asked.Request.TheVariants.{Event, HostData, HostFrame}
+use Rattle.events.specs.Requests.{requestOf}
+use Rattle.events.specs.declared.asked.Request.{Request}
+use Rattle.events.specs.declared.asked.Request.TheVariants.{Event, HostData, HostFrame}
 use Rattle.events.specs.HostData.{hostData}
 
 -- the call that a request makes in the state d; host data has the length due, and a frame is the event's bytes e themselves

@@ -1,3 +1,13 @@
+pub mod Kinds
+pub mod Requests
+pub mod Settings
+pub mod Stops
+pub mod Ends
+pub mod Lines
+pub mod Output
+pub mod Reading
+pub mod Running
+pub mod Runs
 pub mod Start
 pub mod HostData
 pub mod Calls

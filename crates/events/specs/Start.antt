@@ -5,7 +5,7 @@ use Rattle.device.specs.Device.{powerOn}
 use Rattle.device.specs.Sealing.{poweredOf}
 use Rattle.device.specs.declared.state.Outcome.{Outcome}
 use Rattle.device_state.specs.declared.shapes.Settings.{Settings}
-use Rattle.event_kinds.specs.Settings.{asked_of}
+use Rattle.events.specs.Settings.{asked_of}
 
 -- power-on with the settings that are asked for; where none are, refusal 1, which power-on gives for settings out of bounds
 unfoldable pub start_by : Option Settings → Outcome

@@ -4,13 +4,13 @@ ghost use Rattle.device.specs.Step.{Gives};
 ghost use Rattle.events.specs.Played.{eventStep};
 
 use crate::plays::make_call;
+use crate::request_of;
 use device::{Device, Outcome, Sealed};
-use event_kinds::request_of;
 use refusals::Refusal;
 
 /// One event to its call, as `play`, of a state that is handed in and back as by the calls of `Device`. What is no event
 /// is refused with `NoFrame` (24), and a state that contradicts itself with `Contradiction` (1); all stays as it was then.
-#[tactic(auto, unfolding(crate::specs::Played::stepFor, replies::specs::Replies::sentAll, frame_parts::specs::Cut::joined), using(device::proofs::Contradicted::given_contradicted))]
+#[tactic(auto, unfolding(crate::specs::Played::stepFor, replies::specs::Replies::sentAll, frames::specs::Cut::joined), using(device::proofs::Contradicted::given_contradicted))]
 pub fn play_by_value(device: Device, event: &[u8], medium: &mut [u8], reply: &mut [u8]) -> Outcome
     ensures { Gives (eventStep device event.now medium.old reply.old) reply.old (gave result medium.new reply.new) }
 {

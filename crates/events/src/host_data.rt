@@ -6,7 +6,7 @@ ghost use Rattle.device.specs.Step.{Given};
 ghost use Rattle.events.specs.HostData.{dataFrame, hostData};
 
 use device::Sealed;
-use frame_parts::{DATA_FRAME_LIMIT, DATA_HEAD, DATA_HEAD_SIZE};
+use frames::{DATA_FRAME_LIMIT, DATA_HEAD, DATA_HEAD_SIZE};
 use refusals::Refusal;
 
 // The longest data frame, its payload all of one byte: a front of it is the frame that is due.

@@ -1,11 +1,30 @@
-// One event to a call of the device, over slices. Every public function is total and has no `requires`.
+// Events: an event as its bytes, one event to a call of the device, and the run of an event file, from any reader to any writer. Every public function is total and has no `requires`.
 #![tactic(auto)]
 
+mod asked;
+mod bench;
 mod by_value;
+mod ended;
+mod errors;
 mod host_data;
+mod kinds;
+mod lines;
+mod output;
+mod pieces;
 mod plays;
+mod reading;
+mod running;
+mod settings;
 mod starts;
 
+pub use asked::{Request, request_of};
 pub use by_value::play_by_value;
+pub use ended::Ended;
+pub use errors::RunError;
+pub use kinds::{EVENT_LIMIT, InputEnd, Kind};
+pub use lines::Format;
+pub use pieces::{PIECE, run_in_pieces};
 pub use plays::play;
+pub use running::{a_run_has_one_text, run};
+pub use settings::{RUN_CAPACITY_LIMIT, settings_asked};
 pub use starts::start;

@@ -6,8 +6,8 @@ ghost use Rattle.events.specs.Calls.{call_of};
 ghost use Rattle.events.specs.Played.{stepFor, eventStep};
 
 use crate::host_data::host_data;
+use crate::{Request, request_of};
 use device::Sealed;
-use event_kinds::{Request, request_of};
 use refusals::Refusal;
 
 // A frame is handed on as it came, its kind being its first byte.
@@ -29,7 +29,7 @@ pub(crate) fn make_call(
 }
 
 /// One event to its call: the event is its kind and body; medium and reply buffer are those of the device's calls. What is no event is refused with 24, and changes nothing.
-#[tactic(auto, unfolding(crate::specs::Played::stepFor, replies::specs::Replies::sentAll, frame_parts::specs::Cut::joined))]
+#[tactic(auto, unfolding(crate::specs::Played::stepFor, replies::specs::Replies::sentAll, frames::specs::Cut::joined))]
 pub fn play(
     sealed: &mut Sealed,
     event: &[u8],

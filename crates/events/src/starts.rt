@@ -11,6 +11,6 @@ use refusals::Refusal;
 pub fn start(event: &[u8]) -> Result<Sealed, Refusal>
     ensures { poweredOf result ≡ start_of event.now }
 {
-    let settings = event_kinds::settings_asked(event).ok_or(Refusal::Contradiction)?;
+    let settings = crate::settings_asked(event).ok_or(Refusal::Contradiction)?;
     Sealed::power_on(settings)
 }

@@ -1,9 +1,9 @@
 -- Frames that were sent one behind the other come back from the cut. Assumes nothing.
 use Rattle.std.proofs.Common.{◌≡◌, refl, ap, ap₂, ◌∙◌, true, List, [], ◌∷◌, ◌++◌, map, append-nil, ℕ, zero, suc, ◌≤◌, ◌<◌, arith, length, take, drop, length-append, take_at, drop_at}
-use Rattle.frame_parts.specs.Shared.{registerBytes}
-use Rattle.frame_parts.specs.Size.{fixedSize}
-use Rattle.frame_parts.specs.Cut.{firstLength, cut_to, cut, joined}
-use Rattle.frame_parts.proofs.Cuts.{cut-none, cut-one, fixed, unfixed}
+use Rattle.frames.specs.Shared.{registerBytes}
+use Rattle.frames.specs.Size.{fixedSize}
+use Rattle.frames.specs.Cut.{firstLength, cut_to, cut, joined}
+use Rattle.frames.proofs.CutLaws.{cut-none, cut-one, fixed, unfixed}
 use Rattle.frames.specs.Write.{FrameValue, host, device, setBits, setup, activate, payload, bist, pio, bitsBytes, setupBytes, encode}
 use Rattle.frames.specs.DataLast.{isPayload, DataLast}
 

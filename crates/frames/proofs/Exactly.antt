@@ -4,7 +4,7 @@ use Rattle.refusals.specs.First.{first_of, refusal_in, FirstExactly}
 use Rattle.refusals.specs.Number.{number_told}
 use Rattle.refusals.specs.declared.reasons.Refusal.{Refusal}
 use Rattle.refusals.proofs.FirstLaws.{first-exactly as of-a-list}
-use Rattle.frame_parts.specs.Size.{readable}
+use Rattle.frames.specs.Size.{readable}
 use Rattle.frames.specs.Read.{frameByKind, readFrame, ladder24, frameAnswer, FrameGiven}
 use Rattle.frames.specs.declared.shapes.Frame.{Frame}
 

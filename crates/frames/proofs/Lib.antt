@@ -1,3 +1,12 @@
+pub mod SharedLaws
+pub mod SizeLaws
+pub mod TaskLaws
+pub mod Defaults
+pub mod QueuedLaws
+pub mod EmitLaws
+pub mod CutLaws
+pub mod ExactlyEmitted
+pub mod TiedParts
 pub mod ReadLaws
 pub mod WriteLaws
 pub mod RoundTrip

@@ -3,10 +3,10 @@ use Rattle.std.proofs.Common.{◌≡◌, refl, true, false, List, ℕ, ◌-◌, 
 use Rattle.std.specs.Option.{option_map_or}
 use Rattle.bits.specs.Pick.{pick}
 use Rattle.bits.proofs.Picks.{by-test}
-use Rattle.frame_parts.specs.Size.{kindNamed, allows, payloadSize, readable}
-use Rattle.frame_parts.specs.declared.kinds.FrameKind.{FrameKind}
-use Rattle.frame_parts.specs.declared.kinds.FrameKind.TheVariants as kinds
-use Rattle.frame_parts.proofs.SizeLaws.{named-byte}
+use Rattle.frames.specs.Size.{kindNamed, allows, payloadSize, readable}
+use Rattle.frames.specs.declared.kinds.FrameKind.{FrameKind}
+use Rattle.frames.specs.declared.kinds.FrameKind.TheVariants as kinds
+use Rattle.frames.proofs.SizeLaws.{named-byte}
 use Rattle.frames.specs.Read.{frameOf, frameByKind, readFrame}
 use Rattle.frames.specs.declared.shapes.Frame.{Frame}
 use Rattle.frames.specs.declared.shapes.Frame.TheVariants.{Data}

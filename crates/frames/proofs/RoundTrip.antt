@@ -1,14 +1,14 @@
 -- What a writer wrote, the reader reads again. Assumes nothing.
 use Rattle.std.proofs.Common.{Ok, ◌≡◌, refl, ap, ◌∙◌, true, List, ℕ, ◌-◌, arith, length, take, drop, take_at}
-use Rattle.frame_parts.specs.Shared.{registerBytes}
-use Rattle.frame_parts.specs.Size.{readable}
+use Rattle.frames.specs.Shared.{registerBytes}
+use Rattle.frames.specs.Size.{readable}
 use Rattle.frames.specs.Read.{frameByKind, readFrame}
 use Rattle.frames.specs.Write.{FrameValue, host, device, setBits, setup, activate, payload, bist, pio, bitsBytes, setupBytes, encode, fits, FrameWriteGiven}
 use Rattle.frames.specs.RoundTrip.{readBack}
-use Rattle.frame_parts.specs.declared.kinds.FrameKind.TheVariants as kinds
+use Rattle.frames.specs.declared.kinds.FrameKind.TheVariants as kinds
 use Rattle.frames.proofs.ReadLaws.{read-some}
 use Rattle.frames.proofs.WriteLaws.{length-payload}
-use Rattle.frame_parts.proofs.EmitLaws.{wrote-all}
+use Rattle.frames.proofs.EmitLaws.{wrote-all}
 use Rattle.frames.specs.declared.shapes.HostReg.{HostReg}
 use Rattle.frames.specs.declared.shapes.DevReg.{DevReg}
 use Rattle.frames.specs.declared.shapes.SetBits.{SetBits}

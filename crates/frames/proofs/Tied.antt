@@ -5,7 +5,7 @@ use Rattle.frames.specs.Write.{FrameWriteGiven}
 use Rattle.frames.specs.Write.FrameValue.{activate, bist, device, host, payload, pio, setBits, setup}
 use Rattle.bits.specs.Contract.{Tied}
 use Rattle.bits.proofs.Tying.{same, say, by}
-use Rattle.frame_parts.proofs.EmitLaws.{emitted-once}
+use Rattle.frames.proofs.EmitLaws.{emitted-once}
 use Rattle.frames.proofs.reading
 use Rattle.frames.specs.contracts.reading as reading-said
 use Rattle.frames.proofs.writing

@@ -6,16 +6,16 @@ use Rattle.bits.specs.Bit.{bitIn}
 use Rattle.bits.specs.Little.{leAt, byte_of, Bytes}
 use Rattle.bits.proofs.Tables.{below_all}
 use Rattle.bits.proofs.Littles.{le-lt, byte_le}
-use Rattle.frame_parts.specs.Shared.{flags_of, halvesOf, lbaOf, task_of, registerBytes}
-use Rattle.frame_parts.specs.Size.{kindNamed, allows, payloadSize}
-use Rattle.frame_parts.specs.declared.kinds.FrameKind.{FrameKind}
-use Rattle.frame_parts.specs.declared.kinds.FrameKind.TheVariants as kinds
+use Rattle.frames.specs.Shared.{flags_of, halvesOf, lbaOf, task_of, registerBytes}
+use Rattle.frames.specs.Size.{kindNamed, allows, payloadSize}
+use Rattle.frames.specs.declared.kinds.FrameKind.{FrameKind}
+use Rattle.frames.specs.declared.kinds.FrameKind.TheVariants as kinds
 use Rattle.frames.specs.Read.{flagAt, hostOf, deviceOf, bits_of, setupOf, pioOf, frameOf, readFrame}
 use Rattle.frames.specs.Write.{FrameValue, host, device, setBits, setup, activate, payload, bist, pio, bitsBytes, setupBytes, encode, fits, FrameWriteGiven}
 use Rattle.frames.specs.RoundTrip.{again, namedBits, zeroed}
-use Rattle.frame_parts.specs.Emit.{WriteGiven}
-use Rattle.frame_parts.proofs.SizeLaws.{payload-4, named-byte}
-use Rattle.frame_parts.proofs.TaskLaws.{task-fits}
+use Rattle.frames.specs.Emit.{WriteGiven}
+use Rattle.frames.proofs.SizeLaws.{payload-4, named-byte}
+use Rattle.frames.proofs.TaskLaws.{task-fits}
 use Rattle.frames.proofs.ReadLaws.{by-kind}
 use Rattle.frames.proofs.WriteLaws.{length-payload}
 use Rattle.refusals.specs.declared.reasons.Refusal.{Refusal}

@@ -1,3 +1,8 @@
+pub mod Shared
+pub mod Size
+pub mod Emit
+pub mod Cut
+pub mod Pages
 pub mod Read
 pub mod Write
 pub mod DataLast

@@ -9,11 +9,11 @@ use Rattle.refusals.specs.Number.{number}
 use Rattle.refusals.specs.First.{Rung, rung, first_of, refusal_in}
 use Rattle.refusals.specs.declared.reasons.Refusal.{Refusal}
 use Rattle.refusals.specs.declared.reasons.Refusal.TheVariants.{NoFrame}
-use Rattle.frame_parts.specs.Shared.{halvesOf, task_of}
-use Rattle.frame_parts.specs.Size.{kindNamed, readable}
-use Rattle.frame_parts.specs.declared.kinds.FrameKind.{FrameKind}
-use Rattle.frame_parts.specs.declared.kinds.FrameKind.TheVariants as kinds
-use Rattle.frame_parts.specs.declared.shared.Task.{Task}
+use Rattle.frames.specs.Shared.{halvesOf, task_of}
+use Rattle.frames.specs.Size.{kindNamed, readable}
+use Rattle.frames.specs.declared.kinds.FrameKind.{FrameKind}
+use Rattle.frames.specs.declared.kinds.FrameKind.TheVariants as kinds
+use Rattle.frames.specs.declared.shared.Task.{Task}
 use Rattle.frames.specs.declared.shapes.HostReg.{HostReg}
 use Rattle.frames.specs.declared.shapes.DevReg.{DevReg}
 use Rattle.frames.specs.declared.shapes.SetBits.{SetBits}

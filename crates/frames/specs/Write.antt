@@ -2,10 +2,10 @@
 use Rattle.std.specs.Prelude.{Bool, true, false, not, ◌&&◌, List, [], ◌∷◌, ◌++◌, ℕ, length, Result}
 use Rattle.bits.specs.Bit.{bitIn}
 use Rattle.bits.specs.Little.{le_bytes}
-use Rattle.frame_parts.specs.Shared.{flags_of, halvesOf, registerBytes, below, taskFits}
-use Rattle.frame_parts.specs.Size.{payloadSize}
-use Rattle.frame_parts.specs.declared.shared.Registers.{Registers}
-use Rattle.frame_parts.specs.Emit.{WriteGiven}
+use Rattle.frames.specs.Shared.{flags_of, halvesOf, registerBytes, below, taskFits}
+use Rattle.frames.specs.Size.{payloadSize}
+use Rattle.frames.specs.declared.shared.Registers.{Registers}
+use Rattle.frames.specs.Emit.{WriteGiven}
 use Rattle.frames.specs.declared.shapes.HostReg.{HostReg}
 use Rattle.frames.specs.declared.shapes.DevReg.{DevReg}
 use Rattle.frames.specs.declared.shapes.SetBits.{SetBits}

@@ -3,7 +3,7 @@ ghost use Rattle.std.specs.Prelude.{◌≡◌};
 ghost use Rattle.frames.specs.Read.{hostOf, deviceOf, bits_of, setupOf, pioOf, frameOf, FrameGiven};
 
 use crate::shapes::{DevReg, DmaSetup, Frame, HostReg, PioSetup, SetBits};
-use frame_parts::{FrameKind, Task, byte_of, flag, halves, payload_of};
+use crate::{FrameKind, Task, byte_of, flag, halves, payload_of};
 use refusals::Refusal;
 
 impl HostReg {
@@ -98,7 +98,7 @@ fn frame_of(kind: FrameKind, bytes: &[u8]) -> Frame
 ///
 /// # Errors
 /// `NoFrame` (24) where byte 0 names no kind, or its kind does not allow the length.
-#[tactic(auto, unfolding(crate::specs::Read::readFrame, crate::specs::Read::frameByKind, frame_parts::specs::Size::readable, refusals::specs::First::first_of))]
+#[tactic(auto, unfolding(crate::specs::Read::readFrame, crate::specs::Read::frameByKind, crate::specs::Size::readable, refusals::specs::First::first_of))]
 pub fn read_frame(bytes: &[u8]) -> Result<Frame, Refusal>
     ensures { FrameGiven bytes.now result }
 {

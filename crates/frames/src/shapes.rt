@@ -1,5 +1,5 @@
 // What the frames say: a struct for each kind that has named fields, and the reader's answer.
-use frame_parts::Task;
+use crate::Task;
 
 /// 27h, host register.
 #[derive(Clone, Copy, Debug, PartialEq, Eq)]

@@ -1,15 +1,15 @@
 // The frame writers: the frame in front of the buffer, or a refusal, and then no byte is changed.
-#![tactic(auto, unfolding(crate::specs::Write::encode, crate::specs::Write::fits), using(frame_parts::proofs::Defaults::default_zeros))]
+#![tactic(auto, unfolding(crate::specs::Write::encode, crate::specs::Write::fits), using(crate::proofs::Defaults::default_zeros))]
 
 ghost use Rattle.std.specs.Prelude.{◌≡◌, ◌&&◌, not};
 ghost use Rattle.bits.specs.Bit.{bitIn};
-ghost use Rattle.frame_parts.specs.Emit.{WriteGiven};
-ghost use Rattle.frame_parts.specs.Shared.{registerBytes, taskFits};
+ghost use Rattle.frames.specs.Emit.{WriteGiven};
+ghost use Rattle.frames.specs.Shared.{registerBytes, taskFits};
 ghost use Rattle.frames.specs.Write.{bitsBytes, setupBytes, FrameWriteGiven};
 ghost use Rattle.frames.specs.Write.FrameValue.{host, device, setBits, setup, activate, payload, bist, pio};
 
 use crate::shapes::{DevReg, DmaSetup, HostReg, PioSetup, SetBits};
-use frame_parts::{DATA_HEAD, FrameKind, Registers, emit, flag, flags, halves, is_payload_size};
+use crate::{DATA_HEAD, FrameKind, Registers, emit, flag, flags, halves, is_payload_size};
 use refusals::Refusal;
 
 // The layout that 27h, 34h and 5Fh share.

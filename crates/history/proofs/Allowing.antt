@@ -2,7 +2,7 @@
 use Rattle.std.proofs.Common.{◌≡◌, refl, sym, ap, List, [], ◌∷◌, ℕ}
 use Rattle.std.specs.Borrow.{Bor, MutBor}
 use Rattle.bits.specs.Laid.{laid}
-use Rattle.frame_parts.specs.Cut.{joined}
+use Rattle.frames.specs.Cut.{joined}
 use Rattle.frames.specs.Write.{FrameValue}
 use Rattle.replies.specs.Replies.{sentAll}
 use Rattle.rules.specs.Medium.{Touch, keptBy}

@@ -5,11 +5,11 @@ use Rattle.bits.specs.Pick.{pick}
 use Rattle.bits.specs.Bit.{bitIn}
 use Rattle.bits.specs.Laid.{laid}
 use Rattle.bits.proofs.Picks.{not-leb, pick_yes}
-use Rattle.frame_parts.specs.Cut.{joined}
-use Rattle.frame_parts.specs.Shared.{taskFits}
-use Rattle.page_10h.specs.Page10.{page10, fits10}
-use Rattle.page_rows.specs.Rows.{keepsBoth}
-use Rattle.page_rows.specs.Made11.{page11}
+use Rattle.frames.specs.Cut.{joined}
+use Rattle.frames.specs.Shared.{taskFits}
+use Rattle.pages.specs.Page10.{page10, fits10}
+use Rattle.counters.specs.Rows.{keepsBoth}
+use Rattle.pages.specs.Layout11.{page11}
 use Rattle.frames.specs.Read.{readFrame}
 use Rattle.frames.specs.Write.{FrameValue, setup, payload, encode}
 use Rattle.frames.specs.declared.shapes.HostReg.{HostReg}

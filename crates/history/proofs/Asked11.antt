@@ -1,7 +1,7 @@
 -- What the state shows of a counter's number is what the history tells. Assumes nothing.
 use Rattle.std.proofs.Common.{Option, ◌≡◌, refl, ap, ◌∙◌, false, List, ℕ, arith}
-use Rattle.page_rows.specs.Rows.{row_of}
-use Rattle.page_rows.specs.Made11.{onRow, shownFor}
+use Rattle.counters.specs.Rows.{row_of}
+use Rattle.counters.specs.Shown.{onRow, shownFor}
 use Rattle.device_state.specs.declared.shapes.Settings.{Settings}
 use Rattle.device.specs.Device.{contradictoryDevice}
 use Rattle.device.specs.declared.state.Device.{Device}

@@ -5,7 +5,7 @@ use Rattle.bits.specs.Pick.{pick}
 use Rattle.bits.specs.Bit.{bitIn}
 use Rattle.device_state.specs.State.{whole_of}
 use Rattle.device_state.specs.Table.{entry_of, placed, cleared}
-use Rattle.contradictions.specs.Clauses.{statusBad, busyBad, movedBad}
+use Rattle.device_state.specs.Contradictory.{statusBad, busyBad, movedBad}
 use Rattle.device_state.specs.declared.shapes.Entry.{Entry}
 use Rattle.device_state.proofs.TableLaws.{getD-placed, getD-cleared}
 use Rattle.frames.specs.declared.shapes.HostReg.{HostReg}

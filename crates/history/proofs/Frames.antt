@@ -1,7 +1,7 @@
 -- From reply bytes to frames: what is read of an event's bytes is what the step sent. Assumes nothing.
 use Rattle.std.proofs.Common.{◌≡◌, refl, ap, ap₂, ◌∙◌, List, [], map, ℕ, length}
 use Rattle.bits.specs.Pick.{pick}
-use Rattle.frame_parts.specs.Cut.{cut}
+use Rattle.frames.specs.Cut.{cut}
 use Rattle.frames.specs.Read.{readFrame}
 use Rattle.frames.specs.Write.{FrameValue, encode}
 use Rattle.replies.proofs.Fit.{Fitting}

@@ -5,10 +5,10 @@ use Rattle.bits.specs.Pick.{pick}
 use Rattle.bits.proofs.Picks.{tested}
 use Rattle.refusals.specs.declared.reasons.Refusal.{Refusal}
 use Rattle.refusals.specs.declared.reasons.Refusal.TheVariants.{NoFrame}
-use Rattle.frame_parts.specs.Size.{kindNamed, allows, payloadSize, readable}
-use Rattle.frame_parts.specs.declared.kinds.FrameKind.{FrameKind}
-use Rattle.frame_parts.specs.declared.kinds.FrameKind.TheVariants as kinds
-use Rattle.frame_parts.proofs.SizeLaws.{byteOf, named-byte}
+use Rattle.frames.specs.Size.{kindNamed, allows, payloadSize, readable}
+use Rattle.frames.specs.declared.kinds.FrameKind.{FrameKind}
+use Rattle.frames.specs.declared.kinds.FrameKind.TheVariants as kinds
+use Rattle.frames.proofs.SizeLaws.{byteOf, named-byte}
 use Rattle.frames.specs.Read.{frameOf, frameByKind, readFrame}
 use Rattle.frames.specs.declared.shapes.Frame.{Frame}
 use Rattle.rules.specs.Tests.{wrongKind}

@@ -2,7 +2,7 @@
 use Rattle.std.proofs.Common.{Ok, ◌≡◌, refl, Bool, true, false, ◌||◌, List, [], ◌∷◌, ℕ, ne_eqb, arith}
 use Rattle.bits.specs.Pick.{pick}
 use Rattle.bits.specs.Bit.{bitIn}
-use Rattle.contradictions.specs.Clauses.{statusBad}
+use Rattle.device_state.specs.Contradictory.{statusBad}
 use Rattle.rules.specs.Call.{Call, hostFrame}
 use Rattle.rules.specs.Positions.{move_of}
 use Rattle.rules.specs.declared.acts.Act.{Act}

@@ -5,9 +5,9 @@ use native.Mathlib.Nat.{zero-div}
 use borrow.Author.Tests.{eqb-false}
 use Rattle.bits.specs.Bit.{bitIn}
 use Rattle.bits.proofs.Masks.{bit_not}
-use Rattle.frame_parts.specs.Shared.{srstOf}
-use Rattle.frame_parts.specs.Size.{payloadSize}
-use Rattle.frame_parts.specs.declared.shared.Task.{Task}
+use Rattle.frames.specs.Shared.{srstOf}
+use Rattle.frames.specs.Size.{payloadSize}
+use Rattle.frames.specs.declared.shared.Task.{Task}
 use Rattle.frames.specs.declared.shapes.HostReg.{HostReg}
 use Rattle.device_state.specs.Table.{entry_of}
 use Rattle.device_state.specs.declared.shapes.Entry.{Entry}

@@ -2,9 +2,9 @@
 use Rattle.std.proofs.Common.{Ok, Err, ◌≡◌, refl, ap₂, subst, ◌∙◌, true, false, not, List, [], ◌∷◌, map, ℕ, ◌<◌, ◌^◌, arith, eqb, ltb}
 use mathlib.Core.Bool.{and-false}
 use Rattle.bits.specs.Bit.{bitIn}
-use Rattle.frame_parts.specs.declared.shared.Task.{Task}
+use Rattle.frames.specs.declared.shared.Task.{Task}
 use Rattle.frames.specs.Write.{FrameValue}
-use Rattle.page_10h.specs.declared.page10.ErrorLog.{ErrorLog}
+use Rattle.pages.specs.declared.page10.ErrorLog.{ErrorLog}
 use Rattle.device_state.specs.State.{taskIn, echoOf}
 use Rattle.device_state.specs.Table.{entry_of}
 use Rattle.device_state.specs.declared.shapes.Echo.{Echo}

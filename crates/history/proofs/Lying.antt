@@ -3,9 +3,9 @@ use Rattle.std.proofs.Common.{Option, Some, None, Ok, Err, ◌≡◌, refl, sym,
 use Rattle.std.specs.Option.{option_map_or}
 use Rattle.bits.proofs.Picks.{tested, by-test, and_left, and_right}
 use Rattle.refusals.specs.declared.reasons.Refusal.TheVariants.{NoFrame}
-use Rattle.frame_parts.specs.Size.{kindNamed, readable}
-use Rattle.frame_parts.specs.declared.kinds.FrameKind.{FrameKind}
-use Rattle.frame_parts.specs.declared.kinds.FrameKind.TheVariants as kinds
+use Rattle.frames.specs.Size.{kindNamed, readable}
+use Rattle.frames.specs.declared.kinds.FrameKind.{FrameKind}
+use Rattle.frames.specs.declared.kinds.FrameKind.TheVariants as kinds
 use Rattle.frames.specs.Read.{frameOf, frameByKind, readFrame}
 use Rattle.rules.specs.Call.{Call, hostFrame, happens}
 use Rattle.rules.specs.declared.event.DeviceEvent.TheVariants.{SendData}

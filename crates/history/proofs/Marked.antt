@@ -3,11 +3,11 @@ use Rattle.std.proofs.Common.{Ok, ◌≡◌, true, false, List, [], ℕ, length,
 use mathlib.Core.Path.{subst⁻¹}
 use Rattle.bits.proofs.Picks.{pick_yes}
 use Rattle.refusals.specs.First.{first_of}
-use Rattle.frame_parts.specs.Shared.{registerBytes}
-use Rattle.page_sum.specs.Sum.{sum256, sealed}
-use Rattle.page_10h.specs.Page10.{page10, fits10, fields10, read_log}
-use Rattle.page_10h.specs.declared.page10.ErrorLog.{ErrorLog}
-use Rattle.page_10h.proofs.Trip10.{length-10, sums-to-zero}
+use Rattle.frames.specs.Shared.{registerBytes}
+use Rattle.pages.specs.Sum.{sum256, sealed}
+use Rattle.pages.specs.Page10.{page10, fits10, fields10, read_log}
+use Rattle.pages.specs.declared.page10.ErrorLog.{ErrorLog}
+use Rattle.pages.proofs.Trip10.{length-10, sums-to-zero}
 use Rattle.device_state.specs.declared.shapes.Settings.{Settings}
 use Rattle.replies.specs.Replies.{logOf, page10Of}
 use Rattle.device.proofs.Sized.{SizedRecord}

@@ -2,7 +2,7 @@
 use Rattle.std.proofs.Common.{Option, None, is_none, ◌≡◌, refl, sym, ap, ap₂, subst, ◌∙◌, List, [], ◌∷◌, map, ℕ, length}
 use Rattle.bits.specs.Pick.{pick}
 use Rattle.bits.specs.Laid.{laid}
-use Rattle.frame_parts.specs.Cut.{joined}
+use Rattle.frames.specs.Cut.{joined}
 use Rattle.frames.specs.Write.{encode}
 use Rattle.refusals.specs.First.{Rung, first_of, rung}
 use Rattle.refusals.specs.declared.reasons.Refusal.{Refusal}

@@ -3,15 +3,15 @@ use Rattle.std.proofs.Common.{Option, None, ◌≡◌, refl, Bool, true, false, 
 use Rattle.bits.specs.Pick.{pick}
 use Rattle.bits.specs.Little.{byte_of}
 use Rattle.bits.proofs.Picks.{and_left, and_right}
-use Rattle.frame_parts.specs.Shared.{taskFits, below}
-use Rattle.frame_parts.specs.declared.shared.Task.{Task}
+use Rattle.frames.specs.Shared.{taskFits, below}
+use Rattle.frames.specs.declared.shared.Task.{Task}
 use Rattle.frames.specs.declared.shapes.HostReg.{HostReg}
 use Rattle.frames.specs.Write.{FrameValue}
 use Rattle.device_state.specs.State.{echoOf}
 use Rattle.device_state.proofs.EchoLaws.{echo-task}
-use Rattle.verdicts.specs.Other.{asksErrors, asksCounters}
-use Rattle.frame_parts.specs.declared.log_pages.LogPage.{LogPage}
-use Rattle.frame_parts.specs.Pages.{pageNamed}
+use Rattle.rules.specs.OtherRule.{asksErrors, asksCounters}
+use Rattle.frames.specs.declared.log_pages.LogPage.{LogPage}
+use Rattle.frames.specs.Pages.{pageNamed}
 use Rattle.rules.specs.Decide.{pageAsked, logPage, otherAct}
 use Rattle.rules.specs.declared.facts.Facts.{Facts}
 use Rattle.replies.specs.Replies.{repliesOf, page10Of, page11Of}

@@ -2,11 +2,11 @@
 use Rattle.std.proofs.Common.{arith, ◌≡◌, sym, ◌∙◌, true, false, ℕ, ◌<◌}
 use Rattle.bits.specs.Bit.{bitIn}
 use Rattle.bits.proofs.Picks.{pick_no}
-use Rattle.frame_parts.specs.Shared.{sectorsOf}
+use Rattle.frames.specs.Shared.{sectorsOf}
 use Rattle.device_state.specs.State.{taskIn, tagIn, zeroEntry}
 use Rattle.device_state.specs.Table.{entry_of}
 use Rattle.device_state.specs.declared.shapes.Entry.{Entry}
-use Rattle.contradictions.specs.Clauses.{busyBad, idleBad, entryBad}
+use Rattle.device_state.specs.Contradictory.{busyBad, idleBad, entryBad}
 use Rattle.device.specs.Device.{contradictoryDevice}
 use Rattle.device.specs.declared.state.Device.{Device}
 use Rattle.device.proofs.Busy.{phaseOf, busy-good}

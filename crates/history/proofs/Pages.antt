@@ -4,23 +4,23 @@ use mathlib.Core.Bool.{false≢true}
 use Rattle.std.specs.Option.{option_map}
 use Rattle.bits.specs.Pick.{pick}
 use Rattle.bits.proofs.Picks.{pick_yes, pick_no, and_left, and_right}
-use Rattle.frame_parts.specs.declared.shared.Task.{Task}
+use Rattle.frames.specs.declared.shared.Task.{Task}
 use Rattle.frames.specs.Write.{payload, encode}
 use Rattle.frames.specs.Read.{readFrame}
-use Rattle.page_rows.specs.Rows.{kept, keepsBoth, row_of}
-use Rattle.page_11h.specs.Page11.{readCounter, rowValue, noNumber}
-use Rattle.page_11h.specs.declared.value.CounterValue.{CounterValue}
+use Rattle.counters.specs.Rows.{kept, keepsBoth, row_of}
+use Rattle.pages.specs.Read11.{readCounter, rowValue, noNumber}
+use Rattle.pages.specs.declared.value.CounterValue.{CounterValue}
 use Rattle.refusals.specs.declared.reasons.Refusal.{Refusal}
-use Rattle.page_rows.specs.Made11.{page11}
-use Rattle.page_rows.proofs.RowLaws.{row-found, row-only, row-missing}
-use Rattle.page_11h.proofs.Trip11.{unkept-absent, kept-reads}
+use Rattle.pages.specs.Layout11.{page11}
+use Rattle.counters.proofs.RowLaws.{row-found, row-only, row-missing}
+use Rattle.pages.proofs.Trip11.{unkept-absent, kept-reads}
 use Rattle.rules.specs.Medium.{part_of}
 use Rattle.rules.specs.declared.acts.Act.{Act}
 use Rattle.rules.proofs.Ruled as by
 use Rattle.replies.specs.Replies.{pioReply, page11Of, logReplies, repliesOf}
 use Rattle.device.specs.Device.{contradictoryDevice}
 use Rattle.device.specs.declared.state.Device.{Device}
-use Rattle.contradictions.specs.Clauses.{settingsOut}
+use Rattle.device_state.specs.Contradictory.{settingsOut}
 use Rattle.device.proofs.Keeping.{settings-good, both-kept}
 use Rattle.rules.specs.Call.{Call}
 use Rattle.history.specs.Event.{Event}

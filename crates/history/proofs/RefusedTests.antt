@@ -8,7 +8,7 @@ use Rattle.refusals.specs.First.{first_of}
 use Rattle.device_state.specs.State.{whole_of}
 use Rattle.device_state.specs.Table.{someBelow}
 use Rattle.device_state.specs.declared.shapes.Settings.{Settings}
-use Rattle.contradictions.specs.Clauses.{settingsOut, rowRefused}
+use Rattle.device_state.specs.Contradictory.{settingsOut, rowRefused}
 use Rattle.rules.specs.Call.{hostFrame}
 use Rattle.rules.specs.Positions.{left_of}
 use Rattle.rules.specs.Tests.{wrongTime, wrongSize, allMoved, unreadyAt, someUnready, outside}

@@ -2,10 +2,10 @@
 use Rattle.std.proofs.Common.{Ok, Err, ◌≡◌, refl, sym, ap, ◌∙◌, Bool, true, false, ◌&&◌, true≢false, List, [], map, ℕ}
 use mathlib.Core.Path.{subst⁻¹}
 use mathlib.Core.Bool.{false≢true}
-use Rattle.frame_parts.specs.Cut.{joined}
+use Rattle.frames.specs.Cut.{joined}
 use Rattle.frames.specs.Write.{FrameValue}
 use Rattle.refusals.specs.declared.reasons.Refusal.{Refusal}
-use Rattle.page_10h.specs.Page10.{read_log}
+use Rattle.pages.specs.Page10.{read_log}
 use Rattle.rules.specs.Call.{Call}
 use Rattle.rules.specs.Medium.{part_of}
 use Rattle.rules.specs.declared.acts.Act.{Act}

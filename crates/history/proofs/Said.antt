@@ -2,12 +2,12 @@
 use Rattle.std.proofs.Common.{Ok, ◌≡◌, refl, sym, ◌∙◌, Bool, true, false, ◌&&◌, ◌||◌, List, append-nil, ℕ, arith}
 use mathlib.Core.Path.{subst⁻¹}
 use mathlib.Core.Bool.{false≢true}
-use Rattle.frame_parts.specs.declared.shared.Task.{Task}
+use Rattle.frames.specs.declared.shared.Task.{Task}
 use Rattle.frames.specs.Write.{FrameValue}
 use Rattle.frames.specs.declared.shapes.SetBits.{SetBits}
 use Rattle.frames.specs.declared.shapes.HostReg.{HostReg}
 use Rattle.frames.specs.declared.shapes.Frame.TheVariants as fs
-use Rattle.page_10h.specs.Page10.{read_log}
+use Rattle.pages.specs.Page10.{read_log}
 use Rattle.replies.specs.Replies.{logReplies, activateIf, page10Of}
 use Rattle.replies.specs.declared.shown.Shown.{Shown}
 use Rattle.history.specs.FrameReading.{frameAsks}

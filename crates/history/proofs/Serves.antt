@@ -4,8 +4,8 @@ use borrow.Author.Tests.{not-false}
 use Rattle.bits.specs.Pick.{pick}
 use Rattle.bits.specs.Bit.{bitIn}
 use Rattle.bits.proofs.Picks.{pick_yes, by-test}
-use Rattle.frame_parts.specs.Cut.{joined}
-use Rattle.frame_parts.specs.Size.{payloadSize}
+use Rattle.frames.specs.Cut.{joined}
+use Rattle.frames.specs.Size.{payloadSize}
 use Rattle.frames.specs.Write.{FrameValue, setup, activate, payload, encode, fits}
 use Rattle.refusals.specs.First.{first_of}
 use Rattle.refusals.specs.declared.reasons.Refusal.{Refusal}

@@ -1,7 +1,7 @@
 -- When replies are of a shape that they may have: one of those that the call may have; a 34h with ERR answers a command, one without it none but a queued one, and a 5Fh has no ERR. Assumes nothing.
 use Rattle.std.proofs.Common.{Ok, ◌≡◌, sym, ◌∙◌, Bool, true, false, not, true≢false, List, [], ◌∷◌, map, inl, ℕ, arith}
 use mathlib.Core.Bool.{false≢true}
-use Rattle.frame_parts.specs.declared.shared.Task.{Task}
+use Rattle.frames.specs.declared.shared.Task.{Task}
 use Rattle.frames.specs.Write.{FrameValue}
 use Rattle.frames.specs.declared.shapes.HostReg.{HostReg}
 use Rattle.frames.specs.declared.shapes.Frame.TheVariants as fs

@@ -3,13 +3,13 @@ use Rattle.std.proofs.Common.{Ok, ◌≡◌, refl, sym, ap, subst, ◌∙◌, Bo
 use mathlib.Core.Bool.{false≢true}
 use Rattle.bits.specs.Laid.{laid}
 use Rattle.bits.proofs.Picks.{pick_yes, and_left, and_right}
-use Rattle.frame_parts.proofs.EmitLaws.{emitted-done}
-use Rattle.frame_parts.specs.declared.shared.Task.{Task}
+use Rattle.frames.proofs.EmitLaws.{emitted-done}
+use Rattle.frames.specs.declared.shared.Task.{Task}
 use Rattle.frames.specs.Write.{FrameValue}
 use Rattle.frames.specs.declared.shapes.HostReg.{HostReg}
-use Rattle.page_10h.specs.Page10.{page10, fits10, read_log}
-use Rattle.page_10h.specs.declared.page10.ErrorLog.{ErrorLog}
-use Rattle.page_10h.proofs.Trip10.{read-write}
+use Rattle.pages.specs.Page10.{page10, fits10, read_log}
+use Rattle.pages.specs.declared.page10.ErrorLog.{ErrorLog}
+use Rattle.pages.proofs.Trip10.{read-write}
 use Rattle.rules.specs.Call.{Call, hostFrame}
 use Rattle.rules.specs.Decide.{pageAsked}
 use Rattle.rules.specs.Medium.{part_of}
@@ -24,7 +24,7 @@ use Rattle.device.specs.declared.state.Device.{Device}
 use Rattle.rules.proofs.Ruled.{heard-unsent}
 use Rattle.device.proofs.Fitting.{record-fits}
 use Rattle.device.proofs.Sized.{SizedRecord}
-use Rattle.verdicts.specs.Other.{asksCounters}
+use Rattle.rules.specs.OtherRule.{asksCounters}
 use Rattle.history.specs.Event.{Event}
 use Rattle.history.specs.FrameReading.{frameAsks}
 use Rattle.history.specs.Logs.{readsLog}

@@ -1,6 +1,6 @@
 -- The settings that are kept decide which counters are shown: those of power-on, over every call. Assumes nothing.
 use Rattle.std.proofs.Common.{refl, ap, ◌∙◌, true≢false, List, [], ◌∷◌, ℕ}
-use Rattle.contradictions.specs.Clauses.{settingsOut}
+use Rattle.device_state.specs.Contradictory.{settingsOut}
 use Rattle.device_state.specs.declared.shapes.Settings.{Settings}
 use Rattle.device.specs.Device.{freshDevice, powerOn}
 use Rattle.device.specs.declared.state.Device.{Device}

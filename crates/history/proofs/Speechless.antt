@@ -6,7 +6,7 @@ use Rattle.bits.proofs.Picks.{and_right}
 use Rattle.frames.specs.Read.{readFrame}
 use Rattle.frames.specs.Write.{FrameValue}
 use Rattle.frames.specs.declared.shapes.SetBits.{SetBits}
-use Rattle.page_10h.specs.Page10.{read_log}
+use Rattle.pages.specs.Page10.{read_log}
 use Rattle.rules.specs.Call.{Call, hostFrame}
 use Rattle.history.specs.FrameAsks.{Asked}
 use Rattle.history.specs.FrameReading.{frameAsks}

@@ -1,6 +1,6 @@
 -- The state at the end of every run is what its history tells. Assumes nothing.
 use Rattle.std.proofs.Common.{◌≡◌, refl, sym, ap, ap₂, subst, ◌∙◌, Bool, true, false, not, List, ℕ, ◌≤◌, Option, Some, None, is_none, is_some, ⊎_elim, arith}
-use Rattle.page_11h.specs.Page11.{noNumber}
+use Rattle.pages.specs.Read11.{noNumber}
 use Rattle.refusals.specs.First.{first_of, unless}
 use Rattle.refusals.specs.Ladders.{powerLadder, counterLadder}
 use Rattle.device.specs.Counter.{counterOf, count_of}

@@ -5,7 +5,7 @@ use lib.ListN.{length-replicate, get_or-eq_default}
 use borrow.Author.Tests.{eqb-false}
 use Rattle.bits.specs.Pick.{pick}
 use Rattle.bits.proofs.Picks.{by-test, tested}
-use Rattle.counter_values.specs.Counts.{bumped}
+use Rattle.counters.specs.Counts.{bumped}
 use Rattle.device_state.specs.declared.shapes.Settings.{Settings}
 use Rattle.device.specs.Device.{freshDevice, powerOn}
 use Rattle.device.specs.declared.state.Device.{Device}

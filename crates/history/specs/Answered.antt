@@ -2,15 +2,15 @@
 use Rattle.std.specs.Prelude.{◌≡◌, Bool, true, false, not, ◌&&◌, ◌||◌, List, [], ◌∷◌, ◌++◌, map, ℕ, ◌+◌, ◌/◌, ◌%◌, ◌^◌, min, eqb, leb, ltb, length, take, drop, Ok}
 use Rattle.bits.specs.Pick.{pick}
 use Rattle.bits.specs.Laid.{laid}
-use Rattle.frame_parts.specs.Cut.{joined}
-use Rattle.frame_parts.specs.Shared.{srstOf, tag_of, sectorsOf}
-use Rattle.frame_parts.specs.declared.shared.Task.{Task}
+use Rattle.frames.specs.Cut.{joined}
+use Rattle.frames.specs.Shared.{srstOf, tag_of, sectorsOf}
+use Rattle.frames.specs.declared.shared.Task.{Task}
 use Rattle.frames.specs.Read.{readFrame}
 use Rattle.frames.specs.Write.{FrameValue, device, setBits, setup, activate, payload, pio, encode}
 use Rattle.frames.specs.declared.shapes.HostReg.{HostReg}
 use Rattle.frames.specs.declared.shapes.Frame.TheVariants.{Host, Data}
-use Rattle.page_rows.specs.Made11.{page11}
-use Rattle.page_10h.specs.Page10.{page10}
+use Rattle.pages.specs.Layout11.{page11}
+use Rattle.pages.specs.Page10.{page10}
 use Rattle.rules.specs.Call.{Call, hostFrame, happens}
 use Rattle.rules.specs.declared.event.DeviceEvent.TheVariants.{OpenPhase, SendData, FinishTags, MediaError, LinkEvent, Comreset}
 use Rattle.history.specs.Event.{Event, taken}

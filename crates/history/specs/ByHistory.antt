@@ -1,7 +1,7 @@
 -- What a history tells of the device's business: which tags are outstanding, what has moved of them, which phase is open, and whether reset is held. From calls, refusals and frames alone. Assumes nothing.
 use Rattle.std.specs.Prelude.{Bool, true, false, not, ◌&&◌, ◌||◌, List, [], ◌∷◌, map, ℕ, ◌+◌, ◌-◌, eqb, leb, ltb, length, Ok}
 use Rattle.bits.specs.Pick.{pick}
-use Rattle.frame_parts.specs.Shared.{srstOf}
+use Rattle.frames.specs.Shared.{srstOf}
 use Rattle.frames.specs.Read.{readFrame}
 use Rattle.frames.specs.declared.shapes.Frame.TheVariants.{Host}
 use Rattle.rules.specs.Call.{Call, hostFrame, happens}

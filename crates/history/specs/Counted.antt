@@ -1,7 +1,7 @@
 -- The events that a counter has counted since its zeroing, from calls and replies alone. Assumes nothing.
 use Rattle.std.specs.Prelude.{Bool, ◌&&◌, List, [], ◌∷◌, map, ℕ, ◌+◌, min, eqb, Option, Some, None}
 use Rattle.bits.specs.Pick.{pick}
-use Rattle.page_rows.specs.Rows.{kept, row_of}
+use Rattle.counters.specs.Rows.{kept, row_of}
 use Rattle.history.specs.Event.{Event, taken}
 use Rattle.history.specs.Replied.{paged}
 use Rattle.history.specs.Carried.{span}

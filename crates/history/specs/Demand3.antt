@@ -1,7 +1,7 @@
 -- Demand 3 and the truth of the counters, said of a history: of calls, refusals and bytes. The newest event stands first. Assumes nothing.
 use Rattle.std.specs.Prelude.{◌≡◌, Bool, true, false, ◌||◌, List, [], ◌∷◌, ◌++◌, map, ℕ, ◌+◌, ◌≤◌, ◌<◌, ltb, length, take, drop, Ok}
 use Rattle.std.specs.Option.{option_map}
-use Rattle.page_11h.specs.Page11.{readCounter, rowValue, noNumber}
+use Rattle.pages.specs.Read11.{readCounter, rowValue, noNumber}
 use Rattle.history.specs.Event.{Event}
 use Rattle.history.specs.Asked.{brought}
 use Rattle.history.specs.Replied.{page, sent}

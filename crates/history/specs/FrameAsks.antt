@@ -1,6 +1,6 @@
 -- What can be asked for, as far as demand 3 reads it. Assumes nothing.
 use Rattle.std.specs.Prelude.{Bool, true, false, not, ◌&&◌, ◌||◌, ℕ, eqb}
-use Rattle.frame_parts.specs.Shared.{tag_of, sectorsOf, srstOf}
+use Rattle.frames.specs.Shared.{tag_of, sectorsOf, srstOf}
 use Rattle.frames.specs.declared.shapes.HostReg.{HostReg}
 use Rattle.history.specs.Logs.{readsLog}
 

@@ -1,7 +1,7 @@
 -- How a history reads a host frame: one row a kind. Assumes nothing.
 use Rattle.std.specs.Prelude.{Bool, true, false, ◌&&◌, List, [], ◌∷◌, ℕ, Ok}
 use Rattle.bits.specs.Pick.{pick}
-use Rattle.frame_parts.specs.Shared.{srstOf}
+use Rattle.frames.specs.Shared.{srstOf}
 use Rattle.frames.specs.declared.shapes.HostReg.{HostReg}
 use Rattle.frames.specs.declared.shapes.Frame.TheVariants.{Host, Data, Bist}
 use Rattle.history.specs.Replied.{FrameRead}

@@ -1,13 +1,13 @@
 -- What page 10h tells, whenever it is sent: the last error that was raised since the last reset, with the bytes of the command that raised it. From calls, refusals and frames alone. Assumes nothing.
 use Rattle.std.specs.Prelude.{◌≡◌, Bool, true, false, not, ◌&&◌, List, [], ◌∷◌, map, ℕ, eqb, Ok}
 use Rattle.bits.specs.Pick.{pick}
-use Rattle.frame_parts.specs.declared.shared.Task.{Task}
+use Rattle.frames.specs.declared.shared.Task.{Task}
 use Rattle.frames.specs.Read.{readFrame}
 use Rattle.frames.specs.declared.shapes.HostReg.{HostReg}
 use Rattle.frames.specs.declared.shapes.DevReg.{DevReg}
 use Rattle.frames.specs.declared.shapes.Frame.TheVariants.{Host}
-use Rattle.page_10h.specs.Page10.{page10, read_log}
-use Rattle.page_10h.specs.declared.page10.ErrorLog.{ErrorLog}
+use Rattle.pages.specs.Page10.{page10, read_log}
+use Rattle.pages.specs.declared.page10.ErrorLog.{ErrorLog}
 use Rattle.rules.specs.Call.{Call, hostFrame, happens}
 use Rattle.rules.specs.declared.event.DeviceEvent.TheVariants.{MediaError}
 use Rattle.history.specs.Event.{Event}

@@ -2,9 +2,9 @@
 -- All of it follows from the tables (`reply-rules-follow`): Answered says every byte. Here it stands in the words of the rules, for whoever reads an archive frame by frame. Assumes nothing.
 use Rattle.std.specs.Prelude.{◌≡◌, true, false, ◌||◌, List, [], ◌∷◌, map, ℕ, ◌+◌, ◌<◌, Result, Ok, Err}
 use Rattle.bits.specs.Bit.{bitIn}
-use Rattle.page_10h.specs.Page10.{read_log}
+use Rattle.pages.specs.Page10.{read_log}
 use Rattle.refusals.specs.declared.reasons.Refusal.{Refusal}
-use Rattle.page_10h.specs.declared.page10.ErrorLog.{ErrorLog}
+use Rattle.pages.specs.declared.page10.ErrorLog.{ErrorLog}
 use Rattle.history.specs.Event.{Event, taken, replied}
 use Rattle.history.specs.Asked.{asks}
 use Rattle.history.specs.Reading.{Speech, noneFinished, setFinished, errorTold, callSays, callReplies}

@@ -2,7 +2,7 @@
 use Rattle.std.specs.Prelude.{◌≡◌, Bool, true, false, not, ◌&&◌, List, [], ◌++◌, ℕ, ◌+◌, ◌-◌, ◌*◌, ◌≤◌, ◌<◌, min, leb, ltb, eqb, length, get_or, take, drop, Some, None}
 use Rattle.bits.specs.Pick.{pick}
 use Rattle.bits.specs.Bit.{bitIn}
-use Rattle.frame_parts.specs.Shared.{sectorsOf}
+use Rattle.frames.specs.Shared.{sectorsOf}
 use Rattle.frames.specs.Write.{setup, activate, payload, encode}
 use Rattle.refusals.specs.declared.reasons.Refusal.TheVariants.{OutsideCommand}
 use Rattle.device_state.specs.State.{taskIn, tagIn, zeroEntry}

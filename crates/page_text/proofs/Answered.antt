@@ -2,13 +2,13 @@
 use Rattle.std.proofs.Common.{◌≡◌, ℕ, zero, suc, ◌<◌, List, [], ◌∷◌, length, get_or, refl, Option, None, Result, Ok, Err, arith}
 use Rattle.std.specs.List.{count_by}
 use Rattle.refusals.specs.declared.reasons.Refusal.{Refusal}
-use Rattle.page_rows.specs.Rows.{ids, id_of}
-use Rattle.page_rows.proofs.RowLaws.{length_ids}
-use Rattle.page_11h.specs.Entries.{entries}
-use Rattle.page_11h.specs.Page11.{readCounter}
-use Rattle.page_11h.specs.Others.{entryOther, countOthers}
-use Rattle.page_11h.specs.declared.value.CounterValue.{CounterValue}
-use Rattle.page_11h.proofs.Counting.{counted-where-read}
+use Rattle.counters.specs.Rows.{ids, id_of}
+use Rattle.counters.proofs.RowLaws.{length_ids}
+use Rattle.pages.specs.Entries.{entries}
+use Rattle.pages.specs.Read11.{readCounter}
+use Rattle.pages.specs.Others11.{entryOther, countOthers}
+use Rattle.pages.specs.declared.value.CounterValue.{CounterValue}
+use Rattle.pages.proofs.Counting.{counted-where-read}
 use Rattle.page_text.specs.Counters.{Counter, in_front, counters_in}
 
 -- a counter that is told is the number asked, and what the page says of it

@@ -1,3 +1,12 @@
+pub mod Collecting
+pub mod RoundTrip
+pub mod Spaces
+pub mod Swapping
+pub mod TiedHex
+pub mod Filing
+pub mod Fits
+pub mod Owing
+pub mod TiedRuns
 pub mod Reading
 pub mod Answered
 pub mod Digits

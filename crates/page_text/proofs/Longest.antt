@@ -8,18 +8,18 @@ use Rattle.bits.proofs.Littles.{le-lt}
 use Rattle.bits.proofs.Picks.{and_left, and_right}
 use Rattle.refusals.specs.First.{first_of}
 use Rattle.refusals.proofs.FirstLaws.{unless-ok}
-use Rattle.page_rows.specs.Rows.{ids}
-use Rattle.page_10h.specs.Page10.{fields10, ladder10, read_log}
-use Rattle.page_10h.specs.Others.{hasOther, countOtherBytes}
-use Rattle.page_10h.proofs.OtherLaws.{others-most as other-bytes-most}
-use Rattle.page_10h.specs.declared.page10.ErrorLog.{ErrorLog}
-use Rattle.page_11h.specs.Entries.{bytesIn, entries}
-use Rattle.page_11h.specs.Page11.{readCounter}
-use Rattle.page_11h.specs.Others.{entryOther, countOthers}
-use Rattle.page_11h.proofs.Counting.{others-most}
-use Rattle.page_11h.specs.declared.value.CounterValue.{CounterValue}
-use Rattle.page_11h.proofs.Largest.{top-exactly}
-use Rattle.page_11h.proofs.Values.{noEntry}
+use Rattle.counters.specs.Rows.{ids}
+use Rattle.pages.specs.Page10.{fields10, ladder10, read_log}
+use Rattle.pages.specs.Others10.{hasOther, countOtherBytes}
+use Rattle.pages.proofs.OtherLaws10.{others-most as other-bytes-most}
+use Rattle.pages.specs.declared.page10.ErrorLog.{ErrorLog}
+use Rattle.pages.specs.Entries.{bytesIn, entries}
+use Rattle.pages.specs.Read11.{readCounter}
+use Rattle.pages.specs.Others11.{entryOther, countOthers}
+use Rattle.pages.proofs.Counting.{others-most}
+use Rattle.pages.specs.declared.value.CounterValue.{CounterValue}
+use Rattle.pages.proofs.Largest.{top-exactly}
+use Rattle.pages.proofs.Values.{noEntry}
 use Rattle.page_text.specs.Counters.{Counter, counters_in, shown_text, line_text, lines_text, others_text, told_text, counters_text}
 use Rattle.page_text.specs.Fields.{tag_text, status_text, task_text, log_text, other_bytes_text, read_text, fields_text}
 use Rattle.page_text.proofs.Pieces.{length-upper, refusal-most, by-both, others-text-most, other-bytes-text-most}

@@ -3,10 +3,10 @@ use Rattle.std.proofs.Common.{◌≡◌, ℕ, ◌+◌, ◌<◌, ◌≤◌, List,
 use lib.Seq.{map-set_same}
 use Rattle.std.proofs.lemmas.List.{take_more_set, get_or-map, length-map}
 use Rattle.refusals.specs.declared.reasons.Refusal.{Refusal}
-use Rattle.page_rows.specs.Rows.{ids}
-use Rattle.page_rows.proofs.RowLaws.{length_ids}
-use Rattle.page_11h.specs.Page11.{readCounter}
-use Rattle.page_11h.specs.declared.value.CounterValue.{CounterValue}
+use Rattle.counters.specs.Rows.{ids}
+use Rattle.counters.proofs.RowLaws.{length_ids}
+use Rattle.pages.specs.Read11.{readCounter}
+use Rattle.pages.specs.declared.value.CounterValue.{CounterValue}
 use Rattle.page_text.specs.Counters.{Counter, in_front, counters_in}
 
 -- ---- what was read so far, in front of what is read of the rest

@@ -1,11 +1,11 @@
 -- What is printed of page 11h. Assumes nothing.
 use Rattle.std.specs.Prelude.{ℕ, List, [], ◌∷◌, ◌++◌, if◌then◌else◌, decimal, codes, flat_map, Option, Some, None, Result, Ok, Err}
 use Rattle.refusals.specs.declared.reasons.Refusal.{Refusal}
-use Rattle.page_rows.specs.Rows.{ids}
-use Rattle.page_11h.specs.Page11.{readCounter}
-use Rattle.page_11h.specs.Others.{countOthers}
-use Rattle.page_11h.specs.Top.{atTop}
-use Rattle.page_11h.specs.declared.value.CounterValue.{CounterValue}
+use Rattle.counters.specs.Rows.{ids}
+use Rattle.pages.specs.Read11.{readCounter}
+use Rattle.pages.specs.Others11.{countOthers}
+use Rattle.pages.specs.Top.{atTop}
+use Rattle.pages.specs.declared.value.CounterValue.{CounterValue}
 use Rattle.page_text.specs.Words.{upper, refusal_text}
 use Rattle.page_text.specs.Both.{both}
 

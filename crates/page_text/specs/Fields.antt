@@ -2,10 +2,10 @@
 use Rattle.std.specs.Prelude.{ℕ, List, ◌++◌, decimal, codes, Result, Ok, Err}
 use Rattle.bits.specs.Answer.{bitNumber}
 use Rattle.refusals.specs.declared.reasons.Refusal.{Refusal}
-use Rattle.frame_parts.specs.declared.shared.Task.{Task}
-use Rattle.page_10h.specs.Page10.{read_log}
-use Rattle.page_10h.specs.Others.{countOtherBytes}
-use Rattle.page_10h.specs.declared.page10.ErrorLog.{ErrorLog}
+use Rattle.frames.specs.declared.shared.Task.{Task}
+use Rattle.pages.specs.Page10.{read_log}
+use Rattle.pages.specs.Others10.{countOtherBytes}
+use Rattle.pages.specs.declared.page10.ErrorLog.{ErrorLog}
 use Rattle.page_text.specs.Words.{upper, refusal_text}
 use Rattle.page_text.specs.Both.{both}
 

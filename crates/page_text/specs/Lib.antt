@@ -1,3 +1,12 @@
+pub mod HexText
+pub mod HexWords
+pub mod Answers
+pub mod Inputs
+pub mod Owed
+pub mod Written
+pub mod Opened
+pub mod Sections
+pub mod Runs
 pub mod Words
 pub mod Both
 pub mod Fields

@@ -5,8 +5,8 @@ ghost use Rattle.refusals.specs.First.{refusal_in};
 ghost use Rattle.page_text.specs.Fields.{tag_text, status_text, task_text, log_text, log_told, fields_text};
 
 use crate::words::write_refusal;
-use frame_parts::Task;
-use page_10h::ErrorLog;
+use frames::Task;
+use pages::ErrorLog;
 use refusals::Refusal;
 use std::io;
 use std::io::Write;
@@ -54,10 +54,7 @@ fn write_log<W: Write>(out: &mut W, log: ErrorLog) -> io::Result<()>
 fn read_page(page: &[u8]) -> Result<(ErrorLog, usize), Refusal>
     ensures { result ≡ log_told page.now }
 {
-    Ok((
-        page_10h::read_log(page)?,
-        page_10h::count_other_bytes(page)?,
-    ))
+    Ok((pages::read_log(page)?, pages::count_other_bytes(page)?))
 }
 
 /// Writes the fields of page 10h, a line each, and then how many of its bytes have a bit set that is none of theirs; of a

@@ -1,7 +1,7 @@
 -- The theorems that the check finds for a promise by itself. Assumes nothing.
 use Rattle.frames.proofs.RoundTrip.{read-encoded}
-use Rattle.page_10h.proofs.Trip10.{read-page}
-use Rattle.page_11h.proofs.Trip11.{kept-reads, unkept-absent}
+use Rattle.pages.proofs.Trip10.{read-page}
+use Rattle.pages.proofs.Trip11.{kept-reads, unkept-absent}
 use Rattle.history.proofs.NoChoice.{no-choice}
 use Rattle.history.proofs.RefusedTests.{powered}
 use Rattle.history.proofs.Serves.{serves}

@@ -25,11 +25,11 @@ use Rattle.frames.specs.Read.{readFrame}
 use Rattle.frames.specs.Write.{FrameValue, encode, fits}
 use Rattle.frames.specs.RoundTrip.{readBack, again, zeroed}
 use Rattle.frames.specs.declared.shapes.Frame.{Frame}
-use Rattle.page_10h.specs.Page10.{page10, fits10, read_log}
-use Rattle.page_10h.specs.declared.page10.ErrorLog.{ErrorLog}
-use Rattle.page_rows.specs.Rows.{id_of, kept}
-use Rattle.page_rows.specs.Made11.{page11}
-use Rattle.page_11h.specs.Page11.{readCounter, rowValue}
+use Rattle.pages.specs.Page10.{page10, fits10, read_log}
+use Rattle.pages.specs.declared.page10.ErrorLog.{ErrorLog}
+use Rattle.counters.specs.Rows.{id_of, kept}
+use Rattle.pages.specs.Layout11.{page11}
+use Rattle.pages.specs.Read11.{readCounter, rowValue}
 use Rattle.worked_examples.specs.Points.{Hold, examples as all}
 use Rattle.worked_examples.specs.Whole.{Placed, wholeFrames, WholeShows}
 use Rattle.worked_examples.specs.Story.{ExampleShows}

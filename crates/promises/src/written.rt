@@ -7,11 +7,11 @@ ghost use Rattle.frames.specs.Read.{readFrame};
 ghost use Rattle.frames.specs.Write.{FrameValue, encode, fits};
 ghost use Rattle.frames.specs.RoundTrip.{readBack, again, zeroed};
 ghost use Rattle.frames.specs.declared.shapes.Frame.{Frame};
-ghost use Rattle.page_10h.specs.Page10.{page10, fits10, read_log};
-ghost use Rattle.page_10h.specs.declared.page10.ErrorLog.{ErrorLog};
-ghost use Rattle.page_rows.specs.Rows.{id_of, kept};
-ghost use Rattle.page_rows.specs.Made11.{page11};
-ghost use Rattle.page_11h.specs.Page11.{readCounter, rowValue};
+ghost use Rattle.pages.specs.Page10.{page10, fits10, read_log};
+ghost use Rattle.pages.specs.declared.page10.ErrorLog.{ErrorLog};
+ghost use Rattle.counters.specs.Rows.{id_of, kept};
+ghost use Rattle.pages.specs.Layout11.{page11};
+ghost use Rattle.pages.specs.Read11.{readCounter, rowValue};
 
 /// A frame that can be written is read as it was.
 pub fn frames_read_back()

@@ -7,7 +7,7 @@ ghost use Rattle.std.specs.Prelude.{None};
 mod options;
 
 use options::{command, query};
-use page_program::{LINES_MISSING, Shelf, exit_status};
+use page_text::{LINES_MISSING, Shelf, exit_status};
 use std::process::ExitCode;
 use std::{env, fs, io};
 

@@ -1,8 +1,7 @@
 // The words of the command line.
 use clap::{Arg, ArgAction, ArgMatches, Command};
-use frame_parts::LogPage;
-use page_hex::Notation;
-use page_program::Query;
+use frames::LogPage;
+use page_text::{Notation, Query};
 use std::alloc::{AllocError, Global};
 
 /// The words that the program takes.

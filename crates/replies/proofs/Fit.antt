@@ -1,11 +1,11 @@
 -- What each act's replies ask of it, so that every one of them can be written. Assumes nothing.
 use Rattle.std.proofs.Common.{◌≡◌, true, List, [], ◌∷◌, ℕ, ◌^◌, ◌<◌, length}
 use Rattle.bits.specs.Little.{Bytes}
-use Rattle.frame_parts.specs.Shared.{taskFits}
-use Rattle.frame_parts.specs.Size.{payloadSize}
+use Rattle.frames.specs.Shared.{taskFits}
+use Rattle.frames.specs.Size.{payloadSize}
 use Rattle.frames.specs.Write.{FrameValue, fits}
-use Rattle.page_10h.specs.Page10.{fits10}
-use Rattle.page_rows.specs.Rows.{keepsBoth}
+use Rattle.pages.specs.Page10.{fits10}
+use Rattle.counters.specs.Rows.{keepsBoth}
 use Rattle.device_state.specs.State.{placedBytes}
 use Rattle.replies.specs.declared.shown.Shown.{Shown}
 use Rattle.rules.specs.declared.acts.Act.{Act}

@@ -2,18 +2,18 @@
 use Rattle.std.proofs.Common.{◌≡◌, refl, sym, ap, ap₂, ◌∙◌, Bool, true, false, not, true≢false, List, [], ◌∷◌, ◌++◌, map, ℕ, ◌^◌, ◌<◌, arith, length, take, drop, take_at, lt-ltb}
 use Rattle.bits.specs.Little.{Bytes}
 use Rattle.bits.proofs.Picks.{pick_yes}
-use Rattle.frame_parts.specs.Cut.{cut, joined}
-use Rattle.frame_parts.specs.Shared.{taskFits}
-use Rattle.frame_parts.specs.declared.shared.Task.{Task}
-use Rattle.frame_parts.proofs.TaskLaws.{task-fits}
+use Rattle.frames.specs.Cut.{cut, joined}
+use Rattle.frames.specs.Shared.{taskFits}
+use Rattle.frames.specs.declared.shared.Task.{Task}
+use Rattle.frames.proofs.TaskLaws.{task-fits}
 use Rattle.frames.specs.Write.{FrameValue, payload, encode, fits}
 use Rattle.frames.specs.DataLast.{DataLast}
 use Rattle.frames.proofs.Cuts.{cut-sent}
-use Rattle.page_10h.specs.Page10.{page10, fits10}
-use Rattle.page_rows.specs.Rows.{keepsBoth}
-use Rattle.page_rows.specs.Made11.{page11}
-use Rattle.page_10h.proofs.Trip10.{length-10}
-use Rattle.page_rows.proofs.Bytes11.{page-length}
+use Rattle.pages.specs.Page10.{page10, fits10}
+use Rattle.counters.specs.Rows.{keepsBoth}
+use Rattle.pages.specs.Layout11.{page11}
+use Rattle.pages.proofs.Trip10.{length-10}
+use Rattle.pages.proofs.Bytes11.{page-length}
 use Rattle.device_state.specs.State.{placedBytes, taskIn, whole_of}
 use Rattle.device_state.specs.declared.shapes.Echo.{Echo}
 use Rattle.device_state.specs.declared.shapes.ErrorRecord.{ErrorRecord}

@@ -1,7 +1,7 @@
 -- A device register reply repeats bytes 4-10 and 12-13 of the command. Assumes nothing.
 use Rattle.std.proofs.Common.{Option, ◌≡◌, refl, ap, true, List, [], ◌∷◌, ℕ}
-use Rattle.frame_parts.specs.Shared.{taskFits}
-use Rattle.frame_parts.specs.declared.shared.Task.{Task}
+use Rattle.frames.specs.Shared.{taskFits}
+use Rattle.frames.specs.declared.shared.Task.{Task}
 use Rattle.frames.specs.Write.{FrameValue}
 use Rattle.frames.specs.declared.shapes.HostReg.{HostReg}
 use Rattle.rules.specs.Decide.{bad, fault, tagAsked, entryFor}

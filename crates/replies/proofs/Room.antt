@@ -3,16 +3,16 @@ use Rattle.std.proofs.Common.{◌≡◌, refl, Bool, true, false, not, List, [],
 use Rattle.bits.specs.Pick.{pick}
 use Rattle.bits.proofs.Picks.{by-test}
 use Rattle.std.proofs.lemmas.Bool.{cases_lt}
-use Rattle.frame_parts.specs.Cut.{joined}
-use Rattle.frame_parts.specs.Shared.{registerBytes}
-use Rattle.frame_parts.specs.declared.shared.Task.{Task}
+use Rattle.frames.specs.Cut.{joined}
+use Rattle.frames.specs.Shared.{registerBytes}
+use Rattle.frames.specs.declared.shared.Task.{Task}
 use Rattle.frames.specs.Write.{FrameValue, host, device, setBits, setup, activate, payload, bist, pio, bitsBytes, setupBytes, encode, fits}
 use Rattle.frames.proofs.WriteLaws.{length-payload}
-use Rattle.page_10h.specs.Page10.{page10, fits10}
-use Rattle.page_rows.specs.Rows.{keepsBoth}
-use Rattle.page_rows.specs.Made11.{page11}
-use Rattle.page_10h.proofs.Trip10.{length-10}
-use Rattle.page_rows.proofs.Bytes11.{page-length}
+use Rattle.pages.specs.Page10.{page10, fits10}
+use Rattle.counters.specs.Rows.{keepsBoth}
+use Rattle.pages.specs.Layout11.{page11}
+use Rattle.pages.proofs.Trip10.{length-10}
+use Rattle.pages.proofs.Bytes11.{page-length}
 use Rattle.device_state.specs.declared.shapes.ErrorRecord.{ErrorRecord}
 use Rattle.rules.specs.declared.acts.Queued.{Queued}
 use Rattle.rules.specs.declared.acts.Act.{Act}

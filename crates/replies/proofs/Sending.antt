@@ -7,9 +7,9 @@ use Rattle.refusals.specs.declared.reasons.Refusal.TheVariants.{Unfit}
 use Rattle.bits.specs.Pick.{pick}
 use Rattle.bits.specs.Laid.{laid}
 use Rattle.bits.proofs.Fronts.{laid_next, rest_part, rest_put}
-use Rattle.frame_parts.specs.Cut.{joined}
-use Rattle.frame_parts.specs.Emit.{WriteGiven}
-use Rattle.frame_parts.proofs.EmitLaws.{write_refusal-unfit, wrote-all, wrote-room}
+use Rattle.frames.specs.Cut.{joined}
+use Rattle.frames.specs.Emit.{WriteGiven}
+use Rattle.frames.proofs.EmitLaws.{write_refusal-unfit, wrote-all, wrote-room}
 use Rattle.frames.specs.Write.{FrameValue, encode, fits, FrameWriteGiven}
 use Rattle.replies.specs.Replies.{sentBytes, sentAll, RepliesGiven}
 use Rattle.replies.specs.Sends.{Sends}

@@ -2,13 +2,13 @@
 use Rattle.std.specs.Prelude.{◌≡◌, Bool, true, false, not, List, [], ◌∷◌, ◌++◌, map, ℕ, length}
 use Rattle.bits.specs.Pick.{pick}
 use Rattle.bits.specs.Laid.{laid}
-use Rattle.frame_parts.specs.Cut.{joined}
-use Rattle.frame_parts.specs.declared.shared.Task.{Task}
+use Rattle.frames.specs.Cut.{joined}
+use Rattle.frames.specs.declared.shared.Task.{Task}
 use Rattle.frames.specs.Write.{FrameValue, device, setBits, setup, activate, payload, pio, encode, fits}
-use Rattle.page_10h.specs.Page10.{page10, fits10}
-use Rattle.page_rows.specs.Rows.{keepsBoth}
-use Rattle.page_rows.specs.Made11.{page11}
-use Rattle.page_10h.specs.declared.page10.ErrorLog.{ErrorLog}
+use Rattle.pages.specs.Page10.{page10, fits10}
+use Rattle.counters.specs.Rows.{keepsBoth}
+use Rattle.pages.specs.Layout11.{page11}
+use Rattle.pages.specs.declared.page10.ErrorLog.{ErrorLog}
 use Rattle.device_state.specs.State.{taskIn, whole_of}
 use Rattle.device_state.specs.declared.shapes.ErrorRecord.{ErrorRecord}
 use Rattle.replies.specs.declared.shown.Shown.{Shown}

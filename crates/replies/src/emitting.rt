@@ -8,8 +8,8 @@ ghost use Rattle.replies.specs.Sends.{Sends};
 
 use crate::reply::Reply;
 use crate::shown::{Shown, log_of};
-use frame_parts::{DATA_FRAME_LIMIT, Task};
-use page_sum::PAGE_SIZE;
+use frames::{DATA_FRAME_LIMIT, Task};
+use pages::PAGE_SIZE;
 use refusals::Refusal;
 use rules::{Act, Queued};
 
@@ -71,7 +71,7 @@ fn put_all(room: &mut [u8], act: &Act, shown: &Shown<'_>, part: &[u8]) -> usize
         Act::Accept(queued) => put(room, Reply::good(Task::from(queued.entry.echo))),
         Act::Log10(task) => put_log(room, shown.halted, *task, log_of(shown.errors).page()),
         Act::Log11(log) => {
-            let page = page_rows::counters_page(shown.mask, shown.values);
+            let page = pages::counters_page(shown.mask, shown.values);
             put_log(room, false, log.task, page)
         }
         Act::Release | Act::Renew => put(room, Reply::signature()),
@@ -86,7 +86,7 @@ fn put_all(room: &mut [u8], act: &Act, shown: &Shown<'_>, part: &[u8]) -> usize
 
 /// The replies of an act, in front of `reply`, and how many bytes they are; none where `reply` is under the 8,196 bytes that
 /// every call which replies asks for.
-#[tactic(auto, unfolding(crate::specs::Replies::sentAll, frame_parts::specs::Cut::joined), using(crate::proofs::Room::replies_room))]
+#[tactic(auto, unfolding(crate::specs::Replies::sentAll, frames::specs::Cut::joined), using(crate::proofs::Room::replies_room))]
 pub fn emit(reply: &mut [u8], act: &Act, shown: &Shown<'_>, part: &[u8]) -> usize
     ensures { RepliesGiven (pick (leb 8196 (length reply.old)) (repliesOf shown.now part.now act.now) []) reply.old result reply.new }
 {

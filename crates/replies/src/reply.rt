@@ -5,9 +5,8 @@ ghost use Rattle.replies.specs.Replies.{register, good, badReply, signature, swe
 ghost use Rattle.replies.specs.Framed.{framed};
 
 use crate::status::{READY, READY_DATA, READY_ERROR, WELL};
-use frame_parts::Task;
-use frames::{DevReg, DmaSetup, PioSetup, SetBits};
-use page_sum::PAGE_SIZE;
+use frames::{DevReg, DmaSetup, PioSetup, SetBits, Task};
+use pages::PAGE_SIZE;
 use refusals::Refusal;
 use rules::Queued;
 

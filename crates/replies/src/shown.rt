@@ -3,10 +3,10 @@ ghost use Rattle.std.specs.Prelude.{◌≡◌};
 ghost use Rattle.replies.specs.Replies.{logOf};
 
 use crate::status::READY_ERROR;
+use counters::Counters;
 use device_state::ErrorRecord;
-use frame_parts::Task;
-use page_10h::ErrorLog;
-use page_rows::Counters;
+use frames::Task;
+use pages::ErrorLog;
 use std::marker::Model;
 
 /// What replies show of the state. A contract sees the record and the counters themselves.

@@ -1,3 +1,5 @@
+pub mod Rules
+pub mod TiedRules
 pub mod TestLaws
 pub mod Ruled
 pub mod Failing

@@ -7,19 +7,19 @@ use Rattle.refusals.specs.First.{first_of}
 use Rattle.refusals.specs.declared.reasons.Refusal.{Refusal}
 use Rattle.bits.proofs.Picks.{by-test, or_left, or_right, and_left}
 use Rattle.refusals.proofs.FirstLaws as firsts
-use Rattle.frame_parts.specs.Shared.{srstOf}
-use Rattle.frame_parts.specs.declared.log_pages.LogPage.{LogPage}
+use Rattle.frames.specs.Shared.{srstOf}
+use Rattle.frames.specs.declared.log_pages.LogPage.{LogPage}
 use Rattle.frames.specs.Read.{readFrame}
 use Rattle.frames.specs.declared.shapes.HostReg.{HostReg}
 use Rattle.frames.specs.declared.shapes.Frame.{Frame}
 use Rattle.frames.specs.declared.shapes.Frame.TheVariants.{Host, Data, Bist}
-use Rattle.moves.specs.Range.{tooFar}
-use Rattle.verdicts.specs.Queued.{tagRefused}
-use Rattle.verdicts.specs.Other.{asksErrors, asksCounters}
-use Rattle.verdicts.specs.declared.commands.Bad as verdict
-use Rattle.verdicts.proofs.Rules.{by-page}
+use Rattle.device_state.specs.Range.{tooFar}
+use Rattle.rules.specs.QueuedRule.{tagRefused}
+use Rattle.rules.specs.OtherRule.{asksErrors, asksCounters}
+use Rattle.rules.specs.declared.command_rules.Bad as verdict
+use Rattle.rules.proofs.Rules.{by-page}
 use Rattle.device_state.specs.UnderWay.{linkBusy}
-use Rattle.contradictions.specs.Clauses.{rowRefused}
+use Rattle.device_state.specs.Contradictory.{rowRefused}
 use Rattle.rules.specs.Call.{Call, hostFrame, happens}
 use Rattle.rules.specs.declared.event.DeviceEvent.TheVariants.{OpenPhase, SendData, FinishTags, MediaError, LinkEvent, Comreset}
 use Rattle.rules.specs.Handed.{handed}

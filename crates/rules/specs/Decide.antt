@@ -2,20 +2,20 @@
 use Rattle.std.specs.Prelude.{Bool, not, ◌&&◌, ◌||◌, ℕ, eqb, Option, Some, None, Result, Ok, Err}
 use Rattle.bits.specs.Pick.{pick}
 use Rattle.bits.specs.Bit.{bitIn}
-use Rattle.frame_parts.specs.Shared.{tag_of, sectorsOf, srstOf}
-use Rattle.frame_parts.specs.Pages.{pageNamed}
-use Rattle.frame_parts.specs.declared.log_pages.LogPage.{LogPage}
-use Rattle.frame_parts.specs.declared.log_pages.LogPage.TheVariants.{Errors, Counters}
+use Rattle.frames.specs.Shared.{tag_of, sectorsOf, srstOf}
+use Rattle.frames.specs.Pages.{pageNamed}
+use Rattle.frames.specs.declared.log_pages.LogPage.{LogPage}
+use Rattle.frames.specs.declared.log_pages.LogPage.TheVariants.{Errors, Counters}
 use Rattle.frames.specs.declared.shapes.HostReg.{HostReg}
 use Rattle.frames.specs.declared.shapes.Frame.{Frame}
 use Rattle.frames.specs.declared.shapes.Frame.TheVariants.{Host, Data, Bist}
 use Rattle.refusals.specs.declared.reasons.Refusal.{Refusal}
-use Rattle.moves.specs.Range.{tooFar}
-use Rattle.verdicts.specs.Errors.{error_byte}
-use Rattle.verdicts.specs.Queued.{tagRefused, queuedRule}
-use Rattle.verdicts.specs.Other.{otherRule, logZeroes}
-use Rattle.verdicts.specs.declared.commands.Bad as verdict
-use Rattle.verdicts.specs.declared.commands.Bad.TheVariants.{Only, Halts}
+use Rattle.device_state.specs.Range.{tooFar}
+use Rattle.rules.specs.Errors.{error_byte}
+use Rattle.rules.specs.QueuedRule.{tagRefused, queuedRule}
+use Rattle.rules.specs.OtherRule.{otherRule, logZeroes}
+use Rattle.rules.specs.declared.command_rules.Bad as verdict
+use Rattle.rules.specs.declared.command_rules.Bad.TheVariants.{Only, Halts}
 use Rattle.device_state.specs.State.{echoOf}
 use Rattle.rules.specs.Positions.{move_of}
 use Rattle.device_state.specs.declared.shapes.Echo.{Echo}

@@ -1,3 +1,7 @@
+pub mod MoveRefusals
+pub mod Errors
+pub mod QueuedRule
+pub mod OtherRule
 pub mod Call
 pub mod Handed
 pub mod Positions

@@ -1,6 +1,6 @@
 -- What an act takes from the medium, or puts there. Assumes nothing.
 use Rattle.std.specs.Prelude.{List, [], ℕ, take, drop}
-unfoldable pub use Rattle.moves.specs.Stored.{stored}
+unfoldable pub use Rattle.device_state.specs.Stored.{stored}
 use Rattle.rules.specs.declared.acts.Move.{Move}
 use Rattle.rules.specs.declared.acts.Act.{Act}
 use Rattle.rules.specs.declared.acts.Act.TheVariants.{Store, Send}

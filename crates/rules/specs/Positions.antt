@@ -1,8 +1,8 @@
 -- Positions of a command: what is left, and where. What has moved is kept in bytes. Assumes nothing.
 use Rattle.std.specs.Prelude.{Bool, true, false, ℕ, Option, None, unwrap_or}
 use Rattle.bits.specs.Pick.{pick}
-use Rattle.moves.specs.Amounts.{leftIn, partIn, lastIn, movedOn}
-use Rattle.moves.specs.Stored.{place_in}
+use Rattle.device_state.specs.Progress.{leftIn, partIn, lastIn, movedOn}
+use Rattle.device_state.specs.Stored.{place_in}
 use Rattle.device_state.specs.State.{whole_of}
 use Rattle.device_state.specs.declared.shapes.Entry.{Entry}
 use Rattle.device_state.specs.declared.shapes.Status.{Status}

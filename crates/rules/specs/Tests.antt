@@ -8,13 +8,13 @@ use Rattle.frames.specs.Read.{readFrame}
 use Rattle.frames.specs.declared.shapes.Frame.{Frame}
 use Rattle.frames.specs.declared.shapes.Frame.TheVariants.{Host, Data, Bist}
 use Rattle.refusals.specs.Ladders.{hostLadder, openLadder, sendLadder, finishLadder, mediaLadder, linkLadder, comresetLadder}
-use Rattle.moves.specs.Range.{outsideOf}
-use Rattle.moves.specs.Amounts.{wholly}
-use Rattle.verdicts.specs.Moved.{longer, notReady}
+use Rattle.device_state.specs.Range.{outsideOf}
+use Rattle.device_state.specs.Progress.{wholly}
+use Rattle.rules.specs.MoveRefusals.{longer, notReady}
 use Rattle.device_state.specs.State.{whole_of}
 use Rattle.device_state.specs.Table.{someBelow, entry_of}
 use Rattle.device_state.specs.UnderWay.{linkBusy}
-use Rattle.contradictions.specs.Clauses.{rowRefused}
+use Rattle.device_state.specs.Contradictory.{rowRefused}
 use Rattle.device_state.specs.declared.shapes.Entry.{Entry}
 use Rattle.rules.specs.Call.{Call, hostFrame, happens}
 use Rattle.rules.specs.declared.event.DeviceEvent.TheVariants.{OpenPhase, SendData, FinishTags, MediaError, LinkEvent, Comreset}

@@ -3,7 +3,7 @@ ghost use Rattle.std.specs.Prelude.{◌≡◌};
 ghost use Rattle.rules.specs.Record.{recordOf};
 
 use device_state::{Echo, Entry, ErrorRecord};
-use frame_parts::Task;
+use frames::Task;
 
 /// A device register reply with ERR.
 #[derive(Clone, Copy, Debug, PartialEq, Eq)]

@@ -8,12 +8,10 @@ ghost use Rattle.rules.specs.Act.{kindAct, heardAct};
 use crate::acts::{Act, BadReply, CountersRead, Fault, Queued};
 use crate::command::Command;
 use crate::facts::{Facts, next_move};
-use device_state::{Echo, Entry};
-use frame_parts::{LogPage, Task};
-use frames::{Frame, HostReg};
-use moves::Sectors;
+use crate::{Bad, TagNamed};
+use device_state::{Echo, Entry, Sectors};
+use frames::{Frame, HostReg, LogPage, Task};
 use refusals::{Refusal, check};
-use verdicts::{Bad, TagNamed};
 
 // A bad command: answered, and if it halts, for its tag if it was queued.
 fn bad_act(host: HostReg, tag: Option<u8>, bad: Bad) -> Act
@@ -51,8 +49,8 @@ impl Facts {
         requires { write ≡ eqb host.command 0x61 }
         ensures { result ≡ queuedAct self.now host }
     {
-        let tag = frame_parts::tag_of(host.task.count);
-        let count = frame_parts::sectors_of(host.features, host.features_high);
+        let tag = frames::tag_of(host.task.count);
+        let count = frames::sectors_of(host.features, host.features_high);
         let named = TagNamed {
             tag,
             busy: self.status.is_outstanding(u32::from(tag)),
@@ -61,7 +59,7 @@ impl Facts {
             first: host.task.lba,
             count,
         };
-        let rule = verdicts::queued_rule(
+        let rule = crate::queued_rule(
             self.status.halted,
             self.settings.depth,
             named,
@@ -92,11 +90,11 @@ impl Facts {
         requires { page ≡ pageAsked host }
         ensures { result ≡ otherAct self.now host }
     {
-        match verdicts::other_rule(self.status.halted, page, self.status.outstanding != 0) {
+        match crate::other_rule(self.status.halted, page, self.status.outstanding != 0) {
             Err(bad) => bad_act(host, None, bad),
             Ok(LogPage::Errors) => Act::Log10(host.task),
             Ok(LogPage::Counters) => Act::Log11(CountersRead {
-                zero: verdicts::log_zeroes(host.features),
+                zero: crate::log_zeroes(host.features),
                 task: host.task,
             }),
         }
@@ -107,7 +105,7 @@ impl Facts {
     fn control_act(&self, host: HostReg) -> Act
         ensures { result ≡ controlAct self.now host }
     {
-        if frame_parts::srst(host.control) {
+        if frames::srst(host.control) {
             return Act::Reset;
         }
         if self.status.held {
@@ -151,7 +149,7 @@ impl Facts {
         let Some(tag) = self.open_phase(true) else {
             return Err(Refusal::WrongTime);
         };
-        if verdicts::is_too_long(self.entry.progress(), size) {
+        if crate::is_too_long(self.entry.progress(), size) {
             return Err(Refusal::TooLong);
         }
         Ok(Act::Store(next_move(tag, self.entry, size)))

@@ -9,7 +9,7 @@ use crate::acts::{Act, Fault, Queued};
 use crate::event::DeviceEvent;
 use crate::facts::{Facts, next_move};
 use device_state::{Echo, Entries, Status};
-use frame_parts::{PAYLOAD_LIMIT, Task};
+use frames::{PAYLOAD_LIMIT, Task};
 use refusals::{Refusal, check};
 
 /// True where a tag of the set is not outstanding, or not wholly moved: one walk over the thirty-two entries.
@@ -18,7 +18,7 @@ pub fn some_unready(entries: &Entries, status: Status, set: u32) -> bool
 {
     entries.iter().enumerate().any(|(tag, entry)| {
         let tag = tag as u32;
-        verdicts::is_unready(
+        crate::is_unready(
             bits::bit(set, tag),
             status.is_outstanding(tag),
             entry.progress(),
@@ -86,7 +86,7 @@ impl Facts {
             DeviceEvent::LinkEvent(row) => check(&[
                 (self.contradicts, Refusal::Contradiction),
                 (
-                    contradictions::row_refused(self.settings.mask, row),
+                    device_state::row_refused(self.settings.mask, row),
                     Refusal::NoRow,
                 ),
             ]),

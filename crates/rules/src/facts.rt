@@ -42,7 +42,7 @@ pub fn next_move(tag: u32, entry: Entry, size: usize) -> Move
     let progress = entry.progress();
     Move {
         tag,
-        at: moves::place(entry.first, entry.moved),
+        at: device_state::place(entry.first, entry.moved),
         size: progress.part(size),
         entry: Entry {
             moved: progress.after(size).moved,

@@ -22,7 +22,7 @@ impl Act {
         ensures { medium.new ≡ mediumAfter self frame.now medium.old }
     {
         if let Act::Store(moved) = self {
-            moves::store(medium, moved.at, frame);
+            device_state::store(medium, moved.at, frame);
         }
     }
 }

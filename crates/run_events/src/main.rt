@@ -1,7 +1,7 @@
 // Runs an event file: standard input to standard output, one line an event.
 #![tactic(auto)]
 
-use event_program::{Format, PIECE, run_in_pieces};
+use events::{Format, PIECE, run_in_pieces};
 use std::process::ExitCode;
 
 fn main(rt: HostRuntime) -> ExitCode {

@@ -1,6 +1,6 @@
 // The run of an event file.
 use crate::fakes::{Sink, Source};
-use event_program::{Format, run_in_pieces};
+use events::{Format, run_in_pieces};
 use std::alloc::Global;
 
 // settings, COMRESET, and the first of the two bytes of an event

@@ -1,5 +1,5 @@
 // A reader and a writer that fail when they are told to, and a shelf of pages. Nothing is claimed of their bytes.
-use page_program::Shelf;
+use page_text::Shelf;
 use std::alloc::Global;
 use std::io;
 use std::io::{Error, ErrorKind, Read, Write};

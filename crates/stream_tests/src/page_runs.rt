@@ -1,9 +1,8 @@
 // Log pages told in words.
 use crate::fakes::{Months, Sink, Source};
-use frame_parts::LogPage;
-use page_hex::Notation;
-use page_hex::Notation::{Bytes, Words};
-use page_program::{Lost, Query, exit_status};
+use frames::LogPage;
+use page_text::Notation::{Bytes, Words};
+use page_text::{Lost, Notation, Query, exit_status};
 use std::alloc::Global;
 use std::io;
 

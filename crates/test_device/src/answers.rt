@@ -3,7 +3,7 @@ use crate::calls::Call;
 use crate::{fills, lines, parts};
 use bits::le16;
 use device::{Device, Outcome};
-use frame_parts::byte_of;
+use frames::byte_of;
 use rules::Facts;
 use std::io;
 use std::io::Write;

@@ -1,8 +1,8 @@
 // The same events twice over: by the public calls of `Device`, which take the state and hand it back, and by those of the
 // device that is kept. State, refusal, length, reply buffer and medium must be the same behind each.
 use device::{Device, Outcome, Sealed};
-use event_kinds::{EVENT_LIMIT, Kind, RUN_CAPACITY_LIMIT, Request};
-use frame_parts::{DATA_FRAME_LIMIT, DATA_HEAD, DATA_HEAD_SIZE};
+use events::{EVENT_LIMIT, Kind, RUN_CAPACITY_LIMIT, Request};
+use frames::{DATA_FRAME_LIMIT, DATA_HEAD, DATA_HEAD_SIZE};
 use rules::DeviceEvent;
 
 const MEDIUM_LIMIT: usize = (RUN_CAPACITY_LIMIT as usize) * Device::SECTOR_SIZE;
@@ -89,7 +89,7 @@ fn play_on(device: Device, sealed: Sealed, events: &[u8]) -> Compared {
         let Some((event, behind)) = next_event(rest, false) else {
             break;
         };
-        let Some(request) = event_kinds::request_of(event) else {
+        let Some(request) = events::request_of(event) else {
             break;
         };
         let outcome = call(
@@ -126,7 +126,7 @@ pub fn compare(input: &[u8]) -> Compared {
         return nothing;
     };
     let begun = events::start(record);
-    let Some(settings) = event_kinds::settings_asked(record) else {
+    let Some(settings) = events::settings_asked(record) else {
         return Compared {
             played: 1,
             same: begun.is_err(),

@@ -4,7 +4,7 @@
 
 mod by_value;
 
-use event_program::{Format, PIECE, run_in_pieces};
+use events::{Format, PIECE, run_in_pieces};
 use std::io::{Read, Write};
 use std::{env, fs, io};
 

@@ -116,7 +116,7 @@ impl<'a> Case<'a> {
     }
 
     fn say_row<W: Write>(&self, out: &mut W) -> io::Result<()> {
-        match page_rows::row_of(self.asked) {
+        match counters::row_of(self.asked) {
             Some(row) => write!(out, "{row}"),
             None => write!(out, "none"),
         }
@@ -124,8 +124,8 @@ impl<'a> Case<'a> {
 
     fn say_queued<W: Write>(&self, out: &mut W) -> io::Result<()> {
         let body = self.body;
-        let tag = frame_parts::tag_of(le16(body, 2));
-        let count = frame_parts::sectors_of(body[0], body[1]);
+        let tag = frames::tag_of(le16(body, 2));
+        let count = frames::sectors_of(body[0], body[1]);
         write!(out, "{tag} {count}")
     }
 

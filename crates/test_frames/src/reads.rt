@@ -1,7 +1,6 @@
 // The reading ops: a frame, page 10h, page 11h, and the cut of several frames.
-use frame_parts::{FrameKind, byte_of, frames_of};
-use frames::{DevReg, DmaSetup, Frame, HostReg, PioSetup, SetBits};
-use page_10h::ErrorLog;
+use frames::{DevReg, DmaSetup, Frame, FrameKind, HostReg, PioSetup, SetBits, byte_of, frames_of};
+use pages::ErrorLog;
 use refusals::Refusal;
 use std::io;
 use std::io::Write;
@@ -133,7 +132,7 @@ fn say_fields<W: Write>(out: &mut W, log: ErrorLog) -> io::Result<()> {
 
 /// What page 10h says: its fields behind a 0, or the refusal's number.
 pub fn say_log<W: Write>(out: &mut W, page: &[u8]) -> io::Result<()> {
-    match page_10h::read_log(page) {
+    match pages::read_log(page) {
         Ok(log) => say_fields(out, log),
         Err(refusal) => write!(out, "{refusal}"),
     }
@@ -141,7 +140,7 @@ pub fn say_log<W: Write>(out: &mut W, page: &[u8]) -> io::Result<()> {
 
 /// What page 11h says of a counter, without the width of its value.
 pub fn counter(page: &[u8], asked: u16) -> Result<Option<u64>, Refusal> {
-    let found = page_11h::read_counter(page, asked)?;
+    let found = pages::read_counter(page, asked)?;
     Ok(found.map(|entry| entry.value))
 }
 

@@ -1,9 +1,8 @@
 // The writing ops: a frame of a kind, page 10h, page 11h, each into a buffer of EEh bytes.
 use bits::{le16, le32};
-use frame_parts::{FrameKind, Task, byte_of};
-use frames::{DevReg, DmaSetup, HostReg, PioSetup, SetBits};
-use page_10h::ErrorLog;
-use page_rows::ROWS;
+use counters::ROWS;
+use frames::{DevReg, DmaSetup, FrameKind, HostReg, PioSetup, SetBits, Task, byte_of};
+use pages::ErrorLog;
 use refusals::Refusal;
 use std::io;
 use std::io::Write;
@@ -30,7 +29,7 @@ fn say_written<W: Write>(
 }
 
 fn flag(fields: &Body, bit: u32) -> bool {
-    frame_parts::flag(fields[0], bit)
+    frames::flag(fields[0], bit)
 }
 
 fn task(fields: &[u8]) -> Task {
@@ -136,7 +135,7 @@ pub fn say_frame<W: Write>(
 
 /// Writes page 10h, and says what came of it.
 pub fn say_log<W: Write>(out: &mut W, buf: &mut [u8], fields: &Body) -> io::Result<()> {
-    let written = page_10h::write_log(
+    let written = pages::write_log(
         buf,
         ErrorLog {
             nq: fields[0] == 1,
@@ -154,6 +153,6 @@ pub fn say_counters<W: Write>(out: &mut W, buf: &mut [u8], fields: &Body) -> io:
     let (words, _) = fields[2..].as_chunks::<4>();
     let rows = words.first_chunk::<ROWS>().unwrap();
     let values = rows.map(u32::from_le_bytes);
-    let written = page_rows::write_counters(buf, le16(fields, 0), &values);
+    let written = pages::write_counters(buf, le16(fields, 0), &values);
     say_written(out, written, buf)
 }

@@ -1,7 +1,7 @@
 // Runs an event file as run_events does, each reply with its bytes.
 #![tactic(auto)]
 
-use event_program::{Format, PIECE, run_in_pieces};
+use events::{Format, PIECE, run_in_pieces};
 use std::process::ExitCode;
 
 fn main(rt: HostRuntime) -> ExitCode {

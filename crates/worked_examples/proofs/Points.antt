@@ -3,20 +3,20 @@ use Rattle.std.proofs.Common.{Result, Ok, Err, ◌≡◌, refl, sym, ap, subst, 
 use lib.ListN.{length-replicate}
 use Rattle.refusals.specs.First.{first_of}
 use Rattle.refusals.specs.declared.reasons.Refusal.{Refusal}
-use Rattle.frame_parts.specs.Cut.{joined}
-use Rattle.frame_parts.specs.Shared.{registerBytes}
-use Rattle.frame_parts.specs.Size.{fixedSize, readable}
+use Rattle.frames.specs.Cut.{joined}
+use Rattle.frames.specs.Shared.{registerBytes}
+use Rattle.frames.specs.Size.{fixedSize, readable}
 use Rattle.frames.specs.Read.{frameByKind, readFrame}
 use Rattle.frames.specs.Write.{bitsBytes, setupBytes, encode}
-use Rattle.page_sum.specs.Sum.{sum256, sealed}
-use Rattle.page_rows.specs.Rows.{ids}
-use Rattle.page_11h.specs.Entries.{id_at, entriesFrom, entries}
-use Rattle.page_10h.specs.Page10.{page10, fits10}
-use Rattle.page_11h.specs.Page11.{damaged, valueIn, readCounter, counterAnswer}
-use Rattle.page_rows.specs.Made11.{rowBytes, rows_to, openTo, page11}
+use Rattle.pages.specs.Sum.{sum256, sealed}
+use Rattle.counters.specs.Rows.{ids}
+use Rattle.pages.specs.Entries.{id_at, entriesFrom, entries}
+use Rattle.pages.specs.Page10.{page10, fits10}
+use Rattle.pages.specs.Read11.{damaged, valueIn, readCounter, counterAnswer}
+use Rattle.pages.specs.Layout11.{rowBytes, rows_to, openTo, page11}
 use Rattle.device_state.specs.State.{taskIn, echoOf}
 use Rattle.device_state.specs.Table.{someBelow, tab, placed, cleared}
-use Rattle.contradictions.specs.Clauses.{movedBad, settingsOut, busyBad, idleBad, entryBad, tableBad, statusBad, recordBad, rowsBad, contradictory}
+use Rattle.device_state.specs.Contradictory.{movedBad, settingsOut, busyBad, idleBad, entryBad, tableBad, statusBad, recordBad, rowsBad, contradictory}
 use Rattle.rules.specs.Positions.{advancedBy, move_of}
 use Rattle.rules.specs.Tests.{wrongKind, wrongTime, wrongSize, someUnready, tests}
 use Rattle.rules.specs.Decide.{queuedAct, logPage, otherAct, controlAct, registerAct, frameAct}

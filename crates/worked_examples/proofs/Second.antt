@@ -2,14 +2,14 @@
 use Rattle.std.proofs.Common.{refl}
 use Rattle.refusals.specs.First.{first_of}
 use Rattle.bits.specs.Laid.{over}
-use Rattle.frame_parts.specs.Cut.{joined, cut, cut_to, firstLength}
-use Rattle.frame_parts.specs.Shared.{registerBytes}
-use Rattle.frame_parts.specs.Size.{readable, fixedSize}
+use Rattle.frames.specs.Cut.{joined, cut, cut_to, firstLength}
+use Rattle.frames.specs.Shared.{registerBytes}
+use Rattle.frames.specs.Size.{readable, fixedSize}
 use Rattle.frames.specs.Read.{readFrame, frameByKind}
 use Rattle.frames.specs.Write.{fits, encode, setupBytes, bitsBytes}
-use Rattle.page_10h.specs.Page10.{fits10, page10}
-use Rattle.page_sum.specs.Sum.{sealed, sum256}
-use Rattle.contradictions.specs.Clauses.{movedBad, contradictory, statusBad, settingsOut, recordBad, rowsBad, tableBad, entryBad, busyBad, idleBad}
+use Rattle.pages.specs.Page10.{fits10, page10}
+use Rattle.pages.specs.Sum.{sealed, sum256}
+use Rattle.device_state.specs.Contradictory.{movedBad, contradictory, statusBad, settingsOut, recordBad, rowsBad, tableBad, entryBad, busyBad, idleBad}
 use Rattle.device_state.specs.State.{echoOf, taskIn}
 use Rattle.device_state.specs.Table.{someBelow, placed, tab, cleared}
 use Rattle.rules.specs.Tests.{wrongKind, wrongTime, wrongSize, someUnready, tests}
@@ -26,7 +26,7 @@ use Rattle.history.specs.Fates.{commands, outstandingAt, finishedAt, givenUpAt, 
 use Rattle.history.specs.Replied.{collect, some, payloads}
 use Rattle.history.specs.Seen.{seen, begun}
 use Rattle.history.specs.Waits.{waits, sactive, before, since}
-use Rattle.page_10h.specs.Page10.{read_log}
+use Rattle.pages.specs.Page10.{read_log}
 use Rattle.history.specs.ByHistory.{holding}
 use Rattle.history.specs.Run.{run, AllTyped}
 use Rattle.worked_examples.specs.Story.{tagsFrom, lines_of}

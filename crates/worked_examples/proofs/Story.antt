@@ -5,18 +5,18 @@ use Rattle.rules.specs.Call.{Call}
 use Rattle.rules.specs.Handed.{handed}
 use Rattle.refusals.specs.First.{first_of}
 use Rattle.bits.specs.Laid.{over}
-use Rattle.frame_parts.specs.Cut.{joined, cut, cut_to, firstLength}
-use Rattle.frame_parts.specs.Shared.{registerBytes}
-use Rattle.frame_parts.specs.Size.{readable, fixedSize}
+use Rattle.frames.specs.Cut.{joined, cut, cut_to, firstLength}
+use Rattle.frames.specs.Shared.{registerBytes}
+use Rattle.frames.specs.Size.{readable, fixedSize}
 use Rattle.frames.specs.Read.{readFrame, frameByKind}
 use Rattle.frames.specs.Write.{fits, encode, setupBytes, bitsBytes}
-use Rattle.page_11h.specs.Entries.{entries, entriesFrom, id_at}
-use Rattle.page_rows.specs.Made11.{page11, openTo, rows_to, rowBytes}
-use Rattle.page_10h.specs.Page10.{fits10, page10}
-use Rattle.page_11h.specs.Page11.{readCounter, damaged, valueIn}
-use Rattle.page_rows.specs.Rows.{ids, row_of}
-use Rattle.page_sum.specs.Sum.{sealed, sum256}
-use Rattle.contradictions.specs.Clauses.{movedBad, contradictory, statusBad, settingsOut, recordBad, rowsBad, tableBad, entryBad, busyBad, idleBad}
+use Rattle.pages.specs.Entries.{entries, entriesFrom, id_at}
+use Rattle.pages.specs.Layout11.{page11, openTo, rows_to, rowBytes}
+use Rattle.pages.specs.Page10.{fits10, page10}
+use Rattle.pages.specs.Read11.{readCounter, damaged, valueIn}
+use Rattle.counters.specs.Rows.{ids, row_of}
+use Rattle.pages.specs.Sum.{sealed, sum256}
+use Rattle.device_state.specs.Contradictory.{movedBad, contradictory, statusBad, settingsOut, recordBad, rowsBad, tableBad, entryBad, busyBad, idleBad}
 use Rattle.device_state.specs.State.{echoOf, taskIn}
 use Rattle.device_state.specs.Table.{someBelow, placed, tab, cleared}
 use Rattle.rules.specs.Tests.{wrongKind, wrongTime, wrongSize, someUnready, tests}

@@ -1,17 +1,17 @@
 -- Each frame and each page is its bytes, and the bytes are read as it. Assumes nothing.
 use Rattle.std.proofs.Common.{refl}
 use Rattle.refusals.specs.First.{first_of}
-use Rattle.frame_parts.specs.Cut.{joined, cut, cut_to, firstLength}
-use Rattle.frame_parts.specs.Shared.{registerBytes}
-use Rattle.frame_parts.specs.Size.{fixedSize, readable}
+use Rattle.frames.specs.Cut.{joined, cut, cut_to, firstLength}
+use Rattle.frames.specs.Shared.{registerBytes}
+use Rattle.frames.specs.Size.{fixedSize, readable}
 use Rattle.frames.specs.Read.{frameByKind, readFrame}
 use Rattle.frames.specs.Write.{bitsBytes, setupBytes, encode}
-use Rattle.page_sum.specs.Sum.{sum256, sealed}
-use Rattle.page_rows.specs.Rows.{ids}
-use Rattle.page_rows.specs.Made11.{rowBytes, rows_to, openTo, page11}
-use Rattle.page_10h.specs.Page10.{page10, read_log}
-use Rattle.page_11h.specs.Entries.{id_at, entriesFrom, entries}
-use Rattle.page_11h.specs.Page11.{damaged, valueIn, readCounter}
+use Rattle.pages.specs.Sum.{sum256, sealed}
+use Rattle.counters.specs.Rows.{ids}
+use Rattle.pages.specs.Layout11.{rowBytes, rows_to, openTo, page11}
+use Rattle.pages.specs.Page10.{page10, read_log}
+use Rattle.pages.specs.Entries.{id_at, entriesFrom, entries}
+use Rattle.pages.specs.Read11.{damaged, valueIn, readCounter}
 use Rattle.worked_examples.specs.Whole.{Placed, wholeFrames, WholeShows}
 
 pub frames-placed : Placed wholeFrames

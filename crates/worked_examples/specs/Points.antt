@@ -2,10 +2,10 @@
 use Rattle.std.specs.Prelude.{◌≡◌, false, List, [], ◌∷◌, map, ℕ, ◌*◌, get_or, take, drop, replicate, Option, Result}
 use Rattle.bits.specs.Little.{le_bytes}
 use Rattle.refusals.specs.declared.reasons.Refusal.{Refusal}
-use Rattle.frame_parts.specs.Cut.{joined}
+use Rattle.frames.specs.Cut.{joined}
 use Rattle.frames.specs.Write.{encode}
-use Rattle.page_11h.specs.Page11.{readCounter, counterAnswer}
-use Rattle.page_11h.specs.declared.value.CounterValue.{CounterValue}
+use Rattle.pages.specs.Read11.{readCounter, counterAnswer}
+use Rattle.pages.specs.declared.value.CounterValue.{CounterValue}
 use Rattle.device_state.specs.State.{blankRecord}
 use Rattle.replies.specs.Replies.{page10Of, page11Of}
 use Rattle.device.specs.Device.{freshDevice}

@@ -1,12 +1,12 @@
 -- Two more runs of the device from power-on. One, of twelve calls, has a held reset and its release, and three errors that each wait and are read:
 -- at a command that is not queued, at a queued one past the capacity, and at one of a tag in use. The other, of nine, moves a read and a write of 17 sectors, each in two data frames. Assumes nothing.
 use Rattle.std.specs.Prelude.{◌≡◌, Bool, true, false, List, [], ◌∷◌, ◌++◌, map, reverse, ℕ, ◌-◌, ◌*◌, length, get_or, drop, replicate, Some, None, Ok}
-use Rattle.frame_parts.specs.declared.shared.Task.{Task}
+use Rattle.frames.specs.declared.shared.Task.{Task}
 use Rattle.device_state.specs.declared.shapes.Settings.{Settings}
-use Rattle.frame_parts.specs.Cut.{joined}
+use Rattle.frames.specs.Cut.{joined}
 use Rattle.frames.specs.Write.{encode}
-use Rattle.page_10h.specs.Page10.{page10, read_log}
-use Rattle.page_10h.specs.declared.page10.ErrorLog.{ErrorLog}
+use Rattle.pages.specs.Page10.{page10, read_log}
+use Rattle.pages.specs.declared.page10.ErrorLog.{ErrorLog}
 use Rattle.refusals.specs.declared.reasons.Refusal.TheVariants.{Contradiction}
 use Rattle.device.specs.Device.{powerOn}
 use Rattle.rules.specs.Call.{Call, hostFrame, happens}

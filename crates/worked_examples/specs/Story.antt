@@ -2,7 +2,7 @@
 use Rattle.std.specs.Prelude.{◌≡◌, Bool, true, false, List, [], ◌∷◌, ◌++◌, map, reverse, ℕ, zero, suc, ◌-◌, ◌*◌, length, get_or, drop, replicate, Some, None, Ok}
 use Rattle.bits.specs.Pick.{pick}
 use Rattle.device_state.specs.declared.shapes.Settings.{Settings}
-use Rattle.page_11h.specs.Page11.{readCounter, rowValue}
+use Rattle.pages.specs.Read11.{readCounter, rowValue}
 use Rattle.refusals.specs.Number.{number_told}
 use Rattle.refusals.specs.declared.reasons.Refusal.TheVariants.{Contradiction}
 use Rattle.device.specs.Device.{powerOn}

@@ -5,17 +5,17 @@ use Rattle.bits.specs.Laid.{laid}
 use Rattle.refusals.specs.Number.{number}
 use Rattle.refusals.specs.declared.reasons.Refusal.{Refusal}
 use Rattle.refusals.specs.declared.reasons.Refusal.TheVariants.{Contradiction, MediumLength, ReplyShort, NoHostFrame, WrongTime, TooLong, TagIdle, PhaseOpen, AllMoved, NoReadPhase, SetUnready, OutsideCommand, NoRow, PageLength, PageSum, PageDamaged, NoCounter, NoFrame, Unfit, BufferShort}
-use Rattle.frame_parts.specs.Shared.{srstOf, tag_of, sectorsOf}
-use Rattle.frame_parts.specs.Cut.{joined, cut}
-use Rattle.frame_parts.specs.declared.shared.Task.{Task}
+use Rattle.frames.specs.Shared.{srstOf, tag_of, sectorsOf}
+use Rattle.frames.specs.Cut.{joined, cut}
+use Rattle.frames.specs.declared.shared.Task.{Task}
 use Rattle.frames.specs.Read.{readFrame}
 use Rattle.frames.specs.Write.{FrameValue, host, device, setBits, setup, activate, payload, bist, pio, encode}
 use Rattle.frames.specs.RoundTrip.{readBack}
-use Rattle.page_10h.specs.Page10.{page10, read_log}
-use Rattle.page_10h.specs.declared.page10.ErrorLog.{ErrorLog}
-use Rattle.page_rows.specs.Made11.{page11}
-use Rattle.page_11h.specs.Page11.{rowValue, readCounter}
-use Rattle.page_11h.specs.declared.value.CounterValue.{CounterValue}
+use Rattle.pages.specs.Page10.{page10, read_log}
+use Rattle.pages.specs.declared.page10.ErrorLog.{ErrorLog}
+use Rattle.pages.specs.Layout11.{page11}
+use Rattle.pages.specs.Read11.{rowValue, readCounter}
+use Rattle.pages.specs.declared.value.CounterValue.{CounterValue}
 
 -- a frame, its bytes, and those bytes with every unnamed bit set
 pub record WholeFrame : Type 0 where

@@ -1,0 +1,3 @@
+pub mod TiedCounts
+pub mod RowLaws
+pub mod Tied

@@ -1,0 +1,3 @@
+pub mod Counts
+pub mod Rows
+pub mod Shown

@@ -1,4 +1,0 @@
-pub mod Asking
-pub mod Exactly
-pub mod Recording
-pub mod Tied

@@ -1,4 +1,0 @@
-pub mod Kinds
-pub mod Requests
-pub mod Settings
-pub mod Stops

@@ -1,0 +1,11 @@
+-- Where lines are missing, and there alone, a run complains and its status is 4. Assumes nothing.
+use Rattle.std.proofs.Common.{◌≡◌, [], Result, arith}
+use Rattle.streams.specs.Lost.{complaint}
+use Rattle.events.specs.Runs.{said_of, exit_status_of}
+use Rattle.events.specs.declared.errors.RunError.{RunError}
+
+pub missing-said : (r : Result Unit RunError) → exit_status_of r ≡ 4 → said_of r ≡ complaint
+missing-said r e = grind arith
+
+pub whole-silent : (r : Result Unit RunError) → (exit_status_of r ≡ 4 → ⊥) → said_of r ≡ []
+whole-silent r h = grind arith

@@ -1,0 +1,37 @@
+-- What the device gives for an event is what a run keeps and tells of it. Assumes nothing.
+use Rattle.std.proofs.Common.{◌≡◌, ℕ, Bool, List, length, take, drop, ap₂, ◌∙◌, sym, Option, Result, Ok, Err}
+use lib.Seq.{take-append_seam}
+use Rattle.std.specs.Result.{result_err, result_unwrap_or}
+use Rattle.refusals.specs.declared.reasons.Refusal.{Refusal}
+use Rattle.device.specs.Lent.{Gave, gave, answered}
+use Rattle.device.specs.Step.{Step, bytes_of, Gives}
+use Rattle.device.specs.declared.state.Device.{Device}
+use Rattle.device.proofs.Kept.{answered-state}
+use Rattle.events.specs.Lines.{line_of}
+use Rattle.events.specs.Running.{Kept, kept, stepIn, after, told}
+
+-- the same device, medium and reply buffer are kept alike
+pub same-kept : {d d' : Device} {m m' b b' : List ℕ} → d ≡ d' → m ≡ m' → b ≡ b' → kept d m b ≡ kept d' m' b'
+same-kept p q r = cc
+
+pub kept-is : (k : Kept) (e : List ℕ) (d : Device) (r : Result ℕ Refusal) (m b : List ℕ) → Gives (stepIn k e) k.reply (gave (answered d r) m b) → kept d m b ≡ after k e
+unfolding after
+kept-is k e d r m b p = same-kept (sym (answered-state d r) ∙ p.state) p.medium p.reply
+
+front-is : (s : Step) (b : List ℕ) (g : Gave) → Gives s b g → take g.outcome.len g.buffer ≡ bytes_of s
+front-is s b g p = let f = bytes_of s in ap₂ (λ (n : ℕ) (l : List ℕ). take n l) p.len p.reply ∙ take-append_seam f (drop (length f) b)
+
+told-by : (traced : Bool) (n : ℕ) (k : Kept) (e : List ℕ) (g : Gave) → Gives (stepIn k e) k.reply g
+    → line_of traced n g.outcome.refusal g.outcome.state.status.outstanding (take g.outcome.len g.buffer) ≡ told traced n k e
+unfolding told
+told-by traced n k e g p = let f = front-is (stepIn k e) k.reply g p in cc (f, p.refusal, p.state)
+
+told-answered : (traced : Bool) (n : ℕ) (k : Kept) (e : List ℕ) (d : Device) (r : Result ℕ Refusal) (m b : List ℕ) → Gives (stepIn k e) k.reply (gave (answered d r) m b)
+    → line_of traced n (result_err r) d.status.outstanding (take (result_unwrap_or r 0) b) ≡ told traced n k e
+told-answered traced n k e d (Ok len) m b p = told-by traced n k e (gave (answered d (Ok len)) m b) p
+told-answered traced n k e d (Err r) m b p = told-by traced n k e (gave (answered d (Err r)) m b) p
+
+-- the line of what the device answered: its refusal, and the replies in front of the buffer
+pub told-is : (traced : Bool) (n : ℕ) (k : Kept) (e : List ℕ) (d : Device) (r : Result ℕ Refusal) (m b : List ℕ) (given : Option Refusal) (len : ℕ) → given ≡ result_err r → len ≡ result_unwrap_or r 0
+    → Gives (stepIn k e) k.reply (gave (answered d r) m b) → line_of traced n given d.status.outstanding (take len b) ≡ told traced n k e
+told-is traced n k e d r m b given len p q g = rw (p, q) (told-answered traced n k e d r m b g)

@@ -1,0 +1,36 @@
+-- What is told of the next event. Assumes nothing.
+use Rattle.std.specs.Prelude.{◌≡◌, Bool, not, List, [], ◌∷◌, ℕ, length, IfSome, Option, Some, None, Result, Ok, Err}
+use Rattle.std.specs.Bool.{then_some}
+use Rattle.std.specs.Borrow.{Bor}
+use Rattle.std.specs.Io.KnownBytes.{Consumes, IsAtEnd}
+use Rattle.events.specs.declared.kinds.InputEnd.{InputEnd}
+use Rattle.events.specs.declared.kinds.Kind.{Kind}
+use Rattle.events.specs.Kinds.{misplaced, next_of}
+
+-- one byte was read, or the input is at its end
+abbrev pub ReadKind : Option (List ℕ) → Option ℕ → Option (List ℕ) → Type 0
+ReadKind old (Some kind) new = Consumes old new (kind ∷ [])
+ReadKind old None new = Consumes old new [] × IsAtEnd new
+
+-- the kind that was named, if an event of that kind may stand here; `first` says that nothing was before it
+unfoldable pub placedKind : Bool → Option Kind → Option Kind
+placedKind first (Some kind) = then_some (not (misplaced first kind)) kind
+placedKind first None = None
+
+-- bytes that are one event, and no more
+abbrev pub IsEvent : Bool → List ℕ → Type 0
+IsEvent first e = next_of first e ≡ Ok (length e)
+
+-- no event follows
+abbrev pub Ends : {T : Type 0} → Result T InputEnd → Type 0
+Ends (Ok event) = ⊥
+Ends (Err end) = Unit
+
+-- a whole event was read; or of the bytes that were left, whatever they are, it is known what they begin with
+abbrev pub ReadEvent : Bool → Option (List ℕ) → Result (Bor (List ℕ)) InputEnd → Option (List ℕ) → Type 0
+ReadEvent first old (Ok event) new = IsEvent first event.now × Consumes old new event.now
+ReadEvent first old (Err end) new = IfSome old (λ input. next_of first input ≡ Err end)
+
+-- a read failed: what came before it is no event, and begins with none
+abbrev pub BreaksIn : Bool → Option (List ℕ) → Option (List ℕ) → Type 0
+BreaksIn first old new = (part : List ℕ) × Consumes old new part × Ends (next_of first part)

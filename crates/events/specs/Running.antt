@@ -1,0 +1,89 @@
+-- What is written for the events of a run. Assumes nothing.
+use Rattle.std.specs.Prelude.{◌≡◌, Bool, true, false, List, [], ◌∷◌, ◌++◌, ℕ, ◌+◌, replicate, is_some, codes, Result, Ok, Err}
+use Rattle.bits.specs.Pick.{pick}
+use Rattle.bits.specs.Laid.{laid}
+use Rattle.device_state.specs.State.{medium_size}
+use Rattle.device.specs.Step.{Step, bytes_of}
+use Rattle.device.specs.declared.state.Device.{Device}
+use Rattle.events.specs.Played.{eventStep}
+use Rattle.events.specs.Start.{start_of}
+use Rattle.events.specs.declared.kinds.InputEnd.{InputEnd}
+use Rattle.events.specs.declared.kinds.InputEnd.TheVariants.{Clean, NoEvent}
+use Rattle.events.specs.Kinds.{next_of}
+use Rattle.events.specs.Reading.{IsEvent}
+use Rattle.events.specs.Lines.{line_of}
+
+-- what a run keeps between two events
+pub record Kept : Type 0 where
+  pub device : Device
+  pub medium : List ℕ
+  pub reply : List ℕ
+
+-- these three
+abbrev pub kept : Device → List ℕ → List ℕ → Kept
+kept d m b = record { device = d; medium = m; reply = b }
+
+-- the step of an event in what is kept
+abbrev pub stepIn : Kept → List ℕ → Step
+stepIn k e = eventStep k.device e k.medium k.reply
+
+-- what an event leaves behind
+unfoldable pub after : Kept → List ℕ → Kept
+after k e = record { device = (stepIn k e).state; medium = (stepIn k e).medium; reply = laid (bytes_of (stepIn k e)) k.reply }
+
+-- its line: its refusal, the tags outstanding after it, and its replies
+unfoldable pub told : Bool → ℕ → Kept → List ℕ → List ℕ
+told traced number k e = line_of traced number (stepIn k e).refusal (stepIn k e).state.status.outstanding (bytes_of (stepIn k e))
+
+-- the lines of events, numbered on, each played in what the last one left
+unfoldable pub lines_from : Bool → ℕ → Kept → List (List ℕ) → List ℕ
+lines_from traced n k [] = []
+lines_from traced n k (e ∷ es) = told traced n k e ++ lines_from traced (n + 1) (after k e) es
+
+-- what is kept behind all of them
+unfoldable pub kept_after : Kept → List (List ℕ) → Kept
+kept_after k [] = k
+kept_after k (e ∷ es) = kept_after (after k e) es
+
+-- each is one event behind the settings
+unfoldable pub AllEvents : List (List ℕ) → Type 0
+AllEvents [] = Unit
+AllEvents (e ∷ es) = IsEvent false e × AllEvents es
+
+-- what is written at the end
+unfoldable pub ending : Result ℕ InputEnd → List ℕ
+ending (Ok n) = []
+ending (Err NoEvent) = codes "stop\n"
+ending (Err Clean) = []
+
+-- the settings record is refused
+abbrev pub refused : List ℕ → Bool
+refused s = is_some (start_of s).refusal
+
+-- what a run begins with: a medium of zeros, and a reply buffer of zeros
+unfoldable pub started : List ℕ → Kept
+started s = kept (start_of s).state (replicate (medium_size (start_of s).state.settings.capacity) 0) (replicate 8196 0)
+
+-- the line of the settings record, the first: there is no reply
+abbrev pub start_line : Bool → List ℕ → List ℕ
+start_line traced s = line_of traced 0 (start_of s).refusal (start_of s).state.status.outstanding []
+
+-- the lines of a run, of which the first event is the settings
+unfoldable pub run_lines : Bool → List (List ℕ) → List ℕ
+run_lines traced [] = []
+run_lines traced (s ∷ es) = start_line traced s ++ lines_from traced 1 (started s) es
+
+-- the events that a run plays: behind refused settings none
+unfoldable pub Plays : List (List ℕ) → Type 0
+Plays [] = Unit
+Plays (s ∷ es) = IsEvent true s × AllEvents es × (refused s ≡ true → es ≡ [])
+
+-- behind these a run reads on: not behind refused settings
+unfoldable pub ReadsOn : List (List ℕ) → Type 0
+ReadsOn [] = Unit
+ReadsOn (s ∷ es) = refused s ≡ false
+
+-- what follows the events: behind refused settings nothing is looked at
+unfoldable pub next_behind : List (List ℕ) → List ℕ → Result ℕ InputEnd
+next_behind [] rest = next_of true rest
+next_behind (s ∷ es) rest = pick (refused s) (Err Clean) (next_of false rest)

@@ -1,0 +1,82 @@
+// What a run keeps between two events.
+ghost use Rattle.std.specs.Prelude.{◌≡◌, ◌≤◌, ◌++◌, OnOk, IfErr, length, take};
+ghost use Rattle.device.specs.Lent.{gave, answered};
+ghost use Rattle.device.specs.Step.{Gives};
+ghost use Rattle.events.specs.declared.errors.RunError.TheVariants.{Memory};
+ghost use Rattle.events.specs.Running.{Kept, kept, stepIn, told, after};
+
+use crate::errors::RunError;
+use crate::lines::{Format, Line};
+use device::Sealed;
+use refusals::Refusal;
+use std::marker::Model;
+
+/// The device of a run, its medium, and the buffer of its replies. A contract sees these three as what a run keeps.
+#[derive(Drop)]
+pub(crate) struct Bench<'a> {
+    sealed: Sealed,
+    medium: &'a mut [u8],
+    reply: &'a mut [u8],
+}
+
+impl<'a> Model for Bench<'a> {
+    ghost Value = { Kept };
+
+    ghost view = { λ b. kept b.sealed.device b.medium.now b.reply.now };
+}
+
+impl<'a> Bench<'a> {
+    pub(crate) fn new(sealed: Sealed, medium: &'a mut [u8], reply: &'a mut [u8]) -> Bench<'a>
+        ensures { result ≡ kept sealed.device medium.old reply.old }
+    {
+        Bench {
+            sealed,
+            medium,
+            reply,
+        }
+    }
+
+    // One event played: how many bytes of replies stand in front of the buffer, or the refusal.
+    fn play(&mut self, event: &[u8]) -> Result<usize, Refusal>
+        ensures { Gives (stepIn self.old event.now) self.old.reply (gave (answered self.new.device result) self.new.medium self.new.reply) }
+    {
+        crate::play(&mut self.sealed, event, self.medium, self.reply)
+    }
+
+    fn outstanding(&self) -> u32
+        ensures { result ≡ self.now.device.status.outstanding }
+    {
+        self.sealed.device.status.outstanding
+    }
+
+    fn replies(&self, len: usize) -> &[u8]
+        requires { len ≤ length self.now.reply }
+        ensures { result.now ≡ take len self.now.reply }
+    {
+        &self.reply[..len]
+    }
+
+    /// One event played, and its line behind the lines that are gathered.
+    pub(crate) fn play_and_tell(
+        &mut self,
+        format: Format,
+        lines: &mut Vec<u8>,
+        number: u64,
+        event: &[u8],
+    ) -> Result<(), RunError>
+        ensures kept { self.new ≡ after self.old event.now }
+        ensures line { OnOk result (lines.new.items ≡ lines.old.items ++ told format.traced number self.old event.now) }
+        ensures err { IfErr result (λ e. e ≡ Memory) }
+    {
+        let answer = self.play(event);
+        let line = Line {
+            number,
+            refusal: answer.err(),
+            outstanding: self.outstanding(),
+            replies: self.replies(answer.unwrap_or(0)),
+        };
+        format
+            .write_line(lines, &line)
+            .map_err(|_| RunError::Memory)
+    }
+}

@@ -1,0 +1,35 @@
+// How a run ends.
+ghost use Rattle.std.specs.Prelude.{◌≡◌};
+ghost use Rattle.events.specs.Ends.{last_text};
+
+use crate::InputEnd;
+use std::io;
+use thiserror::Error;
+
+/// Why a run ended before its input did. Its text tells the cause, and where lines are missing it says so.
+#[derive(Debug, Drop, Error)]
+pub enum RunError {
+    /// A read failed: the lines of the whole events before it are written, and `stop`.
+    #[error("input failed: {0}")]
+    Input(io::Error),
+    /// A write failed: lines are missing.
+    #[error("output failed, lines are missing: {0}")]
+    Output(io::Error),
+    /// No memory for a line: lines are missing.
+    #[error("no memory for a line: lines are missing")]
+    Memory,
+    /// The last line number is used up.
+    #[error("too many events")]
+    TooMany,
+}
+
+/// The last text of a run that ends so.
+#[tactic(auto, unfolding(crate::specs::Running::ending))]
+pub(crate) fn last_text(end: &Result<InputEnd, RunError>) -> &'static [u8]
+    ensures { result.now ≡ last_text end.now }
+{
+    match end {
+        Ok(InputEnd::Clean) => b"",
+        Ok(InputEnd::NoEvent) | Err(_) => b"stop\n",
+    }
+}

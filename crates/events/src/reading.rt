@@ -1,0 +1,79 @@
+// What is read of an input: the next event.
+ghost use Rattle.std.specs.Prelude.{◌≡◌, ◌<◌, [], Err, IfOk, OnErr, length, drop, slice_get};
+ghost use Rattle.std.specs.Io.KnownBytes.{Consumes};
+ghost use Rattle.events.specs.Kinds.{kindNamed, next_of};
+ghost use Rattle.streams.specs.Fronts.{Filled, StuckBefore};
+ghost use Rattle.events.specs.Reading.{ReadKind, placedKind, ReadEvent, BreaksIn};
+
+use crate::{EVENT_LIMIT, InputEnd, Kind};
+use std::io;
+use std::io::Read;
+use streams::fill;
+
+// How an input ends that has no bytes left; `first` says that it had none at all.
+#[tactic(auto, unfolding(crate::specs::Kinds::next_of))]
+fn empty_end(first: bool) -> InputEnd
+    ensures { next_of first [] ≡ Err result }
+{
+    if first {
+        InputEnd::NoEvent
+    } else {
+        InputEnd::Clean
+    }
+}
+
+// The byte that the next event begins with; none at the input's end.
+fn read_byte<R: Read>(reader: &mut R) -> io::Result<Option<u8>>
+    ensures ok { IfOk result (λ byte. ReadKind (R.remaining reader.old) byte (R.remaining reader.new)) }
+    ensures err { OnErr result (Consumes (R.remaining reader.old) (R.remaining reader.new) []) }
+{
+    let mut byte = [0u8; 1];
+    if fill(reader, &mut byte)? == 0 {
+        return Ok(None);
+    }
+    Ok(Some(byte[0]))
+}
+
+// The kind that a byte names, if an event of that kind may stand here; `first` says that nothing was before it.
+#[tactic(auto, unfolding(crate::specs::Reading::placedKind))]
+fn placed_kind(byte: u8, first: bool) -> Option<Kind>
+    ensures { result ≡ placedKind first (kindNamed byte) }
+{
+    Kind::from_byte(byte).filter(|kind| !kind.is_misplaced(first))
+}
+
+// The body of an event behind its first byte, as far as it could be read: so many bytes.
+fn read_body<R: Read>(reader: &mut R, event: &mut [u8]) -> io::Result<usize>
+    requires { 0 < length event.old }
+    ensures same { length event.new ≡ length event.old }
+    ensures first { slice_get event.new 0 ≡ slice_get event.old 0 }
+    ensures ok { IfOk result (λ n. Filled (R.remaining reader.old) (R.remaining reader.new) n (drop 1 event.new)) }
+    ensures err { OnErr result (StuckBefore (R.remaining reader.old) (R.remaining reader.new) (drop 1 event.new)) }
+{
+    fill(reader, &mut event[1..])
+}
+
+/// The next event, in the front of `room`, or how the input ends; `first` says that nothing was before it.
+#[tactic(auto, using(crate::proofs::Nexts::placed_short))]
+pub(crate) fn read_event<'a, R: Read>(
+    reader: &mut R,
+    room: &'a mut [u8; EVENT_LIMIT],
+    first: bool,
+) -> io::Result<Result<&'a [u8], InputEnd>>
+    ensures ok { IfOk result (λ next. ReadEvent first (R.remaining reader.old) next (R.remaining reader.new)) }
+    ensures err { OnErr result (BreaksIn first (R.remaining reader.old) (R.remaining reader.new)) }
+{
+    let Some(byte) = read_byte(reader)? else {
+        return Ok(Err(empty_end(first)));
+    };
+    let Some(kind) = placed_kind(byte, first) else {
+        return Ok(Err(InputEnd::NoEvent));
+    };
+    let body = kind.body_length();
+    let event = &mut room[..body + 1];
+    event[0] = byte;
+    if read_body(reader, event)? < body {
+        return Ok(Err(InputEnd::NoEvent));
+    }
+    Ok(Ok(event))
+}

@@ -1,0 +1,86 @@
+// The run: a settings record, and then one event after the other.
+ghost use Rattle.events.specs.Runs.{Ran, PlayedOn, StartedWith, OneText, OneBroken};
+
+use crate::bench::Bench;
+use crate::errors::RunError;
+use crate::lines::{Format, Line};
+use crate::output::{finish, pass_on};
+use crate::reading::read_event;
+use crate::{EVENT_LIMIT, InputEnd, RUN_CAPACITY_LIMIT};
+use device::Device;
+use std::io::{Read, Write};
+
+// The bytes of the longest medium, as the settings record is limited.
+const MEDIUM_LIMIT: usize = (RUN_CAPACITY_LIMIT as usize) * Device::SECTOR_SIZE;
+
+// The events behind the settings record, whose line stands in `lines`.
+fn play_on<R: Read, W: Write>(
+    format: Format,
+    reader: &mut R,
+    out: &mut W,
+    lines: &mut Vec<u8>,
+    bench: &mut Bench,
+) -> Result<(), RunError>
+    ensures { PlayedOn format.traced bench.old lines.old.items (R.remaining reader.old) (R.remaining reader.new) (W.contents out.old) (W.contents out.new) result }
+{
+    let mut room = [0u8; EVENT_LIMIT];
+    for number in 1..u64::MAX {
+        match read_event(reader, &mut room, false) {
+            Ok(Ok(event)) => {
+                bench.play_and_tell(format, lines, number, event)?;
+                pass_on(out, lines)?;
+            }
+            Ok(Err(end)) => return finish(out, lines, Ok(end)),
+            Err(failed) => return finish(out, lines, Err(RunError::Input(failed))),
+        }
+    }
+    finish(out, lines, Err(RunError::TooMany))
+}
+
+// The settings record, and what follows it.
+fn start_with<R: Read, W: Write>(
+    format: Format,
+    reader: &mut R,
+    out: &mut W,
+    settings: &[u8],
+) -> Result<(), RunError>
+    ensures { StartedWith format.traced settings.now (R.remaining reader.old) (R.remaining reader.new) (W.contents out.old) (W.contents out.new) result }
+{
+    let begun = crate::start(settings);
+    let mut lines = Vec::new(format.alloc);
+    let line = Line {
+        number: 0,
+        refusal: begun.as_ref().err().copied(),
+        outstanding: 0,
+        replies: &[],
+    };
+    format
+        .write_line(&mut lines, &line)
+        .map_err(|_| RunError::Memory)?;
+    let Ok(sealed) = begun else {
+        return finish(out, &lines, Ok(InputEnd::Clean));
+    };
+    let mut medium = [0u8; MEDIUM_LIMIT];
+    let size = sealed.device.settings.medium_size();
+    let mut reply = [0u8; Device::REPLY_SIZE];
+    let mut bench = Bench::new(sealed, &mut medium[..size], &mut reply);
+    play_on(format, reader, out, &mut lines, &mut bench)
+}
+
+/// Runs an event file: a line for each event, and `stop` where the input ends in no event.
+pub fn run<R: Read, W: Write>(format: Format, reader: &mut R, out: &mut W) -> Result<(), RunError>
+    ensures { Ran format.traced (R.remaining reader.old) (R.remaining reader.new) (W.contents out.old) (W.contents out.new) result }
+{
+    let mut room = [0u8; EVENT_LIMIT];
+    match read_event(reader, &mut room, true) {
+        Ok(Ok(event)) => start_with(format, reader, out, event),
+        Ok(Err(end)) => finish(out, &[], Ok(end)),
+        Err(failed) => finish(out, &[], Err(RunError::Input(failed))),
+    }
+}
+
+/// An input is events and a rest in one way, and two outputs that one ending allows for the same bytes read are equal.
+pub fn a_run_has_one_text()
+    ensures over { OneText }
+    ensures broken { OneBroken }
+{}

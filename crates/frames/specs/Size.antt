@@ -1,0 +1,46 @@
+-- Kinds and their lengths. Assumes nothing.
+use Rattle.std.specs.Prelude.{Bool, false, ◌&&◌, ℕ, ◌-◌, ◌%◌, eqb, leb, Option, Some, None}
+use Rattle.std.specs.Option.{option_eq, option_and_then, option_map_or}
+use Rattle.bits.specs.Pick.{pick}
+use Rattle.frames.specs.declared.kinds.FrameKind.{FrameKind}
+use Rattle.frames.specs.declared.kinds.FrameKind.TheVariants.{HostRegister, DeviceRegister, DmaActivate, DmaSetup, Data, BistActivate, PioSetup, SetDeviceBits}
+
+-- the kind that a byte names, if it names one
+abbrev pub kindNamed : ℕ → Option FrameKind
+kindNamed byte =
+    pick (eqb byte 0x27) (Some HostRegister)
+    (pick (eqb byte 0x34) (Some DeviceRegister)
+    (pick (eqb byte 0x39) (Some DmaActivate)
+    (pick (eqb byte 0x41) (Some DmaSetup)
+    (pick (eqb byte 0x46) (Some Data)
+    (pick (eqb byte 0x58) (Some BistActivate)
+    (pick (eqb byte 0x5F) (Some PioSetup)
+    (pick (eqb byte 0xA1) (Some SetDeviceBits) None)))))))
+
+-- the length that a kind fixes; a data frame's is not fixed
+abbrev pub sizeOf : FrameKind → Option ℕ
+sizeOf HostRegister = Some 20
+sizeOf DeviceRegister = Some 20
+sizeOf DmaActivate = Some 4
+sizeOf DmaSetup = Some 28
+sizeOf Data = None
+sizeOf BistActivate = Some 12
+sizeOf PioSetup = Some 20
+sizeOf SetDeviceBits = Some 8
+
+-- the length that a byte's kind fixes; 46h and an unknown kind fix none
+unfoldable pub fixedSize : ℕ → Option ℕ
+fixedSize byte = option_and_then sizeOf (kindNamed byte)
+
+-- a payload is 4 to 8,192 bytes in steps of 4
+abbrev pub payloadSize : ℕ → Bool
+payloadSize n = leb 4 n && leb n 8192 && eqb (n % 4) 0
+
+-- a frame of a kind may be n bytes long: a data frame 8 to 8,196 in steps of 4, which is a payload behind 4 bytes; any other kind fixes a length, and it is n
+abbrev pub allows : FrameKind → ℕ → Bool
+allows Data n = payloadSize (n - 4)
+allows kind n = option_eq eqb (sizeOf kind) (Some n)
+
+-- the byte names a kind, and a frame of it may be n bytes long
+unfoldable pub readable : ℕ → ℕ → Bool
+readable byte n = option_map_or (λ kind. allows kind n) (kindNamed byte) false

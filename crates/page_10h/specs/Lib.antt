@@ -1,2 +1,0 @@
-pub mod Page10
-pub mod Others

@@ -1,8 +1,0 @@
-use Rattle.std.proofs.Common.{ap, ◌∙◌, rules, Some}
-use Rattle.page_11h.proofs.Counting.{counts-fault}
-use Rattle.page_11h.proofs.others.count_walked.Goals as goal
-
-pub returns-in_err-entry : goal.returns-in_err-entry
-returns-in_err-entry c =
-    let e = counts-fault c.loop-entry.invariant c.next.ensures.steps _ (c.in-Some.is ∙ ap Some c.in_err-entry.was) in
-    rw e (search rules)

@@ -1,5 +1,0 @@
-use Rattle.page_11h.proofs.Walking.{Ahead}
-use Rattle.page_11h.proofs.page11.find_counter.Given as goal
-
-abbrev pub invariant-loop-entry : goal.invariant-loop-entry
-invariant-loop-entry l = Ahead l.page l.number l.entry-iterator l.found

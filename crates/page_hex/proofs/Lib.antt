@@ -1,5 +1,0 @@
-pub mod Collecting
-pub mod RoundTrip
-pub mod Spaces
-pub mod Swapping
-pub mod Tied

@@ -1,2 +1,0 @@
-pub mod Text
-pub mod Words

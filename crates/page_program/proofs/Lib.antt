@@ -1,4 +1,0 @@
-pub mod Filing
-pub mod Fits
-pub mod Owing
-pub mod Tied

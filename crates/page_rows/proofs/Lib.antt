@@ -1,4 +1,0 @@
-pub mod RowLaws
-pub mod Filling
-pub mod Bytes11
-pub mod Tied

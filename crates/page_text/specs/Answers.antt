@@ -1,0 +1,41 @@
+-- How the telling of a page went, and what is written of it. Assumes nothing.
+use Rattle.std.specs.Prelude.{ℕ, List, codes, Option, Some, None}
+use Rattle.refusals.specs.First.{refusal_in}
+use Rattle.refusals.specs.declared.reasons.Refusal.{Refusal}
+use Rattle.frames.specs.declared.log_pages.LogPage.{LogPage}
+use Rattle.frames.specs.declared.log_pages.LogPage.TheVariants.{Errors, Counters}
+use Rattle.page_text.specs.Fields.{log_told, fields_text}
+use Rattle.page_text.specs.Counters.{counters_told, counters_text}
+use Rattle.page_text.specs.declared.answers.Answer.{Answer}
+use Rattle.page_text.specs.declared.answers.Answer.TheVariants.{Told, Refused, NotAPage, Stopped, Unopened}
+
+-- what is printed of either page
+unfoldable pub text_of : LogPage → List ℕ → List ℕ
+text_of Errors page = fields_text page
+text_of Counters page = counters_text page
+
+-- why either page is refused, if it is
+unfoldable pub refusal_of : LogPage → List ℕ → Option Refusal
+refusal_of Errors page = refusal_in (log_told page)
+refusal_of Counters page = refusal_in (counters_told page)
+
+-- a page that is not refused is told
+abbrev pub answer_by : Option Refusal → Answer
+answer_by None = Told
+answer_by (Some refusal) = Refused
+
+-- the exit status: 0 a page told in full, 1 a page refused, 3 a page unread
+abbrev pub status_of : Answer → ℕ
+status_of Told = 0
+status_of Refused = 1
+status_of NotAPage = 3
+status_of Stopped = 3
+status_of Unopened = 3
+
+-- an input that is no page's text
+abbrev pub unread_text : List ℕ
+unread_text = codes "unread\n"
+
+-- a read failed
+abbrev pub stop_text : List ℕ
+stop_text = codes "stop\n"

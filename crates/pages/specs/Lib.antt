@@ -1,0 +1,9 @@
+pub mod Sum
+pub mod Layout11
+pub mod Page10
+pub mod Others10
+pub mod Entries
+pub mod Read11
+pub mod WalkStep
+pub mod Top
+pub mod Others11

@@ -1,0 +1,11 @@
+-- Values of page 11h that stand at the top of their width. Assumes nothing.
+use Rattle.std.specs.Prelude.{ℕ, ◌*◌, ◌-◌, ◌^◌, min, Bool, eqb}
+use Rattle.pages.specs.declared.value.CounterValue.{CounterValue}
+
+-- the largest value of n bytes, of which a value has at most 8
+unfoldable pub topOf : ℕ → ℕ
+topOf n = 2 ^ (8 * min n 8) - 1
+
+-- a value is the largest of its width
+unfoldable pub atTop : CounterValue → Bool
+atTop v = eqb v.value (topOf v.bytes)

@@ -1,0 +1,10 @@
+// The numbers that a counter may have.
+ghost use Rattle.std.specs.Prelude.{◌≡◌, not};
+ghost use Rattle.pages.specs.Read11.{noNumber};
+
+/// Whether a counter may have this number: 1 to FFFh, the twelve bits of an identifier but 0.
+pub fn is_counter_number(number: u16) -> bool
+    ensures { result ≡ not (noNumber number) }
+{
+    (1..=0xfff).contains(&number)
+}

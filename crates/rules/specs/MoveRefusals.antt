@@ -1,0 +1,11 @@
+-- What is refused for what has moved of a command, in bytes. Assumes nothing.
+use Rattle.std.specs.Prelude.{Bool, not, ◌&&◌, ◌||◌, ℕ, ltb}
+use Rattle.device_state.specs.Progress.{wholly}
+
+-- 6: the payload is longer than what is left
+abbrev pub longer : ℕ → ℕ → Bool
+longer left n = ltb left n
+
+-- 11: a tag of the set that is not outstanding or not wholly moved
+abbrev pub notReady : Bool → Bool → ℕ → ℕ → Bool
+notReady asked busy moved whole = asked && (not busy || not (wholly moved whole))

@@ -1,0 +1,78 @@
+// Which rule holds for a command.
+ghost use Rattle.std.specs.Prelude.{◌≡◌};
+ghost use Rattle.device_state.specs.Range.{tooFar};
+ghost use Rattle.rules.specs.QueuedRule.{tagRefused, queuedRule};
+ghost use Rattle.rules.specs.OtherRule.{otherRule, logZeroes};
+
+use crate::errors::CommandError;
+use device_state::Sectors;
+use frames::LogPage;
+
+/// A bad command, with its error.
+#[derive(Clone, Copy, Debug, PartialEq, Eq)]
+pub enum Bad {
+    /// Answered with the error, and no more.
+    Only(CommandError),
+    /// Answered with the error, and with a halt whose record holds it.
+    Halts(CommandError),
+}
+
+/// The tag that a queued command names.
+#[derive(Clone, Copy, Debug, PartialEq, Eq)]
+pub struct TagNamed {
+    /// 0 to 31, as five bits of a frame name it; a larger one is above every depth
+    pub tag: u8,
+    /// it is outstanding
+    pub busy: bool,
+}
+
+impl TagNamed {
+    /// True where it is at or above the depth, or outstanding already.
+    pub fn is_refused(self, depth: u32) -> bool
+        ensures { result ≡ tagRefused depth self.tag self.busy }
+    {
+        depth <= u32::from(self.tag) || self.busy
+    }
+}
+
+/// Rules 1 to 4 of a queued command: bad, or good.
+pub fn queued_rule(
+    halted: bool,
+    depth: u32,
+    tag: TagNamed,
+    capacity: u32,
+    sectors: Sectors,
+) -> Result<(), Bad>
+    ensures { result ≡ queuedRule halted (tagRefused depth tag.tag tag.busy) (tooFar capacity sectors.first sectors.count) }
+{
+    if halted {
+        return Err(Bad::Only(CommandError::Aborted));
+    }
+    if tag.is_refused(depth) {
+        return Err(Bad::Halts(CommandError::Aborted));
+    }
+    if sectors.is_beyond(capacity) {
+        return Err(Bad::Halts(CommandError::IdNotFound));
+    }
+    Ok(())
+}
+
+/// Any other command: bad, or the log page that is sent. `page`: the one that it asks for, if it asks for one. `busy`: something is outstanding.
+pub fn other_rule(halted: bool, page: Option<LogPage>, busy: bool) -> Result<LogPage, Bad>
+    ensures { result ≡ otherRule halted page busy }
+{
+    if halted && page != Some(LogPage::Errors) {
+        return Err(Bad::Only(CommandError::Aborted));
+    }
+    if busy {
+        return Err(Bad::Halts(CommandError::Aborted));
+    }
+    page.ok_or(Bad::Only(CommandError::Aborted))
+}
+
+/// True where page 11h zeroes the counters once it is made. `features`: the low byte of the command that asks for it.
+pub fn log_zeroes(features: u8) -> bool
+    ensures { result ≡ logZeroes features }
+{
+    frames::flag(features, 0)
+}

@@ -1,4 +1,0 @@
-pub mod Moved
-pub mod Errors
-pub mod Queued
-pub mod Other
