@@ -2,16 +2,16 @@
 use Rattle.std.proofs.Common.{◌≡◌, sym, ap, ap₂, ◌∙◌, List, ◌++◌, append_assoc, append-nil, ℕ, ◌+◌, ◌-◌, ◌≤◌, ◌<◌, le_of_eq, length, take, drop, length-append, length-drop, drop_of_length-le, take_all, take_at, drop_at, drop-drop, leb, le-leb}
 use borrow.Rule.Slice.PartMut.{mid_of, put_mid}
 use borrow.Author.Tests.{lt-leb}
-use Rattle.bits.specs.Laid.{laid, over}
+use Rattle.bits.specs.Laid.{overlay, overlay_with_room}
 use Rattle.bits.proofs.Picks.{pick_yes, pick_no}
 
-pub over_no : (s d : List ℕ) → length d < length s → over s d ≡ d
-unfolding over
-over_no s d h = pick_no (leb (length s) (length d)) (laid s d) d (lt-leb (length s) (length d) h)
+pub over_no : (s d : List ℕ) → length d < length s → overlay_with_room s d ≡ d
+unfolding overlay_with_room
+over_no s d h = pick_no (leb (length s) (length d)) (overlay s d) d (lt-leb (length s) (length d) h)
 
-pub over_yes : (s d : List ℕ) → length s ≤ length d → over s d ≡ laid s d
-unfolding over
-over_yes s d h = pick_yes (leb (length s) (length d)) (laid s d) d (le-leb (length s) (length d) h)
+pub over_yes : (s d : List ℕ) → length s ≤ length d → overlay_with_room s d ≡ overlay s d
+unfolding overlay_with_room
+over_yes s d h = pick_yes (leb (length s) (length d)) (overlay s d) d (le-leb (length s) (length d) h)
 
 -- the part from n on, and another list in its place
 pub rest_part : (n : ℕ) (l : List ℕ) → mid_of n (length l - n) l ≡ drop n l
@@ -21,8 +21,8 @@ pub rest_put : (n : ℕ) (l ys : List ℕ) → put_mid n (length l - n) l ys ≡
 rest_put n l ys = ap (λ (z : List ℕ). take n l ++ (ys ++ z)) (drop_of_length-le (drop n l) (le_of_eq (length-drop n l))) ∙ ap (λ (z : List ℕ). take n l ++ z) (append-nil ys)
 
 -- one behind the other: p stands in the first n places of xs, and q is laid over the part that p left
-pub laid_next : (n : ℕ) (p q l xs ys : List ℕ) → length p ≡ n → xs ≡ laid p l → ys ≡ laid q (mid_of n (length xs - n) xs)
-    → put_mid n (length xs - n) xs ys ≡ laid (p ++ q) l
+pub laid_next : (n : ℕ) (p q l xs ys : List ℕ) → length p ≡ n → xs ≡ overlay p l → ys ≡ overlay q (mid_of n (length xs - n) xs)
+    → put_mid n (length xs - n) xs ys ≡ overlay (p ++ q) l
 laid_next n p q l xs ys e x y =
     let x' : xs ≡ p ++ drop n l = x ∙ rw e in
     let d : drop n xs ≡ drop n l = ap (drop n) x' ∙ drop_at p (drop n l) n e in

@@ -5,41 +5,41 @@ use native.Mathlib.Nat.{zero-div}
 use Rattle.std.proofs.lemmas.Nat.Bits.{bit_at_or, bit_at_and, bit_at-pow_same, bit_at-pow_other, bit_at-lt}
 use lib.Pow.{split}
 use lib.Bits.{and_block, or_shifted}
-use Rattle.bits.specs.Bit.{bitIn}
+use Rattle.bits.specs.Bit.{bit_in}
 
 -- `(hi << k) | lo` at a width of w digits
-pub shl-or : (j k w : ℕ) {a b : ℕ} → j + k ≤ w → a < 2 ^ j → b < 2 ^ k → bit_or ((a * 2 ^ k) % 2 ^ w) b ≡ a * 2 ^ k + b
-shl-or j k w {a} {b} h ha hb = rw (shl_exact j k w ha h) (or_shifted a k b hb)
+pub shl_or : (j k w : ℕ) {a b : ℕ} → j + k ≤ w → a < 2 ^ j → b < 2 ^ k → bit_or ((a * 2 ^ k) % 2 ^ w) b ≡ a * 2 ^ k + b
+shl_or j k w {a} {b} h ha hb = rw (shl_exact j k w ha h) (or_shifted a k b hb)
 
 -- a mask of two runs: the digits from k on by a, those below by b
-pub and-two : (n k a b : ℕ) → b < 2 ^ k → bit_and n (a * 2 ^ k + b) ≡ bit_and (n / 2 ^ k) a * 2 ^ k + bit_and (n % 2 ^ k) b
-and-two n k a b h = ap (λ (x : ℕ). bit_and x (a * 2 ^ k + b)) (sym (split n k)) ∙ and_block k (n / 2 ^ k) a (n % 2 ^ k) b (mod-lt n (pow_pos k)) h
+pub and_two : (n k a b : ℕ) → b < 2 ^ k → bit_and n (a * 2 ^ k + b) ≡ bit_and (n / 2 ^ k) a * 2 ^ k + bit_and (n % 2 ^ k) b
+and_two n k a b h = ap (λ (x : ℕ). bit_and x (a * 2 ^ k + b)) (sym (split n k)) ∙ and_block k (n / 2 ^ k) a (n % 2 ^ k) b (mod-lt n (pow_pos k)) h
 
 -- no bit of 0 is on
-pub no-bit : (t : ℕ) → bitIn 32 0 t ≡ false
-no-bit t = rw (zero-div (2 ^ t)) (and-false (ltb t 32))
+pub no_bit : (t : ℕ) → bit_in 32 0 t ≡ false
+no_bit t = rw (zero-div (2 ^ t)) (and-false (ltb t 32))
 
 -- ---- the bits of `!m`, below the width
-not-odd : (p m : ℕ) → m < p * 2 → ((p * 2 - 1) - m) / 1 % 2 ≡ 1 - m / 1 % 2
-not-odd p m h = omega arith
+not_odd : (p m : ℕ) → m < p * 2 → ((p * 2 - 1) - m) / 1 % 2 ≡ 1 - m / 1 % 2
+not_odd p m h = omega arith
 
-not-half : (p m : ℕ) → m < p * 2 → ((p * 2 - 1) - m) / 2 ≡ (p - 1) - m / 2
-not-half p m h = omega arith
+not_half : (p m : ℕ) → m < p * 2 → ((p * 2 - 1) - m) / 2 ≡ (p - 1) - m / 2
+not_half p m h = omega arith
 
 pub bit_not : (w m t : ℕ) → m < 2 ^ w → t < w → ((2 ^ w - 1) - m) / 2 ^ t % 2 ≡ 1 - m / 2 ^ t % 2
 bit_not zero m t hm ht = absurd (omega arith)
-bit_not (suc w) m zero hm ht = rw (pow-suc 2 w) (not-odd (2 ^ w) m (rw (pow-suc 2 w) at hm))
+bit_not (suc w) m zero hm ht = rw (pow-suc 2 w) (not_odd (2 ^ w) m (rw (pow-suc 2 w) at hm))
 bit_not (suc w) m (suc t) hm ht =
     let h : m < 2 ^ w * 2 = rw (pow-suc 2 w) at hm in
-    rw (← (one-add t), ← (shr-shr ((2 ^ suc w - 1) - m) 1 t), ← (shr-shr m 1 t), pow-suc 2 w, not-half (2 ^ w) m h)
+    rw (← (one-add t), ← (shr-shr ((2 ^ suc w - 1) - m) 1 t), ← (shr-shr m 1 t), pow-suc 2 w, not_half (2 ^ w) m h)
     (bit_not w (m / 2) t (omega arith) (le_of_suc-le-suc ht))
 
 -- ---- a bit set, and bits cleared: `m | 1 << t`, `m & !s`
-pub bit-set-same : (m t : ℕ) → bit_or m (2 ^ t) / 2 ^ t % 2 ≡ 1
-bit-set-same m t = bit_at_or m (2 ^ t) t ∙ omega (arith, bit_at-pow_same t, bit_at-lt m t)
+pub bit_set_same : (m t : ℕ) → bit_or m (2 ^ t) / 2 ^ t % 2 ≡ 1
+bit_set_same m t = bit_at_or m (2 ^ t) t ∙ omega (arith, bit_at-pow_same t, bit_at-lt m t)
 
-pub bit-set-other : (m t k : ℕ) → (k ≡ t → ⊥) → bit_or m (2 ^ t) / 2 ^ k % 2 ≡ m / 2 ^ k % 2
-bit-set-other m t k ne = bit_at_or m (2 ^ t) k ∙ omega (arith, bit_at-pow_other t k ne)
+pub bit_set_other : (m t k : ℕ) → (k ≡ t → ⊥) → bit_or m (2 ^ t) / 2 ^ k % 2 ≡ m / 2 ^ k % 2
+bit_set_other m t k ne = bit_at_or m (2 ^ t) k ∙ omega (arith, bit_at-pow_other t k ne)
 
-pub bit-clear : (w m s k : ℕ) → s < 2 ^ w → k < w → bit_and m ((2 ^ w - 1) - s) / 2 ^ k % 2 ≡ min (m / 2 ^ k % 2) (1 - s / 2 ^ k % 2)
-bit-clear w m s k hs hk = bit_at_and m ((2 ^ w - 1) - s) k ∙ ap (min (m / 2 ^ k % 2)) (bit_not w s k hs hk)
+pub bit_clear : (w m s k : ℕ) → s < 2 ^ w → k < w → bit_and m ((2 ^ w - 1) - s) / 2 ^ k % 2 ≡ min (m / 2 ^ k % 2) (1 - s / 2 ^ k % 2)
+bit_clear w m s k hs hk = bit_at_and m ((2 ^ w - 1) - s) k ∙ ap (min (m / 2 ^ k % 2)) (bit_not w s k hs hk)

@@ -3,9 +3,9 @@ use Rattle.std.proofs.Common.{◌≡◌, refl, sym, Bool, true, false, not, ◌&
 use Rattle.bits.specs.Pick.{pick}
 
 -- what holds of either of two, each under what the test then says, holds of the one that is picked
-pub by-test : {A : Type 0} (P : A → Type 0) (b : Bool) (x y : A) → (b ≡ true → P x) → (b ≡ false → P y) → P (pick b x y)
-by-test P true x y t f = t refl
-by-test P false x y t f = f refl
+pub by_test : {A : Type 0} (P : A → Type 0) (b : Bool) (x y : A) → (b ≡ true → P x) → (b ≡ false → P y) → P (pick b x y)
+by_test P true x y t f = t refl
+by_test P false x y t f = f refl
 
 pub pick_yes : {A : Type 0} (b : Bool) (x y : A) → b ≡ true → pick b x y ≡ x
 pick_yes b x y e = rw e
@@ -38,5 +38,5 @@ or_right true false e = refl
 or_right false b e = e
 
 -- less than is not at most, the other way round
-pub not-leb : (a b : ℕ) → not (leb a b) ≡ ltb b a
-not-leb a b = ⊎_elim (λ (t : leb a b ≡ true). rw t (sym (le-ltb b a (leb-true a b t)))) (λ (t : leb a b ≡ false). rw t (sym (lt-ltb b a (leb-false a b t)))) (tested (leb a b))
+pub not_leb : (a b : ℕ) → not (leb a b) ≡ ltb b a
+not_leb a b = ⊎_elim (λ (t : leb a b ≡ true). rw t (sym (le-ltb b a (leb-true a b t)))) (λ (t : leb a b ≡ false). rw t (sym (lt-ltb b a (leb-false a b t)))) (tested (leb a b))

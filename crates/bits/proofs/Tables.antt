@@ -7,14 +7,14 @@ use Rattle.std.proofs.lemmas.Nat.Bits.{bit_at-suc}
 use Rattle.std.proofs.lemmas.List.Sums.{sum_by-cons}
 
 -- ---- counts: `ones m` is the sum of what the elements of a list say, where each says bit i of m
-pub ones-tied : {A : Type 0} (f : A → ℕ) (d : A) (xs : List A) (m : ℕ) → m < 2 ^ length xs
+pub ones_tied : {A : Type 0} (f : A → ℕ) (d : A) (xs : List A) (m : ℕ) → m < 2 ^ length xs
     → ((i : ℕ) → i < length xs → m / 2 ^ i % 2 ≡ f (get_or xs i d)) → ones m ≡ sum_by f xs
 unfolding ones
-ones-tied f d [] m h e = ap ones (lt-one h)
-ones-tied f d (x ∷ xs) m h e =
+ones_tied f d [] m h e = ap ones (lt-one h)
+ones_tied f d (x ∷ xs) m h e =
     ones_step m
     ∙ ap₂ (λ (a b : ℕ). a + b) (ap (λ (n : ℕ). n % 2) (sym (div-one m)) ∙ e 0 (zero-lt-suc (length xs)))
-    (ones-tied f d xs (m / 2) (shr_lt (length xs) 1 (rw add-one h))
+    (ones_tied f d xs (m / 2) (shr_lt (length xs) 1 (rw add-one h))
     (λ i hi. sym (bit_at-suc m i) ∙ e (suc i) (suc-le-suc hi)))
     ∙ sym (sum_by-cons f x xs)
 

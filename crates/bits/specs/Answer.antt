@@ -7,6 +7,6 @@ pub record Answer : Type 0 where
   pub values : List ℕ
 
 -- a flag as a number
-abbrev pub bitNumber : Bool → ℕ
-bitNumber true = 1
-bitNumber false = 0
+abbrev pub bit_number : Bool → ℕ
+bit_number true = 1
+bit_number false = 0

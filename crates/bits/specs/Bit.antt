@@ -4,18 +4,18 @@ use Rattle.std.specs.Int.Bits.{bit_and, bit_or}
 use Rattle.bits.specs.Pick.{pick}
 
 -- bit t of m is on; an index of w or more gives false
-abbrev pub bitIn : ℕ → ℕ → ℕ → Bool
-bitIn w m t = ltb t w && eqb (m / 2 ^ t % 2) 1
+abbrev pub bit_in : ℕ → ℕ → ℕ → Bool
+bit_in w m t = ltb t w && eqb (m / 2 ^ t % 2) 1
 
 -- m with bit t on; with an index of w or more, m as it is
-abbrev pub withBitIn : ℕ → ℕ → ℕ → ℕ
-withBitIn w m t = pick (ltb t w) (bit_or m (2 ^ t)) m
+abbrev pub with_bit_in : ℕ → ℕ → ℕ → ℕ
+with_bit_in w m t = pick (ltb t w) (bit_or m (2 ^ t)) m
 
 -- m with all bits of s off
-abbrev pub clearIn : ℕ → ℕ → ℕ → ℕ
-clearIn w m s = bit_and m ((2 ^ w - 1) - s)
+abbrev pub clear_in : ℕ → ℕ → ℕ → ℕ
+clear_in w m s = bit_and m ((2 ^ w - 1) - s)
 
 -- 2 ^ k where the flag is on, else 0
-abbrev pub bitByte : Bool → ℕ → ℕ
-bitByte true k = 2 ^ k
-bitByte false k = 0
+abbrev pub bit_byte : Bool → ℕ → ℕ
+bit_byte true k = 2 ^ k
+bit_byte false k = 0

@@ -5,13 +5,13 @@ use Rattle.std.specs.Borrow.{Bor, MutBor}
 use Rattle.bits.specs.Contract.{Allows}
 use Rattle.bits.specs.Little.{Bytes}
 use Rattle.refusals.specs.declared.reasons.Refusal.{Refusal}
-use Rattle.device.specs.Device.{zeroDevice}
+use Rattle.device.specs.Device.{zero_device}
 use Rattle.device.specs.Lent.{gave, answered}
-use Rattle.device.specs.Sealing.{poweredOf}
+use Rattle.device.specs.Sealing.{powered_of}
 use Rattle.device.specs.declared.sealed.Sealed.{Sealed}
 use Rattle.device.specs.declared.state.Device.{Device}
 use Rattle.device.specs.declared.state.Outcome.{Outcome}
-use Rattle.device.proofs.Kept.{never-zeros}
+use Rattle.device.proofs.Kept.{never_zeros}
 use Rattle.events.specs.Settings.{asked_of}
 use Rattle.events.specs.Start.{start_by, start_of}
 use Rattle.events.proofs.play as playing
@@ -19,39 +19,39 @@ use Rattle.events.proofs.start as starting
 use Rattle.events.specs.contracts.play as play-said
 use Rattle.events.specs.contracts.start as start-said
 use Rattle.caller.specs.Playing.{Play, play, PlayGiven, PlayContinues, EachPlay, HeldBy}
-use Rattle.caller.proofs.Plays.{plays-history}
+use Rattle.caller.proofs.Plays.{plays_history}
 
 -- what the contract of `events::play` allows of a device: its event is of bytes
 pub data PlayCode : Device → Play → Type 0 where
-  play-code : (κs : Lfts 4) (k : MutBor Sealed) (e : Bor (List ℕ)) (m b : MutBor (List ℕ)) (r : Result ℕ Refusal) (k' : Sealed) (m' b' : List ℕ) → Bytes e.now
+  play_code : (κs : Lfts 4) (k : MutBor Sealed) (e : Bor (List ℕ)) (m b : MutBor (List ℕ)) (r : Result ℕ Refusal) (k' : Sealed) (m' b' : List ℕ) → Bytes e.now
       → Allows play-said.ended playing.Reads.Post κs (k, (e, (m, (b, tt)))) r (k', (tt, (m', (b', tt)))) → PlayCode k.now.device (play e.now m.now b.now (gave (answered k'.device r) m' b'))
 
 -- what the contract of `events::start` allows
 pub data StartCode : List ℕ → Outcome → Type 0 where
-  start-code : (κs : Lfts 1) (e : Bor (List ℕ)) (r : Result Sealed Refusal) → Allows start-said.ended starting.Reads.Post κs (e, tt) r (tt, tt) → StartCode e.now (poweredOf r)
+  start_code : (κs : Lfts 1) (e : Bor (List ℕ)) (r : Result Sealed Refusal) → Allows start-said.ended starting.Reads.Post κs (e, tt) r (tt, tt) → StartCode e.now (powered_of r)
 
-play-given : (d : Device) (p : Play) → PlayCode d p → PlayGiven d p
-play-given d p (play-code κs k e m b r k' m' b' w h) = (w, h)
+play_given : (d : Device) (p : Play) → PlayCode d p → PlayGiven d p
+play_given d p (play_code κs k e m b r k' m' b' w h) = (w, h)
 
-start-given : (s : List ℕ) (r : Outcome) → StartCode s r → r ≡ start_of s
-start-given s r (start-code κs e x h) = h
+start_given : (s : List ℕ) (r : Outcome) → StartCode s r → r ≡ start_of s
+start_given s r (start_code κs e x h) = h
 
-each-given : (d : Device) (ps : List Play) → EachPlay PlayCode d ps → EachPlay PlayGiven d ps
+each_given : (d : Device) (ps : List Play) → EachPlay PlayCode d ps → EachPlay PlayGiven d ps
 unfolding EachPlay
-each-given d [] h = tt
-each-given d (p ∷ ps) h = (play-given d p h.0, each-given p.gave.outcome.state ps h.1)
+each_given d [] h = tt
+each_given d (p ∷ ps) h = (play_given d p h.0, each_given p.gave.outcome.state ps h.1)
 
 -- every sequence of results that the contracts of `events::start` and `events::play` allow, whatever its events, media and reply buffers
-pub plays-history-code : (s : List ℕ) (r : Outcome) (ps : List Play) → StartCode s r → EachPlay PlayCode r.state ps → EachPlay PlayContinues r.state ps × HeldBy (asked_of s) r ps
-plays-history-code s r ps b h =
-    subst (λ (o : Outcome). EachPlay PlayCode o.state ps → EachPlay PlayContinues o.state ps × HeldBy (asked_of s) o ps) (sym (start-given s r b)) (λ q. plays-history s ps (each-given (start_of s).state ps q)) h
+pub plays_history_code : (s : List ℕ) (r : Outcome) (ps : List Play) → StartCode s r → EachPlay PlayCode r.state ps → EachPlay PlayContinues r.state ps × HeldBy (asked_of s) r ps
+plays_history_code s r ps b h =
+    subst (λ (o : Outcome). EachPlay PlayCode o.state ps → EachPlay PlayContinues o.state ps × HeldBy (asked_of s) o ps) (sym (start_given s r b)) (λ q. plays_history s ps (each_given (start_of s).state ps q)) h
 
 -- the zeros are no device: nothing is played with them
-never-played : (d : Device) (p : Play) → PlayCode d p → d ≡ zeroDevice → ⊥
-never-played d p (play-code κs k e m b r k' m' b' w h) z = never-zeros k.now z
+never_played : (d : Device) (p : Play) → PlayCode d p → d ≡ zero_device → ⊥
+never_played d p (play_code κs k e m b r k' m' b' w h) z = never_zeros k.now z
 
 -- nor behind a settings record that asks for no settings
-pub none-played : (s : List ℕ) (r : Outcome) (ps : List Play) → asked_of s ≡ None → StartCode s r → EachPlay PlayCode r.state ps → ps ≡ []
-unfolding EachPlay start_of start_by poweredOf
-none-played s r [] a b h = refl
-none-played s r (p ∷ ps) a b h = absurd (never-played r.state p h.0 (ap (λ (o : Outcome). o.state) (start-given s r b ∙ ap start_by a)))
+pub none_played : (s : List ℕ) (r : Outcome) (ps : List Play) → asked_of s ≡ None → StartCode s r → EachPlay PlayCode r.state ps → ps ≡ []
+unfolding EachPlay start_of start_by powered_of
+none_played s r [] a b h = refl
+none_played s r (p ∷ ps) a b h = absurd (never_played r.state p h.0 (ap (λ (o : Outcome). o.state) (start_given s r b ∙ ap start_by a)))

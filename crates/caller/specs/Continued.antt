@@ -6,7 +6,7 @@ use Rattle.device.specs.declared.state.Outcome.{Outcome}
 use Rattle.rules.specs.Call.{Call}
 use Rattle.device.specs.Lent.{Lent, lent, Gave, gave}
 use Rattle.history.specs.Run.{Done, done, AllTyped}
-use Rattle.history.specs.Follows.{final, lents, historyOf, Began}
+use Rattle.history.specs.Follows.{final, lents, history_of, Began}
 use Rattle.history.specs.Promised.{Promised}
 
 -- d is the state that the last call of xs returned: calls from power-on with the settings s, which gave r
@@ -18,7 +18,7 @@ pub record Reached (s : Settings) (r : Outcome) (xs : List Done) (d : Device) : 
 -- then all that is promised holds of their history, and of d behind it
 pub record Holds (s : Settings) (r : Outcome) (xs : List Done) (d : Device) : Type 0 where
   pub reached : Reached s r xs d
-  pub promised : Promised s r d (historyOf xs)
+  pub promised : Promised s r d (history_of xs)
 
 -- whatever the calls were that led to the state d: with this one more, all that holds
 abbrev pub Continues : Device → Lent → Gave → Type 0

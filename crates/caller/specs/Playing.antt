@@ -6,13 +6,13 @@ use Rattle.refusals.specs.declared.reasons.Refusal.{Refusal}
 use Rattle.refusals.specs.declared.reasons.Refusal.TheVariants.{Contradiction, NoFrame}
 use Rattle.device_state.specs.declared.shapes.Settings.{Settings}
 use Rattle.device.specs.Lent.{lent, Gave, gave, answered}
-use Rattle.device.specs.Sealing.{poweredOf}
+use Rattle.device.specs.Sealing.{powered_of}
 use Rattle.device.specs.Step.{Gives, bytes_of}
 use Rattle.device.specs.declared.sealed.Sealed.{Sealed}
 use Rattle.device.specs.declared.state.Device.{Device}
 use Rattle.device.specs.declared.state.Outcome.{Outcome}
-use Rattle.events.specs.Calls.{callFor}
-use Rattle.events.specs.Played.{eventStep}
+use Rattle.events.specs.Calls.{call_for}
+use Rattle.events.specs.Played.{event_step}
 use Rattle.events.specs.Lines.{line_of}
 use Rattle.events.specs.Running.{kept, told}
 use Rattle.history.specs.Run.{Done, done}
@@ -20,7 +20,7 @@ use Rattle.caller.specs.Continued.{Reached, Holds, Continues, Begins}
 
 -- power-on by a settings record begins a history with the settings that it asks for; where it asks for none, 1, and there is no device
 abbrev pub BeginsBy : Option Settings → Result Sealed Refusal → Type 0
-BeginsBy (Some asked) r = Begins asked (poweredOf r)
+BeginsBy (Some asked) r = Begins asked (powered_of r)
 BeginsBy None r = r ≡ Err Contradiction
 
 -- one event as it was played: its bytes, the medium and the reply buffer lent to it, and what came back
@@ -35,18 +35,18 @@ abbrev pub play : List ℕ → List ℕ → List ℕ → Gave → Play
 play e m b g = record { event = e; medium = m; buffer = b; gave = g }
 
 -- its call as it went, if it made one in the state d
-abbrev pub doneBy : Device → Play → Option Done
-doneBy d p = option_map (λ c. done (lent c p.medium p.buffer) p.gave) (callFor d p.event)
+abbrev pub done_by : Device → Play → Option Done
+done_by d p = option_map (λ c. done (lent c p.medium p.buffer) p.gave) (call_for d p.event)
 
 -- those of all events, the oldest first, each in the state that the last one left
-unfoldable pub donesAll : Device → List Play → List Done
-donesAll d [] = []
-donesAll d (p ∷ ps) = option_to_list (doneBy d p) ++ donesAll p.gave.outcome.state ps
+unfoldable pub dones_all : Device → List Play → List Done
+dones_all d [] = []
+dones_all d (p ∷ ps) = option_to_list (done_by d p) ++ dones_all p.gave.outcome.state ps
 
 -- the state that they end with
-unfoldable pub endState : Device → List Play → Device
-endState d [] = d
-endState d (p ∷ ps) = endState p.gave.outcome.state ps
+unfoldable pub end_state : Device → List Play → Device
+end_state d [] = d
+end_state d (p ∷ ps) = end_state p.gave.outcome.state ps
 
 -- the event's call continues every history that led to the state d; where it makes none, 24, and nothing has changed
 unfoldable pub ContinuesBy : Device → Play → Option Done → Type 0
@@ -55,11 +55,11 @@ ContinuesBy d p (Some x) = Continues d x.lent x.gave
 
 -- by the call that it makes there
 abbrev pub PlayContinues : Device → Play → Type 0
-PlayContinues d p = ContinuesBy d p (doneBy d p)
+PlayContinues d p = ContinuesBy d p (done_by d p)
 
 -- what came back is what the contract of `events::play` promises in the state d; an event is of bytes, as what stands in a slice of them always is
 abbrev pub PlayGiven : Device → Play → Type 0
-PlayGiven d p = Bytes p.event × Gives (eventStep d p.event p.medium p.buffer) p.buffer p.gave
+PlayGiven d p = Bytes p.event × Gives (event_step d p.event p.medium p.buffer) p.buffer p.gave
 
 -- one event after the other, each as R allows it in the state that the last one left
 unfoldable pub EachPlay : (Device → Play → Type 0) → Device → List Play → Type 0
@@ -68,7 +68,7 @@ EachPlay R d (p ∷ ps) = R d p × EachPlay R p.gave.outcome.state ps
 
 -- whatever the calls were that led to the state d: with those of these events demand 3 holds of them
 abbrev pub PlaysHold : Device → List Play → Type 0
-PlaysHold d ps = (s : Settings) (r : Outcome) (xs : List Done) → Reached s r xs d → Holds s r (xs ++ donesAll d ps) (endState d ps)
+PlaysHold d ps = (s : Settings) (r : Outcome) (xs : List Done) → Reached s r xs d → Holds s r (xs ++ dones_all d ps) (end_state d ps)
 
 -- events that continue one by one hold together
 abbrev pub PlaysContinue : Type 0
@@ -82,7 +82,7 @@ GivenPlaysHold = (d : Device) (ps : List Play) → EachPlay PlayGiven d ps → E
 abbrev pub LineTold : Bool → ℕ → Device → Play → Type 0
 LineTold traced number d p =
     told traced number (kept d p.medium p.buffer) p.event
-    ≡ line_of traced number p.gave.outcome.refusal p.gave.outcome.state.status.outstanding (bytes_of (eventStep d p.event p.medium p.buffer))
+    ≡ line_of traced number p.gave.outcome.refusal p.gave.outcome.state.status.outstanding (bytes_of (event_step d p.event p.medium p.buffer))
 
 -- every event, numbered on
 unfoldable pub EachTold : Bool → ℕ → Device → List Play → Type 0
@@ -95,5 +95,5 @@ GivenPlaysTold = (traced : Bool) (n : ℕ) (d : Device) (ps : List Play) → Eac
 
 -- behind power-on by a settings record: demand 3 holds of these events, with the settings that it asks for; where it asks for none, 1, and there is no device
 abbrev pub HeldBy : Option Settings → Outcome → List Play → Type 0
-HeldBy (Some asked) r ps = Holds asked r (donesAll r.state ps) (endState r.state ps)
-HeldBy None r ps = r ≡ poweredOf (Err Contradiction)
+HeldBy (Some asked) r ps = Holds asked r (dones_all r.state ps) (end_state r.state ps)
+HeldBy None r ps = r ≡ powered_of (Err Contradiction)

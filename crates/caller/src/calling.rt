@@ -1,5 +1,5 @@
 // One call of the device each. Nothing here is taken from the definitions of the device: what is proved is what its contracts tell a caller.
-ghost use Rattle.rules.specs.Call.{hostFrame, happens};
+ghost use Rattle.rules.specs.Call.{host_frame, happens};
 ghost use Rattle.rules.specs.declared.event.DeviceEvent.TheVariants.{OpenPhase, SendData, FinishTags, MediaError, LinkEvent, Comreset};
 ghost use Rattle.device.specs.Lent.{lent, gave};
 ghost use Rattle.caller.specs.Continued.{Begins, Continues, ContinuesReplying, ContinuesAlone, FirstCall};
@@ -16,7 +16,7 @@ pub fn begin(settings: Settings) -> Outcome
 
 /// Host frame: 27h, 46h or 58h.
 pub fn host_frame(device: Device, frame: &[u8], medium: &mut [u8], reply: &mut [u8]) -> Outcome
-    ensures { Continues device (lent (hostFrame frame.now) medium.old reply.old) (gave result medium.new reply.new) }
+    ensures { Continues device (lent (host_frame frame.now) medium.old reply.old) (gave result medium.new reply.new) }
 {
     device.host_frame(frame, medium, reply)
 }

@@ -1,8 +1,8 @@
 // One call of a kept device each: what is proved is what its contracts tell a caller, and it is what those of the device that is handed on tell.
-ghost use Rattle.rules.specs.Call.{hostFrame, happens};
+ghost use Rattle.rules.specs.Call.{host_frame, happens};
 ghost use Rattle.rules.specs.declared.event.DeviceEvent.TheVariants.{OpenPhase, SendData, FinishTags, MediaError, LinkEvent, Comreset};
 ghost use Rattle.device.specs.Lent.{lent, gave, answered};
-ghost use Rattle.device.specs.Sealing.{poweredOf};
+ghost use Rattle.device.specs.Sealing.{powered_of};
 ghost use Rattle.caller.specs.Continued.{Begins, Continues, ContinuesReplying, ContinuesAlone};
 
 use device::Sealed;
@@ -11,7 +11,7 @@ use refusals::Refusal;
 
 /// Power-on.
 pub fn keep(settings: Settings) -> Result<Sealed, Refusal>
-    ensures { Begins settings (poweredOf result) }
+    ensures { Begins settings (powered_of result) }
 {
     Sealed::power_on(settings)
 }
@@ -23,7 +23,7 @@ pub fn kept_host_frame(
     medium: &mut [u8],
     reply: &mut [u8],
 ) -> Result<usize, Refusal>
-    ensures { Continues sealed.old.device (lent (hostFrame frame.now) medium.old reply.old) (gave (answered sealed.new.device result) medium.new reply.new) }
+    ensures { Continues sealed.old.device (lent (host_frame frame.now) medium.old reply.old) (gave (answered sealed.new.device result) medium.new reply.new) }
 {
     sealed.host_frame(frame, medium, reply)
 }

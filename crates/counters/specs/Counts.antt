@@ -7,9 +7,9 @@ abbrev pub top : ℕ
 top = 4294967295
 
 -- as many more, held at the top
-abbrev pub bumped : ℕ → ℕ → ℕ
-bumped value amount = min (value + amount) top
+abbrev pub next_count : ℕ → ℕ → ℕ
+next_count value amount = min (value + amount) top
 
 -- one event more at a row; rows are 0 to 15
-abbrev pub countedAt : List ℕ → ℕ → List ℕ
-countedAt values row = pick (leb 16 row) values (set values row (bumped (get_or values row 0) 1))
+abbrev pub counted_at : List ℕ → ℕ → List ℕ
+counted_at values row = pick (leb 16 row) values (set values row (next_count (get_or values row 0) 1))

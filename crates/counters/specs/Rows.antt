@@ -1,6 +1,6 @@
 -- The sixteen rows of page 11h, in the order in which the page has them. Assumes nothing.
 use Rattle.std.specs.Prelude.{ℕ, Bool, ◌&&◌, List, [], ◌∷◌, get_or, eqb, Option, Some, None, position}
-use Rattle.bits.specs.Bit.{bitIn}
+use Rattle.bits.specs.Bit.{bit_in}
 use Rattle.bits.specs.Answer.{Answer}
 
 -- 16 rows, in this order: 001h-00Bh, 00Dh, 00Fh, 010h, 012h, 013h
@@ -13,17 +13,17 @@ id_of row = get_or ids row 0
 
 -- a 16-bit mask says which rows are kept
 abbrev pub kept : ℕ → ℕ → Bool
-kept mask row = bitIn 16 mask row
+kept mask row = bit_in 16 mask row
 
 -- rows 0 (001h) and 9 (00Ah) always are
-abbrev pub keepsBoth : ℕ → Bool
-keepsBoth mask = kept mask 0 && kept mask 9
+abbrev pub keeps_both : ℕ → Bool
+keeps_both mask = kept mask 0 && kept mask 9
 
 -- the row of an identifier, if it has one
 unfoldable pub row_of : ℕ → Option ℕ
 row_of number = position (λ id. eqb id number) ids
 
 -- what each place tells: its row, or none
-unfoldable pub placeAnswer : Option ℕ → Answer
-placeAnswer (Some row) = record { number = 0; values = row ∷ [] }
-placeAnswer None = record { number = 0; values = [] }
+unfoldable pub place_answer : Option ℕ → Answer
+place_answer (Some row) = record { number = 0; values = row ∷ [] }
+place_answer None = record { number = 0; values = [] }

@@ -1,7 +1,7 @@
 // The sixteen rows of page 11h: which identifier each has, and which are kept. A row is a `usize` where it is a place among the
 // sixteen, and a `u8` where it is what an event names, which may be no row.
 ghost use Rattle.std.specs.Prelude.{◌≡◌};
-ghost use Rattle.counters.specs.Rows.{row_of, kept, keepsBoth};
+ghost use Rattle.counters.specs.Rows.{row_of, kept, keeps_both};
 
 /// How many rows there are: a counter each.
 pub const ROWS: usize = 16;
@@ -51,7 +51,7 @@ pub fn is_kept(mask: u16, row: usize) -> bool
 
 /// Whether the mask keeps rows 0 and 9, which are always kept.
 pub fn keeps_both(mask: u16) -> bool
-    ensures { result ≡ keepsBoth mask }
+    ensures { result ≡ keeps_both mask }
 {
     is_kept(mask, usize::from(INTERFACE_CRC_ROW)) && is_kept(mask, usize::from(COMRESET_ROW))
 }

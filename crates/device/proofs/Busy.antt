@@ -1,77 +1,77 @@
 -- What is known of an outstanding command in a state that does not contradict itself. Assumes nothing.
 use Rattle.std.proofs.Common.{is_none, unwrap_or, ◌≡◌, Bool, true, false, ℕ, ◌+◌, ◌-◌, ◌*◌, ◌%◌, ◌≤◌, ◌<◌, min, arith}
-use Rattle.bits.specs.Bit.{bitIn}
+use Rattle.bits.specs.Bit.{bit_in}
 use Rattle.device_state.specs.State.{whole_of}
 use Rattle.device_state.specs.Table.{entry_of}
-use Rattle.device_state.specs.Contradictory.{movedBad, busyBad, entryBad}
+use Rattle.device_state.specs.Contradictory.{moved_bad, busy_bad, entry_bad}
 use Rattle.device_state.specs.declared.shapes.Entry.{Entry}
 use Rattle.rules.specs.Positions.{left_of}
-use Rattle.device.specs.Device.{contradictoryDevice}
-use Rattle.device.specs.DataDue.{phaseEntry}
+use Rattle.device.specs.Device.{contradictory_device}
+use Rattle.device.specs.DataDue.{phase_entry}
 use Rattle.device.specs.declared.state.Device.{Device}
-use Rattle.device.proofs.Parts.{tag-good, status-good}
-use Rattle.device.proofs.StatusLaws.{phase-busy}
-use Rattle.device.proofs.Entering.{capacity-most}
-use Rattle.device.proofs.Keeping.{settings-good}
-use Rattle.device.proofs.Tags.{busy-below}
-use Rattle.device.proofs.Phases.{some-open, open-entry, own-open}
-use Rattle.device_state.specs.UnderWay.{openFor}
+use Rattle.device.proofs.Parts.{tag_good, status_good}
+use Rattle.device.proofs.StatusLaws.{phase_busy}
+use Rattle.device.proofs.Entering.{capacity_most}
+use Rattle.device.proofs.Keeping.{settings_good}
+use Rattle.device.proofs.Tags.{busy_below}
+use Rattle.device.proofs.Phases.{some_open, open_entry_lem, own_open}
+use Rattle.device_state.specs.UnderWay.{open_for}
 
 -- the phase of a tag is open
-abbrev pub phaseOf : Device → ℕ → Bool
-phaseOf d t = openFor d.status.phase t
+abbrev pub phase_of : Device → ℕ → Bool
+phase_of d t = open_for d.status.phase t
 
 -- its entry
-pub busy-good : (d : Device) (t : ℕ) → contradictoryDevice d ≡ false → bitIn 32 d.status.outstanding t ≡ true
-    → busyBad d.settings (entry_of d.entries t) t (phaseOf d t) ≡ false
-unfolding entryBad
-busy-good d t h b = rw b at (tag-good d h t (busy-below d.status.outstanding t b))
+pub busy_good : (d : Device) (t : ℕ) → contradictory_device d ≡ false → bit_in 32 d.status.outstanding t ≡ true
+    → busy_bad d.settings (entry_of d.entries t) t (phase_of d t) ≡ false
+unfolding entry_bad
+busy_good d t h b = rw b at (tag_good d h t (busy_below d.status.outstanding t b))
 
-module _ (d : Device) (t : ℕ) (h : contradictoryDevice d ≡ false) (b : bitIn 32 d.status.outstanding t ≡ true) where
+module _ (d : Device) (t : ℕ) (h : contradictory_device d ≡ false) (b : bit_in 32 d.status.outstanding t ≡ true) where
   abbrev e : Entry
   e = entry_of d.entries t
 
   -- its range lies within the capacity
-  pub range-within : e.first + e.count ≤ d.settings.capacity
-  unfolding busyBad movedBad
-  range-within = let busy = busy-good d t h b in grind arith
+  pub range_within : e.first + e.count ≤ d.settings.capacity
+  unfolding busy_bad moved_bad
+  range_within = let busy = busy_good d t h b in grind arith
 
   -- it has 512 bytes a sector
   pub whole_is : whole_of e.count ≡ 512 * e.count
   whole_is =
-      let range = range-within in
-      let most = capacity-most d.settings (settings-good d h) in
+      let range = range_within in
+      let most = capacity_most d.settings (settings_good d h) in
       omega arith
 
   -- no more has moved than it has bytes
-  pub moved-within : e.moved ≤ whole_of e.count
-  unfolding busyBad movedBad
-  moved-within = let busy = busy-good d t h b in grind arith
+  pub moved_within : e.moved ≤ whole_of e.count
+  unfolding busy_bad moved_bad
+  moved_within = let busy = busy_good d t h b in grind arith
 
   -- and whole Dwords
-  pub moved-fours : e.moved % 4 ≡ 0
-  unfolding busyBad movedBad
-  moved-fours = let busy = busy-good d t h b in grind arith
+  pub moved_fours : e.moved % 4 ≡ 0
+  unfolding busy_bad moved_bad
+  moved_fours = let busy = busy_good d t h b in grind arith
 
   -- an open phase has more to move
-  pub phase-more : phaseOf d t ≡ true → e.moved < whole_of e.count
-  unfolding busyBad movedBad
-  phase-more p = let busy = busy-good d t h b in grind arith
+  pub phase_more : phase_of d t ≡ true → e.moved < whole_of e.count
+  unfolding busy_bad moved_bad
+  phase_more p = let busy = busy_good d t h b in grind arith
 
 -- of the open phase
-pub moves-on : (d : Device) → contradictoryDevice d ≡ false → is_none d.status.phase ≡ false → (phaseEntry d).moved < whole_of (phaseEntry d).count
-moves-on d h p =
+pub moves_on : (d : Device) → contradictory_device d ≡ false → is_none d.status.phase ≡ false → (phase_entry d).moved < whole_of (phase_entry d).count
+moves_on d h p =
     let t = unwrap_or d.status.phase 0 in
-    let own : phaseOf d t ≡ true = own-open d.status.phase t (some-open d.status.phase p) in
-    rw (open-entry d.entries d.status.phase p) (phase-more d t h (phase-busy d.status d.errors.set (status-good d h) p) own)
+    let own : phase_of d t ≡ true = own_open d.status.phase t (some_open d.status.phase p) in
+    rw (open_entry_lem d.entries d.status.phase p) (phase_more d t h (phase_busy d.status d.errors.set (status_good d h) p) own)
 
 -- of whole Dwords, and of what is left of the open phase's command, the less is whole Dwords too
-pub part-fours : (d : Device) (k : ℕ) → contradictoryDevice d ≡ false → is_none d.status.phase ≡ false → k % 4 ≡ 0
+pub part_fours : (d : Device) (k : ℕ) → contradictory_device d ≡ false → is_none d.status.phase ≡ false → k % 4 ≡ 0
     → min k (left_of (entry_of d.entries (unwrap_or d.status.phase 0))) % 4 ≡ 0
-part-fours d k h p four =
+part_fours d k h p four =
     let t = unwrap_or d.status.phase 0 in
-    let old = moved-fours d t h (phase-busy d.status d.errors.set (status-good d h) p) in
-    less-fours k (entry_of d.entries t).count (entry_of d.entries t).moved four old
+    let old = moved_fours d t h (phase_busy d.status d.errors.set (status_good d h) p) in
+    less_fours k (entry_of d.entries t).count (entry_of d.entries t).moved four old
   where
-    less-fours : (k count moved : ℕ) → k % 4 ≡ 0 → moved % 4 ≡ 0 → min k (512 * min count 65536 - moved) % 4 ≡ 0
-    less-fours k count moved a b = omega arith
+    less_fours : (k count moved : ℕ) → k % 4 ≡ 0 → moved % 4 ≡ 0 → min k (512 * min count 65536 - moved) % 4 ≡ 0
+    less_fours k count moved a b = omega arith

@@ -5,25 +5,25 @@ use Rattle.refusals.specs.First.{unless}
 use Rattle.refusals.specs.declared.reasons.Refusal.{Refusal}
 use Rattle.refusals.specs.declared.reasons.Refusal.TheVariants.{Contradiction}
 use Rattle.rules.specs.Act.{does, act}
-use Rattle.rules.proofs.TestLaws.{test-laws}
-use Rattle.device.specs.Device.{contradictoryDevice}
+use Rattle.rules.proofs.TestLaws.{test_laws}
+use Rattle.device.specs.Device.{contradictory_device}
 use Rattle.device.specs.Lent.{Lent, gave, answered}
 use Rattle.device.specs.FactsOf.{facts_of}
-use Rattle.device.specs.Step.{actOf, step, Given}
+use Rattle.device.specs.Step.{act_of, step, Given}
 use Rattle.device.specs.declared.state.Device.{Device}
 use Rattle.device.specs.declared.state.Outcome.{Outcome}
-use Rattle.device.proofs.Turns.{step-refusal}
-use Rattle.device.proofs.Doing.{refused-given}
+use Rattle.device.proofs.Turns.{step_refusal}
+use Rattle.device.proofs.Doing.{refused_given}
 
-module _ (d : Device) (l : Lent) (h : contradictoryDevice d ≡ true) where
+module _ (d : Device) (l : Lent) (h : contradictory_device d ≡ true) where
   -- the row of each call begins with 1
   pub contradicted : (step d l).refusal ≡ Some Contradiction
-  contradicted = step-refusal d l ∙ (test-laws (facts_of d l) l.call).one h
+  contradicted = step_refusal d l ∙ (test_laws (facts_of d l) l.call).one h
 
-  act-contradicted : actOf d l ≡ Err Contradiction
-  unfolding actOf act
-  act-contradicted = ap (λ (o : Option Refusal). unless o (does (facts_of d l) l.call)) ((test-laws (facts_of d l) l.call).one h)
+  act_contradicted : act_of d l ≡ Err Contradiction
+  unfolding act_of act
+  act_contradicted = ap (λ (o : Option Refusal). unless o (does (facts_of d l) l.call)) ((test_laws (facts_of d l) l.call).one h)
 
   -- so a call that asks nothing more, and answers that, has kept its contract
   pub given_contradicted : (o : Outcome) → o ≡ answered d (Err Contradiction) → Given d l (gave o l.medium l.buffer)
-  given_contradicted o e = subst⁻¹ (λ (x : Outcome). Given d l (gave x l.medium l.buffer)) e (refused-given d l Contradiction (sym act-contradicted))
+  given_contradicted o e = subst⁻¹ (λ (x : Outcome). Given d l (gave x l.medium l.buffer)) e (refused_given d l Contradiction (sym act_contradicted))

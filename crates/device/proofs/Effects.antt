@@ -1,42 +1,42 @@
 -- What each change of the state does, said of its parts; and of every act: settings, record, phase, bytes. Assumes nothing.
 use Rattle.std.proofs.Common.{Option, None, is_none, ◌≡◌, refl, sym, subst, Bool, true, false, true≢false, ℕ, ◌<◌, lit<, replicate, arith}
 use Rattle.bits.specs.Pick.{pick}
-use Rattle.bits.specs.Bit.{bitIn}
-use Rattle.device_state.specs.State.{blankRecord, zeroEcho}
+use Rattle.bits.specs.Bit.{bit_in}
+use Rattle.device_state.specs.State.{blank_record, zero_echo}
 use Rattle.device_state.specs.declared.shapes.Echo.{Echo}
 use Rattle.device_state.specs.declared.shapes.Entry.{Entry}
 use Rattle.device_state.specs.declared.shapes.ErrorRecord.{ErrorRecord}
 use Rattle.rules.specs.declared.acts.Fault.{Fault}
 use Rattle.rules.specs.declared.acts.Act.{Act}
 use Rattle.rules.specs.declared.acts.Act.TheVariants.{BadAndHalt, Accept, Reset, Store, Open, Send, Finish, Media, Renew}
-use Rattle.device.specs.After.{withValue, haltWith, unhalted, zeroedIf, resetHeld, released, acceptedBy, movedBy, openedFor, finishedBy, failedBy, renewed, after_of}
+use Rattle.device.specs.After.{with_value, halt_with, unhalted_device, zeroed_if, reset_held, released_device, accepted_by, moved_by, opened_for, finished_by, failed_by, renewed_device, after_of}
 use Rattle.device.specs.declared.state.Device.{Device}
-use Rattle.device.proofs.Widths.{Small, SmallAll, Wide, zero-small, placed-small, cleared-small, idle-small}
+use Rattle.device.proofs.Widths.{Small, SmallAll, Wide, zero_small, placed_small, cleared_small, idle_small}
 
 -- halt: every outstanding command is given up, an open phase closes, the error record is set
-pub halt-effect : (d : Device) (f : Fault) → ((haltWith d f).status ≡ record { outstanding = 0; phase = None; halted = true; held = false }) × ((haltWith d f).errors.set ≡ true) × ((haltWith d f).values ≡ d.values)
-unfolding haltWith
-halt-effect d f = (refl, refl, refl)
+pub halt_effect : (d : Device) (f : Fault) → ((halt_with d f).status ≡ record { outstanding = 0; phase = None; halted = true; held = false }) × ((halt_with d f).errors.set ≡ true) × ((halt_with d f).values ≡ d.values)
+unfolding halt_with
+halt_effect d f = (refl, refl, refl)
 
 -- the halt ends, and nothing else changes of the record and the counters
-pub unhalted-effect : (d : Device) → ((unhalted d).status.halted ≡ false) × ((unhalted d).errors ≡ d.errors) × ((unhalted d).values ≡ d.values)
-unfolding unhalted
-unhalted-effect d = (refl, refl, refl)
+pub unhalted_effect : (d : Device) → ((unhalted_device d).status.halted ≡ false) × ((unhalted_device d).errors ≡ d.errors) × ((unhalted_device d).values ≡ d.values)
+unfolding unhalted_device
+unhalted_effect d = (refl, refl, refl)
 
 -- all sixteen counters are zeroed
-pub zeroed-effect : (d : Device) → ((zeroedIf d true).values ≡ replicate 16 0) × (zeroedIf d false ≡ d)
-unfolding zeroedIf
-zeroed-effect d = (refl, refl)
+pub zeroed_effect : (d : Device) → ((zeroed_if d true).values ≡ replicate 16 0) × (zeroed_if d false ≡ d)
+unfolding zeroed_if
+zeroed_effect d = (refl, refl)
 
 -- SRST: everything outstanding is dropped, an open phase closes, halt and record cleared, reset held; counters kept
-pub reset-effect : (d : Device) → ((resetHeld d).status ≡ record { outstanding = 0; phase = None; halted = false; held = true }) × ((resetHeld d).errors ≡ blankRecord) × ((resetHeld d).values ≡ d.values)
-unfolding resetHeld
-reset-effect d = (refl, refl, refl)
+pub reset_effect : (d : Device) → ((reset_held d).status ≡ record { outstanding = 0; phase = None; halted = false; held = true }) × ((reset_held d).errors ≡ blank_record) × ((reset_held d).values ≡ d.values)
+unfolding reset_held
+reset_effect d = (refl, refl, refl)
 
 -- release
-pub released-effect : (d : Device) → ((released d).status.held ≡ false) × ((released d).entries ≡ d.entries)
-unfolding released
-released-effect d = (refl, refl)
+pub released_effect : (d : Device) → ((released_device d).status.held ≡ false) × ((released_device d).entries ≡ d.entries)
+unfolding released_device
+released_effect d = (refl, refl)
 
 -- ---- every act
 
@@ -49,7 +49,7 @@ pub record Traits : Type 0 where
 
 -- nothing
 abbrev none : Traits
-none = record { anew = false; opens = false; error = 0; echo = zeroEcho }
+none = record { anew = false; opens = false; error = 0; echo = zero_echo }
 
 -- a halt sets the record
 abbrev halting : Fault → Traits
@@ -57,7 +57,7 @@ halting f = record { anew = true; opens = false; error = f.error; echo = f.echo 
 
 -- a reset clears it
 abbrev clearing : Traits
-clearing = record { anew = true; opens = false; error = 0; echo = zeroEcho }
+clearing = record { anew = true; opens = false; error = 0; echo = zero_echo }
 
 -- an entry goes into the table
 abbrev entering : Entry → Traits
@@ -65,7 +65,7 @@ entering e = record { anew = false; opens = false; error = 0; echo = e.echo }
 
 -- a phase opens
 abbrev opening : Traits
-opening = record { anew = false; opens = true; error = 0; echo = zeroEcho }
+opening = record { anew = false; opens = true; error = 0; echo = zero_echo }
 
 -- an act's
 unfoldable pub traits : Act → Traits
@@ -91,65 +91,65 @@ pub record ActLaws (d : Device) (a : Act) : Type 0 where
   pub wide : Wide d → Puts a → Wide (after_of d a)
 
 -- nor does a media error
-failed-settings : (d : Device) (f : Fault) → (b : Bool) → (haltWith (pick b (withValue d 0) d) f).settings ≡ d.settings
-unfolding haltWith withValue
-failed-settings d f b = grind arith
+failed_settings : (d : Device) (f : Fault) → (b : Bool) → (halt_with (pick b (with_value d 0) d) f).settings ≡ d.settings
+unfolding halt_with with_value
+failed_settings d f b = grind arith
 
 -- what moves closes a phase, or leaves it
 still : (last : Bool) (phase : Option ℕ) → is_none (pick last None phase) ≡ false → is_none phase ≡ false
 still last phase e = grind arith
 
 -- one more event at a row leaves record and table
-raised-wide : (d : Device) (row : ℕ) → Wide d → Wide (withValue d row)
-unfolding withValue
-raised-wide d row w = record { sized = record { error = w.sized.error; echo = w.sized.echo }; entries = w.entries }
+raised_wide : (d : Device) (row : ℕ) → Wide d → Wide (with_value d row)
+unfolding with_value
+raised_wide d row w = record { sized = record { error = w.sized.error; echo = w.sized.echo }; entries = w.entries }
 
 -- another state with this record, and a table of bytes
-same-record : {d e : Device} → e.errors ≡ d.errors → Wide d → SmallAll e.entries → Wide e
-same-record q w s = record { sized = record { error = subst (λ (r : ErrorRecord). r.error < 256) (sym q) w.sized.error; echo = subst (λ (r : ErrorRecord). Small r.echo) (sym q) w.sized.echo }; entries = s }
+same_record : {d e : Device} → e.errors ≡ d.errors → Wide d → SmallAll e.entries → Wide e
+same_record q w s = record { sized = record { error = subst (λ (r : ErrorRecord). r.error < 256) (sym q) w.sized.error; echo = subst (λ (r : ErrorRecord). Small r.echo) (sym q) w.sized.echo }; entries = s }
 
-pub act-laws : (d : Device) (a : Act) → ActLaws d a
-unfolding traits after_of haltWith acceptedBy unhalted zeroedIf resetHeld released movedBy openedFor finishedBy failedBy renewed withValue
-act-laws d (BadAndHalt f) = record {
+pub act_laws : (d : Device) (a : Act) → ActLaws d a
+unfolding traits after_of halt_with accepted_by unhalted_device zeroed_if reset_held released_device moved_by opened_for finished_by failed_by renewed_device with_value
+act_laws d (BadAndHalt f) = record {
   settings = refl;
   stays = λ h. absurd (true≢false h);
   opened = λ p _. absurd (true≢false p);
-  wide = λ _ p. record { sized = record { error = p.0; echo = p.1 }; entries = idle-small };
+  wide = λ _ p. record { sized = record { error = p.0; echo = p.1 }; entries = idle_small };
 }
-act-laws d (Accept q) = record { settings = refl; stays = λ _. refl; opened = λ p _. p; wide = λ w p. same-record refl w (placed-small d.entries q.tag q.entry w.entries p.1) }
-act-laws d Reset = record {
+act_laws d (Accept q) = record { settings = refl; stays = λ _. refl; opened = λ p _. p; wide = λ w p. same_record refl w (placed_small d.entries q.tag q.entry w.entries p.1) }
+act_laws d Reset = record {
   settings = refl;
   stays = λ h. absurd (true≢false h);
   opened = λ p _. absurd (true≢false p);
-  wide = λ _ _. record { sized = record { error = lit< tt; echo = zero-small }; entries = idle-small };
+  wide = λ _ _. record { sized = record { error = lit< tt; echo = zero_small }; entries = idle_small };
 }
-act-laws d (Store m) = record { settings = refl; stays = λ _. refl; opened = λ p _. still m.last d.status.phase p; wide = λ w p. same-record refl w (placed-small d.entries m.tag m.entry w.entries p.1) }
-act-laws d (Open q) = record { settings = refl; stays = λ _. refl; opened = λ _ e. absurd (true≢false e); wide = λ w _. same-record refl w w.entries }
-act-laws d (Send m) = record { settings = refl; stays = λ _. refl; opened = λ p _. still m.last d.status.phase p; wide = λ w p. same-record refl w (placed-small d.entries m.tag m.entry w.entries p.1) }
-act-laws d (Finish set) = record { settings = refl; stays = λ _. refl; opened = λ p _. p; wide = λ w _. same-record refl w (cleared-small d.entries set w.entries) }
-act-laws d (Media f) = record {
-  settings = failed-settings d f (bitIn 8 f.error 7);
+act_laws d (Store m) = record { settings = refl; stays = λ _. refl; opened = λ p _. still m.last d.status.phase p; wide = λ w p. same_record refl w (placed_small d.entries m.tag m.entry w.entries p.1) }
+act_laws d (Open q) = record { settings = refl; stays = λ _. refl; opened = λ _ e. absurd (true≢false e); wide = λ w _. same_record refl w w.entries }
+act_laws d (Send m) = record { settings = refl; stays = λ _. refl; opened = λ p _. still m.last d.status.phase p; wide = λ w p. same_record refl w (placed_small d.entries m.tag m.entry w.entries p.1) }
+act_laws d (Finish set) = record { settings = refl; stays = λ _. refl; opened = λ p _. p; wide = λ w _. same_record refl w (cleared_small d.entries set w.entries) }
+act_laws d (Media f) = record {
+  settings = failed_settings d f (bit_in 8 f.error 7);
   stays = λ h. absurd (true≢false h);
   opened = λ p _. absurd (true≢false p);
-  wide = λ _ p. record { sized = record { error = p.0; echo = p.1 }; entries = idle-small };
+  wide = λ _ p. record { sized = record { error = p.0; echo = p.1 }; entries = idle_small };
 }
-act-laws d Renew = record {
+act_laws d Renew = record {
   settings = refl;
   stays = λ h. absurd (true≢false h);
   opened = λ p _. absurd (true≢false p);
-  wide = λ _ _. raised-wide (released (resetHeld d)) 9 (record { sized = record { error = lit< tt; echo = zero-small }; entries = idle-small });
+  wide = λ _ _. raised_wide (released_device (reset_held d)) 9 (record { sized = record { error = lit< tt; echo = zero_small }; entries = idle_small });
 }
-act-laws d _ = record { settings = refl; stays = λ _. refl; opened = λ p _. p; wide = λ w _. same-record refl w w.entries }
+act_laws d _ = record { settings = refl; stays = λ _. refl; opened = λ p _. p; wide = λ w _. same_record refl w w.entries }
 
 -- each by its name
-pub act-settings : (d : Device) (a : Act) → (after_of d a).settings ≡ d.settings
-act-settings d a = (act-laws d a).settings
+pub act_settings : (d : Device) (a : Act) → (after_of d a).settings ≡ d.settings
+act_settings d a = (act_laws d a).settings
 
-pub record-stays : (d : Device) (a : Act) → (traits a).anew ≡ false → (after_of d a).errors ≡ d.errors
-record-stays d a = (act-laws d a).stays
+pub record_stays : (d : Device) (a : Act) → (traits a).anew ≡ false → (after_of d a).errors ≡ d.errors
+record_stays d a = (act_laws d a).stays
 
-pub opens-only : (d : Device) (a : Act) → is_none (after_of d a).status.phase ≡ false → (traits a).opens ≡ false → is_none d.status.phase ≡ false
-opens-only d a = (act-laws d a).opened
+pub opens_only : (d : Device) (a : Act) → is_none (after_of d a).status.phase ≡ false → (traits a).opens ≡ false → is_none d.status.phase ≡ false
+opens_only d a = (act_laws d a).opened
 
-pub act-wide : (d : Device) (a : Act) → Wide d → Puts a → Wide (after_of d a)
-act-wide d a = (act-laws d a).wide
+pub act_wide : (d : Device) (a : Act) → Wide d → Puts a → Wide (after_of d a)
+act_wide d a = (act_laws d a).wide

@@ -2,50 +2,50 @@
 use Rattle.std.proofs.Common.{◌≡◌, refl, sym, ap, ◌∙◌, Bool, true, false, List, [], ◌∷◌, ⊎_elim, ℕ, ◌+◌, ◌*◌, ◌/◌, ◌%◌, ◌^◌, ◌≤◌, ◌<◌, mod-lt, div-le_self, div-add-mod', lt_of_le_of_lt, lt_of_lt_of_le, arith, leb, eqb, pow_pos, pow_mono, shr-shr}
 use native.Mathlib.Nat.{zero-div, div-eq_of_lt}
 use lib.Count.{ones, ones-le}
-use Rattle.bits.specs.Bit.{bitIn}
+use Rattle.bits.specs.Bit.{bit_in}
 use Rattle.std.proofs.lemmas.Nat.Bits.{bit_at-lt, same_from_bits_below}
 use Rattle.std.proofs.lemmas.Bool.{cases_lt}
-use Rattle.bits.proofs.Tables.{ones-tied}
+use Rattle.bits.proofs.Tables.{ones_tied}
 use Rattle.std.specs.List.{sum_by}
 use Rattle.std.proofs.lemmas.List.Sums.{sum_by-cons}
-use Rattle.device_state.specs.State.{zeroEntry}
+use Rattle.device_state.specs.State.{zero_entry}
 use Rattle.device_state.specs.Table.{entry_of}
-use Rattle.device_state.specs.Contradictory.{movedBad, busyBad, idleBad, entryBad}
+use Rattle.device_state.specs.Contradictory.{moved_bad, busy_bad, idle_bad, entry_bad}
 use Rattle.device_state.specs.declared.shapes.Settings.{Settings}
 use Rattle.device_state.specs.declared.shapes.Entry.{Entry}
-use Rattle.device.specs.Device.{contradictoryDevice}
+use Rattle.device.specs.Device.{contradictory_device}
 use Rattle.device.proofs.Sized.{Sized}
-use Rattle.device.specs.Ones.{openEntry, openEntries}
+use Rattle.device.specs.Ones.{open_entry, open_entries}
 use Rattle.device.specs.declared.state.Device.{Device}
-use Rattle.device.proofs.Parts.{tag-good}
-use Rattle.device_state.specs.UnderWay.{openFor}
+use Rattle.device.proofs.Parts.{tag_good}
+use Rattle.device_state.specs.UnderWay.{open_for}
 
 -- ---- what the test of an entry says of its count, and of its tag
 
 -- an outstanding tag has a command
-busy-count : (s : Settings) (e : Entry) (t : ℕ) (phase : Bool) → busyBad s e t phase ≡ false → eqb e.count 0 ≡ false
-unfolding busyBad movedBad
-busy-count s e t phase h = grind arith
+busy_count : (s : Settings) (e : Entry) (t : ℕ) (phase : Bool) → busy_bad s e t phase ≡ false → eqb e.count 0 ≡ false
+unfolding busy_bad moved_bad
+busy_count s e t phase h = grind arith
 
 -- and is below the depth
-busy-depth : (s : Settings) (e : Entry) (t : ℕ) (phase : Bool) → busyBad s e t phase ≡ false → leb s.depth t ≡ false
-unfolding busyBad movedBad
-busy-depth s e t phase h = grind arith
+busy_depth : (s : Settings) (e : Entry) (t : ℕ) (phase : Bool) → busy_bad s e t phase ≡ false → leb s.depth t ≡ false
+unfolding busy_bad moved_bad
+busy_depth s e t phase h = grind arith
 
 -- an idle tag has none
-idle-count : (e : Entry) → idleBad e ≡ false → eqb e.count 0 ≡ true
-unfolding idleBad
-idle-count e h = grind arith
+idle_count : (e : Entry) → idle_bad e ≡ false → eqb e.count 0 ≡ true
+unfolding idle_bad
+idle_count e h = grind arith
 
 -- a tag's bit says whether its entry is one of a command
-bit-open : (s : Settings) (e : Entry) (o t : ℕ) (phase : Bool) → t < 32 → entryBad s e t (bitIn 32 o t) phase ≡ false → o / 2 ^ t % 2 ≡ openEntry e
-unfolding entryBad
-bit-open s e o t phase l h = let y = bit_at-lt o t in grind (arith, busy-count s e t phase, idle-count e)
+bit_open : (s : Settings) (e : Entry) (o t : ℕ) (phase : Bool) → t < 32 → entry_bad s e t (bit_in 32 o t) phase ≡ false → o / 2 ^ t % 2 ≡ open_entry e
+unfolding entry_bad
+bit_open s e o t phase l h = let y = bit_at-lt o t in grind (arith, busy_count s e t phase, idle_count e)
 
 -- the bit of a tag at or above the depth is off
-bit-above : (s : Settings) (e : Entry) (o t : ℕ) (phase : Bool) → t < 32 → s.depth ≤ t → entryBad s e t (bitIn 32 o t) phase ≡ false → o / 2 ^ t % 2 ≡ 0
-unfolding entryBad
-bit-above s e o t phase l a h = let y = bit_at-lt o t in grind (arith, busy-depth s e t phase)
+bit_above : (s : Settings) (e : Entry) (o t : ℕ) (phase : Bool) → t < 32 → s.depth ≤ t → entry_bad s e t (bit_in 32 o t) phase ≡ false → o / 2 ^ t % 2 ≡ 0
+unfolding entry_bad
+bit_above s e o t phase l a h = let y = bit_at-lt o t in grind (arith, busy_depth s e t phase)
 
 -- ---- a number of w digits, all of which from k on are 0, has k digits
 
@@ -70,26 +70,26 @@ below_top w k m l h =
 -- ---- of a device
 
 -- the same sum, as the laws of counts have it
-open-sum : (es : List Entry) → sum_by openEntry es ≡ openEntries es
-open-sum [] = refl
-open-sum (e ∷ es) = sum_by-cons openEntry e es ∙ ap (λ (n : ℕ). openEntry e + n) (open-sum es)
+open_sum : (es : List Entry) → sum_by open_entry es ≡ open_entries es
+open_sum [] = refl
+open_sum (e ∷ es) = sum_by-cons open_entry e es ∙ ap (λ (n : ℕ). open_entry e + n) (open_sum es)
 
 -- as many tags are outstanding as there are commands in the table
-pub ones-open : (d : Device) → Sized d → contradictoryDevice d ≡ false → ones d.status.outstanding ≡ openEntries d.entries
-ones-open d w h =
-    ones-tied openEntry zeroEntry d.entries d.status.outstanding (rw w.entries w.outstanding)
+pub ones_open : (d : Device) → Sized d → contradictory_device d ≡ false → ones d.status.outstanding ≡ open_entries d.entries
+ones_open d w h =
+    ones_tied open_entry zero_entry d.entries d.status.outstanding (rw w.entries w.outstanding)
     (λ t l.
     let k : t < 32 = rw w.entries at l in
-    bit-open d.settings (entry_of d.entries t) d.status.outstanding t (openFor d.status.phase t) k (tag-good d h t k))
-    ∙ open-sum d.entries
+    bit_open d.settings (entry_of d.entries t) d.status.outstanding t (open_for d.status.phase t) k (tag_good d h t k))
+    ∙ open_sum d.entries
 
 -- at most the depth
-pub ones-most : (d : Device) → d.status.outstanding < 2 ^ 32 → contradictoryDevice d ≡ false → ones d.status.outstanding ≤ d.settings.depth
-ones-most d w h =
+pub ones_most : (d : Device) → d.status.outstanding < 2 ^ 32 → contradictory_device d ≡ false → ones d.status.outstanding ≤ d.settings.depth
+ones_most d w h =
     ones-le d.settings.depth d.status.outstanding
     (below_top 32 d.settings.depth d.status.outstanding w
-    (λ t a k. bit-above d.settings (entry_of d.entries t) d.status.outstanding t (openFor d.status.phase t) k a (tag-good d h t k)))
+    (λ t a k. bit_above d.settings (entry_of d.entries t) d.status.outstanding t (open_for d.status.phase t) k a (tag_good d h t k)))
 
 -- so the table never holds more commands than that
-pub open-most : (d : Device) → Sized d → contradictoryDevice d ≡ false → openEntries d.entries ≤ d.settings.depth
-open-most d w h = rw (← ones-open d w h) (ones-most d w.outstanding h)
+pub open_most : (d : Device) → Sized d → contradictory_device d ≡ false → open_entries d.entries ≤ d.settings.depth
+open_most d w h = rw (← ones_open d w h) (ones_most d w.outstanding h)

@@ -5,5 +5,5 @@ use Rattle.device.specs.Step.{Step, Gives}
 use Rattle.device.specs.declared.state.Outcome.{Outcome}
 
 -- a step has one answer
-pub given-once : (s : Step) (b : List ℕ) (r r' : Outcome) (m m' x x' : List ℕ) → Gives s b (gave r m x) → Gives s b (gave r' m' x') → (r ≡ r') × ((m ≡ m') × (x ≡ x'))
-given-once s b r r' m m' x x' p q = grind arith
+pub given_once : (s : Step) (b : List ℕ) (r r' : Outcome) (m m' x x' : List ℕ) → Gives s b (gave r m x) → Gives s b (gave r' m' x') → (r ≡ r') × ((m ≡ m') × (x ≡ x'))
+given_once s b r r' m m' x x' p q = grind arith

@@ -3,14 +3,14 @@ use Rattle.std.proofs.Common.{◌≡◌, refl, List, ⊎_elim, ℕ, ◌≤◌, �
 use mathlib.Core.Path.{subst⁻¹}
 use Rattle.std.proofs.lemmas.Bool.{cases_lt}
 use lib.ListN.{get_or-replicate, get_or-eq_default}
-use Rattle.bits.specs.Bit.{bitIn}
+use Rattle.bits.specs.Bit.{bit_in}
 use Rattle.bits.specs.Little.{Bytes}
-use Rattle.bits.proofs.Picks.{by-test}
-use Rattle.device_state.specs.State.{placedBytes, zeroEcho, zeroEntry}
-use Rattle.device_state.specs.Table.{entry_of, placed, cleared}
+use Rattle.bits.proofs.Picks.{by_test}
+use Rattle.device_state.specs.State.{placed_bytes, zero_echo, zero_entry}
+use Rattle.device_state.specs.Table.{entry_of, table_with, table_without}
 use Rattle.device_state.specs.declared.shapes.Echo.{Echo}
 use Rattle.device_state.specs.declared.shapes.Entry.{Entry}
-use Rattle.device_state.proofs.TableLaws.{length-tab, getD-placed, getD-cleared}
+use Rattle.device_state.proofs.TableLaws.{length_tab, entry_of_placed, entry_of_cleared}
 use Rattle.rules.specs.Act.{failing}
 use Rattle.device.proofs.Sized.{SizedRecord}
 use Rattle.device.proofs.Fitting.{small_bytes, byte_small}
@@ -18,7 +18,7 @@ use Rattle.device.specs.declared.state.Device.{Device}
 
 -- nine bytes of a command are bytes
 abbrev pub Small : Echo → Type 0
-Small e = Bytes (placedBytes e)
+Small e = Bytes (placed_bytes e)
 
 -- every entry of a table has bytes for bytes
 abbrev pub SmallAll : List Entry → Type 0
@@ -30,44 +30,44 @@ pub record Wide (d : Device) : Type 0 where
   pub entries : SmallAll d.entries
 
 -- zeros are bytes
-pub zero-small : Small zeroEcho
-zero-small = let z : 0 < 256 = omega arith in small_bytes (placedBytes zeroEcho) (z, (z, (z, (z, (z, (z, (z, (z, (z, (z, (z, (z, (z, (z, tt))))))))))))))
+pub zero_small : Small zero_echo
+zero_small = let z : 0 < 256 = omega arith in small_bytes (placed_bytes zero_echo) (z, (z, (z, (z, (z, (z, (z, (z, (z, (z, (z, (z, (z, (z, tt))))))))))))))
 
 -- and so are the failing sector's bytes
-pub failing-small : (e : Echo) (sector : ℕ) → Small e → Small (failing e sector)
+pub failing_small : (e : Echo) (sector : ℕ) → Small e → Small (failing e sector)
 unfolding failing
-failing-small e sector h =
+failing_small e sector h =
     let z : 0 < 256 = omega arith in
     let s = byte_small sector in
-    small_bytes (placedBytes (failing e sector)) (z, (z, (z, (z, (s 0, (s 1, (s 2, (h 7, (s 3, (s 4, (s 5, (z, (h 12, (h 13, tt))))))))))))))
+    small_bytes (placed_bytes (failing e sector)) (z, (z, (z, (z, (s 0, (s 1, (s 2, (h 7, (s 3, (s 4, (s 5, (z, (h 12, (h 13, tt))))))))))))))
 
 -- past the end of a table stands an idle entry
-past_end : (es : List Entry) → length es ≡ 32 → (t : ℕ) → 32 ≤ t → entry_of es t ≡ zeroEntry
-past_end es l t h = get_or-eq_default es zeroEntry (rw l h)
+past_end : (es : List Entry) → length es ≡ 32 → (t : ℕ) → 32 ≤ t → entry_of es t ≡ zero_entry
+past_end es l t h = get_or-eq_default es zero_entry (rw l h)
 
 -- a table of 32 whose entries below 32 are small
-small-table : (es : List Entry) → length es ≡ 32 → ((t : ℕ) → t < 32 → Small (entry_of es t).echo) → SmallAll es
-small-table es l h t =
-    ⊎_elim (h t) (λ (n : 32 ≤ t). subst⁻¹ (λ (e : Entry). Small e.echo) (past_end es l t n) zero-small) (cases_lt t 32)
+small_table : (es : List Entry) → length es ≡ 32 → ((t : ℕ) → t < 32 → Small (entry_of es t).echo) → SmallAll es
+small_table es l h t =
+    ⊎_elim (h t) (λ (n : 32 ≤ t). subst⁻¹ (λ (e : Entry). Small e.echo) (past_end es l t n) zero_small) (cases_lt t 32)
 
 -- one entry anew
-pub placed-small : (es : List Entry) (t : ℕ) (e : Entry) → SmallAll es → Small e.echo → SmallAll (placed es t e)
-unfolding placed
-placed-small es t e h s =
-    small-table (placed es t e) (length-tab 32 _)
+pub placed_small : (es : List Entry) (t : ℕ) (e : Entry) → SmallAll es → Small e.echo → SmallAll (table_with es t e)
+unfolding table_with
+placed_small es t e h s =
+    small_table (table_with es t e) (length_tab 32 _)
     (λ i l.
-    subst⁻¹ (λ (x : Entry). Small x.echo) (getD-placed es t e i l)
-    (by-test (λ (x : Entry). Small x.echo) (eqb i t) e (entry_of es i) (λ _. s) (λ _. h i)))
+    subst⁻¹ (λ (x : Entry). Small x.echo) (entry_of_placed es t e i l)
+    (by_test (λ (x : Entry). Small x.echo) (eqb i t) e (entry_of es i) (λ _. s) (λ _. h i)))
 
 -- a set's entries cleared
-pub cleared-small : (es : List Entry) (set : ℕ) → SmallAll es → SmallAll (cleared es set)
-unfolding cleared
-cleared-small es set h =
-    small-table (cleared es set) (length-tab 32 _)
+pub cleared_small : (es : List Entry) (set : ℕ) → SmallAll es → SmallAll (table_without es set)
+unfolding table_without
+cleared_small es set h =
+    small_table (table_without es set) (length_tab 32 _)
     (λ i l.
-    subst⁻¹ (λ (x : Entry). Small x.echo) (getD-cleared es set i l)
-    (by-test (λ (x : Entry). Small x.echo) (bitIn 32 set i) zeroEntry (entry_of es i) (λ _. zero-small) (λ _. h i)))
+    subst⁻¹ (λ (x : Entry). Small x.echo) (entry_of_cleared es set i l)
+    (by_test (λ (x : Entry). Small x.echo) (bit_in 32 set i) zero_entry (entry_of es i) (λ _. zero_small) (λ _. h i)))
 
 -- a table of idle entries
-pub idle-small : SmallAll (replicate 32 zeroEntry)
-idle-small = small-table (replicate 32 zeroEntry) refl (λ t l. subst⁻¹ (λ (e : Entry). Small e.echo) (get_or-replicate 32 t zeroEntry zeroEntry l) zero-small)
+pub idle_small : SmallAll (replicate 32 zero_entry)
+idle_small = small_table (replicate 32 zero_entry) refl (λ t l. subst⁻¹ (λ (e : Entry). Small e.echo) (get_or-replicate 32 t zero_entry zero_entry l) zero_small)

@@ -1,15 +1,15 @@
 -- The state after an act. Assumes nothing.
 use Rattle.std.specs.Prelude.{Bool, true, false, List, ℕ, replicate, Some, None}
 use Rattle.bits.specs.Pick.{pick}
-use Rattle.bits.specs.Bit.{bitIn}
-use Rattle.device_state.specs.State.{zeroEntry, blankRecord}
-use Rattle.device_state.specs.Table.{placed, cleared}
-use Rattle.device_state.specs.UnderWay.{noneUnderWay, with_tag, withoutTags}
+use Rattle.bits.specs.Bit.{bit_in}
+use Rattle.device_state.specs.State.{zero_entry, blank_record}
+use Rattle.device_state.specs.Table.{table_with, table_without}
+use Rattle.device_state.specs.UnderWay.{none_under_way, with_tag, without_tags}
 use Rattle.device_state.specs.declared.shapes.Status.{Status}
 use Rattle.device_state.specs.declared.shapes.Entry.{Entry}
 use Rattle.device_state.specs.declared.shapes.ErrorRecord.{ErrorRecord}
-use Rattle.counters.specs.Counts.{countedAt}
-use Rattle.rules.specs.Record.{recordOf}
+use Rattle.counters.specs.Counts.{counted_at}
+use Rattle.rules.specs.Record.{record_of}
 use Rattle.rules.specs.declared.acts.Fault.{Fault}
 use Rattle.rules.specs.declared.acts.Queued.{Queued}
 use Rattle.rules.specs.declared.acts.Move.{Move}
@@ -18,81 +18,81 @@ use Rattle.rules.specs.declared.acts.Act.TheVariants.{Nothing, Bad, BadAndHalt, 
 use Rattle.device.specs.declared.state.Device.{Device}
 
 -- the state with other counters
-abbrev pub withValues : Device → List ℕ → Device
-withValues d values = record d { values = values }
+abbrev pub with_values : Device → List ℕ → Device
+with_values d values = record d { values = values }
 
 -- one event more at a row
-unfoldable pub withValue : Device → ℕ → Device
-withValue d row = withValues d (countedAt d.values row)
+unfoldable pub with_value : Device → ℕ → Device
+with_value d row = with_values d (counted_at d.values row)
 
 -- the same settings and counters, an empty table
-abbrev pub emptied : Device → Status → ErrorRecord → Device
-emptied d status record' = record d { status = status; entries = replicate 32 zeroEntry; errors = record' }
+abbrev pub emptied_device : Device → Status → ErrorRecord → Device
+emptied_device d status record' = record d { status = status; entries = replicate 32 zero_entry; errors = record' }
 
 -- halt: every outstanding command is given up, an open phase closes, the error record is set: with the tag, or NQ and tag 0
-unfoldable pub haltWith : Device → Fault → Device
-haltWith d f = emptied d (noneUnderWay true false) (recordOf f)
+unfoldable pub halt_with : Device → Fault → Device
+halt_with d f = emptied_device d (none_under_way true false) (record_of f)
 
 -- another status and table
-abbrev pub withStatus : Device → Status → List Entry → Device
-withStatus d f es = record d { status = f; entries = es }
+abbrev pub with_status : Device → Status → List Entry → Device
+with_status d f es = record d { status = f; entries = es }
 
 -- rule 4: the tag is outstanding
-unfoldable pub acceptedBy : Device → Queued → Device
-acceptedBy d q = withStatus d (with_tag d.status q.tag) (placed d.entries q.tag q.entry)
+unfoldable pub accepted_by : Device → Queued → Device
+accepted_by d q = with_status d (with_tag d.status q.tag) (table_with d.entries q.tag q.entry)
 
 -- the halt ends
-unfoldable pub unhalted : Device → Device
-unhalted d = record d { status = record d.status { halted = false } }
+unfoldable pub unhalted_device : Device → Device
+unhalted_device d = record d { status = record d.status { halted = false } }
 
 -- the counters are zeroed
-unfoldable pub zeroedIf : Device → Bool → Device
-zeroedIf d on = withValues d (pick on (replicate 16 0) d.values)
+unfoldable pub zeroed_if : Device → Bool → Device
+zeroed_if d on = with_values d (pick on (replicate 16 0) d.values)
 
 -- SRST: everything outstanding is dropped, halt and record cleared, reset held
-unfoldable pub resetHeld : Device → Device
-resetHeld d = emptied d (noneUnderWay false true) blankRecord
+unfoldable pub reset_held : Device → Device
+reset_held d = emptied_device d (none_under_way false true) blank_record
 
 -- release
-unfoldable pub released : Device → Device
-released d = record d { status = record d.status { held = false } }
+unfoldable pub released_device : Device → Device
+released_device d = record d { status = record d.status { held = false } }
 
 -- what has moved; at nothing left the phase closes
-unfoldable pub movedBy : Device → Move → Device
-movedBy d m =
-    record d { status = record d.status { phase = pick m.last None d.status.phase }; entries = placed d.entries m.tag m.entry }
+unfoldable pub moved_by : Device → Move → Device
+moved_by d m =
+    record d { status = record d.status { phase = pick m.last None d.status.phase }; entries = table_with d.entries m.tag m.entry }
 
 -- the phase of a tag is open
-unfoldable pub openedFor : Device → ℕ → Device
-openedFor d tag = record d { status = record d.status { phase = Some tag } }
+unfoldable pub opened_for : Device → ℕ → Device
+opened_for d tag = record d { status = record d.status { phase = Some tag } }
 
 -- the commands of a set are finished
-unfoldable pub finishedBy : Device → ℕ → Device
-finishedBy d set = withStatus d (withoutTags d.status set) (cleared d.entries set)
+unfoldable pub finished_by : Device → ℕ → Device
+finished_by d set = with_status d (without_tags d.status set) (table_without d.entries set)
 
 -- media error: halt; error bit 7 adds one to counter 001h
-unfoldable pub failedBy : Device → Fault → Device
-failedBy d f = haltWith (pick (bitIn 8 f.error 7) (withValue d 0) d) f
+unfoldable pub failed_by : Device → Fault → Device
+failed_by d f = halt_with (pick (bit_in 8 f.error 7) (with_value d 0) d) f
 
 -- COMRESET: as SRST and release together, counter 00Ah + 1 (row 9), counters kept
-unfoldable pub renewed : Device → Device
-renewed d = withValue (released (resetHeld d)) 9
+unfoldable pub renewed_device : Device → Device
+renewed_device d = with_value (released_device (reset_held d)) 9
 
 -- by the act; a link event adds one to its row's counter
 unfoldable pub after_of : Device → Act → Device
 after_of d Nothing = d
 after_of d (Bad b) = d
-after_of d (BadAndHalt f) = haltWith d f
-after_of d (Accept q) = acceptedBy d q
-after_of d (Log10 task) = unhalted d
-after_of d (Log11 l) = zeroedIf d l.zero
-after_of d Reset = resetHeld d
-after_of d Release = released d
-after_of d ZeroCounters = zeroedIf d true
-after_of d (Store m) = movedBy d m
-after_of d (Open q) = openedFor d q.tag
-after_of d (Send m) = movedBy d m
-after_of d (Finish set) = finishedBy d set
-after_of d (Media f) = failedBy d f
-after_of d (Count row) = withValue d row
-after_of d Renew = renewed d
+after_of d (BadAndHalt f) = halt_with d f
+after_of d (Accept q) = accepted_by d q
+after_of d (Log10 task) = unhalted_device d
+after_of d (Log11 l) = zeroed_if d l.zero
+after_of d Reset = reset_held d
+after_of d Release = released_device d
+after_of d ZeroCounters = zeroed_if d true
+after_of d (Store m) = moved_by d m
+after_of d (Open q) = opened_for d q.tag
+after_of d (Send m) = moved_by d m
+after_of d (Finish set) = finished_by d set
+after_of d (Media f) = failed_by d f
+after_of d (Count row) = with_value d row
+after_of d Renew = renewed_device d

@@ -1,20 +1,20 @@
 -- The host data that is due. Assumes nothing.
 use Rattle.std.specs.Prelude.{Bool, ◌&&◌, ℕ, Option, Some, None, is_some}
 use Rattle.bits.specs.Pick.{pick}
-use Rattle.device_state.specs.Progress.{dueIn}
+use Rattle.device_state.specs.Progress.{due_in}
 use Rattle.device_state.specs.State.{progress_of}
 use Rattle.device_state.specs.declared.shapes.Entry.{Entry}
-use Rattle.device.specs.FactsOf.{entryMeant}
+use Rattle.device.specs.FactsOf.{entry_meant}
 use Rattle.device.specs.declared.state.Device.{Device}
 
 -- the entry of the open phase; while none is open, an idle one
-abbrev pub phaseEntry : Device → Entry
-phaseEntry d = entryMeant d.entries d.status.phase
+abbrev pub phase_entry : Device → Entry
+phase_entry d = entry_meant d.entries d.status.phase
 
 -- a write phase is open
 abbrev pub writing : Device → Bool
-writing d = is_some d.status.phase && (phaseEntry d).write
+writing d = is_some d.status.phase && (phase_entry d).write
 
 -- the length due, by the open write phase and what is left of it; of none no data is due
-unfoldable pub dataDue : Device → Option ℕ
-dataDue d = pick (writing d) (Some (dueIn (progress_of (phaseEntry d)))) None
+unfoldable pub data_due : Device → Option ℕ
+data_due d = pick (writing d) (Some (due_in (progress_of (phase_entry d)))) None

@@ -1,42 +1,42 @@
 -- The device's state, and power-on. Assumes nothing.
 use Rattle.std.specs.Prelude.{Bool, false, replicate, Option, Some, None}
-use Rattle.device_state.specs.State.{zeroEntry, blankRecord}
-use Rattle.device_state.specs.UnderWay.{noneUnderWay}
-use Rattle.device_state.specs.Contradictory.{settingsOut, contradictory}
+use Rattle.device_state.specs.State.{zero_entry, blank_record}
+use Rattle.device_state.specs.UnderWay.{none_under_way}
+use Rattle.device_state.specs.Contradictory.{settings_out, contradictory}
 use Rattle.refusals.specs.First.{first_of}
-use Rattle.refusals.specs.Ladders.{powerLadder}
+use Rattle.refusals.specs.Ladders.{power_ladder}
 use Rattle.refusals.specs.declared.reasons.Refusal.{Refusal}
 use Rattle.device_state.specs.declared.shapes.Settings.{Settings}
 use Rattle.device.specs.declared.state.Device.{Device}
 use Rattle.device.specs.declared.state.Outcome.{Outcome}
 
 -- the state handed in contradicts itself
-unfoldable pub contradictoryDevice : Device → Bool
-contradictoryDevice d = contradictory d.settings d.status d.entries d.errors d.values
+unfoldable pub contradictory_device : Device → Bool
+contradictory_device d = contradictory d.settings d.status d.entries d.errors d.values
 
 -- power-on: idle, record blank, counters 0
-unfoldable pub freshDevice : Settings → Device
-freshDevice s = record {
+unfoldable pub fresh_device : Settings → Device
+fresh_device s = record {
   settings = s;
-  status = noneUnderWay false false;
-  entries = replicate 32 zeroEntry;
-  errors = blankRecord;
+  status = none_under_way false false;
+  entries = replicate 32 zero_entry;
+  errors = blank_record;
   values = replicate 16 0;
 }
 
 -- all zeros
-abbrev pub zeroDevice : Device
-zeroDevice = freshDevice (record { depth = 0; capacity = 0; mask = 0 })
+abbrev pub zero_device : Device
+zero_device = fresh_device (record { depth = 0; capacity = 0; mask = 0 })
 
 -- what power-on is refused with
-abbrev pub powerRefusal : Settings → Option Refusal
-powerRefusal s = first_of (powerLadder (settingsOut s))
+abbrev pub power_refusal : Settings → Option Refusal
+power_refusal s = first_of (power_ladder (settings_out s))
 
 -- the state that power-on hands back: refused, all zeros
 abbrev pub powered : Option Refusal → Settings → Device
-powered None s = freshDevice s
-powered (Some r) s = zeroDevice
+powered None s = fresh_device s
+powered (Some r) s = zero_device
 
 -- no reply
-unfoldable pub powerOn : Settings → Outcome
-powerOn s = record { state = powered (powerRefusal s) s; refusal = powerRefusal s; len = 0 }
+unfoldable pub power_on : Settings → Outcome
+power_on s = record { state = powered (power_refusal s) s; refusal = power_refusal s; len = 0 }

@@ -33,8 +33,8 @@ abbrev pub gave : Outcome → List ℕ → List ℕ → Gave
 gave r m b = record { outcome = r; medium = m; buffer = b }
 
 -- the bytes of a host frame; of any other call none
-abbrev pub frameIn : Call → List ℕ
-frameIn c = (handed c).frame
+abbrev pub frame_in : Call → List ℕ
+frame_in c = (handed c).frame
 
 -- what the types of the arguments give: a frame is of bytes, a set has 32 bits, an error is a byte
 abbrev pub Typed : Call → Type 0

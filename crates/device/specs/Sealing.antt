@@ -2,16 +2,16 @@
 use Rattle.std.specs.Prelude.{◌≡◌, true, Result, Ok, Err, Some, None, MatchResult}
 use Rattle.refusals.specs.declared.reasons.Refusal.{Refusal}
 use Rattle.refusals.specs.declared.reasons.Refusal.TheVariants.{Contradiction}
-use Rattle.device.specs.Device.{contradictoryDevice, zeroDevice}
+use Rattle.device.specs.Device.{contradictory_device, zero_device}
 use Rattle.device.specs.declared.state.Device.{Device}
 use Rattle.device.specs.declared.state.Outcome.{Outcome}
 use Rattle.device.specs.declared.sealed.Sealed.{Sealed}
 
 -- a state is kept as it is, or contradicts itself and is refused with 1: that one which does is not kept is the field of `Sealed`
 abbrev pub Seals : Device → Result Sealed Refusal → Type 0
-Seals d r = MatchResult r (λ s. s.device ≡ d) (λ e. (e ≡ Contradiction) × (contradictoryDevice d ≡ true))
+Seals d r = MatchResult r (λ s. s.device ≡ d) (λ e. (e ≡ Contradiction) × (contradictory_device d ≡ true))
 
 -- the outcome that power-on of a kept device stands for: a refused power-on hands back all zeros, which are no device to keep
-unfoldable pub poweredOf : Result Sealed Refusal → Outcome
-poweredOf (Ok s) = record { state = s.device; refusal = None; len = 0 }
-poweredOf (Err r) = record { state = zeroDevice; refusal = Some r; len = 0 }
+unfoldable pub powered_of : Result Sealed Refusal → Outcome
+powered_of (Ok s) = record { state = s.device; refusal = None; len = 0 }
+powered_of (Err r) = record { state = zero_device; refusal = Some r; len = 0 }

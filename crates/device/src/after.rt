@@ -1,8 +1,8 @@
 // The state after an act.
-#![tactic(auto, unfolding(crate::specs::After::withValue, crate::specs::After::haltWith, crate::specs::After::acceptedBy, crate::specs::After::unhalted, crate::specs::After::zeroedIf, crate::specs::After::resetHeld, crate::specs::After::released, crate::specs::After::movedBy, crate::specs::After::openedFor, crate::specs::After::finishedBy, crate::specs::After::failedBy, crate::specs::After::renewed, crate::specs::After::after_of))]
+#![tactic(auto, unfolding(crate::specs::After::with_value, crate::specs::After::halt_with, crate::specs::After::accepted_by, crate::specs::After::unhalted_device, crate::specs::After::zeroed_if, crate::specs::After::reset_held, crate::specs::After::released_device, crate::specs::After::moved_by, crate::specs::After::opened_for, crate::specs::After::finished_by, crate::specs::After::failed_by, crate::specs::After::renewed_device, crate::specs::After::after_of))]
 
 ghost use Rattle.std.specs.Prelude.{◌≡◌, true};
-ghost use Rattle.device.specs.After.{withValue, emptied, haltWith, acceptedBy, unhalted, zeroedIf, resetHeld, released, movedBy, openedFor, finishedBy, failedBy, renewed, after_of};
+ghost use Rattle.device.specs.After.{with_value, emptied_device, halt_with, accepted_by, unhalted_device, zeroed_if, reset_held, released_device, moved_by, opened_for, finished_by, failed_by, renewed_device, after_of};
 
 use crate::state::Device;
 use counters::{COMRESET_ROW, INTERFACE_CRC_ROW, ROWS};
@@ -12,14 +12,14 @@ use rules::{Act, Fault, Move, Queued};
 impl Device {
     // One row's counter has one event more.
     fn count(&mut self, row: u8)
-        ensures { self.new ≡ withValue self.old row }
+        ensures { self.new ≡ with_value self.old row }
     {
         counters::count(&mut self.values, row);
     }
 
     // Nothing is under way any more; settings and counters stay.
     fn empty(&mut self, status: Status, errors: ErrorRecord)
-        ensures { self.new ≡ emptied self.old status errors }
+        ensures { self.new ≡ emptied_device self.old status errors }
     {
         self.status = status;
         self.entries = [Entry::default(); Settings::ENTRIES];
@@ -27,13 +27,13 @@ impl Device {
     }
 
     fn halt(&mut self, fault: Fault)
-        ensures { self.new ≡ haltWith self.old fault }
+        ensures { self.new ≡ halt_with self.old fault }
     {
         self.empty(Status::halted(), ErrorRecord::from(fault));
     }
 
     fn accept(&mut self, queued: Queued)
-        ensures { self.new ≡ acceptedBy self.old queued }
+        ensures { self.new ≡ accepted_by self.old queued }
     {
         let tag = u32::from(queued.tag);
         device_state::put_entry(&mut self.entries, tag, queued.entry);
@@ -41,31 +41,31 @@ impl Device {
     }
 
     fn end_halt(&mut self)
-        ensures { self.new ≡ unhalted self.old }
+        ensures { self.new ≡ unhalted_device self.old }
     {
         self.status.halted = false;
     }
 
     fn zero(&mut self)
-        ensures { self.new ≡ zeroedIf self.old true }
+        ensures { self.new ≡ zeroed_if self.old true }
     {
         self.values = [0; ROWS];
     }
 
     fn hold_reset(&mut self)
-        ensures { self.new ≡ resetHeld self.old }
+        ensures { self.new ≡ reset_held self.old }
     {
         self.empty(Status::held(), ErrorRecord::default());
     }
 
     fn release(&mut self)
-        ensures { self.new ≡ released self.old }
+        ensures { self.new ≡ released_device self.old }
     {
         self.status.held = false;
     }
 
     fn move_on(&mut self, moved: Move)
-        ensures { self.new ≡ movedBy self.old moved }
+        ensures { self.new ≡ moved_by self.old moved }
     {
         device_state::put_entry(&mut self.entries, moved.tag, moved.entry);
         if moved.last {
@@ -74,27 +74,27 @@ impl Device {
     }
 
     fn open_for(&mut self, tag: u8)
-        ensures { self.new ≡ openedFor self.old tag }
+        ensures { self.new ≡ opened_for self.old tag }
     {
         self.status.phase = Some(u32::from(tag));
     }
 
     fn finish_tags(&mut self, set: u32)
-        ensures { self.new ≡ finishedBy self.old set }
+        ensures { self.new ≡ finished_by self.old set }
     {
         device_state::clear_entries(&mut self.entries, set);
         self.status = self.status.without_tags(set);
     }
 
     fn renew(&mut self)
-        ensures { self.new ≡ renewed self.old }
+        ensures { self.new ≡ renewed_device self.old }
     {
         self.empty(Status::idle(), ErrorRecord::default());
         self.count(COMRESET_ROW);
     }
 
     fn fail(&mut self, fault: Fault)
-        ensures { self.new ≡ failedBy self.old fault }
+        ensures { self.new ≡ failed_by self.old fault }
     {
         if frames::flag(fault.error, 7) {
             self.count(INTERFACE_CRC_ROW);

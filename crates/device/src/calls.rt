@@ -2,10 +2,10 @@
 #![tactic(auto, using(crate::proofs::Contradicted::given_contradicted))]
 
 ghost use Rattle.std.specs.Prelude.{◌≡◌};
-ghost use Rattle.rules.specs.Call.{hostFrame, happens};
+ghost use Rattle.rules.specs.Call.{host_frame, happens};
 ghost use Rattle.rules.specs.declared.event.DeviceEvent.TheVariants.{OpenPhase, SendData, FinishTags, MediaError, LinkEvent, Comreset};
 ghost use Rattle.device.specs.Lent.{lent, gave};
-ghost use Rattle.device.specs.DataDue.{dataDue};
+ghost use Rattle.device.specs.DataDue.{data_due};
 ghost use Rattle.device.specs.Step.{Given, GivenReplying, GivenAlone};
 
 use crate::sealed::Sealed;
@@ -31,7 +31,7 @@ impl Device {
     /// Refused with the first that holds of `Contradiction` (1), `MediumLength` (2), `ReplyShort` (3), `NoHostFrame` (4),
     /// `WrongTime` (5), `TooLong` (6).
     pub fn host_frame(mut self, frame: &[u8], medium: &mut [u8], reply: &mut [u8]) -> Outcome
-        ensures { Given self (lent (hostFrame frame.now) medium.old reply.old) (gave result medium.new reply.new) }
+        ensures { Given self (lent (host_frame frame.now) medium.old reply.old) (gave result medium.new reply.new) }
     {
         kept!(self.host_frame(frame, medium, reply))
     }
@@ -96,9 +96,9 @@ impl Device {
     }
 
     /// The length of the host data that is due, in bytes; `None` if no write phase is open.
-    #[tactic(auto, unfolding(crate::specs::DataDue::dataDue))]
+    #[tactic(auto, unfolding(crate::specs::DataDue::data_due))]
     pub fn data_due(&self) -> Option<usize>
-        ensures { result ≡ dataDue self.now }
+        ensures { result ≡ data_due self.now }
     {
         let entry = device_state::entry_of(&self.entries, self.status.phase?);
         entry.write.then_some(entry.progress().due())

@@ -10,7 +10,7 @@ impl Device {
     ///
     /// # Errors
     /// The first that holds of `Contradiction` (1), `NoCounter` (23): a number that is not 1 to FFFh.
-    #[tactic(auto, unfolding(crate::specs::Counter::counterOf, counters::specs::Shown::shownFor, refusals::specs::First::first_of))]
+    #[tactic(auto, unfolding(crate::specs::Counter::counter_of, counters::specs::Shown::shown_for, refusals::specs::First::first_of))]
     pub fn counter(&self, number: u16) -> Result<Option<u64>, Refusal>
         ensures { CounterGiven self.now number result }
     {

@@ -1,6 +1,6 @@
 // A device that is kept: by a field of its own it does not contradict itself, so that no call tests it again.
 ghost use Rattle.std.specs.Prelude.{◌≡◌, false};
-ghost use Rattle.device.specs.Device.{contradictoryDevice};
+ghost use Rattle.device.specs.Device.{contradictory_device};
 
 use crate::state::Device;
 use refusals::Refusal;
@@ -14,7 +14,7 @@ use refusals::Refusal;
 pub struct Sealed {
     /// its state
     pub device: Device,
-    ghost sound: { contradictoryDevice device ≡ false },
+    ghost sound: { contradictory_device device ≡ false },
 }
 
 /// The state as it is; `Contradiction` (1) for one that contradicts itself.

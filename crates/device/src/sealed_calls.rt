@@ -4,15 +4,15 @@
 ghost use Rattle.std.specs.Prelude.{◌≡◌, ◌<◌, ◌^◌, [], leb, length};
 ghost use Rattle.bits.specs.Pick.{pick};
 ghost use Rattle.rules.specs.Handed.{handed};
-ghost use Rattle.rules.specs.Call.{hostFrame, happens};
+ghost use Rattle.rules.specs.Call.{host_frame, happens};
 ghost use Rattle.rules.specs.declared.event.DeviceEvent.TheVariants.{OpenPhase, SendData, FinishTags, MediaError, LinkEvent, Comreset};
-ghost use Rattle.replies.specs.Replies.{repliesOf, RepliesGiven};
-ghost use Rattle.device.specs.Device.{powerOn};
+ghost use Rattle.replies.specs.Replies.{replies_of, RepliesGiven};
+ghost use Rattle.device.specs.Device.{power_on};
 ghost use Rattle.device.specs.Lent.{lent, gave, answered};
-ghost use Rattle.device.specs.FactsOf.{entryMeant, mediumWrong, factsWith, unreadyIn};
+ghost use Rattle.device.specs.FactsOf.{entry_meant, medium_wrong, facts_with, unready_in};
 ghost use Rattle.device.specs.After.{after_of};
-ghost use Rattle.device.specs.Step.{shown, actOf, Given, GivenReplying, GivenAlone};
-ghost use Rattle.device.specs.Sealing.{poweredOf};
+ghost use Rattle.device.specs.Step.{state_shown, act_of, Given, GivenReplying, GivenAlone};
+ghost use Rattle.device.specs.Sealing.{powered_of};
 
 use crate::sealed::Sealed;
 use crate::state::Device;
@@ -24,7 +24,7 @@ use rules::{Act, DeviceEvent, Facts};
 impl Device {
     // The entry of the tag that is meant; where none is, an idle one.
     fn entry_meant(&self, tag: Option<u32>) -> Entry
-        ensures { result ≡ entryMeant self.now.entries tag }
+        ensures { result ≡ entry_meant self.now.entries tag }
     {
         tag.map(|tag| device_state::entry_of(&self.entries, tag))
             .unwrap_or_default()
@@ -32,14 +32,14 @@ impl Device {
 
     // The medium's size cannot wrap at any capacity, so it may be asked for before `Contradiction` (1) is tested.
     fn medium_wrong(&self, medium: &[u8]) -> bool
-        ensures { result ≡ mediumWrong self.now.settings.capacity (length medium.now) }
+        ensures { result ≡ medium_wrong self.now.settings.capacity (length medium.now) }
     {
         medium.len() != self.settings.medium_size()
     }
 
     // What replies show.
     fn shown(&self) -> Shown<'_>
-        ensures { result ≡ shown self.now }
+        ensures { result ≡ state_shown self.now }
     {
         Shown {
             halted: self.status.halted,
@@ -52,7 +52,7 @@ impl Device {
     // The act is done: replies, whose length is answered, then the state.
     fn done(&mut self, act: Act, part: &[u8], reply: &mut [u8]) -> usize
         ensures state { self.new ≡ after_of self.old act }
-        ensures reply { RepliesGiven (pick (leb 8196 (length reply.old)) (repliesOf (shown self.old) part.now act) []) reply.old result reply.new }
+        ensures reply { RepliesGiven (pick (leb 8196 (length reply.old)) (replies_of (state_shown self.old) part.now act) []) reply.old result reply.new }
     {
         let len = replies::emit(reply, &act, &self.shown(), part);
         self.after(act);
@@ -64,7 +64,7 @@ impl Sealed {
     // What a decision looks at, of a call about a tag's entry, if it is about one: that the device does not contradict
     // itself is known by its field.
     fn facts(&self, tag: Option<u32>, unready: bool, medium: &[u8], reply: &[u8]) -> Facts
-        ensures { let device = self.now.device in result ≡ factsWith device tag (mediumWrong device.settings.capacity (length medium.now)) unready (length reply.now) }
+        ensures { let device = self.now.device in result ≡ facts_with device tag (medium_wrong device.settings.capacity (length medium.now)) unready (length reply.now) }
     {
         let device = &self.device;
         Facts {
@@ -81,7 +81,7 @@ impl Sealed {
     // What a host frame comes to: it is about the open phase.
     #[tactic(auto, using(crate::proofs::Doing::host_act))]
     fn frame_act(&self, frame: &[u8], medium: &[u8], reply: &[u8]) -> Result<Act, Refusal>
-        ensures { result ≡ actOf self.now.device (lent (hostFrame frame.now) medium.now reply.now) }
+        ensures { result ≡ act_of self.now.device (lent (host_frame frame.now) medium.now reply.now) }
     {
         let facts = self.facts(self.device.status.phase, false, medium, reply);
         facts.frame_act(frames::read_frame(frame))
@@ -90,7 +90,7 @@ impl Sealed {
     // The set that it names has a tag that is not ready; an event that names no set has none.
     #[tactic(auto, using(crate::proofs::Doing::none_unready))]
     fn is_unready(&self, event: DeviceEvent) -> bool
-        ensures unready { result ≡ unreadyIn self.now.device (happens event) }
+        ensures unready { result ≡ unready_in self.now.device (happens event) }
         ensures typed { (handed (happens event)).set < 2 ^ 32 }
     {
         match event {
@@ -106,9 +106,9 @@ impl Sealed {
     }
 
     // What a device event comes to.
-    #[tactic(auto, unfolding(crate::specs::Step::actOf))]
+    #[tactic(auto, unfolding(crate::specs::Step::act_of))]
     fn event_act(&self, event: DeviceEvent, medium: &[u8], reply: &[u8]) -> Result<Act, Refusal>
-        ensures act { result ≡ actOf self.now.device (lent (happens event) medium.now reply.now) }
+        ensures act { result ≡ act_of self.now.device (lent (happens event) medium.now reply.now) }
         ensures typed { (handed (happens event)).set < 2 ^ 32 }
     {
         let tag = event.tag(self.device.status.phase);
@@ -120,9 +120,9 @@ impl Sealed {
     ///
     /// # Errors
     /// `Contradiction` (1) for settings out of bounds: depth 1 to 32, capacity 1 to 65,536 sectors, rows 0 and 9 kept.
-    #[tactic(auto, unfolding(crate::specs::Sealing::poweredOf, crate::specs::Device::powerOn, crate::specs::Device::freshDevice, refusals::specs::First::first_of), using(crate::proofs::Defaults::default_zeros, crate::proofs::Kept::fresh_sound))]
+    #[tactic(auto, unfolding(crate::specs::Sealing::powered_of, crate::specs::Device::power_on, crate::specs::Device::fresh_device, refusals::specs::First::first_of), using(crate::proofs::Defaults::default_zeros, crate::proofs::Kept::fresh_sound))]
     pub fn power_on(settings: Settings) -> Result<Sealed, Refusal>
-        ensures { poweredOf result ≡ powerOn settings }
+        ensures { powered_of result ≡ power_on settings }
     {
         if device_state::settings_out(settings) {
             return Err(Refusal::Contradiction);
@@ -144,7 +144,7 @@ impl Sealed {
         medium: &mut [u8],
         reply: &mut [u8],
     ) -> Result<usize, Refusal>
-        ensures { Given self.old.device (lent (hostFrame frame.now) medium.old reply.old) (gave (answered self.new.device result) medium.new reply.new) }
+        ensures { Given self.old.device (lent (host_frame frame.now) medium.old reply.old) (gave (answered self.new.device result) medium.new reply.new) }
     {
         let act = self.frame_act(frame, medium, reply)?;
         act.store(medium, frame);

@@ -1,6 +1,6 @@
 // What the device is, its limits, and how it begins.
 ghost use Rattle.std.specs.Prelude.{◌≡◌};
-ghost use Rattle.device.specs.Device.{contradictoryDevice, powerOn};
+ghost use Rattle.device.specs.Device.{contradictory_device, power_on};
 ghost use Rattle.device.specs.Lent.{answered};
 
 use crate::sealed::Sealed;
@@ -54,9 +54,9 @@ impl Device {
     ///
     /// Refused with `Contradiction` (1) for settings out of bounds: depth 1 to 32, capacity 1 to 65,536 sectors, rows 0 and 9
     /// kept. It then hands back all zeros.
-    #[tactic(auto, unfolding(crate::specs::Sealing::poweredOf), using(crate::proofs::Defaults::default_zeros))]
+    #[tactic(auto, unfolding(crate::specs::Sealing::powered_of), using(crate::proofs::Defaults::default_zeros))]
     pub fn power_on(settings: Settings) -> Outcome
-        ensures { result ≡ powerOn settings }
+        ensures { result ≡ power_on settings }
     {
         match Sealed::power_on(settings) {
             Ok(sealed) => sealed.device.with(Ok(0)),
@@ -76,9 +76,9 @@ impl Device {
     }
 
     /// Whether the state contradicts itself: every call on such a state is refused with `Contradiction` (1).
-    #[tactic(auto, unfolding(crate::specs::Device::contradictoryDevice))]
+    #[tactic(auto, unfolding(crate::specs::Device::contradictory_device))]
     pub fn contradicts(&self) -> bool
-        ensures { result ≡ contradictoryDevice self.now }
+        ensures { result ≡ contradictory_device self.now }
     {
         device_state::contradicts(
             self.settings,

@@ -1,25 +1,25 @@
 -- The bytes that are kept of a command name what the command named. Assumes nothing.
 use Rattle.std.proofs.Common.{◌≡◌, refl, ap, ap₂, ◌∙◌, true, ◌&&◌, ℕ, ◌+◌, ◌*◌, ◌^◌, ◌<◌, arith}
 use Rattle.bits.proofs.Picks.{and_left, and_right}
-use Rattle.bits.proofs.Littles.{le-bytesFrom}
-use Rattle.frames.specs.Shared.{tag_of, below, taskFits}
+use Rattle.bits.proofs.Littles.{le_bytes_from}
+use Rattle.frames.specs.Shared.{tag_of, is_below, task_fits}
 use Rattle.frames.specs.declared.shared.Task.{Task}
-use Rattle.frames.proofs.TaskLaws.{small, same-task}
-use Rattle.device_state.specs.State.{taskIn, tagIn, echoOf}
+use Rattle.frames.proofs.TaskLaws.{small, same_task}
+use Rattle.device_state.specs.State.{task_in, tag_in, echo_of}
 
 -- the bytes of what a frame named name its tag
-pub echo-tag : (t : Task) → tagIn (echoOf t) ≡ tag_of t.count
-unfolding taskIn echoOf
-echo-tag t = ap tag_of (le-bytesFrom 0 2 t.count) ∙ omega arith
+pub echo_tag : (t : Task) → tag_in (echo_of t) ≡ tag_of t.count
+unfolding task_in echo_of
+echo_tag t = ap tag_of (le_bytes_from 0 2 t.count) ∙ omega arith
 
 -- and its first sector
-pub echo-lba : (t : Task) → t.lba < 2 ^ 48 → (taskIn (echoOf t)).lba ≡ t.lba
-unfolding taskIn echoOf
-echo-lba t h = ap₂ (λ (a b : ℕ). a * 2 ^ 24 + b) (le-bytesFrom 3 3 t.lba) (le-bytesFrom 0 3 t.lba) ∙ omega arith
+pub echo_lba : (t : Task) → t.lba < 2 ^ 48 → (task_in (echo_of t)).lba ≡ t.lba
+unfolding task_in echo_of
+echo_lba t h = ap₂ (λ (a b : ℕ). a * 2 ^ 24 + b) (le_bytes_from 3 3 t.lba) (le_bytes_from 0 3 t.lba) ∙ omega arith
 
 -- all that they named
-pub echo-task : (t : Task) → taskFits t ≡ true → taskIn (echoOf t) ≡ t
-unfolding taskIn echoOf
-echo-task t h =
-    let count : t.count < 2 ^ 16 = small 16 t.count (and_right (below 8 t.device) (below 16 t.count) (and_left (below 8 t.device && below 16 t.count) (below 48 t.lba) h)) in
-    same-task (echo-lba t (small 48 t.lba (and_right (below 8 t.device && below 16 t.count) (below 48 t.lba) h))) refl (le-bytesFrom 0 2 t.count ∙ omega arith)
+pub echo_task : (t : Task) → task_fits t ≡ true → task_in (echo_of t) ≡ t
+unfolding task_in echo_of
+echo_task t h =
+    let count : t.count < 2 ^ 16 = small 16 t.count (and_right (is_below 8 t.device) (is_below 16 t.count) (and_left (is_below 8 t.device && is_below 16 t.count) (is_below 48 t.lba) h)) in
+    same_task (echo_lba t (small 48 t.lba (and_right (is_below 8 t.device && is_below 16 t.count) (is_below 48 t.lba) h))) refl (le_bytes_from 0 2 t.count ∙ omega arith)

@@ -3,29 +3,29 @@ use Rattle.std.specs.Prelude.{Bool, ℕ, ◌+◌, ◌-◌, min, leb, eqb}
 use Rattle.device_state.specs.declared.progress.Progress.{Progress}
 
 -- what is left of the whole, once some have moved
-abbrev pub leftIn : ℕ → ℕ → ℕ
-leftIn whole moved = whole - moved
+abbrev pub left_in : ℕ → ℕ → ℕ
+left_in whole moved = whole - moved
 
 -- n bytes of it, or what is left if that is less
-abbrev pub partIn : ℕ → ℕ → ℕ → ℕ
-partIn whole moved n = min n (leftIn whole moved)
+abbrev pub part_in : ℕ → ℕ → ℕ → ℕ
+part_in whole moved n = min n (left_in whole moved)
 
 -- nothing is left once they have moved
-abbrev pub lastIn : ℕ → ℕ → ℕ → Bool
-lastIn whole moved n = leb (leftIn whole moved) n
+abbrev pub last_in : ℕ → ℕ → ℕ → Bool
+last_in whole moved n = leb (left_in whole moved) n
 
 -- all moved already
 abbrev pub wholly : ℕ → ℕ → Bool
 wholly moved whole = eqb moved whole
 
 -- the host data due in a write phase: min(8,192, what is left)
-abbrev pub dueIn : Progress → ℕ
-dueIn p = partIn p.whole p.moved 8192
+abbrev pub due_in : Progress → ℕ
+due_in p = part_in p.whole p.moved 8192
 
 -- what has moved once n bytes more have
-abbrev pub movedOn : ℕ → ℕ → ℕ
-movedOn moved n = moved + n
+abbrev pub moved_on : ℕ → ℕ → ℕ
+moved_on moved n = moved + n
 
 -- how far a command is once n bytes more have moved, or what is left
-abbrev pub afterIn : Progress → ℕ → Progress
-afterIn p n = record p { moved = movedOn p.moved (partIn p.whole p.moved n) }
+abbrev pub after_in : Progress → ℕ → Progress
+after_in p n = record p { moved = moved_on p.moved (part_in p.whole p.moved n) }

@@ -10,20 +10,20 @@ use Rattle.device_state.specs.declared.shapes.Entry.{Entry}
 use Rattle.device_state.specs.declared.shapes.ErrorRecord.{ErrorRecord}
 
 -- the command's bytes, each at its place in a frame
-abbrev pub placedBytes : Echo → List ℕ
-placedBytes e = 0 ∷ 0 ∷ 0 ∷ 0 ∷ e.b4 ∷ e.b5 ∷ e.b6 ∷ e.b7 ∷ e.b8 ∷ e.b9 ∷ e.b10 ∷ 0 ∷ e.b12 ∷ e.b13 ∷ []
+abbrev pub placed_bytes : Echo → List ℕ
+placed_bytes e = 0 ∷ 0 ∷ 0 ∷ 0 ∷ e.b4 ∷ e.b5 ∷ e.b6 ∷ e.b7 ∷ e.b8 ∷ e.b9 ∷ e.b10 ∷ 0 ∷ e.b12 ∷ e.b13 ∷ []
 
 -- what they name
-unfoldable pub taskIn : Echo → Task
-taskIn e = task_of (placedBytes e)
+unfoldable pub task_in : Echo → Task
+task_in e = task_of (placed_bytes e)
 
 -- the tag that they name
-abbrev pub tagIn : Echo → ℕ
-tagIn e = tag_of (taskIn e).count
+abbrev pub tag_in : Echo → ℕ
+tag_in e = tag_of (task_in e).count
 
 -- the bytes of what a frame named
-unfoldable pub echoOf : Task → Echo
-echoOf t = record {
+unfoldable pub echo_of : Task → Echo
+echo_of t = record {
   b4 = byte_of t.lba 0;
   b5 = byte_of t.lba 1;
   b6 = byte_of t.lba 2;
@@ -39,7 +39,7 @@ echoOf t = record {
 abbrev pub medium_size : ℕ → ℕ
 medium_size capacity = 512 * capacity
 
--- the bytes of a command of so many sectors; more than 65,536 no command has (`settingsOut`, `pastCapacity`), and then as many count, so that 32 bits hold them
+-- the bytes of a command of so many sectors; more than 65,536 no command has (`settings_out`, `past_capacity`), and then as many count, so that 32 bits hold them
 abbrev pub whole_of : ℕ → ℕ
 whole_of count = 512 * min count 65536
 
@@ -52,13 +52,13 @@ abbrev pub sectors_of : Entry → Sectors
 sectors_of e = record { first = e.first; count = e.count }
 
 -- no bytes of a command: all 0
-abbrev pub zeroEcho : Echo
-zeroEcho = record { b4 = 0; b5 = 0; b6 = 0; b7 = 0; b8 = 0; b9 = 0; b10 = 0; b12 = 0; b13 = 0 }
+abbrev pub zero_echo : Echo
+zero_echo = record { b4 = 0; b5 = 0; b6 = 0; b7 = 0; b8 = 0; b9 = 0; b10 = 0; b12 = 0; b13 = 0 }
 
 -- an idle tag's entry is zero
-abbrev pub zeroEntry : Entry
-zeroEntry = record { write = false; first = 0; count = 0; moved = 0; features = 0; features_high = 0; echo = zeroEcho }
+abbrev pub zero_entry : Entry
+zero_entry = record { write = false; first = 0; count = 0; moved = 0; features = 0; features_high = 0; echo = zero_echo }
 
 -- a blank record
-abbrev pub blankRecord : ErrorRecord
-blankRecord = record { set = false; nq = false; tag = 0; error = 0; echo = zeroEcho }
+abbrev pub blank_record : ErrorRecord
+blank_record = record { set = false; nq = false; tag = 0; error = 0; echo = zero_echo }

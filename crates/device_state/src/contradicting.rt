@@ -1,17 +1,17 @@
 // What is refused with `Contradiction` (1): settings out of bounds, or a state that contradicts itself.
 ghost use Rattle.std.specs.Prelude.{◌≡◌};
-ghost use Rattle.bits.specs.Bit.{bitIn};
-ghost use Rattle.device_state.specs.UnderWay.{openFor};
-ghost use Rattle.device_state.specs.Contradictory.{settingsOut, movedBad, busyBad, idleBad, entryBad, tableBad, statusBad, recordBad, rowBad, rowsBad, contradictory, rowRefused};
+ghost use Rattle.bits.specs.Bit.{bit_in};
+ghost use Rattle.device_state.specs.UnderWay.{open_for};
+ghost use Rattle.device_state.specs.Contradictory.{settings_out, moved_bad, busy_bad, idle_bad, entry_bad, table_bad, status_bad, record_bad, row_bad, rows_bad, contradictory, row_refused};
 
 use crate::{Entries, Entry, ErrorRecord, Settings, Status};
 use counters::{COMRESET_ROW, Counters, INTERFACE_CRC_ROW};
 use frames::Task;
 
 /// Depth 1 to 32, capacity 1 to 65,536, rows 0 and 9 kept, or the settings are out of bounds.
-#[tactic(auto, unfolding(crate::specs::Contradictory::settingsOut))]
+#[tactic(auto, unfolding(crate::specs::Contradictory::settings_out))]
 pub fn settings_out(settings: Settings) -> bool
-    ensures { result ≡ settingsOut settings }
+    ensures { result ≡ settings_out settings }
 {
     !(1..=Settings::DEPTH_LIMIT).contains(&settings.depth)
         || !(1..=Settings::CAPACITY_LIMIT).contains(&settings.capacity)
@@ -19,9 +19,9 @@ pub fn settings_out(settings: Settings) -> bool
 }
 
 // In bytes, and in whole Dwords.
-#[tactic(auto, unfolding(crate::specs::Contradictory::movedBad))]
+#[tactic(auto, unfolding(crate::specs::Contradictory::moved_bad))]
 fn moved_bad(entry: &Entry, phase: bool) -> bool
-    ensures { result ≡ movedBad entry.now phase }
+    ensures { result ≡ moved_bad entry.now phase }
 {
     let whole = entry.whole();
     whole < entry.moved
@@ -30,9 +30,9 @@ fn moved_bad(entry: &Entry, phase: bool) -> bool
         || phase && entry.moved == whole
 }
 
-#[tactic(auto, unfolding(crate::specs::Contradictory::busyBad))]
+#[tactic(auto, unfolding(crate::specs::Contradictory::busy_bad))]
 fn busy_bad(settings: Settings, entry: &Entry, tag: u32, phase: bool) -> bool
-    ensures { result ≡ busyBad settings entry.now tag phase }
+    ensures { result ≡ busy_bad settings entry.now tag phase }
 {
     let task = Task::from(entry.echo);
     settings.depth <= tag
@@ -44,16 +44,16 @@ fn busy_bad(settings: Settings, entry: &Entry, tag: u32, phase: bool) -> bool
         || moved_bad(entry, phase)
 }
 
-#[tactic(auto, unfolding(crate::specs::Contradictory::idleBad))]
+#[tactic(auto, unfolding(crate::specs::Contradictory::idle_bad))]
 fn idle_bad(entry: &Entry) -> bool
-    ensures { result ≡ idleBad entry.now }
+    ensures { result ≡ idle_bad entry.now }
 {
     *entry != Entry::default()
 }
 
-#[tactic(auto, unfolding(crate::specs::Contradictory::entryBad))]
+#[tactic(auto, unfolding(crate::specs::Contradictory::entry_bad))]
 fn entry_bad(settings: Settings, entry: &Entry, tag: u32, status: Status) -> bool
-    ensures { result ≡ entryBad settings entry.now tag (bitIn 32 status.outstanding tag) (openFor status.phase tag) }
+    ensures { result ≡ entry_bad settings entry.now tag (bit_in 32 status.outstanding tag) (open_for status.phase tag) }
 {
     if status.is_outstanding(tag) {
         busy_bad(settings, entry, tag, status.phase == Some(tag))
@@ -64,14 +64,14 @@ fn entry_bad(settings: Settings, entry: &Entry, tag: u32, status: Status) -> boo
 
 // One walk over the thirty-two entries; the number of an entry is its tag.
 fn table_bad(settings: Settings, entries: &Entries, status: Status) -> bool
-    ensures { result ≡ tableBad settings entries.now status.outstanding status.phase }
+    ensures { result ≡ table_bad settings entries.now status.outstanding status.phase }
 {
     entries.iter().enumerate().any(|(tag, entry)| entry_bad(settings, entry, tag as u32, status))
 }
 
-#[tactic(auto, unfolding(crate::specs::Contradictory::statusBad))]
+#[tactic(auto, unfolding(crate::specs::Contradictory::status_bad))]
 fn status_bad(status: Status, set: bool) -> bool
-    ensures { result ≡ statusBad status set }
+    ensures { result ≡ status_bad status set }
 {
     (status.halted || status.held) && status.outstanding != 0
         || status.halted && status.held
@@ -79,9 +79,9 @@ fn status_bad(status: Status, set: bool) -> bool
         || status.phase.is_some_and(|tag| !status.is_outstanding(tag))
 }
 
-#[tactic(auto, unfolding(crate::specs::Contradictory::recordBad))]
+#[tactic(auto, unfolding(crate::specs::Contradictory::record_bad))]
 fn record_bad(errors: &ErrorRecord) -> bool
-    ensures { result ≡ recordBad errors.now }
+    ensures { result ≡ record_bad errors.now }
 {
     31 < errors.tag
         || errors.nq && errors.tag != 0
@@ -89,13 +89,13 @@ fn record_bad(errors: &ErrorRecord) -> bool
 }
 
 fn row_bad(mask: u16, row: usize, value: u32) -> bool
-    ensures { result ≡ rowBad mask row value }
+    ensures { result ≡ row_bad mask row value }
 {
     !counters::is_kept(mask, row) && value != 0
 }
 
 fn rows_bad(mask: u16, values: &Counters) -> bool
-    ensures { result ≡ rowsBad mask values.now }
+    ensures { result ≡ rows_bad mask values.now }
 {
     values
         .iter()
@@ -123,7 +123,7 @@ pub fn contradicts(
 
 /// Row 0, row 9, above 15, or not kept.
 pub fn row_refused(mask: u16, row: u8) -> bool
-    ensures { result ≡ rowRefused mask row }
+    ensures { result ≡ row_refused mask row }
 {
     row == INTERFACE_CRC_ROW || row == COMRESET_ROW || !counters::is_kept(mask, usize::from(row))
 }

@@ -1,6 +1,6 @@
 // Of the whole of a command's bytes: what is left, and what moves next.
 ghost use Rattle.std.specs.Prelude.{◌≡◌};
-ghost use Rattle.device_state.specs.Progress.{leftIn, partIn, lastIn, wholly, dueIn, afterIn};
+ghost use Rattle.device_state.specs.Progress.{left_in, part_in, last_in, wholly, due_in, after_in};
 
 use frames::PAYLOAD_LIMIT;
 
@@ -16,21 +16,21 @@ pub struct Progress {
 impl Progress {
     /// What is left, once some have moved.
     pub fn left(self) -> u32
-        ensures { result ≡ leftIn self.whole self.moved }
+        ensures { result ≡ left_in self.whole self.moved }
     {
         self.whole.saturating_sub(self.moved)
     }
 
     /// At most `size` bytes, of what is left.
     pub fn part(self, size: usize) -> usize
-        ensures { result ≡ partIn self.whole self.moved size }
+        ensures { result ≡ part_in self.whole self.moved size }
     {
         size.min(self.left() as usize)
     }
 
     /// Nothing is left once `size` bytes more have moved.
     pub fn is_last(self, size: usize) -> bool
-        ensures { result ≡ lastIn self.whole self.moved size }
+        ensures { result ≡ last_in self.whole self.moved size }
     {
         self.left() as usize <= size
     }
@@ -44,7 +44,7 @@ impl Progress {
 
     /// How far it is once `size` bytes more have moved, or what is left.
     pub fn after(self, size: usize) -> Progress
-        ensures { result ≡ afterIn self size }
+        ensures { result ≡ after_in self size }
     {
         Progress {
             moved: self.moved + self.part(size) as u32,
@@ -54,7 +54,7 @@ impl Progress {
 
     /// The host data that are due in a write phase, in bytes: what one frame carries, or what is left.
     pub fn due(self) -> usize
-        ensures { result ≡ dueIn self }
+        ensures { result ≡ due_in self }
     {
         self.part(PAYLOAD_LIMIT)
     }

@@ -1,6 +1,6 @@
 // Sectors against a range.
 ghost use Rattle.std.specs.Prelude.{◌≡◌};
-ghost use Rattle.device_state.specs.Range.{tooFar, outsideOf};
+ghost use Rattle.device_state.specs.Range.{too_far, outside_of};
 
 /// The sectors of a command: `count` of them, from `first` on. No sum of the two is taken, so that none wraps.
 #[derive(Clone, Copy, Debug, PartialEq, Eq)]
@@ -14,7 +14,7 @@ pub struct Sectors {
 impl Sectors {
     /// True where they end above `capacity`, in sectors.
     pub fn is_beyond(self, capacity: u32) -> bool
-        ensures { result ≡ tooFar capacity self.first self.count }
+        ensures { result ≡ too_far capacity self.first self.count }
     {
         u64::from(capacity)
             .checked_sub(self.first)
@@ -23,7 +23,7 @@ impl Sectors {
 
     /// True where `sector` is none of them.
     pub fn leaves_out(self, sector: u32) -> bool
-        ensures { result ≡ outsideOf self.first self.count sector }
+        ensures { result ≡ outside_of self.first self.count sector }
     {
         u64::from(sector)
             .checked_sub(self.first)

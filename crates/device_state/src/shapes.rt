@@ -1,6 +1,6 @@
 // What the state holds: nothing that the list of contradictions does not speak of.
 ghost use Rattle.std.specs.Prelude.{◌≡◌};
-ghost use Rattle.device_state.specs.State.{taskIn, echoOf, medium_size, whole_of, progress_of, sectors_of};
+ghost use Rattle.device_state.specs.State.{task_in, echo_of, medium_size, whole_of, progress_of, sectors_of};
 
 use crate::{Progress, Sectors};
 use frames::Task;
@@ -138,9 +138,9 @@ pub struct ErrorRecord {
 
 /// The command's bytes as a frame shows them.
 impl From<Echo> for Task {
-    ghost from_gives = { λ echo task. task ≡ taskIn echo };
+    ghost from_gives = { λ echo task. task ≡ task_in echo };
 
-    #[tactic(auto, unfolding(crate::specs::State::taskIn))]
+    #[tactic(auto, unfolding(crate::specs::State::task_in))]
     fn from(echo: Echo) -> Task {
         Task {
             lba: u64::from_le_bytes([echo.b4, echo.b5, echo.b6, echo.b8, echo.b9, echo.b10, 0, 0]),
@@ -152,9 +152,9 @@ impl From<Echo> for Task {
 
 /// The bytes of what a frame showed.
 impl From<Task> for Echo {
-    ghost from_gives = { λ task echo. echo ≡ echoOf task };
+    ghost from_gives = { λ task echo. echo ≡ echo_of task };
 
-    #[tactic(auto, unfolding(crate::specs::State::echoOf))]
+    #[tactic(auto, unfolding(crate::specs::State::echo_of))]
     fn from(task: Task) -> Echo {
         let [b4, b5, b6, b8, b9, b10, ..] = task.lba.to_le_bytes();
         let [b12, b13] = task.count.to_le_bytes();

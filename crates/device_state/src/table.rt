@@ -1,6 +1,6 @@
 // The table of entries.
 ghost use Rattle.std.specs.Prelude.{◌≡◌};
-ghost use Rattle.device_state.specs.Table.{entry_of, placed, cleared};
+ghost use Rattle.device_state.specs.Table.{entry_of, table_with, table_without};
 
 use crate::shapes::{Entries, Entry};
 
@@ -14,7 +14,7 @@ pub fn entry_of(entries: &Entries, tag: u32) -> Entry
 /// The table with the entry of a tag anew.
 #[tactic(auto, using(crate::proofs::TableLaws::set_placed, crate::proofs::TableLaws::none_placed))]
 pub fn put_entry(entries: &mut Entries, tag: u32, entry: Entry)
-    ensures { entries.new ≡ placed entries.old tag entry }
+    ensures { entries.new ≡ table_with entries.old tag entry }
 {
     let place = tag as usize;
     if place < entries.len() {
@@ -23,9 +23,9 @@ pub fn put_entry(entries: &mut Entries, tag: u32, entry: Entry)
 }
 
 /// The table without the entries of a set of tags.
-#[tactic(auto, unfolding(crate::specs::Table::cleared), using(crate::proofs::TableLaws::clearing))]
+#[tactic(auto, unfolding(crate::specs::Table::table_without), using(crate::proofs::TableLaws::clearing))]
 pub fn clear_entries(entries: &mut Entries, set: u32)
-    ensures { entries.new ≡ cleared entries.old set }
+    ensures { entries.new ≡ table_without entries.old set }
 {
     for (tag, entry) in entries.iter_mut().enumerate() {
         if bits::bit(set, tag as u32) {

@@ -4,74 +4,74 @@ use Rattle.std.proofs.lemmas.List.{append_cancel_left, append_cancel_right}
 use lib.Seq.{take-append_seam}
 use Rattle.std.specs.Io.KnownBytes.{Appends}
 use Rattle.bits.specs.Pick.{pick}
-use Rattle.frames.specs.Cut.{joined}
+use Rattle.frames.specs.Cut.{joined_bytes}
 use Rattle.events.specs.declared.kinds.InputEnd.TheVariants.{Clean, NoEvent}
-use Rattle.events.specs.Kinds.{kindNamed, nextWhole, nextBy, next_of}
+use Rattle.events.specs.Kinds.{kind_named, next_whole, next_by, next_of}
 use Rattle.events.specs.declared.kinds.Kind.{Kind}
 use Rattle.events.specs.Reading.{IsEvent, Ends}
 use Rattle.events.specs.Running.{ReadsOn, AllEvents, Plays, refused, next_behind, run_lines, ending}
 use Rattle.events.specs.Runs.{IsCut, RunsOut, BreaksOff}
 use Rattle.events.proofs.Nexts.{some}
 
-kind-next : (first : Bool) (k : ℕ) (l : List ℕ) → next_of first (k ∷ l) ≡ nextBy first (kindNamed k) (length (k ∷ l))
+kind_next : (first : Bool) (k : ℕ) (l : List ℕ) → next_of first (k ∷ l) ≡ next_by first (kind_named k) (length (k ∷ l))
 unfolding next_of
-kind-next first k l = rw (some k l) refl
+kind_next first k l = rw (some k l) refl
 
 -- what is there of an event is enough, whatever follows
-whole-front : (first : Bool) (kind : Option Kind) (n n' : ℕ) → n ≤ n' → nextBy first kind n ≡ Ok n → nextBy first kind n' ≡ Ok n
-unfolding nextBy nextWhole
-whole-front first kind n n' h e = grind arith
+whole_front : (first : Bool) (kind : Option Kind) (n n' : ℕ) → n ≤ n' → next_by first kind n ≡ Ok n → next_by first kind n' ≡ Ok n
+unfolding next_by next_whole
+whole_front first kind n n' h e = grind arith
 
-none-empty : (first : Bool) → IsEvent first [] → ⊥
+none_empty : (first : Bool) → IsEvent first [] → ⊥
 unfolding next_of
-none-empty first h = grind arith
+none_empty first h = grind arith
 
-pub next-front : (first : Bool) (e more : List ℕ) → IsEvent first e → next_of first (e ++ more) ≡ Ok (length e)
-next-front first [] more h = absurd (none-empty first h)
-next-front first (k ∷ l) more h =
-    kind-next first k (l ++ more) ∙ whole-front first (kindNamed k) (length (k ∷ l)) (length (k ∷ (l ++ more))) (omega (arith, length-append l more)) (sym (kind-next first k l) ∙ h)
+pub next_front : (first : Bool) (e more : List ℕ) → IsEvent first e → next_of first (e ++ more) ≡ Ok (length e)
+next_front first [] more h = absurd (none_empty first h)
+next_front first (k ∷ l) more h =
+    kind_next first k (l ++ more) ∙ whole_front first (kind_named k) (length (k ∷ l)) (length (k ∷ (l ++ more))) (omega (arith, length-append l more)) (sym (kind_next first k l) ∙ h)
 
 -- two events that the same bytes begin with are the same
-same-front : (first : Bool) (e e' more more' : List ℕ) → IsEvent first e → IsEvent first e' → e ++ more ≡ e' ++ more' → (e ≡ e') × (more ≡ more')
-same-front first e e' more more' i i' q =
-    let a = next-front first e more i in
-    let b = next-front first e' more' i' in
+same_front : (first : Bool) (e e' more more' : List ℕ) → IsEvent first e → IsEvent first e' → e ++ more ≡ e' ++ more' → (e ≡ e') × (more ≡ more')
+same_front first e e' more more' i i' q =
+    let a = next_front first e more i in
+    let b = next_front first e' more' i' in
     let n : length e ≡ length e' = cc in
     let same : e ≡ e' = sym (take-append_seam e more) ∙ ap₂ (λ (k : ℕ) (l : List ℕ). take k l) n q ∙ take-append_seam e' more' in
     (same, append_cancel_left e more more' (cc))
 
 -- and no event begins what ends
-no-front : (first : Bool) (e more rest : List ℕ) → IsEvent first e → Ends (next_of first rest) → rest ≡ e ++ more → ⊥
-no-front first e more rest i n q = subst Ends (ap (next_of first) q ∙ next-front first e more i) n
+no_front : (first : Bool) (e more rest : List ℕ) → IsEvent first e → Ends (next_of first rest) → rest ≡ e ++ more → ⊥
+no_front first e more rest i n q = subst Ends (ap (next_of first) q ∙ next_front first e more i) n
 
-later-once : (es es' : List (List ℕ)) (r r' : List ℕ) → AllEvents es → AllEvents es' → Ends (next_of false r) → Ends (next_of false r') → joined es ++ r ≡ joined es' ++ r' → (es ≡ es') × (r ≡ r')
-unfolding AllEvents joined
-later-once [] [] r r' a a' n n' q = (refl, q)
-later-once [] (e' ∷ es') r r' a a' n n' q = absurd (no-front false e' (joined es' ++ r') r a'.0 n (q ∙ append_assoc e' (joined es') r'))
-later-once (e ∷ es) [] r r' a a' n n' q = absurd (no-front false e (joined es ++ r) r' a.0 n' (sym q ∙ append_assoc e (joined es) r))
-later-once (e ∷ es) (e' ∷ es') r r' a a' n n' q =
-    let front = same-front false e e' (joined es ++ r) (joined es' ++ r') a.0 a'.0 (sym (append_assoc e (joined es) r) ∙ q ∙ append_assoc e' (joined es') r') in
-    let more = later-once es es' r r' a.1 a'.1 n n' front.1 in
+later_once : (es es' : List (List ℕ)) (r r' : List ℕ) → AllEvents es → AllEvents es' → Ends (next_of false r) → Ends (next_of false r') → joined_bytes es ++ r ≡ joined_bytes es' ++ r' → (es ≡ es') × (r ≡ r')
+unfolding AllEvents joined_bytes
+later_once [] [] r r' a a' n n' q = (refl, q)
+later_once [] (e' ∷ es') r r' a a' n n' q = absurd (no_front false e' (joined_bytes es' ++ r') r a'.0 n (q ∙ append_assoc e' (joined_bytes es') r'))
+later_once (e ∷ es) [] r r' a a' n n' q = absurd (no_front false e (joined_bytes es ++ r) r' a.0 n' (sym q ∙ append_assoc e (joined_bytes es) r))
+later_once (e ∷ es) (e' ∷ es') r r' a a' n n' q =
+    let front = same_front false e e' (joined_bytes es ++ r) (joined_bytes es' ++ r') a.0 a'.0 (sym (append_assoc e (joined_bytes es) r) ∙ q ∙ append_assoc e' (joined_bytes es') r') in
+    let more = later_once es es' r r' a.1 a'.1 n n' front.1 in
     (cc (front.0, more.0), more.1)
 
 -- behind the same settings
-behind-once : (b : Bool) (es es' : List (List ℕ)) (r r' : List ℕ) → (b ≡ true → es ≡ []) → (b ≡ true → es' ≡ []) → AllEvents es → AllEvents es' → Ends (pick b (Err Clean) (next_of false r)) → Ends (pick b (Err Clean) (next_of false r'))
-    → joined es ++ r ≡ joined es' ++ r' → (es ≡ es') × (r ≡ r')
-unfolding joined
-behind-once true es es' r r' f f' a a' n n' q =
-    (f refl ∙ sym (f' refl), sym (ap (λ (x : List (List ℕ)). joined x ++ r) (f refl)) ∙ q ∙ ap (λ (x : List (List ℕ)). joined x ++ r') (f' refl))
-behind-once false es es' r r' f f' a a' n n' q = later-once es es' r r' a a' n n' q
+behind_once : (b : Bool) (es es' : List (List ℕ)) (r r' : List ℕ) → (b ≡ true → es ≡ []) → (b ≡ true → es' ≡ []) → AllEvents es → AllEvents es' → Ends (pick b (Err Clean) (next_of false r)) → Ends (pick b (Err Clean) (next_of false r'))
+    → joined_bytes es ++ r ≡ joined_bytes es' ++ r' → (es ≡ es') × (r ≡ r')
+unfolding joined_bytes
+behind_once true es es' r r' f f' a a' n n' q =
+    (f refl ∙ sym (f' refl), sym (ap (λ (x : List (List ℕ)). joined_bytes x ++ r) (f refl)) ∙ q ∙ ap (λ (x : List (List ℕ)). joined_bytes x ++ r') (f' refl))
+behind_once false es es' r r' f f' a a' n n' q = later_once es es' r r' a a' n n' q
 
-pub cut-once : (input : List ℕ) (es es' : List (List ℕ)) (r r' : List ℕ) → IsCut Plays next_behind input es r → IsCut Plays next_behind input es' r' → (es ≡ es') × (r ≡ r')
-unfolding Plays next_behind joined
-cut-once input [] [] r r' c c' = (refl, sym c.whole ∙ c'.whole)
-cut-once input [] (s' ∷ es') r r' c c' = absurd (no-front true s' (joined es' ++ r') r c'.events.0 c.ends (sym c.whole ∙ c'.whole ∙ append_assoc s' (joined es') r'))
-cut-once input (s ∷ es) [] r r' c c' = absurd (no-front true s (joined es ++ r) r' c.events.0 c'.ends (sym c'.whole ∙ c.whole ∙ append_assoc s (joined es) r))
-cut-once input (s ∷ es) (s' ∷ es') r r' c c' =
-    let front = same-front true s s' (joined es ++ r) (joined es' ++ r') c.events.0 c'.events.0 (sym (append_assoc s (joined es) r) ∙ sym c.whole ∙ c'.whole ∙ append_assoc s' (joined es') r') in
+pub cut_once : (input : List ℕ) (es es' : List (List ℕ)) (r r' : List ℕ) → IsCut Plays next_behind input es r → IsCut Plays next_behind input es' r' → (es ≡ es') × (r ≡ r')
+unfolding Plays next_behind joined_bytes
+cut_once input [] [] r r' c c' = (refl, sym c.whole ∙ c'.whole)
+cut_once input [] (s' ∷ es') r r' c c' = absurd (no_front true s' (joined_bytes es' ++ r') r c'.events.0 c.ends (sym c.whole ∙ c'.whole ∙ append_assoc s' (joined_bytes es') r'))
+cut_once input (s ∷ es) [] r r' c c' = absurd (no_front true s (joined_bytes es ++ r) r' c.events.0 c'.ends (sym c'.whole ∙ c.whole ∙ append_assoc s (joined_bytes es) r))
+cut_once input (s ∷ es) (s' ∷ es') r r' c c' =
+    let front = same_front true s s' (joined_bytes es ++ r) (joined_bytes es' ++ r') c.events.0 c'.events.0 (sym (append_assoc s (joined_bytes es) r) ∙ sym c.whole ∙ c'.whole ∙ append_assoc s' (joined_bytes es') r') in
     let same : refused s' ≡ refused s = ap refused (sym front.0) in
     let more =
-    behind-once (refused s) es es' r r' c.events.2 (λ t. c'.events.2 (same ∙ t)) c.events.1 c'.events.1 c.ends (subst (λ (b : Bool). Ends (pick b (Err Clean) (next_of false r'))) same c'.ends) front.1
+    behind_once (refused s) es es' r r' c.events.2 (λ t. c'.events.2 (same ∙ t)) c.events.1 c'.events.1 c.ends (subst (λ (b : Bool). Ends (pick b (Err Clean) (next_of false r'))) same c'.ends) front.1
     in
     (cc (front.0, more.0), more.1)
 
@@ -83,13 +83,13 @@ appended o t t' (Some x) (Some y) e p p' = ap Some (p ∙ ap (λ (l : List ℕ).
 -- so two outputs that the contract allows for an input are equal
 pub run_once : (traced : Bool) (input old : List ℕ) (new new' : Option (List ℕ)) → RunsOut Plays next_behind (run_lines traced) (Some old) new input → RunsOut Plays next_behind (run_lines traced) (Some old) new' input → new ≡ new'
 run_once traced input old new new' a b =
-    let same = cut-once input a.es b.es a.rest b.rest a.cut b.cut in
+    let same = cut_once input a.es b.es a.rest b.rest a.cut b.cut in
     appended old _ _ new new' (ap₂ (λ (es : List (List ℕ)) (r : List ℕ). run_lines traced es ++ ending (next_behind es r)) same.0 same.1) a.written b.written
 
 -- and where a read failed, two outputs for the same bytes read
 pub broken_once : (traced : Bool) (input left old : List ℕ) (new new' : Option (List ℕ)) → BreaksOff Plays ReadsOn next_behind (run_lines traced) (Some input) (Some left) (Some old) new
     → BreaksOff Plays ReadsOn next_behind (run_lines traced) (Some input) (Some left) (Some old) new' → new ≡ new'
 broken_once traced input left old new new' a b =
-    let read = append_cancel_right (joined a.es ++ a.part) (joined b.es ++ b.part) left (sym a.read ∙ b.read) in
-    let same = cut-once (joined b.es ++ b.part) a.es b.es a.part b.part (record { whole = sym read; events = a.cut.events; ends = a.cut.ends }) b.cut in
+    let read = append_cancel_right (joined_bytes a.es ++ a.part) (joined_bytes b.es ++ b.part) left (sym a.read ∙ b.read) in
+    let same = cut_once (joined_bytes b.es ++ b.part) a.es b.es a.part b.part (record { whole = sym read; events = a.cut.events; ends = a.cut.ends }) b.cut in
     appended old _ _ new new' (ap (λ (es : List (List ℕ)). run_lines traced es ++ ending (Err NoEvent)) same.0) a.written b.written

@@ -2,23 +2,23 @@
 use Rattle.std.proofs.Common.{Bool, true, false, not, ◌||◌, List, ℕ, Some, None}
 use Rattle.bits.specs.Pick.{pick}
 use Rattle.refusals.specs.First.{FirstExactly, first_of}
-use Rattle.refusals.specs.Ladders.{powerLadder}
-use Rattle.refusals.proofs.FirstLaws.{first-exactly}
-use Rattle.device_state.specs.Contradictory.{settingsOut}
+use Rattle.refusals.specs.Ladders.{power_ladder}
+use Rattle.refusals.proofs.FirstLaws.{first_exactly}
+use Rattle.device_state.specs.Contradictory.{settings_out}
 use Rattle.device_state.specs.declared.shapes.Settings.{Settings}
-use Rattle.device.specs.Sealing.{poweredOf}
-use Rattle.device.proofs.Exactly.{first-exactly-power}
-use Rattle.events.specs.Settings.{settingsOf, inLimit}
-use Rattle.events.specs.Stops.{startOut}
+use Rattle.device.specs.Sealing.{powered_of}
+use Rattle.device.proofs.Exactly.{first_exactly_power}
+use Rattle.events.specs.Settings.{settings_of, in_limit}
+use Rattle.events.specs.Stops.{start_out}
 use Rattle.events.specs.Start.{start_by, start_of}
 
 -- out of the limit it is 1, and in it what power-on gives
-by-limit : (b : Bool) (s : Settings) → FirstExactly (powerLadder (not b || settingsOut s)) (start_by (pick b (Some s) None)).refusal
-unfolding start_by poweredOf first_of
-by-limit true s = first-exactly-power s
-by-limit false s = first-exactly (powerLadder true) tt
+by_limit : (b : Bool) (s : Settings) → FirstExactly (power_ladder (not b || settings_out s)) (start_by (pick b (Some s) None)).refusal
+unfolding start_by powered_of first_of
+by_limit true s = first_exactly_power s
+by_limit false s = first_exactly (power_ladder true) tt
 
 -- settings: 1
-pub first-exactly-start : (e : List ℕ) → FirstExactly (powerLadder (startOut e)) (start_of e).refusal
+pub first_exactly_start : (e : List ℕ) → FirstExactly (power_ladder (start_out e)) (start_of e).refusal
 unfolding start_of
-first-exactly-start e = by-limit (inLimit e) (settingsOf e)
+first_exactly_start e = by_limit (in_limit e) (settings_of e)

@@ -4,30 +4,30 @@ use Rattle.std.proofs.lemmas.List.{take_more}
 use Rattle.std.proofs.KnownBytes.{Appends-trans}
 use Rattle.std.specs.Io.KnownBytes.{Appends}
 use Rattle.hex.specs.Hex.{encode_with, encode_upper, upper_digits}
-use Rattle.frames.specs.Cut.{firstLength, cut}
-use Rattle.frames.proofs.CutLaws.{cut-next}
+use Rattle.frames.specs.Cut.{first_length, cut}
+use Rattle.frames.proofs.CutLaws.{cut_next}
 use Rattle.events.specs.Lines.{field_of, fields_of}
 
 -- one reply more
-pub fields-more : (traced : Bool) (reply : List ℕ) (rest replies : List (List ℕ)) (done all : List ℕ) → replies ≡ reply ∷ rest
+pub fields_more : (traced : Bool) (reply : List ℕ) (rest replies : List (List ℕ)) (done all : List ℕ) → replies ≡ reply ∷ rest
     → done ++ fields_of traced replies ≡ all → (done ++ field_of traced reply) ++ fields_of traced rest ≡ all
-fields-more traced reply rest replies done all e p = append_assoc done (field_of traced reply) (fields_of traced rest) ∙ (rw e at p)
+fields_more traced reply rest replies done all e p = append_assoc done (field_of traced reply) (fields_of traced rest) ∙ (rw e at p)
 
 -- of bytes that are cut into replies: behind the field of the first piece come those of what is behind it
-pub fields-turn : (traced : Bool) (l piece more : List ℕ) (n : ℕ) (done all : List ℕ) → 0 < length l → n ≡ firstLength l → piece ≡ take n l → more ≡ drop n l
+pub fields_turn : (traced : Bool) (l piece more : List ℕ) (n : ℕ) (done all : List ℕ) → 0 < length l → n ≡ first_length l → piece ≡ take n l → more ≡ drop n l
     → done ++ fields_of traced (cut l) ≡ all → (done ++ field_of traced piece) ++ fields_of traced (cut more) ≡ all
-fields-turn traced l piece more n done all h e f g p =
-    rw (f, g, e) (fields-more traced (take (firstLength l) l) (cut (drop (firstLength l) l)) (cut l) done all (cut-next l (λ z. omega (arith, z, h))) p)
+fields_turn traced l piece more n done all h e f g p =
+    rw (f, g, e) (fields_more traced (take (first_length l) l) (cut (drop (first_length l) l)) (cut l) done all (cut_next l (λ z. omega (arith, z, h))) p)
 
-digits-append : (a b : List ℕ) → encode_upper (a ++ b) ≡ encode_upper a ++ encode_upper b
+digits_append : (a b : List ℕ) → encode_upper (a ++ b) ≡ encode_upper a ++ encode_upper b
 unfolding encode_with
-digits-append [] b = refl
-digits-append (x ∷ a) b = ap (λ (t : List ℕ). slice_index upper_digits (x / 16) ∷ slice_index upper_digits (x % 16) ∷ t) (digits-append a b)
+digits_append [] b = refl
+digits_append (x ∷ a) b = ap (λ (t : List ℕ). slice_index upper_digits (x / 16) ∷ slice_index upper_digits (x % 16) ∷ t) (digits_append a b)
 
 -- the digits of one byte more
-pub digits-turn : (l : List ℕ) (i : ℕ) → i < length l → encode_upper (take (i + 1) l) ≡ encode_upper (take i l) ++ encode_upper (get_or l i 0 ∷ [])
-digits-turn l i h = ap (λ (t : List ℕ). encode_upper t) (take_more l i 0 h) ∙ digits-append (take i l) (get_or l i 0 ∷ [])
+pub digits_turn : (l : List ℕ) (i : ℕ) → i < length l → encode_upper (take (i + 1) l) ≡ encode_upper (take i l) ++ encode_upper (get_or l i 0 ∷ [])
+digits_turn l i h = ap (λ (t : List ℕ). encode_upper t) (take_more l i 0 h) ∙ digits_append (take i l) (get_or l i 0 ∷ [])
 
 -- and what is written by then
 pub digits_on : (a b c : Option (List ℕ)) (l digits : List ℕ) (i : ℕ) → i < length l → Appends a b (encode_upper (take i l)) → digits ≡ encode_upper (get_or l i 0 ∷ []) → Appends b c digits → Appends a c (encode_upper (take (i + 1) l))
-digits_on a b c l digits i h p e q = rw (digits-turn l i h) (Appends-trans a b c _ _ p (rw e at q))
+digits_on a b c l digits i h p e q = rw (digits_turn l i h) (Appends-trans a b c _ _ p (rw e at q))

@@ -6,15 +6,15 @@ use Rattle.std.specs.Io.KnownBytes.{Appends, Consumes}
 use Rattle.streams.specs.Fronts.{AppendsFront}
 use Rattle.events.specs.declared.errors.RunError.{RunError}
 use Rattle.events.specs.declared.kinds.InputEnd.{InputEnd}
-use Rattle.frames.specs.Cut.{joined}
+use Rattle.frames.specs.Cut.{joined_bytes}
 use Rattle.events.specs.Ends.{Finished}
 use Rattle.events.specs.Output.{PassedOn}
 use Rattle.events.specs.Reading.{IsEvent, ReadEvent}
 use Rattle.events.specs.Running.{Kept, told, after, lines_from, kept_after, AllEvents}
 use Rattle.events.specs.Runs.{lines_on, later, always, PlayedOn}
-use Rattle.streams.proofs.Fronts.{front-then}
-use Rattle.events.proofs.Fronts.{front-first}
-use Rattle.events.proofs.Runs.{joined-more, kept-more, events-more, text-more, text-passed, begins, CameTo, IsLost, told-lost, finished, finished-behind}
+use Rattle.streams.proofs.Fronts.{front_then}
+use Rattle.events.proofs.Fronts.{front_first}
+use Rattle.events.proofs.Runs.{joined_more, kept_more, events_more, text_more, text_passed, begins, CameTo, IsLost, told_lost, finished, finished_behind}
 
 -- the events so far were read, and left k; their lines, and those that were left before (l), are written, but for the lines that are left; n is the next number
 pub record Played (traced : Bool) (first : Kept) (l : List ℕ) (known old now new : Option (List ℕ)) (k : Kept) (lines : List ℕ) (n : ℕ) : Type 0 where
@@ -23,35 +23,35 @@ pub record Played (traced : Bool) (first : Kept) (l : List ℕ) (known old now n
   pub number : 1 + length es ≡ n
   pub events : AllEvents es
   pub state : k ≡ kept_after first es
-  pub read : Consumes known now (joined es)
+  pub read : Consumes known now (joined_bytes es)
   pub written : Appends old new done
   pub text : lines_on traced first l es ≡ done ++ lines
 
-pub none-yet : (traced : Bool) (first : Kept) (l : List ℕ) (known old : Option (List ℕ)) → Played traced first l known old known old first l 1
-unfolding lines_from kept_after AllEvents joined
-none-yet traced first l known old = record { es = []; done = []; number = refl; events = tt; state = refl; read = Consumes-nil known; written = Appends-nil old; text = append-nil l }
+pub none_yet : (traced : Bool) (first : Kept) (l : List ℕ) (known old : Option (List ℕ)) → Played traced first l known old known old first l 1
+unfolding lines_from kept_after AllEvents joined_bytes
+none_yet traced first l known old = record { es = []; done = []; number = refl; events = tt; state = refl; read = Consumes-nil known; written = Appends-nil old; text = append-nil l }
 
 module _ {traced : Bool} {first : Kept} {l : List ℕ} {known old now new : Option (List ℕ)} {k : Kept} {lines : List ℕ} {n : ℕ} (p : Played traced first l known old now new k lines n) where
   -- one event more
-  one-read : (e : List ℕ) (now' : Option (List ℕ)) (k' : Kept) (lines' : List ℕ) → IsEvent false e → Consumes now now' e → k' ≡ after k e → lines' ≡ lines ++ told traced n k e → Played traced first l known old now' new k' lines' (n + 1)
-  one-read e now' k' lines' i c q t = record {
+  one_read : (e : List ℕ) (now' : Option (List ℕ)) (k' : Kept) (lines' : List ℕ) → IsEvent false e → Consumes now now' e → k' ≡ after k e → lines' ≡ lines ++ told traced n k e → Played traced first l known old now' new k' lines' (n + 1)
+  one_read e now' k' lines' i c q t = record {
     es = p.es ++ e ∷ [];
     done = p.done;
     number = omega (arith, p.number, length-append p.es (e ∷ []));
-    events = events-more p.es e p.events i;
-    state = rw p.state at q ∙ sym (kept-more first p.es e);
-    read = rw (joined-more p.es e) (Consumes-trans known now now' (joined p.es) e p.read c);
+    events = events_more p.es e p.events i;
+    state = rw p.state at q ∙ sym (kept_more first p.es e);
+    read = rw (joined_more p.es e) (Consumes-trans known now now' (joined_bytes p.es) e p.read c);
     written = p.written;
-    text = text-more traced first l p.es e p.done lines lines' p.text (rw (p.state, sym p.number) at t);
+    text = text_more traced first l p.es e p.done lines lines' p.text (rw (p.state, sym p.number) at t);
   }
 
-  pub one-more : {next : Result (Bor (List ℕ)) InputEnd} {event : Bor (List ℕ)} {now' : Option (List ℕ)} {k' : Kept} {lines' : List ℕ} → next ≡ Ok event → ReadEvent false now next now' → k' ≡ after k event.now → lines' ≡ lines ++ told traced n k event.now
+  pub one_more : {next : Result (Bor (List ℕ)) InputEnd} {event : Bor (List ℕ)} {now' : Option (List ℕ)} {k' : Kept} {lines' : List ℕ} → next ≡ Ok event → ReadEvent false now next now' → k' ≡ after k event.now → lines' ≡ lines ++ told traced n k event.now
       → Played traced first l known old now' new k' lines' (n + 1)
-  one-more {event = event} w came q t = let read = rw w at came in one-read event.now _ _ _ read.0 read.1 q t
+  one_more {event = event} w came q t = let read = rw w at came in one_read event.now _ _ _ read.0 read.1 q t
 
   -- some of the lines are written
-  pub some-passed : (new' : Option (List ℕ)) (left : List ℕ) → PassedOn new new' lines left → Played traced first l known old now new' k left n
-  some-passed new' left passed = record {
+  pub some_passed : (new' : Option (List ℕ)) (left : List ℕ) → PassedOn new new' lines left → Played traced first l known old now new' k left n
+  some_passed new' left passed = record {
     es = p.es;
     done = p.done ++ passed.0;
     number = p.number;
@@ -59,20 +59,20 @@ module _ {traced : Bool} {first : Kept} {l : List ℕ} {known old now new : Opti
     state = p.state;
     read = p.read;
     written = Appends-trans old new new' p.done passed.0 p.written passed.1;
-    text = text-passed _ p.done lines passed.0 left p.text passed.2;
+    text = text_passed _ p.done lines passed.0 left p.text passed.2;
   }
 
   -- lines are lost
   pub lost : (known' new' : Option (List ℕ)) (r : Result Unit RunError) (e : RunError) → IsErr r → IsErrAnd r (λ x. x ≡ e) → IsLost e → AppendsFront new new' lines → PlayedOn traced first l known known' old new' r
-  lost known' new' r e i h o front = told-lost AllEvents always later (lines_on traced first l) (2 ^ 64 - 2) known known' old new' r e i h o (record {
+  lost known' new' r e i h o front = told_lost AllEvents always later (lines_on traced first l) (2 ^ 64 - 2) known known' old new' r e i h o (record {
     es = p.es;
-    begins = begins known now (joined p.es) p.read;
+    begins = begins known now (joined_bytes p.es) p.read;
     events = p.events;
-    written = front-first old new' _ _ (subst (AppendsFront old new') (sym p.text) (front-then old new new' p.done lines p.written front));
+    written = front_first old new' _ _ (subst (AppendsFront old new') (sym p.text) (front_then old new new' p.done lines p.written front));
   })
 
   -- the run ends
   pub ended : (known' new' : Option (List ℕ)) (end : Result InputEnd RunError) (r : Result Unit RunError) → CameTo always later (2 ^ 64 - 2) now known' p.es end → Finished end new new' lines r → PlayedOn traced first l known known' old new' r
   ended known' new' end r c f =
       finished AllEvents always later (lines_on traced first l) (2 ^ 64 - 2) known now known' old new' p.es p.events p.read end r c
-      (finished-behind old new new' p.done lines (lines_on traced first l p.es) end r p.text p.written f)
+      (finished_behind old new new' p.done lines (lines_on traced first l p.es) end r p.text p.written f)

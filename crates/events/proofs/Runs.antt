@@ -13,43 +13,43 @@ use Rattle.events.specs.declared.errors.RunError.{RunError}
 use Rattle.events.specs.declared.errors.RunError.TheVariants.{Input, Output, Memory, TooMany}
 use Rattle.std.proofs.KnownBytes.{Consumes-trans}
 use Rattle.streams.specs.Fronts.{AppendsFront}
-use Rattle.frames.specs.Cut.{joined}
+use Rattle.frames.specs.Cut.{joined_bytes}
 use Rattle.events.specs.Ends.{last_text, Finished}
 use Rattle.events.specs.Output.{IsOutput}
-use Rattle.streams.proofs.Fronts.{front-of}
-use Rattle.events.proofs.Fronts.{front-first, front-last, all-last}
+use Rattle.streams.proofs.Fronts.{front_of}
+use Rattle.events.proofs.Fronts.{front_first, front_last, all_last}
 use Rattle.events.specs.Runs.{lines_on, RunsOut, Loses, Told}
 
-pub joined-more : (es : List (List ℕ)) (e : List ℕ) → joined (es ++ e ∷ []) ≡ joined es ++ e
-unfolding joined
-joined-more [] e = append-nil e
-joined-more (d ∷ es) e = ap (λ (l : List ℕ). d ++ l) (joined-more es e) ∙ sym (append_assoc d (joined es) e)
+pub joined_more : (es : List (List ℕ)) (e : List ℕ) → joined_bytes (es ++ e ∷ []) ≡ joined_bytes es ++ e
+unfolding joined_bytes
+joined_more [] e = append-nil e
+joined_more (d ∷ es) e = ap (λ (l : List ℕ). d ++ l) (joined_more es e) ∙ sym (append_assoc d (joined_bytes es) e)
 
-pub lines-more : (traced : Bool) (n : ℕ) (k : Kept) (es : List (List ℕ)) (e : List ℕ) → lines_from traced n k (es ++ e ∷ []) ≡ lines_from traced n k es ++ told traced (n + length es) (kept_after k es) e
+pub lines_more : (traced : Bool) (n : ℕ) (k : Kept) (es : List (List ℕ)) (e : List ℕ) → lines_from traced n k (es ++ e ∷ []) ≡ lines_from traced n k es ++ told traced (n + length es) (kept_after k es) e
 unfolding lines_from kept_after
-lines-more traced n k [] e = let z : n + 0 ≡ n = omega arith in rw z (append-nil (told traced n k e))
-lines-more traced n k (x ∷ es) e =
+lines_more traced n k [] e = let z : n + 0 ≡ n = omega arith in rw z (append-nil (told traced n k e))
+lines_more traced n k (x ∷ es) e =
     let z : n + 1 + length es ≡ n + suc (length es) = omega arith in
-    ap (λ (l : List ℕ). told traced n k x ++ l) (lines-more traced (n + 1) (after k x) es e ∙ rw z refl) ∙ sym (append_assoc (told traced n k x) _ _)
+    ap (λ (l : List ℕ). told traced n k x ++ l) (lines_more traced (n + 1) (after k x) es e ∙ rw z refl) ∙ sym (append_assoc (told traced n k x) _ _)
 
-pub kept-more : (k : Kept) (es : List (List ℕ)) (e : List ℕ) → kept_after k (es ++ e ∷ []) ≡ after (kept_after k es) e
+pub kept_more : (k : Kept) (es : List (List ℕ)) (e : List ℕ) → kept_after k (es ++ e ∷ []) ≡ after (kept_after k es) e
 unfolding kept_after
-kept-more k [] e = refl
-kept-more k (x ∷ es) e = kept-more (after k x) es e
+kept_more k [] e = refl
+kept_more k (x ∷ es) e = kept_more (after k x) es e
 
-pub events-more : (es : List (List ℕ)) (e : List ℕ) → AllEvents es → IsEvent false e → AllEvents (es ++ e ∷ [])
+pub events_more : (es : List (List ℕ)) (e : List ℕ) → AllEvents es → IsEvent false e → AllEvents (es ++ e ∷ [])
 unfolding AllEvents
-events-more [] e a i = (i, tt)
-events-more (x ∷ es) e a i = (a.0, events-more es e a.1 i)
+events_more [] e a i = (i, tt)
+events_more (x ∷ es) e a i = (a.0, events_more es e a.1 i)
 
 -- the line of one event more
-pub text-more : (traced : Bool) (k : Kept) (l : List ℕ) (es : List (List ℕ)) (e done lines lines' : List ℕ) → lines_on traced k l es ≡ done ++ lines → lines' ≡ lines ++ told traced (1 + length es) (kept_after k es) e
+pub text_more : (traced : Bool) (k : Kept) (l : List ℕ) (es : List (List ℕ)) (e done lines lines' : List ℕ) → lines_on traced k l es ≡ done ++ lines → lines' ≡ lines ++ told traced (1 + length es) (kept_after k es) e
     → lines_on traced k l (es ++ e ∷ []) ≡ done ++ lines'
-text-more traced k l es e done lines lines' p q = rw (lines-more traced 1 k es e, ← append_assoc l (lines_from traced 1 k es) (told traced (1 + length es) (kept_after k es) e), p, q) (append_assoc done lines _)
+text_more traced k l es e done lines lines' p q = rw (lines_more traced 1 k es e, ← append_assoc l (lines_from traced 1 k es) (told traced (1 + length es) (kept_after k es) e), p, q) (append_assoc done lines _)
 
 -- some of the lines that are left are written
-pub text-passed : (text done lines done' left : List ℕ) → text ≡ done ++ lines → lines ≡ done' ++ left → text ≡ (done ++ done') ++ left
-text-passed text done lines done' left p q = p ∙ ap (λ (x : List ℕ). done ++ x) q ∙ sym (append_assoc done done' left)
+pub text_passed : (text done lines done' left : List ℕ) → text ≡ done ++ lines → lines ≡ done' ++ left → text ≡ (done ++ done') ++ left
+text_passed text done lines done' left p q = p ∙ ap (λ (x : List ℕ). done ++ x) q ∙ sym (append_assoc done done' left)
 
 -- what was read of known bytes is what they begin with
 pub begins : (known now : Option (List ℕ)) (front : List ℕ) → Consumes known now front → IfSome known (λ input. (rest : List ℕ) × (input ≡ front ++ rest))
@@ -59,7 +59,7 @@ begins (Some xs) (Some ys) front c = (ys, c)
 
 -- the run is over: of what was left it is known what it begins with
 pub over : (P : List (List ℕ) → Type 0) (N : List (List ℕ) → List ℕ → Result ℕ InputEnd) (T : List (List ℕ) → List ℕ) (known now w w' : Option (List ℕ)) (es : List (List ℕ)) (end : Result ℕ InputEnd)
-    → P es → Consumes known now (joined es) → IfSome now (λ rest. N es rest ≡ end) → Ends end → Appends w w' (T es ++ ending end) → IfSome known (RunsOut P N T w w')
+    → P es → Consumes known now (joined_bytes es) → IfSome now (λ rest. N es rest ≡ end) → Ends end → Appends w w' (T es ++ ending end) → IfSome known (RunsOut P N T w w')
 over P N T None now w w' es end p c n e a = tt
 over P N T (Some xs) None w w' es end p c n e a = absurd c
 over P N T (Some xs) (Some ys) w w' es end p c n e a = record {
@@ -76,35 +76,35 @@ IsLost (Output e) = Unit
 IsLost Memory = Unit
 IsLost TooMany = ⊥
 
-pub output-lost : (e : RunError) → IsOutput e → IsLost e
-output-lost (Input x) o = o
-output-lost (Output x) o = tt
-output-lost Memory o = absurd o
-output-lost TooMany o = o
+pub output_lost : (e : RunError) → IsOutput e → IsLost e
+output_lost (Input x) o = o
+output_lost (Output x) o = tt
+output_lost Memory o = absurd o
+output_lost TooMany o = o
 
-lost-by : (P Q : List (List ℕ) → Type 0) (N : List (List ℕ) → List ℕ → Result ℕ InputEnd) (T : List (List ℕ) → List ℕ) (n : ℕ) (known known' w w' : Option (List ℕ)) (e : RunError)
+lost_by : (P Q : List (List ℕ) → Type 0) (N : List (List ℕ) → List ℕ → Result ℕ InputEnd) (T : List (List ℕ) → List ℕ) (n : ℕ) (known known' w w' : Option (List ℕ)) (e : RunError)
     → IsLost e → Loses P T known w w' → Told P Q N T n known known' w w' (Err e)
-lost-by P Q N T n known known' w w' (Input x) o l = absurd o
-lost-by P Q N T n known known' w w' (Output x) o l = l
-lost-by P Q N T n known known' w w' Memory o l = l
-lost-by P Q N T n known known' w w' TooMany o l = absurd o
+lost_by P Q N T n known known' w w' (Input x) o l = absurd o
+lost_by P Q N T n known known' w w' (Output x) o l = l
+lost_by P Q N T n known known' w w' Memory o l = l
+lost_by P Q N T n known known' w w' TooMany o l = absurd o
 
 -- and that is handed on
-pub told-lost : (P Q : List (List ℕ) → Type 0) (N : List (List ℕ) → List ℕ → Result ℕ InputEnd) (T : List (List ℕ) → List ℕ) (n : ℕ) (known known' w w' : Option (List ℕ)) (r : Result Unit RunError) (e : RunError)
+pub told_lost : (P Q : List (List ℕ) → Type 0) (N : List (List ℕ) → List ℕ → Result ℕ InputEnd) (T : List (List ℕ) → List ℕ) (n : ℕ) (known known' w w' : Option (List ℕ)) (r : Result Unit RunError) (e : RunError)
     → IsErr r → IsErrAnd r (λ x. x ≡ e) → IsLost e → Loses P T known w w' → Told P Q N T n known known' w w' r
-told-lost P Q N T n known known' w w' (Ok u) e i h o l = absurd (false≢true i)
-told-lost P Q N T n known known' w w' (Err x) e i h o l = lost-by P Q N T n known known' w w' x (subst IsLost (sym h) o) l
+told_lost P Q N T n known known' w w' (Ok u) e i h o l = absurd (false≢true i)
+told_lost P Q N T n known known' w w' (Err x) e i h o l = lost_by P Q N T n known known' w w' x (subst IsLost (sym h) o) l
 
 -- a result whose error was told anew holds a value where it held one
-pub on-ok : {A D E : Type 0} (r : Result A E) (q : Result A D) (x : A) (P : Type 0) → is_ok q ≡ is_ok r → q ≡ Ok x → OnOk r P → P
-on-ok (Ok y) q x P v e p = p
-on-ok (Err f) q x P v e p = absurd (false≢true (sym v ∙ ap is_ok e))
+pub on_ok : {A D E : Type 0} (r : Result A E) (q : Result A D) (x : A) (P : Type 0) → is_ok q ≡ is_ok r → q ≡ Ok x → OnOk r P → P
+on_ok (Ok y) q x P v e p = p
+on_ok (Err f) q x P v e p = absurd (false≢true (sym v ∙ ap is_ok e))
 
-pub ok-so : {A D E : Type 0} (r : Result A E) (q : Result A D) (P : Type 0) → is_ok q ≡ is_ok r → OnOk r P → OnOk q P
-ok-so (Ok y) (Ok x) P v p = p
-ok-so (Ok y) (Err f) P v p = tt
-ok-so (Err e) (Ok x) P v p = absurd (false≢true (sym v))
-ok-so (Err e) (Err f) P v p = tt
+pub ok_so : {A D E : Type 0} (r : Result A E) (q : Result A D) (P : Type 0) → is_ok q ≡ is_ok r → OnOk r P → OnOk q P
+ok_so (Ok y) (Ok x) P v p = p
+ok_so (Ok y) (Err f) P v p = tt
+ok_so (Err e) (Ok x) P v p = absurd (false≢true (sym v))
+ok_so (Err e) (Err f) P v p = tt
 
 -- what a run came to behind the events es: the end of the input, a read that failed behind a part that is no event, or the last number
 abbrev pub CameTo : (Q : List (List ℕ) → Type 0) (N : List (List ℕ) → List ℕ → Result ℕ InputEnd) (n : ℕ) (now known' : Option (List ℕ)) (es : List (List ℕ)) → Result InputEnd RunError → Type 0
@@ -114,50 +114,50 @@ CameTo Q N n now known' es (Err TooMany) = (length es ≡ n) × (now ≡ known')
 CameTo Q N n now known' es (Err e) = ⊥
 
 -- a front of the lines and of the last text is one of the lines and of `stop`
-front-stop : (w w' : Option (List ℕ)) (end : Result InputEnd RunError) (text : List ℕ) → AppendsFront w w' (text ++ last_text end) → AppendsFront w w' (text ++ ending (Err NoEvent))
+front_stop : (w w' : Option (List ℕ)) (end : Result InputEnd RunError) (text : List ℕ) → AppendsFront w w' (text ++ last_text end) → AppendsFront w w' (text ++ ending (Err NoEvent))
 unfolding ending
-front-stop w w' (Ok Clean) text f = front-first w w' text (ending (Err NoEvent)) (rw (append-nil text) at f)
-front-stop w w' (Ok NoEvent) text f = f
-front-stop w w' (Err e) text f = f
+front_stop w w' (Ok Clean) text f = front_first w w' text (ending (Err NoEvent)) (rw (append-nil text) at f)
+front_stop w w' (Ok NoEvent) text f = f
+front_stop w w' (Err e) text f = f
 
 -- so it ends, where its lines and the last text could be written, and where they could not
-module _ (P Q : List (List ℕ) → Type 0) (N : List (List ℕ) → List ℕ → Result ℕ InputEnd) (T : List (List ℕ) → List ℕ) (n : ℕ) (known now known' w w' : Option (List ℕ)) (es : List (List ℕ)) (events : P es) (read : Consumes known now (joined es)) where
+module _ (P Q : List (List ℕ) → Type 0) (N : List (List ℕ) → List ℕ → Result ℕ InputEnd) (T : List (List ℕ) → List ℕ) (n : ℕ) (known now known' w w' : Option (List ℕ)) (es : List (List ℕ)) (events : P es) (read : Consumes known now (joined_bytes es)) where
   broken : (e : RunError) → CameTo Q N n now known' es (Err e) → Appends w w' (T es ++ ending (Err NoEvent)) → Told P Q N T n known known' w w' (Err e)
   broken (Input e) m a = record {
     es = es;
     looked = m.0;
     part = m.1.0;
-    read = Consumes-trans known now known' (joined es) m.1.0 read m.1.1;
+    read = Consumes-trans known now known' (joined_bytes es) m.1.0 read m.1.1;
     cut = record { whole = refl; events = events; ends = m.1.2 };
     written = a;
   }
   broken (Output e) m a = absurd m
   broken Memory m a = absurd m
-  broken TooMany m a = record { es = es; last = m.0; read = subst (λ (k : Option (List ℕ)). Consumes known k (joined es)) m.1 read; events = events; written = a }
+  broken TooMany m a = record { es = es; last = m.0; read = subst (λ (k : Option (List ℕ)). Consumes known k (joined_bytes es)) m.1 read; events = events; written = a }
 
-  same-end : (end : Result InputEnd RunError) (e : RunError) → CameTo Q N n now known' es end → (end ≡ Err e) × Appends w w' (T es ++ last_text end) → Told P Q N T n known known' w w' (Err e)
-  same-end end e m f = broken e (subst (CameTo Q N n now known' es) f.0 m) (subst (λ (x : Result InputEnd RunError). Appends w w' (T es ++ last_text x)) f.0 f.1)
+  same_end : (end : Result InputEnd RunError) (e : RunError) → CameTo Q N n now known' es end → (end ≡ Err e) × Appends w w' (T es ++ last_text end) → Told P Q N T n known known' w w' (Err e)
+  same_end end e m f = broken e (subst (CameTo Q N n now known' es) f.0 m) (subst (λ (x : Result InputEnd RunError). Appends w w' (T es ++ last_text x)) f.0 f.1)
 
   pub finished : (end : Result InputEnd RunError) (r : Result Unit RunError) → CameTo Q N n now known' es end → Finished end w w' (T es) r → Told P Q N T n known known' w w' r
   finished (Ok end) (Ok u) m f = over P N T known now w w' es (Err end) events read m tt f.1
   finished (Err e) (Ok u) m f = absurd (false≢true f.0)
-  finished end (Err (Input x)) m f = same-end end (Input x) m f
-  finished end (Err (Output x)) m f = record { es = es; begins = begins known now (joined es) read; events = events; written = front-stop w w' end (T es) f }
-  finished end (Err Memory) m f = same-end end Memory m f
-  finished end (Err TooMany) m f = same-end end TooMany m f
+  finished end (Err (Input x)) m f = same_end end (Input x) m f
+  finished end (Err (Output x)) m f = record { es = es; begins = begins known now (joined_bytes es) read; events = events; written = front_stop w w' end (T es) f }
+  finished end (Err Memory) m f = same_end end Memory m f
+  finished end (Err TooMany) m f = same_end end TooMany m f
 
 -- all could be written
-written-broken : (w w' : Option (List ℕ)) (lines : List ℕ) (e : RunError) → Appends w w' (lines ++ ending (Err NoEvent)) → Finished (Err e) w w' lines (Err e)
-written-broken w w' lines (Input x) a = (refl, a)
-written-broken w w' lines (Output x) a = front-of w w' _ [] _ (sym (append-nil (lines ++ ending (Err NoEvent)))) a
-written-broken w w' lines Memory a = (refl, a)
-written-broken w w' lines TooMany a = (refl, a)
+written_broken : (w w' : Option (List ℕ)) (lines : List ℕ) (e : RunError) → Appends w w' (lines ++ ending (Err NoEvent)) → Finished (Err e) w w' lines (Err e)
+written_broken w w' lines (Input x) a = (refl, a)
+written_broken w w' lines (Output x) a = front_of w w' _ [] _ (sym (append-nil (lines ++ ending (Err NoEvent)))) a
+written_broken w w' lines Memory a = (refl, a)
+written_broken w w' lines TooMany a = (refl, a)
 
 pub written : (end : Result InputEnd RunError) (w w' : Option (List ℕ)) (lines : List ℕ) (F : InputEnd → Type 0) (r : Result Unit RunError)
     → MatchResult end F (λ e. r ≡ Err e) → is_ok r ≡ is_ok end → Appends w w' (lines ++ last_text end) → Finished end w w' lines r
 written (Ok i) w w' lines F (Ok u) h v a = (refl, a)
 written (Ok i) w w' lines F (Err e) h v a = absurd (false≢true v)
-written (Err e) w w' lines F r h v a = subst (Finished (Err e) w w' lines) (sym h) (written-broken w w' lines e a)
+written (Err e) w w' lines F r h v a = subst (Finished (Err e) w w' lines) (sym h) (written_broken w w' lines e a)
 
 -- a write failed
 pub unfinished : (end : Result InputEnd RunError) (w w' : Option (List ℕ)) (lines : List ℕ) (F : Type 0) (r : Result Unit RunError) → IsErr r → IfErr r (λ e. IsOutput e × F) → (F → AppendsFront w w' (lines ++ last_text end)) → Finished end w w' lines r
@@ -168,9 +168,9 @@ unfinished end w w' lines F (Err Memory) i f h = absurd f.0
 unfinished end w w' lines F (Err TooMany) i f h = absurd f.0
 
 -- of the lines some were written before
-pub finished-behind : (a w w' : Option (List ℕ)) (done lines text : List ℕ) (end : Result InputEnd RunError) (r : Result Unit RunError) → text ≡ done ++ lines → Appends a w done → Finished end w w' lines r → Finished end a w' text r
-finished-behind a w w' done lines text end (Ok u) e p f = (f.0, all-last a w w' done lines text (last_text end) e p f.1)
-finished-behind a w w' done lines text end (Err (Input x)) e p f = (f.0, all-last a w w' done lines text (last_text end) e p f.1)
-finished-behind a w w' done lines text end (Err (Output x)) e p f = front-last a w w' done lines text (last_text end) e p f
-finished-behind a w w' done lines text end (Err Memory) e p f = (f.0, all-last a w w' done lines text (last_text end) e p f.1)
-finished-behind a w w' done lines text end (Err TooMany) e p f = (f.0, all-last a w w' done lines text (last_text end) e p f.1)
+pub finished_behind : (a w w' : Option (List ℕ)) (done lines text : List ℕ) (end : Result InputEnd RunError) (r : Result Unit RunError) → text ≡ done ++ lines → Appends a w done → Finished end w w' lines r → Finished end a w' text r
+finished_behind a w w' done lines text end (Ok u) e p f = (f.0, all_last a w w' done lines text (last_text end) e p f.1)
+finished_behind a w w' done lines text end (Err (Input x)) e p f = (f.0, all_last a w w' done lines text (last_text end) e p f.1)
+finished_behind a w w' done lines text end (Err (Output x)) e p f = front_last a w w' done lines text (last_text end) e p f
+finished_behind a w w' done lines text end (Err Memory) e p f = (f.0, all_last a w w' done lines text (last_text end) e p f.1)
+finished_behind a w w' done lines text end (Err TooMany) e p f = (f.0, all_last a w w' done lines text (last_text end) e p f.1)

@@ -6,32 +6,32 @@ use Rattle.refusals.specs.declared.reasons.Refusal.{Refusal}
 use Rattle.device.specs.Lent.{Gave, gave, answered}
 use Rattle.device.specs.Step.{Step, bytes_of, Gives}
 use Rattle.device.specs.declared.state.Device.{Device}
-use Rattle.device.proofs.Kept.{answered-state}
+use Rattle.device.proofs.Kept.{answered_state}
 use Rattle.events.specs.Lines.{line_of}
-use Rattle.events.specs.Running.{Kept, kept, stepIn, after, told}
+use Rattle.events.specs.Running.{Kept, kept, step_in, after, told}
 
 -- the same device, medium and reply buffer are kept alike
-pub same-kept : {d d' : Device} {m m' b b' : List ℕ} → d ≡ d' → m ≡ m' → b ≡ b' → kept d m b ≡ kept d' m' b'
-same-kept p q r = cc
+pub same_kept : {d d' : Device} {m m' b b' : List ℕ} → d ≡ d' → m ≡ m' → b ≡ b' → kept d m b ≡ kept d' m' b'
+same_kept p q r = cc
 
-pub kept-is : (k : Kept) (e : List ℕ) (d : Device) (r : Result ℕ Refusal) (m b : List ℕ) → Gives (stepIn k e) k.reply (gave (answered d r) m b) → kept d m b ≡ after k e
+pub kept_is : (k : Kept) (e : List ℕ) (d : Device) (r : Result ℕ Refusal) (m b : List ℕ) → Gives (step_in k e) k.reply (gave (answered d r) m b) → kept d m b ≡ after k e
 unfolding after
-kept-is k e d r m b p = same-kept (sym (answered-state d r) ∙ p.state) p.medium p.reply
+kept_is k e d r m b p = same_kept (sym (answered_state d r) ∙ p.state) p.medium p.reply
 
-front-is : (s : Step) (b : List ℕ) (g : Gave) → Gives s b g → take g.outcome.len g.buffer ≡ bytes_of s
-front-is s b g p = let f = bytes_of s in ap₂ (λ (n : ℕ) (l : List ℕ). take n l) p.len p.reply ∙ take-append_seam f (drop (length f) b)
+front_is : (s : Step) (b : List ℕ) (g : Gave) → Gives s b g → take g.outcome.len g.buffer ≡ bytes_of s
+front_is s b g p = let f = bytes_of s in ap₂ (λ (n : ℕ) (l : List ℕ). take n l) p.len p.reply ∙ take-append_seam f (drop (length f) b)
 
-told-by : (traced : Bool) (n : ℕ) (k : Kept) (e : List ℕ) (g : Gave) → Gives (stepIn k e) k.reply g
+told_by : (traced : Bool) (n : ℕ) (k : Kept) (e : List ℕ) (g : Gave) → Gives (step_in k e) k.reply g
     → line_of traced n g.outcome.refusal g.outcome.state.status.outstanding (take g.outcome.len g.buffer) ≡ told traced n k e
 unfolding told
-told-by traced n k e g p = let f = front-is (stepIn k e) k.reply g p in cc (f, p.refusal, p.state)
+told_by traced n k e g p = let f = front_is (step_in k e) k.reply g p in cc (f, p.refusal, p.state)
 
-told-answered : (traced : Bool) (n : ℕ) (k : Kept) (e : List ℕ) (d : Device) (r : Result ℕ Refusal) (m b : List ℕ) → Gives (stepIn k e) k.reply (gave (answered d r) m b)
+told_answered : (traced : Bool) (n : ℕ) (k : Kept) (e : List ℕ) (d : Device) (r : Result ℕ Refusal) (m b : List ℕ) → Gives (step_in k e) k.reply (gave (answered d r) m b)
     → line_of traced n (result_err r) d.status.outstanding (take (result_unwrap_or r 0) b) ≡ told traced n k e
-told-answered traced n k e d (Ok len) m b p = told-by traced n k e (gave (answered d (Ok len)) m b) p
-told-answered traced n k e d (Err r) m b p = told-by traced n k e (gave (answered d (Err r)) m b) p
+told_answered traced n k e d (Ok len) m b p = told_by traced n k e (gave (answered d (Ok len)) m b) p
+told_answered traced n k e d (Err r) m b p = told_by traced n k e (gave (answered d (Err r)) m b) p
 
 -- the line of what the device answered: its refusal, and the replies in front of the buffer
-pub told-is : (traced : Bool) (n : ℕ) (k : Kept) (e : List ℕ) (d : Device) (r : Result ℕ Refusal) (m b : List ℕ) (given : Option Refusal) (len : ℕ) → given ≡ result_err r → len ≡ result_unwrap_or r 0
-    → Gives (stepIn k e) k.reply (gave (answered d r) m b) → line_of traced n given d.status.outstanding (take len b) ≡ told traced n k e
-told-is traced n k e d r m b given len p q g = rw (p, q) (told-answered traced n k e d r m b g)
+pub told_is : (traced : Bool) (n : ℕ) (k : Kept) (e : List ℕ) (d : Device) (r : Result ℕ Refusal) (m b : List ℕ) (given : Option Refusal) (len : ℕ) → given ≡ result_err r → len ≡ result_unwrap_or r 0
+    → Gives (step_in k e) k.reply (gave (answered d r) m b) → line_of traced n given d.status.outstanding (take len b) ≡ told traced n k e
+told_is traced n k e d r m b given len p q g = rw (p, q) (told_answered traced n k e d r m b g)

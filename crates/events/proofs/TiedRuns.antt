@@ -15,18 +15,18 @@ use Rattle.events.specs.contracts.running as running-said
 use Rattle.events.proofs.pieces
 use Rattle.events.specs.contracts.pieces as pieces-said
 
-pub tied-run : (R W : RattleType) (l : Laws R) (m : Laws W) (g : Reader.Ghosts R.Denot) (d : Dict) (h : Writer.Ghosts W.Denot) (e : Dict)
+pub tied_run : (R W : RattleType) (l : Laws R) (m : Laws W) (g : Reader.Ghosts R.Denot) (d : Dict) (h : Writer.Ghosts W.Denot) (e : Dict)
     → SaysOver (running-said.run.ended R W g d h e) (running.run.Reads.Asked R W l m g d h e) (running.run.Reads.Post R W l m g d h e)
     (λ κs a r ws. Ran a.0.traced (g.remaining a.1.0.now) (g.remaining ws.1.0) (h.contents a.1.1.0.now) (h.contents ws.1.1.0) r)
-tied-run R W l m g d h e = record { same = λ κs a b h. h; some = (([], ([], (R.lives, (W.lives, tt)))), λ a. ((λ x h. h), (λ x h. h))); says = λ κs a r ws p. p }
+tied_run R W l m g d h e = record { same = λ κs a b h. h; some = (([], ([], (R.lives, (W.lives, tt)))), λ a. ((λ x h. h), (λ x h. h))); says = λ κs a r ws p. p }
 
-pub tied-a-run-has-one-text : Tied running-said.a_run_has_one_text.ended running.a_run_has_one_text.Reads.Asked running.a_run_has_one_text.Reads.Post (λ κs a r ws. OneText × OneBroken)
-tied-a-run-has-one-text = by (say (λ κs a. tt) (λ κs a r ws p. (p.0, p.1))) (λ κs a r r' ws ws' p q. (refl, refl))
+pub tied_a_run_has_one_text : Tied running-said.a_run_has_one_text.ended running.a_run_has_one_text.Reads.Asked running.a_run_has_one_text.Reads.Post (λ κs a r ws. OneText × OneBroken)
+tied_a_run_has_one_text = by (say (λ κs a. tt) (λ κs a r ws p. (p.0, p.1))) (λ κs a r r' ws ws' p q. (refl, refl))
 
-pub tied-run-in-pieces : (R W E : RattleType) (l : Laws R) (m : Laws W) (n : Laws E) (g : Reader.Ghosts R.Denot) (d : Dict) (f : Dict) (h : Writer.Ghosts W.Denot) (e : Dict) (i : Writer.Ghosts E.Denot) (j : Dict)
+pub tied_run_in_pieces : (R W E : RattleType) (l : Laws R) (m : Laws W) (n : Laws E) (g : Reader.Ghosts R.Denot) (d : Dict) (f : Dict) (h : Writer.Ghosts W.Denot) (e : Dict) (i : Writer.Ghosts E.Denot) (j : Dict)
     → SaysOver (pieces-said.run_in_pieces.ended R W E g d h e i j f) (pieces.run_in_pieces.Reads.Asked R W E l m n g d h e i j f) (pieces.run_in_pieces.Reads.Post R W E l m n g d h e i j f)
     (λ κs a r ws. HasRun a.0.traced (g.remaining a.1.1.0) (h.contents a.1.1.1.0.now) (h.contents ws.1.1.1.0) (i.contents a.1.1.1.1.0.now) (i.contents ws.1.1.1.1.0) r)
-tied-run-in-pieces R W E l m n g d f h e i j = record { same = λ κs a b h. h; some = (([], ([], (R.lives, (W.lives, (E.lives, tt))))), λ a. ((λ x h. h), ((λ x h. h), (λ x h. h)))); says = λ κs a r ws p. p }
+tied_run_in_pieces R W E l m n g d f h e i j = record { same = λ κs a b h. h; some = (([], ([], (R.lives, (W.lives, (E.lives, tt))))), λ a. ((λ x h. h), ((λ x h. h), (λ x h. h)))); says = λ κs a r ws p. p }
 
-pub tied-exit-status : Tied ended-said.Ended.exit_status.ended ended.Ended.exit_status.Reads.Asked ended.Ended.exit_status.Reads.Post (λ κs a r ws. r ≡ exit_status_of a.0.now.run)
-tied-exit-status = named (say (λ κs a. tt) (λ κs a r ws p. p)) (λ κs a ws ws'. refl)
+pub tied_exit_status : Tied ended-said.Ended.exit_status.ended ended.Ended.exit_status.Reads.Asked ended.Ended.exit_status.Reads.Post (λ κs a r ws. r ≡ exit_status_of a.0.now.run)
+tied_exit_status = named (say (λ κs a. tt) (λ κs a r ws p. p)) (λ κs a ws ws'. refl)

@@ -13,9 +13,9 @@ ReadKind old (Some kind) new = Consumes old new (kind ∷ [])
 ReadKind old None new = Consumes old new [] × IsAtEnd new
 
 -- the kind that was named, if an event of that kind may stand here; `first` says that nothing was before it
-unfoldable pub placedKind : Bool → Option Kind → Option Kind
-placedKind first (Some kind) = then_some (not (misplaced first kind)) kind
-placedKind first None = None
+unfoldable pub placed_kind : Bool → Option Kind → Option Kind
+placed_kind first (Some kind) = then_some (not (misplaced first kind)) kind
+placed_kind first None = None
 
 -- bytes that are one event, and no more
 abbrev pub IsEvent : Bool → List ℕ → Type 0

@@ -1,8 +1,8 @@
 -- What an event asks for. Assumes nothing.
 use Rattle.std.specs.Prelude.{List, ℕ, get_or, Option, Some, None}
 use Rattle.std.specs.Option.{option_and_then}
-use Rattle.bits.specs.Little.{leAt}
-use Rattle.events.specs.Kinds.{eventKind}
+use Rattle.bits.specs.Little.{le_at}
+use Rattle.events.specs.Kinds.{event_kind}
 use Rattle.events.specs.declared.kinds.Kind.{Kind}
 use Rattle.events.specs.declared.kinds.Kind.TheVariants as kinds
 use Rattle.events.specs.declared.asked.Request.{Request}
@@ -10,17 +10,17 @@ use Rattle.events.specs.declared.asked.Request.TheVariants.{Event, HostData, Hos
 use Rattle.rules.specs.declared.event.DeviceEvent.TheVariants.{OpenPhase, SendData, FinishTags, MediaError, LinkEvent, Comreset}
 
 -- what an event e of a kind asks for. Open: tag. Finish: mask 4. Media error: tag, error, sector 4. Link event: row. Host data: byte. Settings ask for nothing
-unfoldable pub requestByKind : List ℕ → Kind → Option Request
-requestByKind e kinds.Settings = None
-requestByKind e kinds.OpenPhase = Some (Event (OpenPhase (get_or e 1 0)))
-requestByKind e kinds.SendData = Some (Event SendData)
-requestByKind e kinds.FinishTags = Some (Event (FinishTags (leAt e 1 4)))
-requestByKind e kinds.MediaError = Some (Event (MediaError (get_or e 1 0) (get_or e 2 0) (leAt e 3 4)))
-requestByKind e kinds.LinkEvent = Some (Event (LinkEvent (get_or e 1 0)))
-requestByKind e kinds.Comreset = Some (Event Comreset)
-requestByKind e kinds.HostData = Some (HostData (get_or e 1 0))
-requestByKind e (kinds.HostFrame kind) = Some HostFrame
+unfoldable pub request_by_kind : List ℕ → Kind → Option Request
+request_by_kind e kinds.Settings = None
+request_by_kind e kinds.OpenPhase = Some (Event (OpenPhase (get_or e 1 0)))
+request_by_kind e kinds.SendData = Some (Event SendData)
+request_by_kind e kinds.FinishTags = Some (Event (FinishTags (le_at e 1 4)))
+request_by_kind e kinds.MediaError = Some (Event (MediaError (get_or e 1 0) (get_or e 2 0) (le_at e 3 4)))
+request_by_kind e kinds.LinkEvent = Some (Event (LinkEvent (get_or e 1 0)))
+request_by_kind e kinds.Comreset = Some (Event Comreset)
+request_by_kind e kinds.HostData = Some (HostData (get_or e 1 0))
+request_by_kind e (kinds.HostFrame kind) = Some HostFrame
 
 -- what the bytes e ask for; what is no event asks for nothing, and so do settings
-unfoldable pub requestOf : List ℕ → Option Request
-requestOf e = option_and_then (requestByKind e) (eventKind e)
+unfoldable pub request_of : List ℕ → Option Request
+request_of e = option_and_then (request_by_kind e) (event_kind e)

@@ -1,11 +1,11 @@
 -- What is written for the events of a run. Assumes nothing.
 use Rattle.std.specs.Prelude.{◌≡◌, Bool, true, false, List, [], ◌∷◌, ◌++◌, ℕ, ◌+◌, replicate, is_some, codes, Result, Ok, Err}
 use Rattle.bits.specs.Pick.{pick}
-use Rattle.bits.specs.Laid.{laid}
+use Rattle.bits.specs.Laid.{overlay}
 use Rattle.device_state.specs.State.{medium_size}
 use Rattle.device.specs.Step.{Step, bytes_of}
 use Rattle.device.specs.declared.state.Device.{Device}
-use Rattle.events.specs.Played.{eventStep}
+use Rattle.events.specs.Played.{event_step}
 use Rattle.events.specs.Start.{start_of}
 use Rattle.events.specs.declared.kinds.InputEnd.{InputEnd}
 use Rattle.events.specs.declared.kinds.InputEnd.TheVariants.{Clean, NoEvent}
@@ -24,16 +24,16 @@ abbrev pub kept : Device → List ℕ → List ℕ → Kept
 kept d m b = record { device = d; medium = m; reply = b }
 
 -- the step of an event in what is kept
-abbrev pub stepIn : Kept → List ℕ → Step
-stepIn k e = eventStep k.device e k.medium k.reply
+abbrev pub step_in : Kept → List ℕ → Step
+step_in k e = event_step k.device e k.medium k.reply
 
 -- what an event leaves behind
 unfoldable pub after : Kept → List ℕ → Kept
-after k e = record { device = (stepIn k e).state; medium = (stepIn k e).medium; reply = laid (bytes_of (stepIn k e)) k.reply }
+after k e = record { device = (step_in k e).state; medium = (step_in k e).medium; reply = overlay (bytes_of (step_in k e)) k.reply }
 
 -- its line: its refusal, the tags outstanding after it, and its replies
 unfoldable pub told : Bool → ℕ → Kept → List ℕ → List ℕ
-told traced number k e = line_of traced number (stepIn k e).refusal (stepIn k e).state.status.outstanding (bytes_of (stepIn k e))
+told traced number k e = line_of traced number (step_in k e).refusal (step_in k e).state.status.outstanding (bytes_of (step_in k e))
 
 -- the lines of events, numbered on, each played in what the last one left
 unfoldable pub lines_from : Bool → ℕ → Kept → List (List ℕ) → List ℕ

@@ -1,7 +1,7 @@
 -- What a run writes for what it reads, for each way in which it may end. Assumes nothing.
 use Rattle.std.specs.Prelude.{◌≡◌, Bool, true, false, List, [], ◌++◌, ℕ, ◌-◌, ◌^◌, length, Option, Some, Result, Ok, Err, IfSome}
 use Rattle.std.specs.Io.KnownBytes.{Appends, Consumes}
-use Rattle.frames.specs.Cut.{joined}
+use Rattle.frames.specs.Cut.{joined_bytes}
 use Rattle.events.specs.declared.kinds.InputEnd.{InputEnd}
 use Rattle.events.specs.declared.kinds.InputEnd.TheVariants.{NoEvent}
 use Rattle.events.specs.Kinds.{next_of}
@@ -15,7 +15,7 @@ use Rattle.events.specs.Running.{Kept, lines_from, AllEvents, ending, run_lines,
 
 -- an input is events and a rest that begins with none; of events it is said which may be (P), and what follows them (N)
 pub record IsCut (P : List (List ℕ) → Type 0) (N : List (List ℕ) → List ℕ → Result ℕ InputEnd) (input : List ℕ) (es : List (List ℕ)) (rest : List ℕ) : Type 0 where
-  pub whole : input ≡ joined es ++ rest
+  pub whole : input ≡ joined_bytes es ++ rest
   pub events : P es
   pub ends : Ends (N es rest)
 
@@ -31,14 +31,14 @@ pub record BreaksOff (P Q : List (List ℕ) → Type 0) (N : List (List ℕ) →
   pub es : List (List ℕ)
   pub looked : Q es
   pub part : List ℕ
-  pub read : Consumes known known' (joined es ++ part)
-  pub cut : IsCut P N (joined es ++ part) es part
+  pub read : Consumes known known' (joined_bytes es ++ part)
+  pub cut : IsCut P N (joined_bytes es ++ part) es part
   pub written : Appends old new (T es ++ ending (Err NoEvent))
 
 -- lines are lost: the input begins with events, and of their lines, and of `stop`, a front is written
 pub record Loses (P : List (List ℕ) → Type 0) (T : List (List ℕ) → List ℕ) (known old new : Option (List ℕ)) : Type 0 where
   pub es : List (List ℕ)
-  pub begins : IfSome known (λ input. (rest : List ℕ) × (input ≡ joined es ++ rest))
+  pub begins : IfSome known (λ input. (rest : List ℕ) × (input ≡ joined_bytes es ++ rest))
   pub events : P es
   pub written : AppendsFront old new (T es ++ ending (Err NoEvent))
 
@@ -46,7 +46,7 @@ pub record Loses (P : List (List ℕ) → Type 0) (T : List (List ℕ) → List 
 pub record Tires (P : List (List ℕ) → Type 0) (T : List (List ℕ) → List ℕ) (n : ℕ) (known known' old new : Option (List ℕ)) : Type 0 where
   pub es : List (List ℕ)
   pub last : length es ≡ n
-  pub read : Consumes known known' (joined es)
+  pub read : Consumes known known' (joined_bytes es)
   pub events : P es
   pub written : Appends old new (T es ++ ending (Err NoEvent))
 

@@ -1,6 +1,6 @@
 // What an event asks for, read from its bytes.
 ghost use Rattle.std.specs.Prelude.{◌≡◌};
-ghost use Rattle.events.specs.Requests.{requestOf};
+ghost use Rattle.events.specs.Requests.{request_of};
 
 use crate::kinds::{Kind, event_kind};
 use frames::byte_of;
@@ -18,9 +18,9 @@ pub enum Request {
 }
 
 /// What the bytes of an event ask for; `None` for what is no event, and for settings.
-#[tactic(auto, unfolding(crate::specs::Requests::requestOf, crate::specs::Requests::requestByKind))]
+#[tactic(auto, unfolding(crate::specs::Requests::request_of, crate::specs::Requests::request_by_kind))]
 pub fn request_of(event: &[u8]) -> Option<Request>
-    ensures { result ≡ requestOf event.now }
+    ensures { result ≡ request_of event.now }
 {
     let device_event = match event_kind(event)? {
         Kind::Settings => return None,

@@ -3,7 +3,7 @@ ghost use Rattle.std.specs.Prelude.{◌≡◌, ◌≤◌, ◌++◌, OnOk, IfErr,
 ghost use Rattle.device.specs.Lent.{gave, answered};
 ghost use Rattle.device.specs.Step.{Gives};
 ghost use Rattle.events.specs.declared.errors.RunError.TheVariants.{Memory};
-ghost use Rattle.events.specs.Running.{Kept, kept, stepIn, told, after};
+ghost use Rattle.events.specs.Running.{Kept, kept, step_in, told, after};
 
 use crate::errors::RunError;
 use crate::lines::{Format, Line};
@@ -38,7 +38,7 @@ impl<'a> Bench<'a> {
 
     // One event played: how many bytes of replies stand in front of the buffer, or the refusal.
     fn play(&mut self, event: &[u8]) -> Result<usize, Refusal>
-        ensures { Gives (stepIn self.old event.now) self.old.reply (gave (answered self.new.device result) self.new.medium self.new.reply) }
+        ensures { Gives (step_in self.old event.now) self.old.reply (gave (answered self.new.device result) self.new.medium self.new.reply) }
     {
         crate::play(&mut self.sealed, event, self.medium, self.reply)
     }

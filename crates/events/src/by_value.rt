@@ -1,7 +1,7 @@
 // One event to its call, of a device by value.
 ghost use Rattle.device.specs.Lent.{gave};
 ghost use Rattle.device.specs.Step.{Gives};
-ghost use Rattle.events.specs.Played.{eventStep};
+ghost use Rattle.events.specs.Played.{event_step};
 
 use crate::plays::make_call;
 use crate::request_of;
@@ -10,9 +10,9 @@ use refusals::Refusal;
 
 /// One event to its call, as `play`, of a state that is handed in and back as by the calls of `Device`. What is no event
 /// is refused with `NoFrame` (24), and a state that contradicts itself with `Contradiction` (1); all stays as it was then.
-#[tactic(auto, unfolding(crate::specs::Played::stepFor, replies::specs::Replies::sentAll, frames::specs::Cut::joined), using(device::proofs::Contradicted::given_contradicted))]
+#[tactic(auto, unfolding(crate::specs::Played::step_for, replies::specs::Replies::sent_all, frames::specs::Cut::joined_bytes), using(device::proofs::Contradicted::given_contradicted))]
 pub fn play_by_value(device: Device, event: &[u8], medium: &mut [u8], reply: &mut [u8]) -> Outcome
-    ensures { Gives (eventStep device event.now medium.old reply.old) reply.old (gave result medium.new reply.new) }
+    ensures { Gives (event_step device event.now medium.old reply.old) reply.old (gave result medium.new reply.new) }
 {
     let Some(request) = request_of(event) else {
         return device.with(Err(Refusal::NoFrame));

@@ -1,6 +1,6 @@
 // Kinds of events, the lengths of their bodies, and where in the input each may stand.
 ghost use Rattle.std.specs.Prelude.{◌≡◌};
-ghost use Rattle.events.specs.Kinds.{kindNamed, bodyOf, misplaced, eventKind};
+ghost use Rattle.events.specs.Kinds.{kind_named, body_of, misplaced, event_kind};
 
 use frames::FrameKind;
 
@@ -41,9 +41,9 @@ pub enum Kind {
 
 impl Kind {
     /// The kind that a byte names, if it names one.
-    #[tactic(auto, unfolding(crate::specs::Kinds::kindNamed, frames::specs::Size::kindNamed))]
+    #[tactic(auto, unfolding(crate::specs::Kinds::kind_named, frames::specs::Size::kind_named))]
     pub fn from_byte(byte: u8) -> Option<Kind>
-        ensures { result ≡ kindNamed byte }
+        ensures { result ≡ kind_named byte }
     {
         match byte {
             0x00 => Some(Kind::Settings),
@@ -65,9 +65,9 @@ impl Kind {
     }
 
     /// The length of the kind's body.
-    #[tactic(auto, unfolding(crate::specs::Kinds::bodyOf))]
+    #[tactic(auto, unfolding(crate::specs::Kinds::body_of))]
     pub fn body_length(self) -> usize
-        ensures { result ≡ bodyOf self }
+        ensures { result ≡ body_of self }
     {
         match self {
             Kind::Settings => 7,
@@ -92,9 +92,9 @@ impl Kind {
 }
 
 /// The kind of bytes that are one event, a kind and a body of its length; `None` for what is no event.
-#[tactic(auto, unfolding(crate::specs::Kinds::eventKind, crate::specs::Kinds::isEvent, crate::specs::Kinds::bodyLength, crate::specs::Kinds::fitsLength))]
+#[tactic(auto, unfolding(crate::specs::Kinds::event_kind, crate::specs::Kinds::is_event, crate::specs::Kinds::body_length, crate::specs::Kinds::fits_length))]
 pub fn event_kind(event: &[u8]) -> Option<Kind>
-    ensures { result ≡ eventKind event.now }
+    ensures { result ≡ event_kind event.now }
 {
     let (byte, body) = event.split_first()?;
     let kind = Kind::from_byte(*byte)?;

@@ -3,7 +3,7 @@ ghost use Rattle.std.specs.Prelude.{Some};
 ghost use Rattle.device.specs.Lent.{gave, answered};
 ghost use Rattle.device.specs.Step.{Gives};
 ghost use Rattle.events.specs.Calls.{call_of};
-ghost use Rattle.events.specs.Played.{stepFor, eventStep};
+ghost use Rattle.events.specs.Played.{step_for, event_step};
 
 use crate::host_data::host_data;
 use crate::{Request, request_of};
@@ -11,7 +11,7 @@ use device::Sealed;
 use refusals::Refusal;
 
 // A frame is handed on as it came, its kind being its first byte.
-#[tactic(auto, unfolding(crate::specs::Calls::call_of, crate::specs::Played::stepFor))]
+#[tactic(auto, unfolding(crate::specs::Calls::call_of, crate::specs::Played::step_for))]
 pub(crate) fn make_call(
     sealed: &mut Sealed,
     request: Request,
@@ -19,7 +19,7 @@ pub(crate) fn make_call(
     medium: &mut [u8],
     reply: &mut [u8],
 ) -> Result<usize, Refusal>
-    ensures { Gives (stepFor sealed.old.device medium.old reply.old (Some (call_of sealed.old.device event.now request))) reply.old (gave (answered sealed.new.device result) medium.new reply.new) }
+    ensures { Gives (step_for sealed.old.device medium.old reply.old (Some (call_of sealed.old.device event.now request))) reply.old (gave (answered sealed.new.device result) medium.new reply.new) }
 {
     match request {
         Request::Event(event) => sealed.event(event, medium, reply),
@@ -29,14 +29,14 @@ pub(crate) fn make_call(
 }
 
 /// One event to its call: the event is its kind and body; medium and reply buffer are those of the device's calls. What is no event is refused with 24, and changes nothing.
-#[tactic(auto, unfolding(crate::specs::Played::stepFor, replies::specs::Replies::sentAll, frames::specs::Cut::joined))]
+#[tactic(auto, unfolding(crate::specs::Played::step_for, replies::specs::Replies::sent_all, frames::specs::Cut::joined_bytes))]
 pub fn play(
     sealed: &mut Sealed,
     event: &[u8],
     medium: &mut [u8],
     reply: &mut [u8],
 ) -> Result<usize, Refusal>
-    ensures { Gives (eventStep sealed.old.device event.now medium.old reply.old) reply.old (gave (answered sealed.new.device result) medium.new reply.new) }
+    ensures { Gives (event_step sealed.old.device event.now medium.old reply.old) reply.old (gave (answered sealed.new.device result) medium.new reply.new) }
 {
     let request = request_of(event).ok_or(Refusal::NoFrame)?;
     make_call(sealed, request, event, medium, reply)

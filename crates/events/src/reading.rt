@@ -1,9 +1,9 @@
 // What is read of an input: the next event.
 ghost use Rattle.std.specs.Prelude.{◌≡◌, ◌<◌, [], Err, IfOk, OnErr, length, drop, slice_get};
 ghost use Rattle.std.specs.Io.KnownBytes.{Consumes};
-ghost use Rattle.events.specs.Kinds.{kindNamed, next_of};
+ghost use Rattle.events.specs.Kinds.{kind_named, next_of};
 ghost use Rattle.streams.specs.Fronts.{Filled, StuckBefore};
-ghost use Rattle.events.specs.Reading.{ReadKind, placedKind, ReadEvent, BreaksIn};
+ghost use Rattle.events.specs.Reading.{ReadKind, placed_kind, ReadEvent, BreaksIn};
 
 use crate::{EVENT_LIMIT, InputEnd, Kind};
 use std::io;
@@ -35,9 +35,9 @@ fn read_byte<R: Read>(reader: &mut R) -> io::Result<Option<u8>>
 }
 
 // The kind that a byte names, if an event of that kind may stand here; `first` says that nothing was before it.
-#[tactic(auto, unfolding(crate::specs::Reading::placedKind))]
+#[tactic(auto, unfolding(crate::specs::Reading::placed_kind))]
 fn placed_kind(byte: u8, first: bool) -> Option<Kind>
-    ensures { result ≡ placedKind first (kindNamed byte) }
+    ensures { result ≡ placed_kind first (kind_named byte) }
 {
     Kind::from_byte(byte).filter(|kind| !kind.is_misplaced(first))
 }

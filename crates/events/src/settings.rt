@@ -1,13 +1,13 @@
 // The settings record.
 ghost use Rattle.std.specs.Prelude.{◌≡◌};
-ghost use Rattle.events.specs.Settings.{settingsOf, asked_of};
+ghost use Rattle.events.specs.Settings.{settings_of, asked_of};
 
 use crate::kinds::{Kind, event_kind};
 use device_state::Settings;
 
-#[tactic(auto, unfolding(crate::specs::Settings::settingsOf))]
+#[tactic(auto, unfolding(crate::specs::Settings::settings_of))]
 fn settings_of(event: &[u8]) -> Settings
-    ensures { result ≡ settingsOf event.now }
+    ensures { result ≡ settings_of event.now }
 {
     Settings {
         depth: u32::from(frames::byte_of(event, 1)),

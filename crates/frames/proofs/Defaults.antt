@@ -3,8 +3,8 @@ use Rattle.std.proofs.Common.{rules, ◌≡◌}
 use Rattle.frames.specs.contracts.shared.RegistersDefault.TheImpl
 use Rattle.frames.specs.declared.shared.Registers.{Registers}
 
-abbrev pub zeroRegisters : Registers
-zeroRegisters = record {
+abbrev pub zero_registers : Registers
+zero_registers = record {
   kind = 0;
   flags = 0;
   second = 0;
@@ -15,5 +15,5 @@ zeroRegisters = record {
   bytes = 0;
 }
 
-pub default_zeros : (r : Registers) → TheImpl.ghosts.is_default r → r ≡ zeroRegisters
+pub default_zeros : (r : Registers) → TheImpl.ghosts.is_default r → r ≡ zero_registers
 default_zeros r made = search rules

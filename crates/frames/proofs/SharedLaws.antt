@@ -2,11 +2,11 @@
 use Rattle.std.proofs.Common.{◌≡◌, refl, sym, ◌∙◌, Bool, false, ◌&&◌, ⊎_elim, ℕ, ◌*◌, ◌/◌, ◌^◌, ◌≤◌, ◌<◌, div-lt_iff_lt-mul, arith, eqb, ltb, pow_pos, eq-eqb, ne_eqb, lt-ltb, le-ltb}
 use native.Mathlib.Nat.{div-eq_of_lt}
 use Rattle.std.proofs.lemmas.Nat.Bits.{bit_at_above}
-use Rattle.bits.specs.Bit.{bitIn}
+use Rattle.bits.specs.Bit.{bit_in}
 use Rattle.std.proofs.lemmas.Bool.{cases_lt}
 
-not-zero : (k x : ℕ) → 2 ^ k ≤ x → x / 2 ^ k ≡ 0 → ⊥
-not-zero k x h e =
+not_zero : (k x : ℕ) → 2 ^ k ≤ x → x / 2 ^ k ≡ 0 → ⊥
+not_zero k x h e =
     let p = pow_pos k in
     let l : x < 1 * 2 ^ k = (div-lt_iff_lt-mul (pow_pos k)).0 (omega arith) in
     omega arith
@@ -15,10 +15,10 @@ not-zero k x h e =
 pub high_zero : (k x : ℕ) → eqb (x / 2 ^ k) 0 ≡ ltb x (2 ^ k)
 high_zero k x =
     ⊎_elim (λ (h : x < 2 ^ k). eq-eqb (x / 2 ^ k) 0 (div-eq_of_lt h) ∙ sym (lt-ltb x (2 ^ k) h))
-    (λ (h : 2 ^ k ≤ x). ne_eqb (x / 2 ^ k) 0 (not-zero k x h) ∙ sym (le-ltb x (2 ^ k) h)) (cases_lt x (2 ^ k))
+    (λ (h : 2 ^ k ≤ x). ne_eqb (x / 2 ^ k) 0 (not_zero k x h) ∙ sym (le-ltb x (2 ^ k) h)) (cases_lt x (2 ^ k))
 
 -- a byte has no bit from 8 on
-pub bit_of_byte : (b k : ℕ) → b < 256 → bitIn 32 b k ≡ bitIn 8 b k
+pub bit_of_byte : (b k : ℕ) → b < 256 → bit_in 32 b k ≡ bit_in 8 b k
 bit_of_byte b k h =
     ⊎_elim (λ (l : k < 8). rw (lt-ltb k 8 l, lt-ltb k 32 (omega arith)) refl)
     (λ (l : 8 ≤ k). rw (le-ltb k 8 l, bit_at_above b 8 k h l) (none (ltb k 32))) (cases_lt k 8)

@@ -3,6 +3,6 @@ use Rattle.std.proofs.Common.{◌≡◌, List, ℕ, ◌+◌, length, arith}
 use Rattle.frames.specs.Write.{payload, encode}
 
 -- a payload behind its four bytes
-pub length-payload : (p : List ℕ) → length (encode (payload p)) ≡ 4 + length p
+pub length_payload : (p : List ℕ) → length (encode (payload p)) ≡ 4 + length p
 unfolding encode
-length-payload p = omega arith
+length_payload p = omega arith

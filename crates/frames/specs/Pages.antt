@@ -5,5 +5,5 @@ use Rattle.frames.specs.declared.log_pages.LogPage.{LogPage}
 use Rattle.frames.specs.declared.log_pages.LogPage.TheVariants.{Errors, Counters}
 
 -- the log page of a number: 10h and 11h alone
-abbrev pub pageNamed : ℕ → Option LogPage
-pageNamed n = pick (eqb n 0x10) (Some Errors) (pick (eqb n 0x11) (Some Counters) None)
+abbrev pub page_named : ℕ → Option LogPage
+page_named n = pick (eqb n 0x10) (Some Errors) (pick (eqb n 0x11) (Some Counters) None)

@@ -6,8 +6,8 @@ use Rattle.frames.specs.declared.kinds.FrameKind.{FrameKind}
 use Rattle.frames.specs.declared.kinds.FrameKind.TheVariants.{HostRegister, DeviceRegister, DmaActivate, DmaSetup, Data, BistActivate, PioSetup, SetDeviceBits}
 
 -- the kind that a byte names, if it names one
-abbrev pub kindNamed : ℕ → Option FrameKind
-kindNamed byte =
+abbrev pub kind_named : ℕ → Option FrameKind
+kind_named byte =
     pick (eqb byte 0x27) (Some HostRegister)
     (pick (eqb byte 0x34) (Some DeviceRegister)
     (pick (eqb byte 0x39) (Some DmaActivate)
@@ -18,29 +18,29 @@ kindNamed byte =
     (pick (eqb byte 0xA1) (Some SetDeviceBits) None)))))))
 
 -- the length that a kind fixes; a data frame's is not fixed
-abbrev pub sizeOf : FrameKind → Option ℕ
-sizeOf HostRegister = Some 20
-sizeOf DeviceRegister = Some 20
-sizeOf DmaActivate = Some 4
-sizeOf DmaSetup = Some 28
-sizeOf Data = None
-sizeOf BistActivate = Some 12
-sizeOf PioSetup = Some 20
-sizeOf SetDeviceBits = Some 8
+abbrev pub size_of : FrameKind → Option ℕ
+size_of HostRegister = Some 20
+size_of DeviceRegister = Some 20
+size_of DmaActivate = Some 4
+size_of DmaSetup = Some 28
+size_of Data = None
+size_of BistActivate = Some 12
+size_of PioSetup = Some 20
+size_of SetDeviceBits = Some 8
 
 -- the length that a byte's kind fixes; 46h and an unknown kind fix none
-unfoldable pub fixedSize : ℕ → Option ℕ
-fixedSize byte = option_and_then sizeOf (kindNamed byte)
+unfoldable pub fixed_size : ℕ → Option ℕ
+fixed_size byte = option_and_then size_of (kind_named byte)
 
 -- a payload is 4 to 8,192 bytes in steps of 4
-abbrev pub payloadSize : ℕ → Bool
-payloadSize n = leb 4 n && leb n 8192 && eqb (n % 4) 0
+abbrev pub payload_size : ℕ → Bool
+payload_size n = leb 4 n && leb n 8192 && eqb (n % 4) 0
 
 -- a frame of a kind may be n bytes long: a data frame 8 to 8,196 in steps of 4, which is a payload behind 4 bytes; any other kind fixes a length, and it is n
 abbrev pub allows : FrameKind → ℕ → Bool
-allows Data n = payloadSize (n - 4)
-allows kind n = option_eq eqb (sizeOf kind) (Some n)
+allows Data n = payload_size (n - 4)
+allows kind n = option_eq eqb (size_of kind) (Some n)
 
 -- the byte names a kind, and a frame of it may be n bytes long
 unfoldable pub readable : ℕ → ℕ → Bool
-readable byte n = option_map_or (λ kind. allows kind n) (kindNamed byte) false
+readable byte n = option_map_or (λ kind. allows kind n) (kind_named byte) false

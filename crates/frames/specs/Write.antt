@@ -1,9 +1,9 @@
 -- The frames as they are written: unnamed bits and bytes are 0. Assumes nothing.
 use Rattle.std.specs.Prelude.{Bool, true, false, not, ◌&&◌, List, [], ◌∷◌, ◌++◌, ℕ, length, Result}
-use Rattle.bits.specs.Bit.{bitIn}
+use Rattle.bits.specs.Bit.{bit_in}
 use Rattle.bits.specs.Little.{le_bytes}
-use Rattle.frames.specs.Shared.{flags_of, halvesOf, registerBytes, below, taskFits}
-use Rattle.frames.specs.Size.{payloadSize}
+use Rattle.frames.specs.Shared.{flags_of, halves_of, register_bytes, is_below, task_fits}
+use Rattle.frames.specs.Size.{payload_size}
 use Rattle.frames.specs.declared.shared.Registers.{Registers}
 use Rattle.frames.specs.Emit.{WriteGiven}
 use Rattle.frames.specs.declared.shapes.HostReg.{HostReg}
@@ -17,7 +17,7 @@ use Rattle.refusals.specs.declared.reasons.Refusal.{Refusal}
 pub data FrameValue : Type 0 where
   host : HostReg → FrameValue
   device : DevReg → FrameValue
-  setBits : SetBits → FrameValue
+  set_bits : SetBits → FrameValue
   setup : DmaSetup → FrameValue
   activate : FrameValue
   payload : List ℕ → FrameValue
@@ -25,18 +25,18 @@ pub data FrameValue : Type 0 where
   pio : PioSetup → FrameValue
 
 -- A1h, 8 bytes
-unfoldable pub bitsBytes : SetBits → List ℕ
-bitsBytes f = 0xA1 ∷ flags_of false f.interrupt false ∷ halvesOf f.status ∷ f.error ∷ le_bytes 4 f.active
+unfoldable pub bits_bytes : SetBits → List ℕ
+bits_bytes f = 0xA1 ∷ flags_of false f.interrupt false ∷ halves_of f.status ∷ f.error ∷ le_bytes 4 f.active
 
 -- 41h, 28 bytes
-unfoldable pub setupBytes : DmaSetup → List ℕ
-setupBytes f =
+unfoldable pub setup_bytes : DmaSetup → List ℕ
+setup_bytes f =
     0x41 ∷ flags_of f.auto f.interrupt f.to_host ∷ 0 ∷ 0
     ∷ le_bytes 4 f.tag ++ 0 ∷ 0 ∷ 0 ∷ 0 ∷ 0 ∷ 0 ∷ 0 ∷ 0 ∷ le_bytes 4 f.offset ++ le_bytes 4 f.count ++ 0 ∷ 0 ∷ 0 ∷ 0 ∷ []
 
 -- 27h in the layout that it shares with 34h and 5Fh
-abbrev pub hostRegisters : HostReg → Registers
-hostRegisters f = record {
+abbrev pub host_registers : HostReg → Registers
+host_registers f = record {
   kind = 0x27;
   flags = flags_of f.command_bit false false;
   second = f.command;
@@ -48,8 +48,8 @@ hostRegisters f = record {
 }
 
 -- 34h in that layout
-abbrev pub deviceRegisters : DevReg → Registers
-deviceRegisters f = record {
+abbrev pub device_registers : DevReg → Registers
+device_registers f = record {
   kind = 0x34;
   flags = flags_of false f.interrupt false;
   second = f.status;
@@ -61,8 +61,8 @@ deviceRegisters f = record {
 }
 
 -- 5Fh in that layout
-abbrev pub pioRegisters : PioSetup → Registers
-pioRegisters f = record {
+abbrev pub pio_registers : PioSetup → Registers
+pio_registers f = record {
   kind = 0x5F;
   flags = flags_of false f.interrupt f.to_host;
   second = f.status;
@@ -75,25 +75,25 @@ pioRegisters f = record {
 
 -- the bytes of a frame
 unfoldable pub encode : FrameValue → List ℕ
-encode (host f) = registerBytes (hostRegisters f)
-encode (device f) = registerBytes (deviceRegisters f)
-encode (setBits f) = bitsBytes f
-encode (setup f) = setupBytes f
+encode (host f) = register_bytes (host_registers f)
+encode (device f) = register_bytes (device_registers f)
+encode (set_bits f) = bits_bytes f
+encode (setup f) = setup_bytes f
 encode activate = 0x39 ∷ 0 ∷ 0 ∷ 0 ∷ []
 encode (payload p) = 0x46 ∷ 0 ∷ 0 ∷ 0 ∷ p
 encode bist = 0x58 ∷ 0 ∷ 0 ∷ 0 ∷ 0 ∷ 0 ∷ 0 ∷ 0 ∷ 0 ∷ 0 ∷ 0 ∷ 0 ∷ []
-encode (pio f) = registerBytes (pioRegisters f)
+encode (pio f) = register_bytes (pio_registers f)
 
 -- no value is too large for its bits, status bits 7 and 3 of A1h are not set, the payload is 4 to 8,192 bytes in steps of 4
 unfoldable pub fits : FrameValue → Bool
-fits (host f) = below 8 f.command && below 8 f.features && below 8 f.features_high && below 8 f.control && taskFits f.task
-fits (device f) = below 8 f.status && below 8 f.error && taskFits f.task
-fits (setBits f) = below 8 f.status && below 8 f.error && below 32 f.active && not (bitIn 8 f.status 7) && not (bitIn 8 f.status 3)
-fits (setup f) = below 32 f.tag && below 32 f.offset && below 32 f.count
+fits (host f) = is_below 8 f.command && is_below 8 f.features && is_below 8 f.features_high && is_below 8 f.control && task_fits f.task
+fits (device f) = is_below 8 f.status && is_below 8 f.error && task_fits f.task
+fits (set_bits f) = is_below 8 f.status && is_below 8 f.error && is_below 32 f.active && not (bit_in 8 f.status 7) && not (bit_in 8 f.status 3)
+fits (setup f) = is_below 32 f.tag && is_below 32 f.offset && is_below 32 f.count
 fits activate = true
-fits (payload p) = payloadSize (length p)
+fits (payload p) = payload_size (length p)
 fits bist = true
-fits (pio f) = below 8 f.status && below 8 f.error && below 8 f.ending && below 16 f.bytes && taskFits f.task
+fits (pio f) = is_below 8 f.status && is_below 8 f.error && is_below 8 f.ending && is_below 16 f.bytes && task_fits f.task
 
 -- what a writer promises of its frame
 abbrev pub FrameWriteGiven : FrameValue → List ℕ → Result ℕ Refusal → List ℕ → Type 0

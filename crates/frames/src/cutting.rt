@@ -1,15 +1,15 @@
 // Several frames one behind the other in a buffer.
 ghost use Rattle.std.specs.Prelude.{◌≡◌};
 ghost use Rattle.std.specs.Iterator.{YieldsFirstRef, item_count};
-ghost use Rattle.frames.specs.Cut.{firstLength, cut};
+ghost use Rattle.frames.specs.Cut.{first_length, cut};
 
 use crate::shared::byte_of;
 use crate::sizes::fixed_size;
 use std::marker::Model;
 
-#[tactic(auto, unfolding(crate::specs::Cut::firstLength))]
+#[tactic(auto, unfolding(crate::specs::Cut::first_length))]
 fn first_length(bytes: &[u8]) -> usize
-    ensures { result ≡ firstLength bytes.now }
+    ensures { result ≡ first_length bytes.now }
 {
     let size = fixed_size(byte_of(bytes, 0));
     size.unwrap_or(bytes.len()).min(bytes.len())

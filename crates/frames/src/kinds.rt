@@ -1,6 +1,6 @@
 // The kinds of frames, by the byte that names each.
 ghost use Rattle.std.specs.Prelude.{◌≡◌};
-ghost use Rattle.frames.specs.Size.{kindNamed, sizeOf, allows};
+ghost use Rattle.frames.specs.Size.{kind_named, size_of, allows};
 
 use crate::sizes::{DATA_HEAD_SIZE, is_payload_size};
 
@@ -28,7 +28,7 @@ pub enum FrameKind {
 impl FrameKind {
     /// The kind that a byte names, if it names one.
     pub fn from_byte(byte: u8) -> Option<FrameKind>
-        ensures { result ≡ kindNamed byte }
+        ensures { result ≡ kind_named byte }
     {
         match byte {
             0x27 => Some(FrameKind::HostRegister),
@@ -45,7 +45,7 @@ impl FrameKind {
 
     /// The length of the kind's frames, in bytes; data frames have no one length.
     pub fn size(self) -> Option<usize>
-        ensures { result ≡ sizeOf self }
+        ensures { result ≡ size_of self }
     {
         match self {
             FrameKind::HostRegister | FrameKind::DeviceRegister | FrameKind::PioSetup => Some(20),

@@ -1,6 +1,6 @@
 // The log pages that the device keeps.
 ghost use Rattle.std.specs.Prelude.{◌≡◌};
-ghost use Rattle.frames.specs.Pages.{pageNamed};
+ghost use Rattle.frames.specs.Pages.{page_named};
 
 /// A log page that the device keeps.
 #[derive(Clone, Copy, Debug, PartialEq, Eq)]
@@ -14,7 +14,7 @@ pub enum LogPage {
 impl LogPage {
     /// The page of a number, if it is one of the two.
     pub fn from_number(number: u8) -> Option<LogPage>
-        ensures { result ≡ pageNamed number }
+        ensures { result ≡ page_named number }
     {
         match number {
             0x10 => Some(LogPage::Errors),

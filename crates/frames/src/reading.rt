@@ -1,6 +1,6 @@
 // The frame reader: an enum by value, or a refusal.
 ghost use Rattle.std.specs.Prelude.{◌≡◌};
-ghost use Rattle.frames.specs.Read.{hostOf, deviceOf, bits_of, setupOf, pioOf, frameOf, FrameGiven};
+ghost use Rattle.frames.specs.Read.{host_of, device_of, bits_of, setup_of, pio_of, frame_of, FrameGiven};
 
 use crate::shapes::{DevReg, DmaSetup, Frame, HostReg, PioSetup, SetBits};
 use crate::{FrameKind, Task, byte_of, flag, halves, payload_of};
@@ -8,7 +8,7 @@ use refusals::Refusal;
 
 impl HostReg {
     fn from_frame(bytes: &[u8]) -> HostReg
-        ensures { result ≡ hostOf bytes.now }
+        ensures { result ≡ host_of bytes.now }
     {
         HostReg {
             command_bit: flag(byte_of(bytes, 1), 7),
@@ -23,7 +23,7 @@ impl HostReg {
 
 impl DevReg {
     fn from_frame(bytes: &[u8]) -> DevReg
-        ensures { result ≡ deviceOf bytes.now }
+        ensures { result ≡ device_of bytes.now }
     {
         DevReg {
             interrupt: flag(byte_of(bytes, 1), 6),
@@ -49,7 +49,7 @@ impl SetBits {
 
 impl DmaSetup {
     fn from_frame(bytes: &[u8]) -> DmaSetup
-        ensures { result ≡ setupOf bytes.now }
+        ensures { result ≡ setup_of bytes.now }
     {
         DmaSetup {
             auto: flag(byte_of(bytes, 1), 7),
@@ -64,7 +64,7 @@ impl DmaSetup {
 
 impl PioSetup {
     fn from_frame(bytes: &[u8]) -> PioSetup
-        ensures { result ≡ pioOf bytes.now }
+        ensures { result ≡ pio_of bytes.now }
     {
         PioSetup {
             interrupt: flag(byte_of(bytes, 1), 6),
@@ -80,7 +80,7 @@ impl PioSetup {
 
 // A data frame leaves its payload in the slice, behind its head.
 fn frame_of(kind: FrameKind, bytes: &[u8]) -> Frame
-    ensures { result ≡ frameOf kind bytes.now }
+    ensures { result ≡ frame_of kind bytes.now }
 {
     match kind {
         FrameKind::HostRegister => Frame::Host(HostReg::from_frame(bytes)),
@@ -98,7 +98,7 @@ fn frame_of(kind: FrameKind, bytes: &[u8]) -> Frame
 ///
 /// # Errors
 /// `NoFrame` (24) where byte 0 names no kind, or its kind does not allow the length.
-#[tactic(auto, unfolding(crate::specs::Read::readFrame, crate::specs::Read::frameByKind, crate::specs::Size::readable, refusals::specs::First::first_of))]
+#[tactic(auto, unfolding(crate::specs::Read::read_frame, crate::specs::Read::frame_by_kind, crate::specs::Size::readable, refusals::specs::First::first_of))]
 pub fn read_frame(bytes: &[u8]) -> Result<Frame, Refusal>
     ensures { FrameGiven bytes.now result }
 {

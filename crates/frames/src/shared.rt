@@ -1,7 +1,7 @@
 // The parts that several frames share: single bytes, flags, the status halves of A1h, the command's bytes, and the layout of 27h, 34h and 5Fh.
 ghost use Rattle.std.specs.Prelude.{◌≡◌, ◌%◌, get_or, drop};
-ghost use Rattle.bits.specs.Bit.{bitIn};
-ghost use Rattle.frames.specs.Shared.{flags_of, halvesOf, LbaGiven, task_of, srstOf, tag_of, sectorsOf, registerBytes, taskFits};
+ghost use Rattle.bits.specs.Bit.{bit_in};
+ghost use Rattle.frames.specs.Shared.{flags_of, halves_of, LbaGiven, task_of, srst_of, tag_of, sectors_of, register_bytes, task_fits};
 
 use crate::sizes::DATA_HEAD_SIZE;
 
@@ -30,7 +30,7 @@ impl Task {
 
     /// Of the values that a frame repeats from a command only the LBA can be too large for its bits.
     pub fn fits(self) -> bool
-        ensures { result ≡ taskFits self }
+        ensures { result ≡ task_fits self }
     {
         self.lba >> 48 == 0
     }
@@ -53,14 +53,14 @@ pub fn payload_of(frame: &[u8]) -> &[u8]
 /// A bit of a byte; from 8 on there is none, and it is off.
 #[tactic(auto, using(crate::proofs::SharedLaws::bit_of_byte))]
 pub fn flag(byte: u8, index: u32) -> bool
-    ensures { result ≡ bitIn 8 byte index }
+    ensures { result ≡ bit_in 8 byte index }
 {
     bits::bit(u32::from(byte), index)
 }
 
 /// Bit 2 of the control byte is SRST.
 pub fn srst(control: u8) -> bool
-    ensures { result ≡ srstOf control }
+    ensures { result ≡ srst_of control }
 {
     flag(control, 2)
 }
@@ -74,7 +74,7 @@ pub fn flags(seven: bool, six: bool, five: bool) -> u8
 
 /// Bits 6:4 and 2:0.
 pub fn halves(status: u8) -> u8
-    ensures { result ≡ halvesOf status }
+    ensures { result ≡ halves_of status }
 {
     status & 0x77
 }
@@ -100,9 +100,9 @@ pub fn tag_of(count: u16) -> u8
 }
 
 /// Features and features high are the sector count (0 = 65,536).
-#[tactic(auto, unfolding(crate::specs::Shared::sectorsOf))]
+#[tactic(auto, unfolding(crate::specs::Shared::sectors_of))]
 pub fn sectors_of(features: u8, high: u8) -> u32
-    ensures { result ≡ sectorsOf features high }
+    ensures { result ≡ sectors_of features high }
 {
     match u16::from_le_bytes([features, high]) {
         0 => 65536,
@@ -135,9 +135,9 @@ pub struct Registers {
 impl Registers {
     /// The bytes of the layout. It refuses nothing: of an LBA the 48 bits that have a place are laid, and the writers
     /// above, which ask `Task::fits`, turn a larger one down.
-    #[tactic(auto, unfolding(crate::specs::Shared::registerBytes))]
+    #[tactic(auto, unfolding(crate::specs::Shared::register_bytes))]
     pub fn to_bytes(self) -> [u8; 20]
-        ensures { result ≡ registerBytes self }
+        ensures { result ≡ register_bytes self }
     {
         let Registers {
             kind,

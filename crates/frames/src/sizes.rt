@@ -1,6 +1,6 @@
 // The lengths of frames by the kind's byte, and of payloads.
 ghost use Rattle.std.specs.Prelude.{◌≡◌};
-ghost use Rattle.frames.specs.Size.{fixedSize, payloadSize};
+ghost use Rattle.frames.specs.Size.{fixed_size, payload_size};
 
 use crate::kinds::FrameKind;
 
@@ -17,16 +17,16 @@ pub const DATA_HEAD_SIZE: usize = DATA_HEAD.len();
 pub const DATA_FRAME_LIMIT: usize = DATA_HEAD_SIZE + PAYLOAD_LIMIT;
 
 /// The length that a byte's kind fixes; 46h and an unknown kind fix none.
-#[tactic(auto, unfolding(crate::specs::Size::fixedSize))]
+#[tactic(auto, unfolding(crate::specs::Size::fixed_size))]
 pub fn fixed_size(byte: u8) -> Option<usize>
-    ensures { result ≡ fixedSize byte }
+    ensures { result ≡ fixed_size byte }
 {
     FrameKind::from_byte(byte).and_then(FrameKind::size)
 }
 
 /// Whether a payload may have this length: 4 to 8,192 bytes in steps of 4.
 pub fn is_payload_size(length: usize) -> bool
-    ensures { result ≡ payloadSize length }
+    ensures { result ≡ payload_size length }
 {
     (4..=PAYLOAD_LIMIT).contains(&length) && length % 4 == 0
 }

@@ -2,11 +2,11 @@
 #![tactic(auto, unfolding(crate::specs::Write::encode, crate::specs::Write::fits), using(crate::proofs::Defaults::default_zeros))]
 
 ghost use Rattle.std.specs.Prelude.{◌≡◌, ◌&&◌, not};
-ghost use Rattle.bits.specs.Bit.{bitIn};
+ghost use Rattle.bits.specs.Bit.{bit_in};
 ghost use Rattle.frames.specs.Emit.{WriteGiven};
-ghost use Rattle.frames.specs.Shared.{registerBytes, taskFits};
-ghost use Rattle.frames.specs.Write.{bitsBytes, setupBytes, FrameWriteGiven};
-ghost use Rattle.frames.specs.Write.FrameValue.{host, device, setBits, setup, activate, payload, bist, pio};
+ghost use Rattle.frames.specs.Shared.{register_bytes, task_fits};
+ghost use Rattle.frames.specs.Write.{bits_bytes, setup_bytes, FrameWriteGiven};
+ghost use Rattle.frames.specs.Write.FrameValue.{host, device, set_bits, setup, activate, payload, bist, pio};
 
 use crate::shapes::{DevReg, DmaSetup, HostReg, PioSetup, SetBits};
 use crate::{DATA_HEAD, FrameKind, Registers, emit, flag, flags, halves, is_payload_size};
@@ -14,7 +14,7 @@ use refusals::Refusal;
 
 // The layout that 27h, 34h and 5Fh share.
 fn write_registers(buf: &mut [u8], registers: Registers) -> Result<usize, Refusal>
-    ensures { WriteGiven (taskFits registers.task) (registerBytes registers) buf.old result buf.new }
+    ensures { WriteGiven (task_fits registers.task) (register_bytes registers) buf.old result buf.new }
 {
     emit(buf, registers.task.fits(), &registers.to_bytes(), b"")
 }
@@ -78,9 +78,9 @@ pub fn write_pio(buf: &mut [u8], frame: PioSetup) -> Result<usize, Refusal>
 }
 
 impl SetBits {
-    #[tactic(auto, unfolding(crate::specs::Write::bitsBytes))]
+    #[tactic(auto, unfolding(crate::specs::Write::bits_bytes))]
     fn to_bytes(&self) -> [u8; 8]
-        ensures { result ≡ bitsBytes self.now }
+        ensures { result ≡ bits_bytes self.now }
     {
         let kind = FrameKind::SetDeviceBits as u8;
         let one = flags(false, self.interrupt, false);
@@ -90,7 +90,7 @@ impl SetBits {
 
     // Status bits 7 and 3 have no place in A1h.
     fn fits(&self) -> bool
-        ensures { result ≡ not (bitIn 8 self.now.status 7) && not (bitIn 8 self.now.status 3) }
+        ensures { result ≡ not (bit_in 8 self.now.status 7) && not (bit_in 8 self.now.status 3) }
     {
         !flag(self.status, 7) && !flag(self.status, 3)
     }
@@ -101,15 +101,15 @@ impl SetBits {
 /// # Errors
 /// `Unfit` (25) for a status with bit 7 or bit 3, and else `BufferShort` (26).
 pub fn write_bits(buf: &mut [u8], frame: SetBits) -> Result<usize, Refusal>
-    ensures { FrameWriteGiven (setBits frame) buf.old result buf.new }
+    ensures { FrameWriteGiven (set_bits frame) buf.old result buf.new }
 {
     emit(buf, frame.fits(), &frame.to_bytes(), b"")
 }
 
 impl DmaSetup {
-    #[tactic(auto, unfolding(crate::specs::Write::setupBytes))]
+    #[tactic(auto, unfolding(crate::specs::Write::setup_bytes))]
     fn to_bytes(&self) -> [u8; 28]
-        ensures { result ≡ setupBytes self.now }
+        ensures { result ≡ setup_bytes self.now }
     {
         let kind = FrameKind::DmaSetup as u8;
         let one = flags(self.auto, self.interrupt, self.to_host);

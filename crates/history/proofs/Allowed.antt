@@ -8,7 +8,7 @@ use Rattle.device.specs.declared.state.Device.{Device}
 use Rattle.device.specs.declared.state.Outcome.{Outcome}
 use Rattle.device.proofs.state.Device as calls
 use Rattle.device.specs.contracts.state.Device as said
-use Rattle.rules.specs.Call.{hostFrame, happens}
+use Rattle.rules.specs.Call.{host_frame, happens}
 use Rattle.rules.specs.declared.event.DeviceEvent.TheVariants.{OpenPhase, SendData, FinishTags, MediaError, LinkEvent, Comreset}
 use Rattle.device.specs.Lent.{Lent, lent, Gave, gave}
 use Rattle.history.specs.Run.{Done}
@@ -18,7 +18,7 @@ use Rattle.refusals.specs.declared.reasons.Refusal.{Refusal}
 -- one call of the state d, as it may go: each case is a public function of the device, and what it holds is that function's own contract, its `Post`; what the function is not lent stays as it was
 pub data Allowed (d : Device) : Lent → Gave → Type 0 where
   hosted : (κs : Lfts 3) (f : Bor (List ℕ)) (m b : MutBor (List ℕ)) (r : Outcome) (m' b' : List ℕ)
-      → Allows said.host_frame.ended calls.host_frame.Reads.Post κs (d, (f, (m, (b, tt)))) r (tt, (tt, (m', (b', tt)))) → Allowed d (lent (hostFrame f.now) m.now b.now) (gave r m' b')
+      → Allows said.host_frame.ended calls.host_frame.Reads.Post κs (d, (f, (m, (b, tt)))) r (tt, (tt, (m', (b', tt)))) → Allowed d (lent (host_frame f.now) m.now b.now) (gave r m' b')
   opened : (κs : Lfts 1) (t : ℕ) (b : MutBor (List ℕ)) (r : Outcome) (m b' : List ℕ)
       → Allows said.open.ended calls.open.Reads.Post κs (d, (t, (b, tt))) r (tt, (tt, (b', tt))) → Allowed d (lent (happens (OpenPhase t)) m b.now) (gave r m b')
   sent : (κs : Lfts 2) (m : Bor (List ℕ)) (b : MutBor (List ℕ)) (r : Outcome) (b' : List ℕ)

@@ -1,10 +1,10 @@
 -- What a call can do, as demand 3 reads it: eleven kinds of effect. A new call or command comes to one of them. Assumes nothing.
 use Rattle.std.proofs.Common.{Some, None, ◌≡◌, Bool, true, false, not, ◌&&◌, ◌||◌, ℕ, ◌+◌, ◌*◌, ◌^◌, ◌≤◌, ◌<◌, eqb, leb}
 use Rattle.bits.specs.Pick.{pick}
-use Rattle.bits.specs.Bit.{bitIn, withBitIn, clearIn}
+use Rattle.bits.specs.Bit.{bit_in, with_bit_in, clear_in}
 use Rattle.device_state.specs.Table.{entry_of}
 use Rattle.device.specs.declared.state.Device.{Device}
-use Rattle.history.specs.Seen.{Seen, Transfer, underWay, accepts}
+use Rattle.history.specs.Seen.{Seen, Transfer, under_way, accepts}
 
 -- no tag
 abbrev pub none : ℕ → Bool
@@ -48,9 +48,9 @@ pub record Took (d : Device) (e : Seen) (d' : Device) : Type 0 where
   pub calm : d.status.halted ≡ false
   pub shut : d.status.phase ≡ None
   pub small : e.asks.tag < 32
-  pub free : bitIn 32 d.status.outstanding e.asks.tag ≡ false
+  pub free : bit_in 32 d.status.outstanding e.asks.tag ≡ false
   pub settings : d'.settings ≡ d.settings
-  pub outstanding : d'.status.outstanding ≡ withBitIn 32 d.status.outstanding e.asks.tag
+  pub outstanding : d'.status.outstanding ≡ with_bit_in 32 d.status.outstanding e.asks.tag
   pub phase : d'.status.phase ≡ d.status.phase
   pub halted : d'.status.halted ≡ d.status.halted
   pub write : (entry_of d'.entries e.asks.tag).write ≡ e.asks.write
@@ -62,10 +62,10 @@ pub record Took (d : Device) (e : Seen) (d' : Device) : Type 0 where
 -- a phase that was opened for a tag: it was closed before, and nothing of the command has moved
 pub record Opened (tag : ℕ) (d : Device) (e : Seen) (d' : Device) : Type 0 where
   pub shut : d.status.phase ≡ None
-  pub busy : bitIn 32 d.status.outstanding tag ≡ true
+  pub busy : bit_in 32 d.status.outstanding tag ≡ true
   pub moved : (entry_of d.entries tag).moved ≡ 0
   pub some : 0 < (entry_of d.entries tag).count
-  pub begins : (x : Transfer) → e.begins x ≡ underWay (not (entry_of d.entries tag).write) tag 0 (512 * (entry_of d.entries tag).count)
+  pub begins : (x : Transfer) → e.begins x ≡ under_way (not (entry_of d.entries tag).write) tag 0 (512 * (entry_of d.entries tag).count)
   pub settings : d'.settings ≡ d.settings
   pub outstanding : d'.status.outstanding ≡ d.status.outstanding
   pub phase : d'.status.phase ≡ Some tag
@@ -75,7 +75,7 @@ pub record Opened (tag : ℕ) (d : Device) (e : Seen) (d' : Device) : Type 0 whe
 -- n bytes that moved in the open phase of a tag, which closes at nothing left; n is not 0, and no more than is left
 pub record Carried (tag n : ℕ) (d d' : Device) : Type 0 where
   pub phased : d.status.phase ≡ Some tag
-  pub busy : bitIn 32 d.status.outstanding tag ≡ true
+  pub busy : bit_in 32 d.status.outstanding tag ≡ true
   pub some : 0 < n
   pub within : (entry_of d.entries tag).moved + n ≤ 512 * (entry_of d.entries tag).count
   pub settings : d'.settings ≡ d.settings
@@ -93,12 +93,12 @@ pub record Ended (set : ℕ) (d d' : Device) : Type 0 where
   pub calm : d.status.halted ≡ false
   pub shut : d.status.phase ≡ None
   pub width : set < 2 ^ 32
-  pub ready : (t : ℕ) → t < 32 → bitIn 32 set t ≡ true → (bitIn 32 d.status.outstanding t ≡ true) × ((entry_of d.entries t).moved ≡ 512 * (entry_of d.entries t).count)
+  pub ready : (t : ℕ) → t < 32 → bit_in 32 set t ≡ true → (bit_in 32 d.status.outstanding t ≡ true) × ((entry_of d.entries t).moved ≡ 512 * (entry_of d.entries t).count)
   pub settings : d'.settings ≡ d.settings
-  pub outstanding : d'.status.outstanding ≡ clearIn 32 d.status.outstanding set
+  pub outstanding : d'.status.outstanding ≡ clear_in 32 d.status.outstanding set
   pub phase : d'.status.phase ≡ d.status.phase
   pub halted : d'.status.halted ≡ d.status.halted
-  pub others : (t : ℕ) → t < 32 → bitIn 32 set t ≡ false → entry_of d'.entries t ≡ entry_of d.entries t
+  pub others : (t : ℕ) → t < 32 → bit_in 32 set t ≡ false → entry_of d'.entries t ≡ entry_of d.entries t
 
 -- the eleven kinds
 pub data Class (d : Device) (e : Seen) (d' : Device) : Type 0 where
@@ -124,4 +124,4 @@ pub data Class (d : Device) (e : Seen) (d' : Device) : Type 0 where
   carries : (tag n : ℕ)
       → Is e false false false false false false false none none (pick (entry_of d.entries tag).write 0 n) (pick (entry_of d.entries tag).write n 0)
       → Unbegun e → Carried tag n d d' → Class d e d'
-  ends : (set : ℕ) → Is e false false false false false false false (bitIn 32 set) (bitIn 32 set) 0 0 → Unbegun e → Ended set d d' → Class d e d'
+  ends : (set : ℕ) → Is e false false false false false false false (bit_in 32 set) (bit_in 32 set) 0 0 → Unbegun e → Ended set d d' → Class d e d'

@@ -13,107 +13,107 @@ use Rattle.device.specs.Lent.{Lent}
 use Rattle.history.specs.Run.{Done, AllTyped, run_from, history}
 use Rattle.refusals.specs.declared.reasons.Refusal.{Refusal}
 use Rattle.history.specs.Powered.{Powered}
-use Rattle.history.specs.Polled.{counterPolled, countPolled}
+use Rattle.history.specs.Polled.{counter_polled, count_polled}
 use Rattle.history.specs.ReplyRules.{AllReplyRules}
 use Rattle.history.specs.Promised.{Promised}
 use Rattle.history.specs.Lasting.{HandedOn, Lasting}
-use Rattle.device.specs.Device.{powerOn}
-use Rattle.history.specs.Follows.{final, lents, historyOf, Began}
+use Rattle.device.specs.Device.{power_on}
+use Rattle.history.specs.Follows.{final, lents, history_of, Began}
 use Rattle.history.proofs.Allowed.{BeganCode, CounterCode, CountCode}
-use Rattle.history.proofs.Counters.{counters-tell}
+use Rattle.history.proofs.Counters.{counters_tell}
 use Rattle.history.proofs.RefusedTests.{powered}
-use Rattle.history.proofs.Runs.{demand3-fates, demand3-data, demand3-sactive, demand3-waiting, demand3-depth, demand3-single, demand3-reply-rules, refused-exactly, log-told, held}
-use Rattle.history.proofs.StateAgrees.{told-outstanding, told-waits, told-counters, told-asked, told-depth, told-count, told-due, told-consistent}
+use Rattle.history.proofs.Runs.{demand3_fates, demand3_data, demand3_sactive, demand3_waiting, demand3_depth, demand3_single, demand3_reply_rules, refused_exactly, log_told_lem, held}
+use Rattle.history.proofs.StateAgrees.{told_outstanding, told_waits, told_counters, told_asked, told_depth, told_count, told_due, told_consistent}
 use Rattle.history.proofs.Lasting.{lasting}
-use Rattle.history.proofs.Contracts.{for-all, began-code, counter-code, count-code}
+use Rattle.history.proofs.Contracts.{for_all, began_code, counter_code, count_code}
 
 -- any settings, any calls with anything lent to them, refused ones included
 pub demand3 : (s : Settings) (as' : List Lent) → AllTyped as' → Demand3 s.depth s.mask (history s as')
 demand3 s as' t = record {
-  fates = demand3-fates s as' t;
-  ranges = (demand3-data s as' t).0;
-  contents = (demand3-data s as' t).1;
-  sactive = demand3-sactive s as' t;
-  waiting = demand3-waiting s as' t;
-  depth = demand3-depth s as' t;
-  single = demand3-single s as' t;
-  counters = counters-tell s as' t;
+  fates = demand3_fates s as' t;
+  ranges = (demand3_data s as' t).0;
+  contents = (demand3_data s as' t).1;
+  sactive = demand3_sactive s as' t;
+  waiting = demand3_waiting s as' t;
+  depth = demand3_depth s as' t;
+  single = demand3_single s as' t;
+  counters = counters_tell s as' t;
 }
 
 -- the state at the end is what the history tells
 pub told : (s : Settings) (as' : List Lent) → AllTyped as' → StateAgrees s (run_from s as').state (history s as')
 told s as' t = record {
-  outstanding = told-outstanding s as' t;
-  waits = told-waits s as' t;
-  counters = told-counters s as' t;
-  asked = told-asked s as' t;
-  depth = told-depth s as' t;
-  count = told-count s as' t;
-  due = told-due s as' t;
-  consistent = told-consistent s as' t;
+  outstanding = told_outstanding s as' t;
+  waits = told_waits s as' t;
+  counters = told_counters s as' t;
+  asked = told_asked s as' t;
+  depth = told_depth s as' t;
+  count = told_count s as' t;
+  due = told_due s as' t;
+  consistent = told_consistent s as' t;
 }
 
 -- all that is promised, over every run
-pub promised : (s : Settings) (as' : List Lent) → AllTyped as' → Promised s (powerOn s) (run_from s as').state (history s as')
+pub promised : (s : Settings) (as' : List Lent) → AllTyped as' → Promised s (power_on s) (run_from s as').state (history s as')
 promised s as' t = record {
   power = powered s;
-  refusals = refused-exactly s as' t;
+  refusals = refused_exactly s as' t;
   answers = (held s as' t).answers;
-  errors = log-told s as' t;
+  errors = log_told_lem s as' t;
   demand3 = demand3 s as' t;
-  lasting = λ m. lasting m (history s as') (demand3-data s as' t).1 (demand3-data s as' t).0;
+  lasting = λ m. lasting m (history s as') (demand3_data s as' t).1 (demand3_data s as' t).0;
   state = told s as' t;
 }
 
 -- of every sequence of results that are as the one contract promises them, each call given the state that the last one returned
-pub promised-given : (s : Settings) (r : Outcome) (xs : List Done) → Began s r xs → AllTyped (lents xs) → Promised s r (final r.state xs) (historyOf xs)
-promised-given s r xs b t =
-    subst (λ (o : Outcome). Promised s o (final r.state xs) (historyOf xs)) (sym b.power) (for-all s r xs b (λ (d : Device) (h : List Event). Promised s (powerOn s) d h) (promised s (lents xs) t))
+pub promised_given : (s : Settings) (r : Outcome) (xs : List Done) → Began s r xs → AllTyped (lents xs) → Promised s r (final r.state xs) (history_of xs)
+promised_given s r xs b t =
+    subst (λ (o : Outcome). Promised s o (final r.state xs) (history_of xs)) (sym b.power) (for_all s r xs b (λ (d : Device) (h : List Event). Promised s (power_on s) d h) (promised s (lents xs) t))
 
 -- and of the code: all that is promised, and so every answer that the contracts of `Device::counter` and `Device::outstanding_count` allow of the state
 pub record PromisedCode (s : Settings) (r : Outcome) (d : Device) (h : List Event) : Type 0 where
   pub all : Promised s r d h
-  pub asked : (number : ℕ) (c : Result (Option ℕ) Refusal) → CounterCode d number c → c ≡ counterPolled s.depth s.capacity s.mask h number
-  pub count : (c : Result ℕ Refusal) → CountCode d c → c ≡ countPolled s.depth s.capacity s.mask h
+  pub asked : (number : ℕ) (c : Result (Option ℕ) Refusal) → CounterCode d number c → c ≡ counter_polled s.depth s.capacity s.mask h number
+  pub count : (c : Result ℕ Refusal) → CountCode d c → c ≡ count_polled s.depth s.capacity s.mask h
 
 -- of every sequence of results that the contracts of power-on and of the calls allow
-pub promised-code : (s : Settings) (r : Outcome) (xs : List Done) → BeganCode s r xs → AllTyped (lents xs) → PromisedCode s r (final r.state xs) (historyOf xs)
-promised-code s r xs b t =
-    let a = promised-given s r xs (began-code s r xs b) t in
-    record { all = a; asked = λ number c p. a.state.asked number c (counter-code _ number c p); count = λ c p. a.state.count c (count-code _ c p) }
+pub promised_code : (s : Settings) (r : Outcome) (xs : List Done) → BeganCode s r xs → AllTyped (lents xs) → PromisedCode s r (final r.state xs) (history_of xs)
+promised_code s r xs b t =
+    let a = promised_given s r xs (began_code s r xs b) t in
+    record { all = a; asked = λ number c p. a.state.asked number c (counter_code _ number c p); count = λ c p. a.state.count c (count_code _ c p) }
 
 -- ---- each part of it, of the code
 
 module _ (s : Settings) (r : Outcome) (xs : List Done) (b : BeganCode s r xs) where
   -- power-on is refused with 1 exactly where the settings are out of bounds, and replies nothing
-  pub powered-code : Powered s.depth s.capacity s.mask r.refusal r.len
-  powered-code = subst (λ (o : Outcome). Powered s.depth s.capacity s.mask o.refusal o.len) (sym b.power) (powered s)
+  pub powered_code : Powered s.depth s.capacity s.mask r.refusal r.len
+  powered_code = subst (λ (o : Outcome). Powered s.depth s.capacity s.mask o.refusal o.len) (sym b.power) (powered s)
 
   module _ (t : AllTyped (lents xs)) where
     -- demand 3 and the truth of the counters
-    pub demand3-code : Demand3 s.depth s.mask (historyOf xs)
-    demand3-code = (promised-code s r xs b t).all.demand3
+    pub demand3_code : Demand3 s.depth s.mask (history_of xs)
+    demand3_code = (promised_code s r xs b t).all.demand3
 
     -- every event is turned down for just what the table of refusals says, by the history before it
-    pub refused-code : Refusals s.depth s.capacity s.mask (historyOf xs)
-    refused-code = (promised-code s r xs b t).all.refusals
+    pub refused_code : Refusals s.depth s.capacity s.mask (history_of xs)
+    refused_code = (promised_code s r xs b t).all.refusals
 
     -- every taken call is answered, byte for byte, as the history before it says
-    pub answers-code : Answers s.depth s.capacity s.mask (historyOf xs)
-    answers-code = (promised-code s r xs b t).all.answers
+    pub answers_code : Answers s.depth s.capacity s.mask (history_of xs)
+    answers_code = (promised_code s r xs b t).all.answers
 
     -- every page 10h ever delivered tells the last error since the last reset, as the history before it has it
-    pub log-code : LogTold (historyOf xs)
-    log-code = (promised-code s r xs b t).all.errors
+    pub log_code : LogTold (history_of xs)
+    log_code = (promised_code s r xs b t).all.errors
 
     -- what the host wrote last stands in the medium, where each call is lent it as the last one left it
-    pub media-code : (m : List ℕ) → HandedOn m (historyOf xs) → Lasting m (historyOf xs)
-    media-code = (promised-code s r xs b t).all.lasting
+    pub media_code : (m : List ℕ) → HandedOn m (history_of xs) → Lasting m (history_of xs)
+    media_code = (promised_code s r xs b t).all.lasting
 
     -- and their last state is what their history tells
-    pub told-code : StateAgrees s (final r.state xs) (historyOf xs)
-    told-code = (promised-code s r xs b t).all.state
+    pub told_code : StateAgrees s (final r.state xs) (history_of xs)
+    told_code = (promised_code s r xs b t).all.state
 
     -- what each reply may say follows
-    pub reply-rules-code : AllReplyRules (historyOf xs)
-    reply-rules-code = for-all s r xs (began-code s r xs b) (λ (d : Device) (h : List Event). AllReplyRules h) (demand3-reply-rules s (lents xs) t)
+    pub reply_rules_code : AllReplyRules (history_of xs)
+    reply_rules_code = for_all s r xs (began_code s r xs b) (λ (d : Device) (h : List Event). AllReplyRules h) (demand3_reply_rules s (lents xs) t)

@@ -2,10 +2,10 @@
 use Rattle.std.proofs.Common.{◌≡◌, refl, false, ◌&&◌, ◌||◌, List, [], ◌∷◌, ℕ, arith}
 use Rattle.device.specs.declared.state.Device.{Device}
 use Rattle.history.specs.Seen.{Seen, errs}
-use Rattle.history.specs.Fates.{Command, later, commands, ownTag, outstandingAt, finishedAt, givenUpAt, droppedAt, outstanding, All}
+use Rattle.history.specs.Fates.{Command, later, commands, own_tag, outstanding_at, finished_at, given_up_at, dropped_at, outstanding, All}
 use Rattle.history.specs.Demand3.{OneFate, Settled, Fates}
 use Rattle.history.proofs.Class.{Class}
-use Rattle.history.proofs.Alls.{all-step}
+use Rattle.history.proofs.Alls.{all_step}
 
 -- ---- finishing, giving up, dropping
 
@@ -25,16 +25,16 @@ lone k = grind arith
 -- ---- exactly one of four
 
 -- an event later a command still has exactly one fate
-later-fate : (e : Seen) (c : Command) → Lone e → OneFate c → OneFate (later e c)
-unfolding outstandingAt finishedAt givenUpAt droppedAt
-later-fate e c l o = let k = l (ownTag c) in grind arith
+later_fate : (e : Seen) (c : Command) → Lone e → OneFate c → OneFate (later e c)
+unfolding outstanding_at finished_at given_up_at dropped_at
+later_fate e c l o = let k = l (own_tag c) in grind arith
 
 -- ---- once and for all
 
 -- a command that is not outstanding stays as it is, whatever follows
 pub settled : (c : Command) (x : List Seen) → outstanding c ≡ false → Settled c x
-unfolding outstandingAt finishedAt givenUpAt droppedAt
-settled c [] o = record { outstanding = o; finished = refl; givenUp = refl; dropped = refl }
+unfolding outstanding_at finished_at given_up_at dropped_at
+settled c [] o = record { outstanding = o; finished = refl; given_up = refl; dropped = refl }
 settled c (e ∷ x) o =
     let s : Settled c x = settled c x o in
     grind arith
@@ -43,10 +43,10 @@ settled c (e ∷ x) o =
 
 -- every command accepted in a history without such an event has exactly one fate, for good once it is not outstanding
 pub fates : (h : List Seen) → AllLone h → Fates h
-unfolding AllLone commands All outstandingAt finishedAt givenUpAt droppedAt
+unfolding AllLone commands All outstanding_at finished_at given_up_at dropped_at
 fates [] l = tt
 fates (e ∷ h) l =
-    all-step (λ c. OneFate c × ((x : List Seen) → outstanding c ≡ false → Settled c x)) (λ c. OneFate c × ((x : List Seen) → outstanding c ≡ false → Settled c x)) e h
+    all_step (λ c. OneFate c × ((x : List Seen) → outstanding c ≡ false → Settled c x)) (λ c. OneFate c × ((x : List Seen) → outstanding c ≡ false → Settled c x)) e h
     (λ _. (refl, settled (record { accepted = e; after = [] })))
-    (λ c o. (later-fate e c l.0 o.0, settled (later e c)))
+    (λ c o. (later_fate e c l.0 o.0, settled (later e c)))
     (fates h l.1)

@@ -3,12 +3,12 @@ use Rattle.std.proofs.Common.{◌≡◌, refl, sym, ap, ◌∙◌, Bool, List, [
 use Rattle.frames.specs.declared.shared.Task.{Task}
 use Rattle.frames.specs.Write.{payload}
 use Rattle.rules.specs.declared.acts.Queued.{Queued}
-use Rattle.replies.specs.Replies.{setupReply, logReplies, activateIf}
+use Rattle.replies.specs.Replies.{setup_reply, log_replies, activate_if}
 use Rattle.history.specs.Event.{Event}
 use Rattle.history.specs.Asked.{brought}
 use Rattle.history.specs.Replied.{some, sent}
 use Rattle.history.specs.Placed.{written}
-use Rattle.history.proofs.Views.{sentIn}
+use Rattle.history.proofs.Views.{sent_in}
 
 -- the bytes l are what the medium m holds from a place on
 abbrev pub SentFrom : ℕ → List ℕ → List ℕ → Type 0
@@ -25,7 +25,7 @@ EndsIn at m l = 0 < length l → at + length l ≤ length m
 -- the bytes l stand in what is left of the medium m at a place, and end within it
 pub record DataStands (at : ℕ) (m left l : List ℕ) : Type 0 where
   pub left_at : LeftAt at m left l
-  pub ends-in : EndsIn at m l
+  pub ends_in : EndsIn at m l
 
 -- an event's data, sent and brought, stand at a place, and those brought end within the medium
 pub record Placed (x : Event) (at : ℕ) : Type 0 where
@@ -36,24 +36,24 @@ pub record Placed (x : Event) (at : ℕ) : Type 0 where
 -- ---- no data
 
 -- nothing is sent
-pub sent-none : (at : ℕ) (m l : List ℕ) → l ≡ [] → SentFrom at m l
-sent-none at m l e = rw e
+pub sent_none : (at : ℕ) (m l : List ℕ) → l ≡ [] → SentFrom at m l
+sent_none at m l e = rw e
 
 -- the medium as it was
-left-none : (at : ℕ) (m left l : List ℕ) → l ≡ [] → left ≡ m → LeftAt at m left l
-left-none at m left l e k = k ∙ sym (ap (λ (y : List ℕ). written at y m) e ∙ ap (λ (n : ℕ). take at m ++ drop n m) (add-zero at) ∙ take-append-drop at m)
+left_none : (at : ℕ) (m left l : List ℕ) → l ≡ [] → left ≡ m → LeftAt at m left l
+left_none at m left l e k = k ∙ sym (ap (λ (y : List ℕ). written at y m) e ∙ ap (λ (n : ℕ). take at m ++ drop n m) (add-zero at) ∙ take-append-drop at m)
 
 -- no data end nowhere
-ends-none : (at : ℕ) (m l : List ℕ) → l ≡ [] → EndsIn at m l
-ends-none at m l e p = absurd (omega (arith, p, ap length e))
+ends_none : (at : ℕ) (m l : List ℕ) → l ≡ [] → EndsIn at m l
+ends_none at m l e p = absurd (omega (arith, p, ap length e))
 
 -- where no data came, the medium is as it was
-pub left-same : (at : ℕ) (m left l : List ℕ) → LeftAt at m left l → l ≡ [] → left ≡ m
-left-same at m left l k e = k ∙ sym (left-none at m m l e refl)
+pub left_same : (at : ℕ) (m left l : List ℕ) → LeftAt at m left l → l ≡ [] → left ≡ m
+left_same at m left l k e = k ∙ sym (left_none at m m l e refl)
 
 -- no bytes, and the medium as it was
-pub nowhere-lies : (at : ℕ) (m : List ℕ) → DataStands at m m []
-nowhere-lies at m = record { left_at = left-none at m m [] refl refl; ends-in = ends-none at m [] refl }
+pub nowhere_lies : (at : ℕ) (m : List ℕ) → DataStands at m m []
+nowhere_lies at m = record { left_at = left_none at m m [] refl refl; ends_in = ends_none at m [] refl }
 
 -- ---- data to the host
 
@@ -64,21 +64,21 @@ take_short (suc n) [] = refl
 take_short (suc n) (x ∷ l) = ap (λ (y : List ℕ). x ∷ y) (take_short n l)
 
 -- a part of the medium as a data frame
-pub payload-sent : (at n : ℕ) (m : List ℕ) → SentFrom at m (sentIn (payload (take n (drop at m)) ∷ []))
+pub payload_sent : (at n : ℕ) (m : List ℕ) → SentFrom at m (sent_in (payload (take n (drop at m)) ∷ []))
 unfolding some
-payload-sent at n m = rw (append-nil (take n (drop at m))) (take_short n (drop at m))
+payload_sent at n m = rw (append-nil (take n (drop at m))) (take_short n (drop at m))
 
 -- a page is no command's data, with a sweep before it or without
-pub log-none : (on : Bool) (task : Task) (page : List ℕ) → sentIn (logReplies on task page) ≡ []
+pub log_none : (on : Bool) (task : Task) (page : List ℕ) → sent_in (log_replies on task page) ≡ []
 unfolding some
-log-none on task page = grind arith
+log_none on task page = grind arith
 
 -- nor is an Activate
-pub active-none : (on : Bool) → sentIn (activateIf on) ≡ []
+pub active_none : (on : Bool) → sent_in (activate_if on) ≡ []
 unfolding some
-active-none on = grind arith
+active_none on = grind arith
 
 -- nor a DMA Setup
-pub setup-none : (q : Queued) (on : Bool) → sentIn (setupReply q ∷ activateIf on) ≡ []
+pub setup_none : (q : Queued) (on : Bool) → sent_in (setup_reply q ∷ activate_if on) ≡ []
 unfolding some
-setup-none q on = grind arith
+setup_none q on = grind arith

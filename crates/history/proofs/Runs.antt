@@ -2,45 +2,45 @@
 use Rattle.std.proofs.Common.{None, ◌≡◌, refl, ap, subst, ◌∙◌, List, [], ◌∷◌, map, ◌≤◌, le_trans, le_of_eq, arith, ltb}
 use lib.Count.{ones}
 use Rattle.device_state.specs.declared.shapes.Settings.{Settings}
-use Rattle.device.specs.Device.{powerOn, freshDevice}
+use Rattle.device.specs.Device.{power_on, fresh_device}
 use Rattle.device.specs.declared.state.Device.{Device}
-use Rattle.device.proofs.Opens.{ones-most}
+use Rattle.device.proofs.Opens.{ones_most}
 use Rattle.history.specs.Event.{Event}
 use Rattle.history.specs.Seen.{seen}
 use Rattle.history.specs.Fates.{total}
 use Rattle.history.specs.Demand3.{Fates, Ranges, Moves, Contents, Sactive, Waiting, Depth, OnePerTag, Counters}
 use Rattle.history.specs.ReplyRules.{AllReplyRules}
 use Rattle.history.specs.Refused.{Refusals}
-use Rattle.history.specs.Logged.{logBy, LogTold}
+use Rattle.history.specs.Logged.{log_by, LogTold}
 use Rattle.history.specs.Answered.{Answers}
-use Rattle.replies.specs.Replies.{logOf}
+use Rattle.replies.specs.Replies.{log_of}
 use Rattle.device.specs.Lent.{Lent, Typed}
 use Rattle.history.specs.Run.{Done, done, event, result, AllTyped, run, run_from, history}
 use Rattle.history.proofs.Class.{Class}
 use Rattle.history.proofs.Steps.{comes, marked_step}
 use Rattle.history.proofs.Fated.{AllLone, lone, fates}
-use Rattle.history.proofs.Core.{Inv, inv-start, keeps, inv-sactive, inv-waiting, inv-total}
-use Rattle.history.proofs.Table.{Tracked, tracked-start, tracked-step, ranges}
+use Rattle.history.proofs.Core.{Inv, inv_start, keeps, inv_sactive, inv_waiting, inv_total}
+use Rattle.history.proofs.Table.{Tracked, tracked_start, tracked_step, ranges}
 use Rattle.history.proofs.Contents.{moves}
-use Rattle.history.proofs.ReplyRules.{reply-rules}
+use Rattle.history.proofs.ReplyRules.{reply_rules}
 use Rattle.history.proofs.Marked.{Marked, marked_start}
 use Rattle.device.proofs.Widths.{Wide}
-use Rattle.device.proofs.Widening.{wide_step, wide-start}
-use Rattle.history.proofs.Holding.{holding-step, holding-power}
+use Rattle.device.proofs.Widening.{wide_step, wide_start}
+use Rattle.history.proofs.Holding.{holding_step, holding_power}
 use Rattle.history.proofs.Knows.{Known, knows}
 use Rattle.history.proofs.Refusing.{refusing}
-use Rattle.history.proofs.Naming.{Named, named-step, named-power}
-use Rattle.history.proofs.Logging.{logged-step, logged-power}
-use Rattle.history.proofs.Showing.{told-step}
+use Rattle.history.proofs.Naming.{Named, named_step, named_power}
+use Rattle.history.proofs.Logging.{logged_step, logged_power}
+use Rattle.history.proofs.Showing.{told_step}
 use Rattle.history.proofs.Frames.{read_step}
-use Rattle.history.proofs.Tally.{Counting, counting-start}
-use Rattle.history.proofs.Counts.{Replies, counting-step}
-use Rattle.history.proofs.Pages.{Masked, counters-step}
-use Rattle.history.proofs.Shown.{masked-start, masked-step}
-use Rattle.history.proofs.Answering.{answers-step}
-use Rattle.history.proofs.Lying.{sent-lies}
-use Rattle.history.proofs.CoreSteps.{ones-some}
-use Rattle.history.proofs.Soundness.{by-power, from-power, Sound, sound-power, sound-step}
+use Rattle.history.proofs.Tally.{Counting, counting_start}
+use Rattle.history.proofs.Counts.{Replies, counting_step}
+use Rattle.history.proofs.Pages.{Masked, counters_step}
+use Rattle.history.proofs.Shown.{masked_start, masked_step}
+use Rattle.history.proofs.Answering.{answers_step}
+use Rattle.history.proofs.Lying.{sent_lies}
+use Rattle.history.proofs.CoreSteps.{ones_some}
+use Rattle.history.proofs.Soundness.{by_power, from_power, Sound, sound_power, sound_step}
 
 -- the state and the history, held together
 pub record Held (s : Settings) (d : Device) (h : List Event) : Type 0 where
@@ -51,131 +51,131 @@ pub record Held (s : Settings) (d : Device) (h : List Event) : Type 0 where
   pub lone : AllLone (map seen h)
   pub tracked : Tracked d (map seen h)
   pub contents : Contents h
-  pub reply-rules : AllReplyRules h
+  pub reply_rules : AllReplyRules h
   pub knows : Known d h
   pub refusals : Refusals s.depth s.capacity s.mask h
   pub named : Named d h
-  pub logged : logBy h ≡ logOf d.errors
-  pub log-told : LogTold h
+  pub logged : log_by h ≡ log_of d.errors
+  pub log_told_lem : LogTold h
   pub masked : Masked s.mask d
   pub counting : Counting d h
   pub counters : Counters s.mask h
   pub answers : Answers s.depth s.capacity s.mask h
 
 -- one call more
-pub held-step : (s : Settings) (d : Device) (a : Lent) (h : List Event) → Typed a.call → Held s d h → Held s (result d a).outcome.state (event (done a (result d a)) ∷ h)
+pub held_step : (s : Settings) (d : Device) (a : Lent) (h : List Event) → Typed a.call → Held s d h → Held s (result d a).outcome.state (event (done a (result d a)) ∷ h)
 unfolding AllLone Contents AllReplyRules Refusals LogTold Counters Answers
-held-step s d a h t i =
+held_step s d a h t i =
     let d' : Device = (result d a).outcome.state in
     let x : Event = event (done a (result d a)) in
     let c : Class d (seen x) d' = comes d a t i.wide.sized in
     let v : Inv d'.status.outstanding d'.status.halted (seen x ∷ map seen h) = keeps d d' (seen x) (map seen h) i.inv c in
-    let k : Tracked d' (seen x ∷ map seen h) = tracked-step d d' (seen x) (map seen h) i.tracked c in
+    let k : Tracked d' (seen x ∷ map seen h) = tracked_step d d' (seen x) (map seen h) i.tracked c in
     let r : Replies d a = read_step d a t i.wide.sized in
     let m : Moves x (map seen h) = moves d a (map seen h) t i.wide.sized i.tracked i.inv.number in
     record {
       wide = wide_step d a t i.wide;
       marked = marked_step d a i.marked;
-      sound = sound-step s d a t i.sound;
+      sound = sound_step s d a t i.sound;
       inv = v;
       lone = (lone c, i.lone);
       tracked = k;
       contents = (m, i.contents);
-      reply-rules = (reply-rules d a (map seen h) t i.wide.sized i.marked i.inv, i.reply-rules);
-      knows = knows d' (x ∷ h) v k (holding-step d a h i.knows.held);
+      reply_rules = (reply_rules d a (map seen h) t i.wide.sized i.marked i.inv, i.reply_rules);
+      knows = knows d' (x ∷ h) v k (holding_step d a h i.knows.held);
       refusals = (refusing s d a h i.sound i.knows, i.refusals);
-      named = named-step d h i.named a t i.wide.sized;
-      logged = logged-step d h i.knows.halted (ap (ltb 0) (inv-total i.inv) ∙ ones-some d.status.outstanding) i.named i.logged a t i.wide.sized;
-      log-told = (told-step d a h t i.wide.sized i.logged, i.log-told);
-      masked = masked-step s.mask d a i.masked;
-      counting = counting-step d a h r i.counting;
-      counters = (counters-step s.mask d a h i.masked i.counting r, i.counters);
-      answers = (answers-step s d h a t i.sound (record { sized = i.wide.sized; known = i.knows; inv = i.inv; tracked = i.tracked; logged = i.logged; counting = i.counting }) (sent-lies x h m), i.answers);
+      named = named_step d h i.named a t i.wide.sized;
+      logged = logged_step d h i.knows.halted (ap (ltb 0) (inv_total i.inv) ∙ ones_some d.status.outstanding) i.named i.logged a t i.wide.sized;
+      log_told_lem = (told_step d a h t i.wide.sized i.logged, i.log_told_lem);
+      masked = masked_step s.mask d a i.masked;
+      counting = counting_step d a h r i.counting;
+      counters = (counters_step s.mask d a h i.masked i.counting r, i.counters);
+      answers = (answers_step s d h a t i.sound (record { sized = i.wide.sized; known = i.knows; inv = i.inv; tracked = i.tracked; logged = i.logged; counting = i.counting }) (sent_lies x h m), i.answers);
     }
 
 -- power-on
-pub held-power : (s : Settings) → Held s (powerOn s).state []
-unfolding freshDevice AllLone Contents AllReplyRules Refusals LogTold Counters Answers
-held-power s =
-    let d : Device = (powerOn s).state in
-    let v : Inv d.status.outstanding d.status.halted [] = from-power (λ (d : Device). Inv d.status.outstanding d.status.halted []) s inv-start inv-start in
-    let k : Tracked d [] = tracked-start d (from-power (λ (d : Device). d.status.phase ≡ None) s refl refl) in
+pub held_power : (s : Settings) → Held s (power_on s).state []
+unfolding fresh_device AllLone Contents AllReplyRules Refusals LogTold Counters Answers
+held_power s =
+    let d : Device = (power_on s).state in
+    let v : Inv d.status.outstanding d.status.halted [] = from_power (λ (d : Device). Inv d.status.outstanding d.status.halted []) s inv_start inv_start in
+    let k : Tracked d [] = tracked_start d (from_power (λ (d : Device). d.status.phase ≡ None) s refl refl) in
     record {
-      wide = wide-start s;
+      wide = wide_start s;
       marked = marked_start s;
-      sound = sound-power s;
+      sound = sound_power s;
       inv = v;
       lone = tt;
       tracked = k;
       contents = tt;
-      reply-rules = tt;
-      knows = knows d [] v k (holding-power s);
+      reply_rules = tt;
+      knows = knows d [] v k (holding_power s);
       refusals = tt;
-      named = named-power s;
-      logged = logged-power s;
-      log-told = tt;
-      masked = masked-start s;
-      counting = counting-start s;
+      named = named_power s;
+      logged = logged_power s;
+      log_told_lem = tt;
+      masked = masked_start s;
+      counting = counting_start s;
       counters = tt;
       answers = tt;
     }
 
 -- a run
-pub held-run : (s : Settings) (d : Device) (h : List Done) (as' : List Lent) → AllTyped as' → Held s d (map event h) → Held s (run d h as').state (map event (run d h as').calls)
+pub held_run : (s : Settings) (d : Device) (h : List Done) (as' : List Lent) → AllTyped as' → Held s d (map event h) → Held s (run d h as').state (map event (run d h as').calls)
 unfolding run AllTyped
-held-run s d h [] t i = i
-held-run s d h (a ∷ as') t i = held-run s (result d a).outcome.state (done a (result d a) ∷ h) as' t.1 (held-step s d a (map event h) t.0 i)
+held_run s d h [] t i = i
+held_run s d h (a ∷ as') t i = held_run s (result d a).outcome.state (done a (result d a) ∷ h) as' t.1 (held_step s d a (map event h) t.0 i)
 
 -- a run from power-on
 pub held : (s : Settings) (as' : List Lent) → AllTyped as' → Held s (run_from s as').state (history s as')
-held s as' t = held-run s (powerOn s).state [] as' t (held-power s)
+held s as' t = held_run s (power_on s).state [] as' t (held_power s)
 
 -- what the device keeps of its business is what the history tells
 pub known : (s : Settings) (as' : List Lent) → AllTyped as' → Known (run_from s as').state (history s as')
 known s as' t = (held s as' t).knows
 
 -- every event is turned down for just what the table of refusals says, by the history before it
-pub refused-exactly : (s : Settings) (as' : List Lent) → AllTyped as' → Refusals s.depth s.capacity s.mask (history s as')
-refused-exactly s as' t = (held s as' t).refusals
+pub refused_exactly : (s : Settings) (as' : List Lent) → AllTyped as' → Refusals s.depth s.capacity s.mask (history s as')
+refused_exactly s as' t = (held s as' t).refusals
 
 -- every page 10h ever sent tells the last error since the last reset, as the history before it has it
-pub log-told : (s : Settings) (as' : List Lent) → AllTyped as' → LogTold (history s as')
-log-told s as' t = (held s as' t).log-told
+pub log_told_lem : (s : Settings) (as' : List Lent) → AllTyped as' → LogTold (history s as')
+log_told_lem s as' t = (held s as' t).log_told_lem
 
 -- no more ones than the depth
-within-depth : (s : Settings) (d : Device) (h : List Event) → Held s d h → total (map seen h) ≤ s.depth
-unfolding freshDevice ones
-within-depth s d h i =
-    by-power s (λ z. le_trans (le_of_eq (inv-total i.inv)) (subst (λ (y : Settings). ones d.status.outstanding ≤ y.depth) (i.sound.settings z) (ones-most d i.inv.bound (i.sound.good z))))
+within_depth : (s : Settings) (d : Device) (h : List Event) → Held s d h → total (map seen h) ≤ s.depth
+unfolding fresh_device ones
+within_depth s d h i =
+    by_power s (λ z. le_trans (le_of_eq (inv_total i.inv)) (subst (λ (y : Settings). ones d.status.outstanding ≤ y.depth) (i.sound.settings z) (ones_most d i.inv.bound (i.sound.good z))))
     (λ n.
-    let none : total (map seen h) ≡ 0 = inv-total i.inv ∙ ap (λ (y : Device). ones y.status.outstanding) (i.sound.zeros n) in
+    let none : total (map seen h) ≡ 0 = inv_total i.inv ∙ ap (λ (y : Device). ones y.status.outstanding) (i.sound.zeros n) in
     omega (arith, none))
 
 module _ (s : Settings) (as' : List Lent) (t : AllTyped as') where
   -- each accepted queued command is exactly one of the four, and once not outstanding it never changes
-  pub demand3-fates : Fates (map seen (history s as'))
-  demand3-fates = fates (map seen (history s as')) (held s as' t).lone
+  pub demand3_fates : Fates (map seen (history s as'))
+  demand3_fates = fates (map seen (history s as')) (held s as' t).lone
 
   -- a finished command's data frames carried each byte of its range once, in rising order, none outside, any other's a beginning of it; and each byte is the medium's
-  pub demand3-data : Ranges (map seen (history s as')) × Contents (history s as')
-  demand3-data = (ranges (run_from s as').state (map seen (history s as')) (held s as' t).tracked.commands, (held s as' t).contents)
+  pub demand3_data : Ranges (map seen (history s as')) × Contents (history s as')
+  demand3_data = (ranges (run_from s as').state (map seen (history s as')) (held s as' t).tracked.commands, (held s as' t).contents)
 
   -- while no error waits to be read, SActive names exactly the outstanding tags
-  pub demand3-sactive : Sactive (map seen (history s as'))
-  demand3-sactive = inv-sactive (held s as' t).inv
+  pub demand3_sactive : Sactive (map seen (history s as'))
+  demand3_sactive = inv_sactive (held s as' t).inv
 
   -- while one waits, nothing is outstanding, and SActive names the tags given up at that error and those of queued commands answered with an error since
-  pub demand3-waiting : Waiting (map seen (history s as'))
-  demand3-waiting = inv-waiting (held s as' t).inv
+  pub demand3_waiting : Waiting (map seen (history s as'))
+  demand3_waiting = inv_waiting (held s as' t).inv
 
   -- at most the queue depth is ever outstanding
-  pub demand3-depth : Depth s.depth (map seen (history s as'))
-  demand3-depth = within-depth s (run_from s as').state (history s as') (held s as' t)
+  pub demand3_depth : Depth s.depth (map seen (history s as'))
+  demand3_depth = within_depth s (run_from s as').state (history s as') (held s as' t)
 
   -- no two commands of one tag are outstanding
-  pub demand3-single : OnePerTag (map seen (history s as'))
-  demand3-single u l = let n = (held s as' t).inv.number u l in grind arith
+  pub demand3_single : OnePerTag (map seen (history s as'))
+  demand3_single u l = let n = (held s as' t).inv.number u l in grind arith
 
   -- every event says no more than it may after those before it, and what it must
-  pub demand3-reply-rules : AllReplyRules (history s as')
-  demand3-reply-rules = (held s as' t).reply-rules
+  pub demand3_reply_rules : AllReplyRules (history s as')
+  demand3_reply_rules = (held s as' t).reply_rules

@@ -11,57 +11,57 @@ use Rattle.device.specs.FactsOf.{facts_of}
 use Rattle.device.specs.Step.{Step, step}
 use Rattle.device.specs.declared.state.Device.{Device}
 use Rattle.device.proofs.Sized.{SizedRecord}
-use Rattle.device.proofs.Refusals.{refused-keeps}
+use Rattle.device.proofs.Refusals.{refused_keeps}
 use Rattle.history.specs.Event.{Event}
 use Rattle.history.specs.FrameAsks.{quiet}
-use Rattle.history.specs.Reading.{callAsks}
+use Rattle.history.specs.Reading.{call_asks}
 use Rattle.history.specs.Seen.{Seen, seen}
 use Rattle.history.specs.Run.{result, done, event}
-use Rattle.history.proofs.Sets.{is_none-true, is_none-false}
-use Rattle.history.proofs.Decided.{by-decided, by-taken}
+use Rattle.history.proofs.Sets.{is_none_true, is_none_false}
+use Rattle.history.proofs.Decided.{by_decided, by_taken}
 use Rattle.history.proofs.Class.{Class, plain}
-use Rattle.history.proofs.Views.{view, is-silent, silent-unbegun}
-use Rattle.history.proofs.Frames.{Read, read-seen, read_step}
+use Rattle.history.proofs.Views.{view, is_silent, silent_unbegun}
+use Rattle.history.proofs.Frames.{Read, read_seen, read_step}
 use Rattle.history.proofs.Changes.{same}
 use Rattle.history.proofs.Marked.{Marked}
 use Rattle.history.proofs.Hosts.{Comes}
-use Rattle.history.proofs.Hosted.{host-goes}
-use Rattle.history.proofs.Own.{own-goes}
+use Rattle.history.proofs.Hosted.{host_goes}
+use Rattle.history.proofs.Own.{own_goes}
 
 module _ (d : Device) (l : Lent) (t : Typed l.call) (s : SizedRecord d) where
   abbrev x : Event
   x = event (done l (result d l))
 
   -- what holds of what is seen of a call, by whether it is refused
-  pub by-view : (P : Seen → Type 0) → ((step d l).refusal ≡ None → P (view (callAsks l.call) (step d l).frames)) → (((step d l).refusal ≡ None → ⊥) → P (view quiet [])) → P (seen x)
-  by-view P go keep =
+  pub by_view : (P : Seen → Type 0) → ((step d l).refusal ≡ None → P (view (call_asks l.call) (step d l).frames)) → (((step d l).refusal ≡ None → ⊥) → P (view quiet [])) → P (seen x)
+  by_view P go keep =
       let r : Read x (step d l).frames = read_step d l t s in
       ⊎_elim
       (λ (y : is_none (step d l).refusal ≡ true).
-      let z = is_none-true (step d l).refusal y in
-      subst P (sym (read-seen x (step d l).frames r (callAsks l.call) (rw z))) (go z))
+      let z = is_none_true (step d l).refusal y in
+      subst P (sym (read_seen x (step d l).frames r (call_asks l.call) (rw z))) (go z))
       (λ (y : is_none (step d l).refusal ≡ false).
-      let n = is_none-false (step d l).refusal y in
-      subst P (sym (read-seen x (step d l).frames r quiet (rw y) ∙ ap (view quiet) (refused-keeps d l n).frames)) (keep n))
+      let n = is_none_false (step d l).refusal y in
+      subst P (sym (read_seen x (step d l).frames r quiet (rw y) ∙ ap (view quiet) (refused_keeps d l n).frames)) (keep n))
       (tested (is_none (step d l).refusal))
 
 -- a taken call, by the rule that holds
-ruled-comes : (d : Device) (m b : List ℕ) {c : Call} {a : Act} → Typed c → by.Ruled (facts_of d (lent c m b)) c (Ok a) → Comes d (part_of a m) (callAsks c) a
-ruled-comes d m b t (by.host f a g w s h) = (host-goes d f m b g h).comes
-ruled-comes d m b t (by.own o) = (own-goes d m b o).comes t
+ruled_comes : (d : Device) (m b : List ℕ) {c : Call} {a : Act} → Typed c → by.Ruled (facts_of d (lent c m b)) c (Ok a) → Comes d (part_of a m) (call_asks c) a
+ruled_comes d m b t (by.host f a g w s h) = (host_goes d f m b g h).comes
+ruled_comes d m b t (by.own o) = (own_goes d m b o).comes t
 
 -- every call
 pub comes : (d : Device) (l : Lent) → Typed l.call → SizedRecord d → Class d (seen (event (done l (result d l)))) (step d l).state
 comes d l t s =
-    by-view d l t s (λ (e : Seen). Class d e (step d l).state)
-    (by-taken d l (λ (x : Step). Class d (view (callAsks l.call) x.frames) x.state) (λ a r. ruled-comes d l.medium l.buffer t r))
-    (λ n. subst (Class d (view quiet [])) (sym (refused-keeps d l n).state) (plain (is-silent quiet refl) (silent-unbegun quiet) (same d)))
+    by_view d l t s (λ (e : Seen). Class d e (step d l).state)
+    (by_taken d l (λ (x : Step). Class d (view (call_asks l.call) x.frames) x.state) (λ a r. ruled_comes d l.medium l.buffer t r))
+    (λ n. subst (Class d (view quiet [])) (sym (refused_keeps d l n).state) (plain (is_silent quiet refl) (silent_unbegun quiet) (same d)))
 
 -- a taken call, by the rule that holds: a halt keeps its record
-ruled-marked : (d : Device) (m b : List ℕ) {c : Call} {a : Act} → by.Ruled (facts_of d (lent c m b)) c (Ok a) → Marked d → Marked (after_of d a)
-ruled-marked d m b (by.host f a g w s h) k = (host-goes d f m b g h).marked k
-ruled-marked d m b (by.own o) k = (own-goes d m b o).marked k
+ruled_marked : (d : Device) (m b : List ℕ) {c : Call} {a : Act} → by.Ruled (facts_of d (lent c m b)) c (Ok a) → Marked d → Marked (after_of d a)
+ruled_marked d m b (by.host f a g w s h) k = (host_goes d f m b g h).marked k
+ruled_marked d m b (by.own o) k = (own_goes d m b o).marked k
 
 -- every call
 pub marked_step : (d : Device) (l : Lent) → Marked d → Marked (step d l).state
-marked_step d l k = by-decided d l (λ (x : Step). Marked x.state) (λ r. k) (λ a r. ruled-marked d l.medium l.buffer r k)
+marked_step d l k = by_decided d l (λ (x : Step). Marked x.state) (λ r. k) (λ a r. ruled_marked d l.medium l.buffer r k)

@@ -2,53 +2,53 @@
 use Rattle.std.proofs.Common.{is_none, ◌≡◌, refl, sym, ap, subst, ◌∙◌, true, false, List, [], ◌∷◌, ⊎_elim}
 use Rattle.bits.proofs.Picks.{tested}
 use Rattle.device_state.specs.declared.shapes.Settings.{Settings}
-use Rattle.device.specs.Device.{powerOn}
+use Rattle.device.specs.Device.{power_on}
 use Rattle.device.specs.Lent.{Lent, Gave}
 use Rattle.device.specs.Step.{step}
 use Rattle.device.specs.declared.state.Device.{Device}
 use Rattle.device.specs.declared.state.Outcome.{Outcome}
-use Rattle.device.proofs.Refusals.{refused-keeps}
+use Rattle.device.proofs.Refusals.{refused_keeps}
 use Rattle.history.specs.Run.{Done, done, result, Run, run}
-use Rattle.history.specs.Struck.{takenOf, lentTaken, StruckRun}
+use Rattle.history.specs.Struck.{taken_of, lent_taken, StruckRun}
 use Rattle.history.specs.Follows.{FollowsBy, final}
 use Rattle.history.proofs.Allowed.{Allowed, BeganCode}
 use Rattle.history.proofs.Contracts.{only}
-use Rattle.history.proofs.Sets.{is_none-false}
+use Rattle.history.proofs.Sets.{is_none_false}
 
 abbrev ran : Device → List Done → Run
 ran d h = record { state = d; calls = h }
 
 -- a refused call leaves the state
 keeps : (d : Device) (a : Lent) → is_none (result d a).outcome.refusal ≡ false → (result d a).outcome.state ≡ d
-keeps d a n = (refused-keeps d a (is_none-false (step d a).refusal n)).state
+keeps d a n = (refused_keeps d a (is_none_false (step d a).refusal n)).state
 
 -- a refused call is struck out
-taken-no : (x : Done) (xs : List Done) → is_none x.gave.outcome.refusal ≡ false → takenOf (x ∷ xs) ≡ takenOf xs
-unfolding takenOf
-taken-no x xs n = rw n
+taken_no : (x : Done) (xs : List Done) → is_none x.gave.outcome.refusal ≡ false → taken_of (x ∷ xs) ≡ taken_of xs
+unfolding taken_of
+taken_no x xs n = rw n
 
 -- from any state on, behind any calls
-pub struck-run : (as' : List Lent) (d : Device) (h : List Done) → run d (takenOf h) (lentTaken d as') ≡ ran (run d h as').state (takenOf (run d h as').calls)
-unfolding run takenOf lentTaken
-struck-run [] d h = refl
-struck-run (a ∷ as') d h =
+pub struck_run : (as' : List Lent) (d : Device) (h : List Done) → run d (taken_of h) (lent_taken d as') ≡ ran (run d h as').state (taken_of (run d h as').calls)
+unfolding run taken_of lent_taken
+struck_run [] d h = refl
+struck_run (a ∷ as') d h =
     let b = is_none (result d a).outcome.refusal in
     let d' : Device = (result d a).outcome.state in
     let x : Done = done a (result d a) in
-    let more = struck-run as' d' (x ∷ h) in
+    let more = struck_run as' d' (x ∷ h) in
     ⊎_elim
     (λ (y : b ≡ true). rw y (rw y at more))
-    (λ (n : b ≡ false). rw n (ap (λ (z : Device). run z (takenOf h) (lentTaken d' as')) (sym (keeps d a n)) ∙ (rw (taken-no x h n) at more)))
+    (λ (n : b ≡ false). rw n (ap (λ (z : Device). run z (taken_of h) (lent_taken d' as')) (sym (keeps d a n)) ∙ (rw (taken_no x h n) at more)))
     (tested b)
 
 -- from power-on
-pub refused-struck : (s : Settings) (as' : List Lent) → StruckRun s as'
-unfolding takenOf
-refused-struck s as' = struck-run as' (powerOn s).state []
+pub refused_struck : (s : Settings) (as' : List Lent) → StruckRun s as'
+unfolding taken_of
+refused_struck s as' = struck_run as' (power_on s).state []
 
 -- what the contracts allow of a refused call leaves the state too
-keeps-code : (d : Device) (x : Done) → Allowed d x.lent x.gave → is_none x.gave.outcome.refusal ≡ false → x.gave.outcome.state ≡ d
-keeps-code d x a n =
+keeps_code : (d : Device) (x : Done) → Allowed d x.lent x.gave → is_none x.gave.outcome.refusal ≡ false → x.gave.outcome.state ≡ d
+keeps_code d x a n =
     let e : x.gave ≡ result d x.lent = only a in
     ap (λ (g : Gave). g.outcome.state) e ∙ keeps d x.lent (sym (ap (λ (g : Gave). is_none g.outcome.refusal) e) ∙ n)
 
@@ -56,22 +56,22 @@ keeps-code d x a n =
 abbrev Goes : Device → List Done → List Done → Type 0
 Goes d xs ys = FollowsBy Allowed d ys × (final d ys ≡ final d xs)
 
-struck-follows : (xs : List Done) (d : Device) → FollowsBy Allowed d xs → Goes d xs (takenOf xs)
-unfolding FollowsBy takenOf final
-struck-follows [] d f = (tt, refl)
-struck-follows (x ∷ xs) d f =
+struck_follows : (xs : List Done) (d : Device) → FollowsBy Allowed d xs → Goes d xs (taken_of xs)
+unfolding FollowsBy taken_of final
+struck_follows [] d f = (tt, refl)
+struck_follows (x ∷ xs) d f =
     let b = is_none x.gave.outcome.refusal in
     let d' : Device = x.gave.outcome.state in
-    let more = struck-follows xs d' f.1 in
+    let more = struck_follows xs d' f.1 in
     ⊎_elim
     (λ (y : b ≡ true). rw y ((f.0, more.0), more.1))
     (λ (n : b ≡ false).
-    let e : d' ≡ d = keeps-code d x f.0 n in
-    rw n (subst (λ (z : Device). FollowsBy Allowed z (takenOf xs)) e more.0, ap (λ (z : Device). final z (takenOf xs)) (sym e) ∙ more.1))
+    let e : d' ≡ d = keeps_code d x f.0 n in
+    rw n (subst (λ (z : Device). FollowsBy Allowed z (taken_of xs)) e more.0, ap (λ (z : Device). final z (taken_of xs)) (sym e) ∙ more.1))
     (tested b)
 
 -- of the code: without its refused calls a sequence of results that the contracts allow is still one, every other result as it was, and ends in the same state
-pub struck-code : (s : Settings) (r : Outcome) (xs : List Done) → BeganCode s r xs → BeganCode s r (takenOf xs) × (final r.state (takenOf xs) ≡ final r.state xs)
-struck-code s r xs b =
-    let k = struck-follows xs r.state b.follows in
+pub struck_code : (s : Settings) (r : Outcome) (xs : List Done) → BeganCode s r xs → BeganCode s r (taken_of xs) × (final r.state (taken_of xs) ≡ final r.state xs)
+struck_code s r xs b =
+    let k = struck_follows xs r.state b.follows in
     (record { power = b.power; follows = k.0 }, k.1)

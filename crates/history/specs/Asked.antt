@@ -3,12 +3,12 @@ use Rattle.std.specs.Prelude.{List, [], ℕ}
 use Rattle.bits.specs.Pick.{pick}
 use Rattle.history.specs.Event.{Event, taken}
 use Rattle.history.specs.FrameAsks.{Asked, quiet}
-use Rattle.history.specs.Reading.{callAsks, callBrings}
+use Rattle.history.specs.Reading.{call_asks, call_brings}
 
 -- a refused call counts as never delivered
 abbrev pub asks : Event → Asked
-asks e = pick (taken e) (callAsks e.call) quiet
+asks e = pick (taken e) (call_asks e.call) quiet
 
 -- the bytes that a taken host data frame brought
 abbrev pub brought : Event → List ℕ
-brought e = pick (taken e) (callBrings e.call) []
+brought e = pick (taken e) (call_brings e.call) []

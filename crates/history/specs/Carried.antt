@@ -1,28 +1,28 @@
 -- The bytes that a command's data frames carried: positions from DMA Setup and the lengths of the data frames that follow it. Assumes nothing.
 use Rattle.std.specs.Prelude.{◌≡◌, Bool, true, false, not, ◌&&◌, ◌||◌, List, [], ◌∷◌, ◌++◌, ℕ, zero, suc, ◌+◌, ◌*◌, ◌≤◌, ◌<◌, eqb, ltb}
 use Rattle.bits.specs.Pick.{pick}
-use Rattle.history.specs.Seen.{Seen, Transfer, noTransfer, underWay, errs}
-use Rattle.history.specs.Fates.{Command, ownTag, outstandingAt}
+use Rattle.history.specs.Seen.{Seen, Transfer, no_transfer, under_way, errs}
+use Rattle.history.specs.Fates.{Command, own_tag, outstanding_at}
 
 -- the bytes that an event carries in a direction: device data to the host, taken host data from it
 abbrev pub load : Bool → Seen → ℕ
-load toHost e = pick toHost e.sends e.asks.brings
+load to_host e = pick to_host e.sends e.asks.brings
 
 -- n bytes on; used up, a Setup has no more data
 abbrev pub onward : ℕ → Transfer → Transfer
 onward zero x = x
-onward (suc n) noTransfer = noTransfer
-onward (suc n) (underWay d t a z) = pick (ltb (a + suc n) z) (underWay d t (a + suc n) z) noTransfer
+onward (suc n) no_transfer = no_transfer
+onward (suc n) (under_way d t a z) = pick (ltb (a + suc n) z) (under_way d t (a + suc n) z) no_transfer
 
 -- the data of an event, in the direction of what is under way
 abbrev pub advanced : Seen → Transfer → Transfer
-advanced e noTransfer = noTransfer
-advanced e (underWay d t a z) = onward (load d e) (underWay d t a z)
+advanced e no_transfer = no_transfer
+advanced e (under_way d t a z) = onward (load d e) (under_way d t a z)
 
 -- what is under way after a history: an error and a reset close it
 unfoldable pub transfer : List Seen → Transfer
-transfer [] = noTransfer
-transfer (e ∷ h) = pick (errs e || e.asks.resets) noTransfer (e.begins (advanced e (transfer h)))
+transfer [] = no_transfer
+transfer (e ∷ h) = pick (errs e || e.asks.resets) no_transfer (e.begins (advanced e (transfer h)))
 
 -- n numbers from a on, rising
 unfoldable pub span : ℕ → ℕ → List ℕ
@@ -43,22 +43,22 @@ belongs write tag d t = eqb t tag && pick write (not d) d
 
 -- the positions that an event carries of a command whose range begins at `start`
 abbrev pub positions : ℕ → Bool → ℕ → Seen → Transfer → List ℕ
-positions start write tag e noTransfer = []
-positions start write tag e (underWay d t a z) = pick (belongs write tag d t) (span (start + a) (load d e)) []
+positions start write tag e no_transfer = []
+positions start write tag e (under_way d t a z) = pick (belongs write tag d t) (span (start + a) (load d e)) []
 
 -- the positions carried while the command was outstanding, in order
-unfoldable pub carriedAt : ℕ → Bool → ℕ → List Seen → List ℕ
-carriedAt start write tag [] = []
-carriedAt start write tag (e ∷ n) = carriedAt start write tag n ++ pick (outstandingAt tag n) (positions start write tag e (transfer n)) []
+unfoldable pub carried_at : ℕ → Bool → ℕ → List Seen → List ℕ
+carried_at start write tag [] = []
+carried_at start write tag (e ∷ n) = carried_at start write tag n ++ pick (outstanding_at tag n) (positions start write tag e (transfer n)) []
 
 -- of a command
 abbrev pub carried : Command → List ℕ
-carried c = carriedAt (base c) c.accepted.asks.write (ownTag c) c.after
+carried c = carried_at (base c) c.accepted.asks.write (own_tag c) c.after
 
 -- n bytes in a direction are of what is under way, and within what is left of it
 abbrev pub Within : Bool → ℕ → Transfer → Type 0
-Within d n noTransfer = ⊥
-Within d n (underWay x t a z) = (x ≡ d) × (a + n ≤ z)
+Within d n no_transfer = ⊥
+Within d n (under_way x t a z) = (x ≡ d) × (a + n ≤ z)
 
 -- no stray data: data sent are of a Setup under way with D 1, data brought of one with D 0
 pub record NoStray (e : Seen) (x : Transfer) : Type 0 where

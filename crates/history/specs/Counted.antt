@@ -5,34 +5,34 @@ use Rattle.counters.specs.Rows.{kept, row_of}
 use Rattle.history.specs.Event.{Event, taken}
 use Rattle.history.specs.Replied.{paged}
 use Rattle.history.specs.Carried.{span}
-use Rattle.history.specs.Reading.{rowRaised, callZeroes}
+use Rattle.history.specs.Reading.{row_raised, call_zeroes}
 
 -- an event zeroes the counters: taken BIST, or a good read of page 11h with bit 0
 abbrev pub zeroes : Event → Bool
-zeroes e = taken e && callZeroes (paged e) e.call
+zeroes e = taken e && call_zeroes (paged e) e.call
 
 -- an event of a row
-abbrev pub raisesRow : ℕ → Event → Bool
-raisesRow r e = taken e && eqb (rowRaised e.call) r
+abbrev pub raises_row : ℕ → Event → Bool
+raises_row r e = taken e && eqb (row_raised e.call) r
 
 -- the events of a row since the last zeroing; the newest event stands first
-unfoldable pub countedIn : ℕ → List Event → ℕ
-countedIn r [] = 0
-countedIn r (e ∷ h) = pick (zeroes e) 0 (pick (raisesRow r e) 1 0 + countedIn r h)
+unfoldable pub counted_in : ℕ → List Event → ℕ
+counted_in r [] = 0
+counted_in r (e ∷ h) = pick (zeroes e) 0 (pick (raises_row r e) 1 0 + counted_in r h)
 
 -- held at the top
 abbrev pub told : ℕ → List Event → ℕ
-told r h = min 4294967295 (countedIn r h)
+told r h = min 4294967295 (counted_in r h)
 
 -- the sixteen rows, each as it was counted
 abbrev pub counts : List Event → List ℕ
 counts h = map (λ row. told row h) (span 0 16)
 
 -- what a page must show of a row: for a kept one its count; absent for one that is not kept, and where there is no row
-abbrev pub toldAt : ℕ → List Event → Option ℕ → Option ℕ
-toldAt mask h (Some k) = pick (kept mask k) (Some (told k h)) None
-toldAt mask h None = None
+abbrev pub told_at : ℕ → List Event → Option ℕ → Option ℕ
+told_at mask h (Some k) = pick (kept mask k) (Some (told k h)) None
+told_at mask h None = None
 
 -- of a counter's number
-abbrev pub toldFor : ℕ → List Event → ℕ → Option ℕ
-toldFor mask h number = toldAt mask h (row_of number)
+abbrev pub told_for : ℕ → List Event → ℕ → Option ℕ
+told_for mask h number = told_at mask h (row_of number)

@@ -1,31 +1,31 @@
 -- Demand 3 and the truth of the counters, said of a history: of calls, refusals and bytes. The newest event stands first. Assumes nothing.
 use Rattle.std.specs.Prelude.{◌≡◌, Bool, true, false, ◌||◌, List, [], ◌∷◌, ◌++◌, map, ℕ, ◌+◌, ◌≤◌, ◌<◌, ltb, length, take, drop, Ok}
 use Rattle.std.specs.Option.{option_map}
-use Rattle.pages.specs.Read11.{readCounter, rowValue, noNumber}
+use Rattle.pages.specs.Read11.{read_counter, row_value, no_number}
 use Rattle.history.specs.Event.{Event}
 use Rattle.history.specs.Asked.{brought}
 use Rattle.history.specs.Replied.{page, sent}
-use Rattle.history.specs.Seen.{Seen, seen, Transfer, noTransfer, underWay}
-use Rattle.history.specs.Fates.{Command, commands, ownTag, outstandingAt, finishedAt, givenUpAt, droppedAt, outstanding, finished, givenUp, dropped, one, howMany, All, total, totalWith}
-use Rattle.history.specs.Waits.{sactive, waits, givenUpThere, badSince}
+use Rattle.history.specs.Seen.{Seen, seen, Transfer, no_transfer, under_way}
+use Rattle.history.specs.Fates.{Command, commands, own_tag, outstanding_at, finished_at, given_up_at, dropped_at, outstanding, finished, given_up, dropped, one, how_many, All, total, total_with}
+use Rattle.history.specs.Waits.{sactive, waits, given_up_there, bad_since}
 use Rattle.history.specs.Carried.{transfer, span, base, size, belongs, carried, NoStray}
-use Rattle.history.specs.Counted.{toldFor}
+use Rattle.history.specs.Counted.{told_for}
 use Rattle.history.specs.Placed.{owns, written}
 
 -- exactly one of four
-abbrev pub exactlyOne : Bool → Bool → Bool → Bool → Type 0
-exactlyOne a b c d = one a + (one b + (one c + one d)) ≡ 1
+abbrev pub exactly_one : Bool → Bool → Bool → Bool → Type 0
+exactly_one a b c d = one a + (one b + (one c + one d)) ≡ 1
 
 -- every queued command accepted is exactly one of these: outstanding, finished, given up at an error, dropped by a reset
 abbrev pub OneFate : Command → Type 0
-OneFate c = exactlyOne (outstanding c) (finished c) (givenUp c) (dropped c)
+OneFate c = exactly_one (outstanding c) (finished c) (given_up c) (dropped c)
 
 -- once not outstanding it never changes, whatever the events x that follow
 pub record Settled (c : Command) (x : List Seen) : Type 0 where
-  pub outstanding : outstandingAt (ownTag c) (x ++ c.after) ≡ false
-  pub finished : finishedAt (ownTag c) (x ++ c.after) ≡ finished c
-  pub givenUp : givenUpAt (ownTag c) (x ++ c.after) ≡ givenUp c
-  pub dropped : droppedAt (ownTag c) (x ++ c.after) ≡ dropped c
+  pub outstanding : outstanding_at (own_tag c) (x ++ c.after) ≡ false
+  pub finished : finished_at (own_tag c) (x ++ c.after) ≡ finished c
+  pub given_up : given_up_at (own_tag c) (x ++ c.after) ≡ given_up c
+  pub dropped : dropped_at (own_tag c) (x ++ c.after) ≡ dropped c
 
 -- of every command accepted
 abbrev pub Fates : List Seen → Type 0
@@ -43,25 +43,25 @@ Ranges h = All (λ c. (finished c ≡ true → carried c ≡ span (base c) (size
 
 -- data at a place: read, the payload is what the medium lent to that call held there; written, the medium that the call left holds the payload there and is otherwise as it was,
 -- and none of it stands behind the medium's end
-pub record Moved (e : Event) (toHost : Bool) (at : ℕ) : Type 0 where
-  pub read : toHost ≡ true → sent e ≡ take (length (sent e)) (drop at e.medium)
-  pub written : toHost ≡ false → e.left ≡ written at (brought e) e.medium
-  pub within : toHost ≡ false → 0 < length (brought e) → at + length (brought e) ≤ length e.medium
+pub record Moved (e : Event) (to_host : Bool) (at : ℕ) : Type 0 where
+  pub read : to_host ≡ true → sent e ≡ take (length (sent e)) (drop at e.medium)
+  pub written : to_host ≡ false → e.left ≡ written at (brought e) e.medium
+  pub within : to_host ≡ false → 0 < length (brought e) → at + length (brought e) ≤ length e.medium
 
 -- the data of an event that belongs to a command
 abbrev pub MovedOf : Event → Command → Transfer → Type 0
-MovedOf e c noTransfer = Unit
-MovedOf e c (underWay d t a z) = belongs c.accepted.asks.write (ownTag c) d t ≡ true → Moved e d (base c + a)
+MovedOf e c no_transfer = Unit
+MovedOf e c (under_way d t a z) = belongs c.accepted.asks.write (own_tag c) d t ≡ true → Moved e d (base c + a)
 
 -- what is under way is the data of exactly one command, which is outstanding
 abbrev pub Owned : Transfer → List Command → Type 0
-Owned noTransfer cs = Unit
-Owned (underWay d t a z) cs = howMany (owns d t) cs ≡ 1
+Owned no_transfer cs = Unit
+Owned (under_way d t a z) cs = how_many (owns d t) cs ≡ 1
 
 -- a Setup under way ends where the command's range ends
 abbrev pub Reaches : Command → Transfer → Type 0
-Reaches c noTransfer = Unit
-Reaches c (underWay d t a z) = belongs c.accepted.asks.write (ownTag c) d t ≡ true → z ≡ size c
+Reaches c no_transfer = Unit
+Reaches c (under_way d t a z) = belongs c.accepted.asks.write (own_tag c) d t ≡ true → z ≡ size c
 
 -- one event after a history: its data are of what is under way, which is one command's and reaches to the end of its range, the same for each command as for the whole history;
 -- each command's data stand as they should, and where no data came the medium is as it was
@@ -80,11 +80,11 @@ Contents (e ∷ h) = Moves e (map seen h) × Contents h
 
 -- while no error waits to be read, SActive names exactly the outstanding tags
 abbrev pub Sactive : List Seen → Type 0
-Sactive h = waits h ≡ false → (t : ℕ) → t < 32 → sactive t h ≡ ltb 0 (totalWith t h)
+Sactive h = waits h ≡ false → (t : ℕ) → t < 32 → sactive t h ≡ ltb 0 (total_with t h)
 
 -- while one waits nothing is outstanding, and SActive names the tags given up at that error and those of queued commands answered with an error since
 abbrev pub Waiting : List Seen → Type 0
-Waiting h = waits h ≡ true → (total h ≡ 0) × ((t : ℕ) → t < 32 → sactive t h ≡ (givenUpThere t h || badSince t h))
+Waiting h = waits h ≡ true → (total h ≡ 0) × ((t : ℕ) → t < 32 → sactive t h ≡ (given_up_there t h || bad_since t h))
 
 -- at most the queue depth is ever outstanding
 abbrev pub Depth : ℕ → List Seen → Type 0
@@ -92,12 +92,12 @@ Depth depth h = total h ≤ depth
 
 -- no two commands of one tag are outstanding
 abbrev pub OnePerTag : List Seen → Type 0
-OnePerTag h = (t : ℕ) → t < 32 → totalWith t h ≤ 1
+OnePerTag h = (t : ℕ) → t < 32 → total_with t h ≤ 1
 
 -- every page 11h ever delivered, read by the reader's definition, gives for each kept row its events since its zeroing, held at the top, and absent for every other number
 unfoldable pub Counters : ℕ → List Event → Type 0
 Counters mask [] = Unit
-Counters mask (e ∷ h) = ((seen e).delivers 0x11 ≡ true → (number : ℕ) → noNumber number ≡ false → readCounter (page e) number ≡ Ok (option_map rowValue (toldFor mask h number))) × Counters mask h
+Counters mask (e ∷ h) = ((seen e).delivers 0x11 ≡ true → (number : ℕ) → no_number number ≡ false → read_counter (page e) number ≡ Ok (option_map row_value (told_for mask h number))) × Counters mask h
 
 -- demand 3 whole, and the truth of the counters
 pub record Demand3 (deep mask : ℕ) (h : List Event) : Type 0 where

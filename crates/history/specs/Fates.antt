@@ -18,48 +18,48 @@ commands [] = []
 commands (e ∷ h) = pick (accepts e) (record { accepted = e; after = [] } ∷ map (later e) (commands h)) (map (later e) (commands h))
 
 -- its tag
-abbrev pub ownTag : Command → ℕ
-ownTag c = c.accepted.asks.tag
+abbrev pub own_tag : Command → ℕ
+own_tag c = c.accepted.asks.tag
 
 -- an event ends a command of tag t: an A1h names it finished, an error is answered, or a reset is taken
 abbrev pub ends : ℕ → Seen → Bool
 ends t e = e.finishes t || (errs e || e.asks.resets)
 
 -- outstanding: nothing since has ended it
-unfoldable pub outstandingAt : ℕ → List Seen → Bool
-outstandingAt t [] = true
-outstandingAt t (e ∷ n) = outstandingAt t n && not (ends t e)
+unfoldable pub outstanding_at : ℕ → List Seen → Bool
+outstanding_at t [] = true
+outstanding_at t (e ∷ n) = outstanding_at t n && not (ends t e)
 
 -- finished: while it was outstanding an A1h without ERR, not the sweep, named its tag
-unfoldable pub finishedAt : ℕ → List Seen → Bool
-finishedAt t [] = false
-finishedAt t (e ∷ n) = finishedAt t n || (outstandingAt t n && e.finishes t)
+unfoldable pub finished_at : ℕ → List Seen → Bool
+finished_at t [] = false
+finished_at t (e ∷ n) = finished_at t n || (outstanding_at t n && e.finishes t)
 
 -- given up: while it was outstanding an error was answered
-unfoldable pub givenUpAt : ℕ → List Seen → Bool
-givenUpAt t [] = false
-givenUpAt t (e ∷ n) = givenUpAt t n || (outstandingAt t n && errs e)
+unfoldable pub given_up_at : ℕ → List Seen → Bool
+given_up_at t [] = false
+given_up_at t (e ∷ n) = given_up_at t n || (outstanding_at t n && errs e)
 
 -- dropped: while it was outstanding SRST or COMRESET was taken
-unfoldable pub droppedAt : ℕ → List Seen → Bool
-droppedAt t [] = false
-droppedAt t (e ∷ n) = droppedAt t n || (outstandingAt t n && e.asks.resets)
+unfoldable pub dropped_at : ℕ → List Seen → Bool
+dropped_at t [] = false
+dropped_at t (e ∷ n) = dropped_at t n || (outstanding_at t n && e.asks.resets)
 
 -- a command is outstanding
 abbrev pub outstanding : Command → Bool
-outstanding c = outstandingAt (ownTag c) c.after
+outstanding c = outstanding_at (own_tag c) c.after
 
 -- finished
 abbrev pub finished : Command → Bool
-finished c = finishedAt (ownTag c) c.after
+finished c = finished_at (own_tag c) c.after
 
 -- given up at an error
-abbrev pub givenUp : Command → Bool
-givenUp c = givenUpAt (ownTag c) c.after
+abbrev pub given_up : Command → Bool
+given_up c = given_up_at (own_tag c) c.after
 
 -- dropped by a reset
 abbrev pub dropped : Command → Bool
-dropped c = droppedAt (ownTag c) c.after
+dropped c = dropped_at (own_tag c) c.after
 
 -- 1 for a test that holds
 abbrev pub one : Bool → ℕ
@@ -67,9 +67,9 @@ one true = 1
 one false = 0
 
 -- how many commands of a list are so
-unfoldable pub howMany : (Command → Bool) → List Command → ℕ
-howMany p [] = 0
-howMany p (c ∷ cs) = one (p c) + howMany p cs
+unfoldable pub how_many : (Command → Bool) → List Command → ℕ
+how_many p [] = 0
+how_many p (c ∷ cs) = one (p c) + how_many p cs
 
 -- every command of a list is so
 unfoldable pub All : (Command → Type 0) → List Command → Type 0
@@ -78,8 +78,8 @@ All P (c ∷ cs) = P c × All P cs
 
 -- how many commands are outstanding
 unfoldable pub total : List Seen → ℕ
-total h = howMany outstanding (commands h)
+total h = how_many outstanding (commands h)
 
 -- and with tag t
-unfoldable pub totalWith : ℕ → List Seen → ℕ
-totalWith t h = howMany (λ c. eqb (ownTag c) t && outstanding c) (commands h)
+unfoldable pub total_with : ℕ → List Seen → ℕ
+total_with t h = how_many (λ c. eqb (own_tag c) t && outstanding c) (commands h)

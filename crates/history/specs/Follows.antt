@@ -1,7 +1,7 @@
 -- Sequences of results: each call given the state that the last one returned. Assumes nothing.
 use Rattle.std.specs.Prelude.{◌≡◌, List, [], ◌∷◌, map}
 use Rattle.device_state.specs.declared.shapes.Settings.{Settings}
-use Rattle.device.specs.Device.{powerOn}
+use Rattle.device.specs.Device.{power_on}
 use Rattle.device.specs.Lent.{Lent, Gave}
 use Rattle.device.specs.Step.{Given}
 use Rattle.device.specs.declared.state.Device.{Device}
@@ -15,9 +15,9 @@ FollowsBy R d [] = Unit
 FollowsBy R d (x ∷ xs) = R d x.lent x.gave × FollowsBy R x.gave.outcome.state xs
 
 -- the same sequence with the newest first
-unfoldable pub newestFirst : List Done → List Done → List Done
-newestFirst h [] = h
-newestFirst h (x ∷ xs) = newestFirst (x ∷ h) xs
+unfoldable pub newest_first : List Done → List Done → List Done
+newest_first h [] = h
+newest_first h (x ∷ xs) = newest_first (x ∷ h) xs
 
 -- and the state that its last call returned
 unfoldable pub final : Device → List Done → Device
@@ -29,10 +29,10 @@ abbrev pub lents : List Done → List Lent
 lents xs = map (λ x. x.lent) xs
 
 -- its history
-abbrev pub historyOf : List Done → List Event
-historyOf xs = map event (newestFirst [] xs)
+abbrev pub history_of : List Done → List Event
+history_of xs = map event (newest_first [] xs)
 
 -- from power-on: its outcome, and a sequence from the state that it returned, each as the one contract of every call promises it
 pub record Began (s : Settings) (r : Outcome) (xs : List Done) : Type 0 where
-  pub power : r ≡ powerOn s
+  pub power : r ≡ power_on s
   pub follows : FollowsBy Given r.state xs

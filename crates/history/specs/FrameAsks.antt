@@ -1,8 +1,8 @@
 -- What can be asked for, as far as demand 3 reads it. Assumes nothing.
 use Rattle.std.specs.Prelude.{Bool, true, false, not, ◌&&◌, ◌||◌, ℕ, eqb}
-use Rattle.frames.specs.Shared.{tag_of, sectorsOf, srstOf}
+use Rattle.frames.specs.Shared.{tag_of, sectors_of, srst_of}
 use Rattle.frames.specs.declared.shapes.HostReg.{HostReg}
-use Rattle.history.specs.Logs.{readsLog}
+use Rattle.history.specs.Logs.{reads_log}
 
 -- a command; a queued one, whether it writes, its tag, first sector and count; whether it reads a page of the logs, by the page's number; a reset; the bytes of host data
 pub record Asked : Type 0 where
@@ -21,23 +21,23 @@ abbrev pub quiet : Asked
 quiet = record { command = false; queued = false; write = false; tag = 0; first = 0; count = 0; reads = λ page. false; resets = false; brings = 0 }
 
 -- 27h: C 1 is a command, 60h and 61h are queued, 61h writes, 2Fh reads a page; C 0 with SRST is a reset
-abbrev pub registerAsks : HostReg → Asked
-registerAsks h = record {
+abbrev pub register_asks : HostReg → Asked
+register_asks h = record {
   command = h.command_bit;
   queued = h.command_bit && (eqb h.command 0x60 || eqb h.command 0x61);
   write = eqb h.command 0x61;
   tag = tag_of h.task.count;
   first = h.task.lba;
-  count = sectorsOf h.features h.features_high;
-  reads = λ page. readsLog page h;
-  resets = not h.command_bit && srstOf h.control;
+  count = sectors_of h.features h.features_high;
+  reads = λ page. reads_log page h;
+  resets = not h.command_bit && srst_of h.control;
   brings = 0;
 }
 
 -- 46h brings its payload
-abbrev pub dataAsks : ℕ → Asked
-dataAsks n = record quiet { brings = n }
+abbrev pub data_asks : ℕ → Asked
+data_asks n = record quiet { brings = n }
 
 -- COMRESET is a reset
-abbrev pub resetAsks : Asked
-resetAsks = record quiet { resets = true }
+abbrev pub reset_asks : Asked
+reset_asks = record quiet { resets = true }

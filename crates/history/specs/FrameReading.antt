@@ -1,13 +1,13 @@
 -- How a history reads a host frame: one row a kind. Assumes nothing.
 use Rattle.std.specs.Prelude.{Bool, true, false, ◌&&◌, List, [], ◌∷◌, ℕ, Ok}
 use Rattle.bits.specs.Pick.{pick}
-use Rattle.frames.specs.Shared.{srstOf}
+use Rattle.frames.specs.Shared.{srst_of}
 use Rattle.frames.specs.declared.shapes.HostReg.{HostReg}
 use Rattle.frames.specs.declared.shapes.Frame.TheVariants.{Host, Data, Bist}
 use Rattle.history.specs.Replied.{FrameRead}
-use Rattle.history.specs.FrameAsks.{Asked, quiet, registerAsks, dataAsks}
-use Rattle.history.specs.Logs.{zeroesLog}
-use Rattle.history.specs.Shapes.{commandReplies, controlReplies}
+use Rattle.history.specs.FrameAsks.{Asked, quiet, register_asks, data_asks}
+use Rattle.history.specs.Logs.{zeroes_log}
+use Rattle.history.specs.Shapes.{command_replies, control_replies}
 
 -- of a host frame: what it asks for; whether it zeroes the counters if it is taken, by whether a page answers it; the replies that it may have, by their kinds in their order
 pub record FrameReading : Type 0 where
@@ -16,42 +16,42 @@ pub record FrameReading : Type 0 where
   pub replies : List (List ℕ)
 
 -- 27h, by its C
-abbrev pub registerReading : HostReg → FrameReading
-registerReading h = record {
-  asks = registerAsks h;
-  zeroes = λ on. on && zeroesLog h;
-  replies = pick h.command_bit commandReplies (controlReplies (srstOf h.control));
+abbrev pub register_reading : HostReg → FrameReading
+register_reading h = record {
+  asks = register_asks h;
+  zeroes = λ on. on && zeroes_log h;
+  replies = pick h.command_bit command_replies (control_replies (srst_of h.control));
 }
 
 -- data: no reply, or an Activate if more is left
-abbrev pub dataReading : ℕ → FrameReading
-dataReading n = record { asks = dataAsks n; zeroes = λ on. false; replies = [] ∷ (0x39 ∷ []) ∷ [] }
+abbrev pub data_reading : ℕ → FrameReading
+data_reading n = record { asks = data_asks n; zeroes = λ on. false; replies = [] ∷ (0x39 ∷ []) ∷ [] }
 
 -- BIST Activate zeroes the counters, without a reply
-abbrev pub bistReading : FrameReading
-bistReading = record { asks = quiet; zeroes = λ on. true; replies = [] ∷ [] }
+abbrev pub bist_reading : FrameReading
+bist_reading = record { asks = quiet; zeroes = λ on. true; replies = [] ∷ [] }
 
 -- a frame of any other kind, or none, is never taken, so that no reply will do
-abbrev pub neverTaken : FrameReading
-neverTaken = record { asks = quiet; zeroes = λ on. false; replies = [] }
+abbrev pub never_taken : FrameReading
+never_taken = record { asks = quiet; zeroes = λ on. false; replies = [] }
 
 -- by its kind
-abbrev pub frameReading : FrameRead → FrameReading
-frameReading (Ok (Host h)) = registerReading h
-frameReading (Ok (Data n)) = dataReading n
-frameReading (Ok Bist) = bistReading
-frameReading _ = neverTaken
+abbrev pub frame_reading : FrameRead → FrameReading
+frame_reading (Ok (Host h)) = register_reading h
+frame_reading (Ok (Data n)) = data_reading n
+frame_reading (Ok Bist) = bist_reading
+frame_reading _ = never_taken
 
 -- ---- each column
 
 -- what it asks for
-abbrev pub frameAsks : FrameRead → Asked
-frameAsks f = (frameReading f).asks
+abbrev pub frame_asks : FrameRead → Asked
+frame_asks f = (frame_reading f).asks
 
 -- it zeroes the counters
-abbrev pub frameZeroes : Bool → FrameRead → Bool
-frameZeroes on f = (frameReading f).zeroes on
+abbrev pub frame_zeroes : Bool → FrameRead → Bool
+frame_zeroes on f = (frame_reading f).zeroes on
 
 -- the replies that it may have
-abbrev pub frameReplies : FrameRead → List (List ℕ)
-frameReplies f = (frameReading f).replies
+abbrev pub frame_replies : FrameRead → List (List ℕ)
+frame_replies f = (frame_reading f).replies

@@ -7,8 +7,8 @@ use Rattle.history.specs.Refused.{Refusals}
 use Rattle.history.specs.Answered.{Answers}
 
 -- a call with what was lent to it
-abbrev pub lentIn : Event → Lent
-lentIn e = lent e.call e.medium e.buffer
+abbrev pub lent_in : Event → Lent
+lent_in e = lent e.call e.medium e.buffer
 
 -- a history keeps the tables: every event is turned down, is answered and moves data as they say, by the events before it
 pub record Tabled (deep capacity mask : ℕ) (h : List Event) : Type 0 where
@@ -18,4 +18,4 @@ pub record Tabled (deep capacity mask : ℕ) (h : List Event) : Type 0 where
 
 -- two histories of the same calls, each lent the same, that keep the tables are one: every refusal, every reply byte, every reply buffer and every medium that is left
 abbrev pub NoChoice : ℕ → ℕ → ℕ → Type 0
-NoChoice deep capacity mask = (h h' : List Event) → map lentIn h ≡ map lentIn h' → Tabled deep capacity mask h → Tabled deep capacity mask h' → h ≡ h'
+NoChoice deep capacity mask = (h h' : List Event) → map lent_in h ≡ map lent_in h' → Tabled deep capacity mask h → Tabled deep capacity mask h' → h ≡ h'

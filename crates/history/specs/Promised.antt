@@ -12,7 +12,7 @@ use Rattle.history.specs.Logged.{LogTold}
 use Rattle.history.specs.Answered.{Answers}
 use Rattle.history.specs.StateAgrees.{StateAgrees}
 use Rattle.history.specs.Run.{Done, AllTyped}
-use Rattle.history.specs.Follows.{final, lents, historyOf, Began}
+use Rattle.history.specs.Follows.{final, lents, history_of, Began}
 
 -- power-on by the settings s gave r, the calls since are the history h, and the last of them left the state d
 pub record Promised (s : Settings) (r : Outcome) (d : Device) (h : List Event) : Type 0 where
@@ -33,8 +33,8 @@ pub record Promised (s : Settings) (r : Outcome) (d : Device) (h : List Event) :
 
 -- so it is of every sequence of results from power-on that is as the contracts promise, whatever the settings, the calls, and what is lent to them
 abbrev pub Always : (Settings → List Event → Type 0) → Type 0
-Always P = (s : Settings) (r : Outcome) (xs : List Done) → Began s r xs → AllTyped (lents xs) → P s (historyOf xs)
+Always P = (s : Settings) (r : Outcome) (xs : List Done) → Began s r xs → AllTyped (lents xs) → P s (history_of xs)
 
 -- and of the state behind them
 abbrev pub AtTheEnd : (Settings → Device → List Event → Type 0) → Type 0
-AtTheEnd P = (s : Settings) (r : Outcome) (xs : List Done) → Began s r xs → AllTyped (lents xs) → P s (final r.state xs) (historyOf xs)
+AtTheEnd P = (s : Settings) (r : Outcome) (xs : List Done) → Began s r xs → AllTyped (lents xs) → P s (final r.state xs) (history_of xs)

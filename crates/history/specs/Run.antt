@@ -1,8 +1,8 @@
 -- Runs of the definitions: any sequence of calls of the device, each given the state that the last one returned. Assumes nothing.
 use Rattle.std.specs.Prelude.{List, [], ◌∷◌, map, length}
-use Rattle.bits.specs.Laid.{laid}
+use Rattle.bits.specs.Laid.{overlay}
 use Rattle.device_state.specs.declared.shapes.Settings.{Settings}
-use Rattle.device.specs.Device.{powerOn}
+use Rattle.device.specs.Device.{power_on}
 use Rattle.device.specs.Lent.{Lent, Gave, gave, Typed}
 use Rattle.device.specs.Step.{step, bytes_of}
 use Rattle.device.specs.declared.state.Device.{Device}
@@ -11,7 +11,7 @@ use Rattle.history.specs.Event.{Event}
 -- what the definitions give: the step, its frames in front of the reply buffer, and the rest as it was
 abbrev pub result : Device → Lent → Gave
 result d l =
-    gave (record { state = (step d l).state; refusal = (step d l).refusal; len = length (bytes_of (step d l)) }) (step d l).medium (laid (bytes_of (step d l)) l.buffer)
+    gave (record { state = (step d l).state; refusal = (step d l).refusal; len = length (bytes_of (step d l)) }) (step d l).medium (overlay (bytes_of (step d l)) l.buffer)
 
 -- one call as it went
 pub record Done : Type 0 where
@@ -51,7 +51,7 @@ run d h (a ∷ as') = run (result d a).outcome.state (done a (result d a) ∷ h)
 
 -- from power-on, with any settings; a refused power-on hands back all zeros, and goes on from there
 abbrev pub run_from : Settings → List Lent → Run
-run_from s as' = run (powerOn s).state [] as'
+run_from s as' = run (power_on s).state [] as'
 
 -- its history
 abbrev pub history : Settings → List Lent → List Event

@@ -1,22 +1,22 @@
 -- All that demand 3 reads of an event: what a taken call asks for, and what its replies say. Assumes nothing.
 use Rattle.std.specs.Prelude.{Bool, true, not, ◌&&◌, ◌||◌, List, [], ◌∷◌, ℕ, ◌+◌, eqb, length}
-use Rattle.bits.specs.Bit.{bitIn}
+use Rattle.bits.specs.Bit.{bit_in}
 use Rattle.frames.specs.declared.shapes.SetBits.{SetBits}
 use Rattle.frames.specs.declared.shapes.DmaSetup.{DmaSetup}
 use Rattle.history.specs.Event.{Event}
 use Rattle.history.specs.FrameAsks.{Asked}
 use Rattle.history.specs.Asked.{asks}
-use Rattle.history.specs.Replied.{FrameRead, frames, some, isPio, errIn, registerIn, setBitsIn, setupIn, collect, sent}
+use Rattle.history.specs.Replied.{FrameRead, frames, some, is_pio, err_in, register_in, set_bits_in, setup_in, collect, sent}
 
 -- what seems to be under way: nothing; or the data of a tag to the host (D 1) or from it (D 0), at its next byte, up to its end
 pub data Transfer : Type 0 where
-  noTransfer : Transfer
-  underWay : Bool → ℕ → ℕ → ℕ → Transfer
+  no_transfer : Transfer
+  under_way : Bool → ℕ → ℕ → ℕ → Transfer
 
 -- a DMA Setup begins at its offset, and ends behind its byte count
 unfoldable pub begun : List DmaSetup → Transfer → Transfer
 begun [] x = x
-begun (s ∷ ss) x = begun ss (underWay s.to_host s.tag s.offset (s.offset + s.count))
+begun (s ∷ ss) x = begun ss (under_way s.to_host s.tag s.offset (s.offset + s.count))
 
 -- what is seen of an event
 pub record Seen : Type 0 where
@@ -40,26 +40,26 @@ pub record Seen : Type 0 where
 
 -- an A1h names a tag
 abbrev pub names : ℕ → SetBits → Bool
-names t f = bitIn 32 f.active t
+names t f = bit_in 32 f.active t
 
 -- what was asked for, the replies, and the bytes of data in them
-abbrev pub seenIn : Asked → List FrameRead → ℕ → Seen
-seenIn a fs n = record {
+abbrev pub seen_in : Asked → List FrameRead → ℕ → Seen
+seen_in a fs n = record {
   asks = a;
-  good = some (λ r. not (errIn r.status)) (collect registerIn fs);
-  bad = a.command && some (λ r. errIn r.status) (collect registerIn fs);
-  fails = some (λ f. errIn f.status) (collect setBitsIn fs);
-  sweeps = a.command && some (λ f. true) (collect setBitsIn fs);
-  delivers = λ page. a.reads page && some isPio fs;
-  finishes = λ t. not a.command && some (λ f. not (errIn f.status) && names t f) (collect setBitsIn fs);
-  clears = λ t. some (names t) (collect setBitsIn fs);
+  good = some (λ r. not (err_in r.status)) (collect register_in fs);
+  bad = a.command && some (λ r. err_in r.status) (collect register_in fs);
+  fails = some (λ f. err_in f.status) (collect set_bits_in fs);
+  sweeps = a.command && some (λ f. true) (collect set_bits_in fs);
+  delivers = λ page. a.reads page && some is_pio fs;
+  finishes = λ t. not a.command && some (λ f. not (err_in f.status) && names t f) (collect set_bits_in fs);
+  clears = λ t. some (names t) (collect set_bits_in fs);
   sends = n;
-  begins = begun (collect setupIn fs);
+  begins = begun (collect setup_in fs);
 }
 
 -- an event as demand 3 reads it
 unfoldable pub seen : Event → Seen
-seen e = seenIn (asks e) (frames e) (length (sent e))
+seen e = seen_in (asks e) (frames e) (length (sent e))
 
 -- an error was answered
 abbrev pub errs : Seen → Bool
@@ -70,5 +70,5 @@ abbrev pub accepts : Seen → Bool
 accepts e = e.asks.queued && e.good
 
 -- a taken queued command of tag t, whatever its answer
-abbrev pub asksFor : ℕ → Seen → Bool
-asksFor t e = e.asks.queued && eqb e.asks.tag t
+abbrev pub asks_for : ℕ → Seen → Bool
+asks_for t e = e.asks.queued && eqb e.asks.tag t

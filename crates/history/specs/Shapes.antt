@@ -27,9 +27,9 @@ OneOf l [] = ⊥
 OneOf l (x ∷ xs) = (l ≡ x) ⊎ OneOf l xs
 
 -- a command: a device register reply; or PIO Setup and the page; or the sweep before these
-abbrev pub commandReplies : List (List ℕ)
-commandReplies = (0x34 ∷ []) ∷ (0x5F ∷ 0x46 ∷ []) ∷ (0xA1 ∷ 0x5F ∷ 0x46 ∷ []) ∷ []
+abbrev pub command_replies : List (List ℕ)
+command_replies = (0x34 ∷ []) ∷ (0x5F ∷ 0x46 ∷ []) ∷ (0xA1 ∷ 0x5F ∷ 0x46 ∷ []) ∷ []
 
 -- a control frame: with SRST no reply; with SRST 0 none, or the signature
-abbrev pub controlReplies : Bool → List (List ℕ)
-controlReplies srst = pick srst ([] ∷ []) ([] ∷ (0x34 ∷ []) ∷ [])
+abbrev pub control_replies : Bool → List (List ℕ)
+control_replies srst = pick srst ([] ∷ []) ([] ∷ (0x34 ∷ []) ∷ [])

@@ -1,14 +1,14 @@
 -- The host's SActive register, and whether an error waits to be read: from frames and resets alone. Assumes nothing.
 use Rattle.std.specs.Prelude.{Bool, false, not, ◌&&◌, ◌||◌, List, [], ◌∷◌, ℕ, ltb}
 use Rattle.bits.specs.Pick.{pick}
-use Rattle.history.specs.Seen.{Seen, asksFor}
+use Rattle.history.specs.Seen.{Seen, asks_for}
 use Rattle.history.specs.Replied.{some}
-use Rattle.history.specs.Fates.{total, totalWith}
+use Rattle.history.specs.Fates.{total, total_with}
 
 -- SActive: a taken queued command sets its tag's bit; each A1h clears the bits in its field; a taken SRST and a taken COMRESET clear all
 unfoldable pub sactive : ℕ → List Seen → Bool
 sactive t [] = false
-sactive t (e ∷ h) = (asksFor t e || sactive t h) && (not (e.clears t) && not e.asks.resets)
+sactive t (e ∷ h) = (asks_for t e || sactive t h) && (not (e.clears t) && not e.asks.resets)
 
 -- an error begins to wait at a taken 60h or 61h answered with ERR, at any other command answered with ERR while something is outstanding, or at an A1h with ERR
 abbrev pub raises : Seen → List Seen → Bool
@@ -30,13 +30,13 @@ since [] = []
 since (e ∷ h) = e ∷ pick (waits h) (since h) []
 
 -- a tag given up at the error that waits: one of its commands was outstanding before that error
-abbrev pub givenUpThere : ℕ → List Seen → Bool
-givenUpThere t h = ltb 0 (totalWith t (before h))
+abbrev pub given_up_there : ℕ → List Seen → Bool
+given_up_there t h = ltb 0 (total_with t (before h))
 
 -- a queued command of tag t answered with an error
-abbrev pub asksBad : ℕ → Seen → Bool
-asksBad t e = asksFor t e && e.bad
+abbrev pub asks_bad : ℕ → Seen → Bool
+asks_bad t e = asks_for t e && e.bad
 
 -- the tags of queued commands answered with an error since, one that raised it included
-abbrev pub badSince : ℕ → List Seen → Bool
-badSince t h = some (asksBad t) (since h)
+abbrev pub bad_since : ℕ → List Seen → Bool
+bad_since t h = some (asks_bad t) (since h)

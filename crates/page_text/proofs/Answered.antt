@@ -5,16 +5,16 @@ use Rattle.refusals.specs.declared.reasons.Refusal.{Refusal}
 use Rattle.counters.specs.Rows.{ids, id_of}
 use Rattle.counters.proofs.RowLaws.{length_ids}
 use Rattle.pages.specs.Entries.{entries}
-use Rattle.pages.specs.Read11.{readCounter}
-use Rattle.pages.specs.Others11.{entryOther, countOthers}
+use Rattle.pages.specs.Read11.{read_counter}
+use Rattle.pages.specs.Others11.{entry_other, count_others}
 use Rattle.pages.specs.declared.value.CounterValue.{CounterValue}
-use Rattle.pages.proofs.Counting.{counted-where-read}
+use Rattle.pages.proofs.Counting.{counted_where_read}
 use Rattle.page_text.specs.Counters.{Counter, in_front, counters_in}
 
 -- a counter that is told is the number asked, and what the page says of it
 pub record IsAnswered (page : List ℕ) (number : ℕ) (counter : Counter) : Type 0 where
   pub asked : counter.0 ≡ number
-  pub answer : readCounter page number ≡ Ok counter.1
+  pub answer : read_counter page number ≡ Ok counter.1
 
 -- where a list is told, its first is answered, and so are those behind it
 pub record Front (number : ℕ) (answer : Result (Option CounterValue) Refusal) (rest : Result (List Counter) Refusal) (counters : List Counter) : Type 0 where
@@ -33,10 +33,10 @@ each : (page numbers : List ℕ) (counters : List Counter) → counters_in page 
 unfolding counters_in
 each page [] counters e i h = absurd (omega arith)
 each page (number ∷ numbers) counters e zero h =
-    let f = front number (readCounter page number) (counters_in page numbers) counters e in
+    let f = front number (read_counter page number) (counters_in page numbers) counters e in
     rw f.whole (record { asked = refl; answer = f.answered })
 each page (number ∷ numbers) counters e (suc i) h =
-    let f = front number (readCounter page number) (counters_in page numbers) counters e in
+    let f = front number (read_counter page number) (counters_in page numbers) counters e in
     rw f.whole (each page numbers f.more f.told i (omega arith))
 
 -- each row is told
@@ -44,9 +44,9 @@ pub answered : (page : List ℕ) (counters : List Counter) → counters_in page 
 answered page counters e row h = each page ids counters e row (omega (arith, length_ids))
 
 -- no row is refused
-pub never-refused : (page : List ℕ) (counters : List Counter) → counters_in page ids ≡ Ok counters → (row : ℕ) (refusal : Refusal) → row < 16 → readCounter page (id_of row) ≡ Err refusal → ⊥
-never-refused page counters e row refusal h r = let a = answered page counters e row h in cc (a.answer)
+pub never_refused : (page : List ℕ) (counters : List Counter) → counters_in page ids ≡ Ok counters → (row : ℕ) (refusal : Refusal) → row < 16 → read_counter page (id_of row) ≡ Err refusal → ⊥
+never_refused page counters e row refusal h r = let a = answered page counters e row h in cc (a.answer)
 
 -- the count of the entries that are none of them refuses no page of which they are told
-pub others-answered : (page : List ℕ) (counters : List Counter) → counters_in page ids ≡ Ok counters → countOthers page ≡ Ok (count_by entryOther (entries page))
-others-answered page counters e = counted-where-read page (id_of 0) (get_or counters 0 (0, None)).1 (answered page counters e 0 (omega arith)).answer
+pub others_answered : (page : List ℕ) (counters : List Counter) → counters_in page ids ≡ Ok counters → count_others page ≡ Ok (count_by entry_other (entries page))
+others_answered page counters e = counted_where_read page (id_of 0) (get_or counters 0 (0, None)).1 (answered page counters e 0 (omega arith)).answer

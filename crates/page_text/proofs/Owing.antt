@@ -12,44 +12,44 @@ use Rattle.page_text.specs.Owed.{owed_page, owed, told, Owes}
 use Rattle.page_text.specs.Written.{TellsFront}
 
 -- what is known of a read up to a limit
-pub known-taken : (known : Option (List ℕ)) (limit : ℕ) (read : List ℕ) → IfSome (option_map (take limit) known) (λ xs. read ≡ [] ++ xs) → IfSome known (λ input. read ≡ take limit input)
-known-taken None limit read h = tt
-known-taken (Some input) limit read h = h
+pub known_taken : (known : Option (List ℕ)) (limit : ℕ) (read : List ℕ) → IfSome (option_map (take limit) known) (λ xs. read ≡ [] ++ xs) → IfSome known (λ input. read ≡ take limit input)
+known_taken None limit read h = tt
+known_taken (Some input) limit read h = h
 
 -- a page that is told or refused is no failed read
-pub owes-page : (query : Query) (known : Option (List ℕ)) (refusal : Option Refusal) (text : List ℕ)
+pub owes_page : (query : Query) (known : Option (List ℕ)) (refusal : Option Refusal) (text : List ℕ)
     → IfSome known (λ input. owed query (take (read_limit query.notation) input) ≡ (answer_by refusal, text)) → Owes query known (answer_by refusal) text
-owes-page query known None text h = h
-owes-page query known (Some refusal) text h = h
+owes_page query known None text h = h
+owes_page query known (Some refusal) text h = h
 
 -- nor is text that holds no page
-pub owes-read : (query : Query) (known : Option (List ℕ)) (page : Option (List ℕ))
+pub owes_read : (query : Query) (known : Option (List ℕ)) (page : Option (List ℕ))
     → IfSome known (λ input. owed query (take (read_limit query.notation) input) ≡ owed_page query.page page) → Owes query known (owed_page query.page page).0 (owed_page query.page page).1
-owes-read query known None h = h
-owes-read query known (Some page) h = owes-page query known (refusal_of query.page page) (text_of query.page page) h
+owes_read query known None h = h
+owes_read query known (Some page) h = owes_page query known (refusal_of query.page page) (text_of query.page page) h
 
-same-owed : (query : Query) (known : Option (List ℕ)) (read : List ℕ) → IfSome known (λ input. read ≡ take (read_limit query.notation) input)
+same_owed : (query : Query) (known : Option (List ℕ)) (read : List ℕ) → IfSome known (λ input. read ≡ take (read_limit query.notation) input)
     → IfSome known (λ input. owed query (take (read_limit query.notation) input) ≡ owed query read)
-same-owed query None read h = tt
-same-owed query (Some input) read h = ap (owed query) (sym h)
+same_owed query None read h = tt
+same_owed query (Some input) read h = ap (owed query) (sym h)
 
 -- the answer to what was read, and its text behind what was gathered
-pub owes-gathered : {E : Type 0} (query : Query) (known : Option (List ℕ)) (read old new : List ℕ) (r : Result Answer E)
+pub owes_gathered : {E : Type 0} (query : Query) (known : Option (List ℕ)) (read old new : List ℕ) (r : Result Answer E)
     → IfSome known (λ input. read ≡ take (read_limit query.notation) input) → OnOk r (new ≡ old ++ told query read) → IfOk r (λ answer. answer ≡ (owed query read).0)
     → IfOk r (λ answer. (text : List ℕ) × Owes query known answer text × (new ≡ old ++ text))
 unfolding owed
-owes-gathered query known read old new (Err e) h text answer = tt
-owes-gathered query known read old new (Ok a) h text answer =
-    (told query read, subst (λ x. Owes query known x (told query read)) (sym answer) (owes-read query known (page_in query.notation read) (same-owed query known read h)), text)
+owes_gathered query known read old new (Err e) h text answer = tt
+owes_gathered query known read old new (Ok a) h text answer =
+    (told query read, subst (λ x. Owes query known x (told query read)) (sym answer) (owes_read query known (page_in query.notation read) (same_owed query known read h)), text)
 
-pub appends-none : (known : Option (List ℕ)) → Appends known known []
-appends-none None = tt
-appends-none (Some xs) = sym (append-nil xs)
+pub appends_none : (known : Option (List ℕ)) → Appends known known []
+appends_none None = tt
+appends_none (Some xs) = sym (append-nil xs)
 
 -- nothing at all is a front of `stop`
 pub tells_nothing : (query : Query) (known old : Option (List ℕ)) → TellsFront (Owes query known) old old
-tells_nothing query known old = (Stopped, stop_text, refl, (0, appends-none old))
+tells_nothing query known old = (Stopped, stop_text, refl, (0, appends_none old))
 
-pub on-err : {A E : Type 0} (r : Result A E) (P : Type 0) → P → OnErr r P
-on-err (Ok a) P p = tt
-on-err (Err e) P p = p
+pub on_err : {A E : Type 0} (r : Result A E) (P : Type 0) → P → OnErr r P
+on_err (Ok a) P p = tt
+on_err (Err e) P p = p

@@ -11,44 +11,44 @@ use Rattle.page_text.specs.Fields.{other_bytes_text}
 use Rattle.page_text.specs.Counters.{others_text}
 
 -- a number below 16 ^ (j + 1) has j + 1 hex digits at most
-hex-most : (k j n : ℕ) (acc : List ℕ) → n < 16 ^ suc j → length (digits_onto k 16 true n acc) ≤ suc j + length acc
-hex-most zero j n acc h = omega arith
-hex-most (suc k) zero n acc h = rw (eq-eqb (n / 16) 0 (omega arith)) (omega arith)
-hex-most (suc k) (suc j) n acc h =
-    let m = hex-most k j (n / 16) (digit_glyph true (n % 16) ∷ acc) (omega (arith, pow-suc 16 (suc j))) in
+hex_most : (k j n : ℕ) (acc : List ℕ) → n < 16 ^ suc j → length (digits_onto k 16 true n acc) ≤ suc j + length acc
+hex_most zero j n acc h = omega arith
+hex_most (suc k) zero n acc h = rw (eq-eqb (n / 16) 0 (omega arith)) (omega arith)
+hex_most (suc k) (suc j) n acc h =
+    let m = hex_most k j (n / 16) (digit_glyph true (n % 16) ∷ acc) (omega (arith, pow-suc 16 (suc j))) in
     grind (arith, m)
 
 -- a number that fits its width is as long as that
-pub length-upper : (width n : ℕ) → 0 < width → n < 16 ^ width → length (upper width n) ≡ width
+pub length_upper : (width n : ℕ) → 0 < width → n < 16 ^ width → length (upper width n) ≡ width
 unfolding padded_integral char_count digits
-length-upper zero n p h = absurd (omega arith)
-length-upper (suc j) n p h =
-    let m = hex-most 64 j n [] h in
+length_upper zero n p h = absurd (omega arith)
+length_upper (suc j) n p h =
+    let m = hex_most 64 j n [] h in
     simp (length-append, length-replicate) (omega arith)
 
 -- the line of a refusal, whose number has two digits at most
-number-lt : (refusal : Refusal) → number refusal < 100
-number-lt refusal = grind arith
+number_lt : (refusal : Refusal) → number refusal < 100
+number_lt refusal = grind arith
 
-pub refusal-most : (refusal : Refusal) → length (refusal_text refusal) ≤ 11
-refusal-most refusal =
+pub refusal_most : (refusal : Refusal) → length (refusal_text refusal) ≤ 11
+refusal_most refusal =
     let n = number refusal in
-    let d = length-decimal-le 2 n (omega arith) (number-lt refusal) (omega (arith, number-lt refusal)) in
+    let d = length-decimal-le 2 n (omega arith) (number_lt refusal) (omega (arith, number_lt refusal)) in
     simp length-append (omega arith)
 
 -- what is told of two answers
-pub by-both : {A B : Type 0} (P : Result (A × B) Refusal → Type 0) (a : Result A Refusal) (b : Result B Refusal) → ((refusal : Refusal) → P (Err refusal)) → ((x : A) (y : B) → a ≡ Ok x → b ≡ Ok y → P (Ok (x, y))) → P (both a b)
-by-both P (Ok x) (Ok y) r t = t x y refl refl
-by-both P (Ok x) (Err refusal) r t = r refusal
-by-both P (Err refusal) b r t = r refusal
+pub by_both : {A B : Type 0} (P : Result (A × B) Refusal → Type 0) (a : Result A Refusal) (b : Result B Refusal) → ((refusal : Refusal) → P (Err refusal)) → ((x : A) (y : B) → a ≡ Ok x → b ≡ Ok y → P (Ok (x, y))) → P (both a b)
+by_both P (Ok x) (Ok y) r t = t x y refl refl
+by_both P (Ok x) (Err refusal) r t = r refusal
+by_both P (Err refusal) b r t = r refusal
 
 -- the lines of the counts, which are below 1,000
-pub others-text-most : (n : ℕ) → n < 1000 → length (others_text n) ≤ 11
-others-text-most n h =
+pub others_text_most : (n : ℕ) → n < 1000 → length (others_text n) ≤ 11
+others_text_most n h =
     let d = length-decimal-le 3 n (omega arith) h (omega arith) in
     simp length-append (omega arith)
 
-pub other-bytes-text-most : (n : ℕ) → n < 1000 → length (other_bytes_text n) ≤ 16
-other-bytes-text-most n h =
+pub other_bytes_text_most : (n : ℕ) → n < 1000 → length (other_bytes_text n) ≤ 16
+other_bytes_text_most n h =
     let d = length-decimal-le 3 n (omega arith) h (omega arith) in
     simp length-append (omega arith)

@@ -14,12 +14,12 @@ use Rattle.page_text.proofs.fields
 use Rattle.page_text.specs.contracts.counter_lines as counter_lines-said
 use Rattle.page_text.specs.contracts.fields as fields-said
 
-pub tied-write-fields : (W : RattleType) (l : Laws W) (g : Writer.Ghosts W.Denot) (d : Dict)
+pub tied_write_fields : (W : RattleType) (l : Laws W) (g : Writer.Ghosts W.Denot) (d : Dict)
     → SaysOver (fields-said.write_fields.ended W g d) (fields.write_fields.Reads.Asked W l g d) (fields.write_fields.Reads.Post W l g d)
     (λ κs a r ws. OnOk r (Appends (g.contents a.0.now) (g.contents ws.0) (fields_text a.1.0.now)) × IfOk r (λ refusal. refusal ≡ refusal_in (log_told a.1.0.now)))
-tied-write-fields W l g d = record { same = λ κs a b h. h; some = (([], ([], (W.lives, tt))), λ a x h. h); says = λ κs a r ws p. (p.0, p.1) }
+tied_write_fields W l g d = record { same = λ κs a b h. h; some = (([], ([], (W.lives, tt))), λ a x h. h); says = λ κs a r ws p. (p.0, p.1) }
 
-pub tied-write-counters : (W : RattleType) (l : Laws W) (g : Writer.Ghosts W.Denot) (d : Dict)
+pub tied_write_counters : (W : RattleType) (l : Laws W) (g : Writer.Ghosts W.Denot) (d : Dict)
     → SaysOver (counter_lines-said.write_counters.ended W g d) (counter_lines.write_counters.Reads.Asked W l g d) (counter_lines.write_counters.Reads.Post W l g d)
     (λ κs a r ws. OnOk r (Appends (g.contents a.0.now) (g.contents ws.0) (counters_text a.1.0.now)) × IfOk r (λ refusal. refusal ≡ refusal_in (counters_told a.1.0.now)))
-tied-write-counters W l g d = record { same = λ κs a b h. h; some = (([], ([], (W.lives, tt))), λ a x h. h); says = λ κs a r ws p. (p.0, p.1) }
+tied_write_counters W l g d = record { same = λ κs a b h. h; some = (([], ([], (W.lives, tt))), λ a x h. h); says = λ κs a r ws p. (p.0, p.1) }

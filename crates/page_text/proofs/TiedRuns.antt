@@ -14,11 +14,11 @@ use Rattle.page_text.proofs.queries
 use Rattle.page_text.specs.contracts.ends as ends-said
 use Rattle.page_text.specs.contracts.queries as queries-said
 
-pub tied-exit-status : Tied ends-said.exit_status.ended ends.exit_status.Reads.Asked ends.exit_status.Reads.Post (λ κs a r ws. r ≡ exit_status_of a.0)
-tied-exit-status = named (say (λ κs a. tt) (λ κs a r ws p. p)) (λ κs a ws ws'. refl)
+pub tied_exit_status : Tied ends-said.exit_status.ended ends.exit_status.Reads.Asked ends.exit_status.Reads.Post (λ κs a r ws. r ≡ exit_status_of a.0)
+tied_exit_status = named (say (λ κs a. tt) (λ κs a r ws p. p)) (λ κs a ws ws'. refl)
 
 -- the whole run: all that it wrote, and what it complained of, by what it read and what was known of the names, however it ended
-pub tied-run : (S R W E P : RattleType) (s : Laws S) (r : Laws R) (w : Laws W) (e : Laws E) (p : Laws P) (f : Shelves.Ghosts S.Denot P.Denot) (fd : Dict) (g : Reader.Ghosts R.Denot) (gd : Dict) (h : Writer.Ghosts W.Denot) (hd : Dict) (i : Writer.Ghosts E.Denot) (id : Dict) (j : Reader.Ghosts P.Denot) (jd : Dict) (dd : Dict)
+pub tied_run : (S R W E P : RattleType) (s : Laws S) (r : Laws R) (w : Laws W) (e : Laws E) (p : Laws P) (f : Shelves.Ghosts S.Denot P.Denot) (fd : Dict) (g : Reader.Ghosts R.Denot) (gd : Dict) (h : Writer.Ghosts W.Denot) (hd : Dict) (i : Writer.Ghosts E.Denot) (id : Dict) (j : Reader.Ghosts P.Denot) (jd : Dict) (dd : Dict)
     → SaysOver (queries-said.Query.run.ended S R W E P f fd j jd g gd h hd i id dd) (queries.Query.run.Reads.Asked S R W E P s r w e p f fd j jd g gd h hd i id dd) (queries.Query.run.Reads.Post S R W E P s r w e p f fd j jd g gd h hd i id dd)
     (λ κs a r ws. Ran a.0 (f.holds a.1.0.now) (map (λ name. name.now) a.1.1.0.now) (g.remaining a.1.1.1.0.now) (h.contents a.1.1.1.1.0.now) (h.contents ws.1.1.1.1.0) (i.contents a.1.1.1.1.1.0.now) (i.contents ws.1.1.1.1.1.0) r)
-tied-run S R W E P s r w e p f fd g gd h hd i id j jd dd = record { same = λ κs a b x. x; some = (([], ([], ([], ([], ([], ([], (S.lives, (R.lives, (W.lives, (E.lives, (P.lives, tt))))))))))), λ a. ((λ x h. h), ((λ x h. h), ((λ x h. h), ((λ x h. h), (λ x h. h)))))); says = λ κs a r ws p. p }
+tied_run S R W E P s r w e p f fd g gd h hd i id j jd dd = record { same = λ κs a b x. x; some = (([], ([], ([], ([], ([], ([], (S.lives, (R.lives, (W.lives, (E.lives, (P.lives, tt))))))))))), λ a. ((λ x h. h), ((λ x h. h), ((λ x h. h), ((λ x h. h), (λ x h. h)))))); says = λ κs a r ws p. p }

@@ -2,9 +2,9 @@
 use Rattle.std.specs.Prelude.{ℕ, List, [], ◌∷◌, ◌++◌, if◌then◌else◌, decimal, codes, flat_map, Option, Some, None, Result, Ok, Err}
 use Rattle.refusals.specs.declared.reasons.Refusal.{Refusal}
 use Rattle.counters.specs.Rows.{ids}
-use Rattle.pages.specs.Read11.{readCounter}
-use Rattle.pages.specs.Others11.{countOthers}
-use Rattle.pages.specs.Top.{atTop}
+use Rattle.pages.specs.Read11.{read_counter}
+use Rattle.pages.specs.Others11.{count_others}
+use Rattle.pages.specs.Top.{at_top}
 use Rattle.pages.specs.declared.value.CounterValue.{CounterValue}
 use Rattle.page_text.specs.Words.{upper, refusal_text}
 use Rattle.page_text.specs.Both.{both}
@@ -22,12 +22,12 @@ in_front number (Err refusal) more = Err refusal
 -- what the page says of each of these numbers, or the refusal of the first that is refused
 unfoldable pub counters_in : List ℕ → List ℕ → Result (List Counter) Refusal
 counters_in page [] = Ok []
-counters_in page (number ∷ numbers) = in_front number (readCounter page number) (counters_in page numbers)
+counters_in page (number ∷ numbers) = in_front number (read_counter page number) (counters_in page numbers)
 
 -- a value in decimal, with ` top` behind one that is the largest of its width; or that the page does not keep the counter
 abbrev pub shown_text : Option CounterValue → List ℕ
 shown_text None = codes "absent"
-shown_text (Some counter) = decimal counter.value ++ (if atTop counter then codes " top" else [])
+shown_text (Some counter) = decimal counter.value ++ (if at_top counter then codes " top" else [])
 
 -- a counter's line: three hex digits, `h `, and what the page says of it
 abbrev pub line_text : Counter → List ℕ
@@ -48,7 +48,7 @@ told_text (Err refusal) = refusal_text refusal
 
 -- what is told of page 11h, or why it is refused
 abbrev pub counters_told : List ℕ → Result (List Counter × ℕ) Refusal
-counters_told page = both (counters_in page ids) (countOthers page)
+counters_told page = both (counters_in page ids) (count_others page)
 
 -- page 11h: the sixteen counters and the count of other entries, or the refusal alone
 abbrev pub counters_text : List ℕ → List ℕ

@@ -1,10 +1,10 @@
 -- What is printed of page 10h. Assumes nothing.
 use Rattle.std.specs.Prelude.{ℕ, List, ◌++◌, decimal, codes, Result, Ok, Err}
-use Rattle.bits.specs.Answer.{bitNumber}
+use Rattle.bits.specs.Answer.{bit_number}
 use Rattle.refusals.specs.declared.reasons.Refusal.{Refusal}
 use Rattle.frames.specs.declared.shared.Task.{Task}
 use Rattle.pages.specs.Page10.{read_log}
-use Rattle.pages.specs.Others10.{countOtherBytes}
+use Rattle.pages.specs.Others10.{count_other_bytes}
 use Rattle.pages.specs.declared.page10.ErrorLog.{ErrorLog}
 use Rattle.page_text.specs.Words.{upper, refusal_text}
 use Rattle.page_text.specs.Both.{both}
@@ -12,7 +12,7 @@ use Rattle.page_text.specs.Both.{both}
 -- NQ and tag in decimal
 unfoldable pub tag_text : ErrorLog → List ℕ
 tag_text log =
-    codes "NQ " ++ decimal (bitNumber log.nq) ++ codes "\n"
+    codes "NQ " ++ decimal (bit_number log.nq) ++ codes "\n"
     ++ codes "tag " ++ decimal log.tag ++ codes "\n"
 
 -- status and error in two hex digits
@@ -42,7 +42,7 @@ read_text (Err refusal) = refusal_text refusal
 
 -- what is told of page 10h, or why it is refused
 abbrev pub log_told : List ℕ → Result (ErrorLog × ℕ) Refusal
-log_told page = both (read_log page) (countOtherBytes page)
+log_told page = both (read_log page) (count_other_bytes page)
 
 -- page 10h
 abbrev pub fields_text : List ℕ → List ℕ

@@ -7,7 +7,7 @@ use Rattle.std.specs.Result.{result_ok}
 use Rattle.std.specs.declared.option.Option.{Option}
 use Rattle.std.specs.declared.option.Option.TheVariants.{None}
 use Rattle.hex.specs.Hex.{decode_sized}
-use Rattle.page_text.specs.HexWords.{swapped}
+use Rattle.page_text.specs.HexWords.{swapped_bytes}
 use Rattle.page_text.specs.declared.parsing.Notation.{Notation}
 use Rattle.page_text.specs.declared.parsing.Notation.TheVariants.{Bytes, Words}
 
@@ -27,7 +27,7 @@ digits_in text = filter (λ c. not (is_ascii_whitespace c)) text
 -- what the digits tell, in the order of the page: a word tells its high byte first, and the page holds its low one first
 abbrev pub in_order : Notation → List ℕ → List ℕ
 in_order Bytes told = told
-in_order Words told = swapped told
+in_order Words told = swapped_bytes told
 
 -- the page that a text tells: whole bytes or words between white space, and without it the digits of just 512 bytes
 unfoldable pub page_of : Notation → List ℕ → Option (List ℕ)

@@ -2,7 +2,7 @@
 use Rattle.std.specs.Prelude.{ℕ, List, [], ◌∷◌}
 
 -- the two bytes of each word, the other first
-unfoldable pub swapped : List ℕ → List ℕ
-swapped [] = []
-swapped (last ∷ []) = last ∷ []
-swapped (high ∷ low ∷ rest) = low ∷ high ∷ swapped rest
+unfoldable pub swapped_bytes : List ℕ → List ℕ
+swapped_bytes [] = []
+swapped_bytes (last ∷ []) = last ∷ []
+swapped_bytes (high ∷ low ∷ rest) = low ∷ high ∷ swapped_bytes rest

@@ -3,30 +3,30 @@ use Rattle.std.proofs.Common.{Some, None, Ok, ◌≡◌, ap, sym, ◌∙◌, tru
 use Rattle.std.specs.List.{list_any}
 use Rattle.refusals.specs.First.{first_of, Iff}
 use Rattle.refusals.proofs.FirstLaws as firsts
-use Rattle.refusals.proofs.FirstLaws.{unless-ok}
+use Rattle.refusals.proofs.FirstLaws.{unless_ok}
 use Rattle.bits.proofs.Picks.{tested, or_left, or_right}
-use Rattle.pages.specs.Entries.{CounterEntry, width_of, bytesIn, wrongWidth, entryAsked, entries}
-use Rattle.pages.specs.Read11.{damaged, valueOf, valueIn, ladder11, readCounter}
-use Rattle.pages.specs.Top.{topOf, atTop}
+use Rattle.pages.specs.Entries.{CounterEntry, width_of, bytes_in, wrong_width, entry_asked, entries}
+use Rattle.pages.specs.Read11.{damaged, value_of, value_in, ladder11, read_counter}
+use Rattle.pages.specs.Top.{top_of, at_top}
 use Rattle.pages.specs.declared.value.CounterValue.{CounterValue}
-use Rattle.pages.proofs.Values.{noEntry}
+use Rattle.pages.proofs.Values.{no_entry}
 
 -- the entry of a list that a value was read from
 pub record From (page : List ℕ) (number : ℕ) (es : List CounterEntry) (v : CounterValue) : Type 0 where
   pub entry : ℕ
   pub there : entry < length es
-  pub hit : entryAsked number (get_or es entry noEntry) ≡ true
-  pub value : v ≡ valueOf page (get_or es entry noEntry)
-  pub most : bytesIn (get_or es entry noEntry).id ≤ 8
+  pub hit : entry_asked number (get_or es entry no_entry) ≡ true
+  pub value : v ≡ value_of page (get_or es entry no_entry)
+  pub most : bytes_in (get_or es entry no_entry).id ≤ 8
 
-from : (page : List ℕ) (number : ℕ) (es : List CounterEntry) (v : CounterValue) → list_any wrongWidth es ≡ false → valueIn page number es ≡ Some v → From page number es v
-unfolding valueIn
+from : (page : List ℕ) (number : ℕ) (es : List CounterEntry) (v : CounterValue) → list_any wrong_width es ≡ false → value_in page number es ≡ Some v → From page number es v
+unfolding value_in
 from page number [] v s e = absurd (let z : None ≡ Some v = e in cc)
 from page number (x ∷ es) v s e =
-    let w = or_left (wrongWidth x) (list_any wrongWidth es) s in
+    let w = or_left (wrong_width x) (list_any wrong_width es) s in
     ⊎_elim
-    (λ (t : entryAsked number x ≡ true).
-    let k : Some (valueOf page x) ≡ Some v = rw t at e in
+    (λ (t : entry_asked number x ≡ true).
+    let k : Some (value_of page x) ≡ Some v = rw t at e in
     let m : width_of x.id ≤ 4 = ltb-false 4 (width_of x.id) (or_right (ltb (width_of x.id) 1) (ltb 4 (width_of x.id)) w) in
     record {
       entry = 0;
@@ -35,8 +35,8 @@ from page number (x ∷ es) v s e =
       value = cc;
       most = omega arith;
     })
-    (λ (n : entryAsked number x ≡ false).
-    let r = from page number es v (or_right (wrongWidth x) (list_any wrongWidth es) s) (rw n at e) in
+    (λ (n : entry_asked number x ≡ false).
+    let r = from page number es v (or_right (wrong_width x) (list_any wrong_width es) s) (rw n at e) in
     record {
       entry = suc r.entry;
       there = suc-le-suc r.there;
@@ -44,29 +44,29 @@ from page number (x ∷ es) v s e =
       value = r.value;
       most = r.most;
     })
-    (tested (entryAsked number x))
+    (tested (entry_asked number x))
 
 -- a page that answers with a value has it in its entries, whose widths are all 1 to 4
-answered : (page : List ℕ) (number : ℕ) (v : CounterValue) → readCounter page number ≡ Ok (Some v) → (list_any wrongWidth (entries page) ≡ false) × (valueIn page number (entries page) ≡ Some v)
-unfolding readCounter damaged
+answered : (page : List ℕ) (number : ℕ) (v : CounterValue) → read_counter page number ≡ Ok (Some v) → (list_any wrong_width (entries page) ≡ false) × (value_in page number (entries page) ≡ Some v)
+unfolding read_counter damaged
 answered page number v e =
     let es = entries page in
-    let u = unless-ok (first_of (ladder11 page number)) (valueIn page number es) (Some v) (sym e) in
-    let d = (firsts.first-exactly (ladder11 page number) tt).none.0 u.0 3 (lit< tt) in
+    let u = unless_ok (first_of (ladder11 page number)) (value_in page number es) (Some v) (sym e) in
+    let d = (firsts.first_exactly (ladder11 page number) tt).none.0 u.0 3 (lit< tt) in
     (grind (arith, d), sym u.1)
 
 -- a value at the top is the largest of the entry that it was read from
 pub record Topped (page : List ℕ) (number : ℕ) (v : CounterValue) : Type 0 where
   pub from : From page number (entries page) v
-  pub exactly : Iff (atTop v ≡ true) (v.value ≡ 2 ^ (8 * bytesIn (get_or (entries page) from.entry noEntry).id) - 1)
+  pub exactly : Iff (at_top v ≡ true) (v.value ≡ 2 ^ (8 * bytes_in (get_or (entries page) from.entry no_entry).id) - 1)
 
-pub top-exactly : (page : List ℕ) (number : ℕ) (v : CounterValue) → readCounter page number ≡ Ok (Some v) → Topped page number v
-unfolding atTop topOf
-top-exactly page number v e =
+pub top_exactly : (page : List ℕ) (number : ℕ) (v : CounterValue) → read_counter page number ≡ Ok (Some v) → Topped page number v
+unfolding at_top top_of
+top_exactly page number v e =
     let a = answered page number v e in
     let f = from page number (entries page) v a.0 a.1 in
-    let n = bytesIn (get_or (entries page) f.entry noEntry).id in
+    let n = bytes_in (get_or (entries page) f.entry no_entry).id in
     let b : v.bytes ≡ n = ap (λ (x : CounterValue). x.bytes) f.value in
     let m : min v.bytes 8 ≡ n = omega (arith, f.most, b) in
-    let top : topOf v.bytes ≡ 2 ^ (8 * n) - 1 = ap (λ (k : ℕ). 2 ^ (8 * k) - 1) m in
+    let top : top_of v.bytes ≡ 2 ^ (8 * n) - 1 = ap (λ (k : ℕ). 2 ^ (8 * k) - 1) m in
     record { from = f; exactly = (λ t. eqb-true v.value _ t ∙ top, λ k. eq-eqb v.value _ (k ∙ sym top)) }

@@ -1,11 +1,11 @@
 -- The sum byte does what it is for. Assumes nothing.
 use Rattle.std.proofs.Common.{◌≡◌, ℕ, List, length, get_or, arith}
 use Rattle.std.proofs.lemmas.List.Sums.{sum_by-set}
-use Rattle.pages.specs.Sum.{sumByte, sum256, sealed}
+use Rattle.pages.specs.Sum.{sum_byte, sum256, sealed_page}
 
 -- a page of 512 bytes whose last is still 0 sums to 0 once it is sealed
-pub sum-sealed : (p : List ℕ) → length p ≡ 512 → get_or p 511 0 ≡ 0 → sum256 (sealed p) ≡ 0
-unfolding sealed sum256
-sum-sealed p l z =
-    let e = sum_by-set (λ (x : ℕ). x) p 511 (sumByte p) 0 (omega arith) in
+pub sum_sealed : (p : List ℕ) → length p ≡ 512 → get_or p 511 0 ≡ 0 → sum256 (sealed_page p) ≡ 0
+unfolding sealed_page sum256
+sum_sealed p l z =
+    let e = sum_by-set (λ (x : ℕ). x) p 511 (sum_byte p) 0 (omega arith) in
     omega arith

@@ -1,28 +1,28 @@
 -- The bytes of page 10h of which a bit is set that no field is named for. Assumes nothing.
 use Rattle.std.specs.Prelude.{◌≡◌, ℕ, Bool, not, ◌&&◌, ◌||◌, if◌then◌else◌, List, eqb, leb, Result, count_by}
 use Rattle.std.specs.List.{enumerate_from}
-use Rattle.bits.specs.Bit.{bitIn, clearIn}
+use Rattle.bits.specs.Bit.{bit_in, clear_in}
 use Rattle.refusals.specs.First.{first_of, unless, refusal_in}
 use Rattle.refusals.specs.declared.reasons.Refusal.{Refusal}
 use Rattle.pages.specs.Page10.{ladder10}
 
 -- of byte 0 NQ is named, and the tag, which says nothing under NQ
-abbrev pub namedFirst : ℕ → ℕ
-namedFirst byte = if bitIn 8 byte 7 then 0x80 else 0x9F
+abbrev pub named_first : ℕ → ℕ
+named_first byte = if bit_in 8 byte 7 then 0x80 else 0x9F
 
 -- the bits of the byte at a place that are named: in byte 0 those; all of 2 status, 3 error, 4-10, 12 and 13 the command's bytes, and 511 the sum
-abbrev pub namedBits : ℕ → ℕ → ℕ
-namedBits at byte = if eqb at 0 then namedFirst byte else (if (leb 2 at && leb at 10) || eqb at 12 || eqb at 13 || eqb at 511 then 0xFF else 0)
+abbrev pub named_bits : ℕ → ℕ → ℕ
+named_bits at byte = if eqb at 0 then named_first byte else (if (leb 2 at && leb at 10) || eqb at 12 || eqb at 13 || eqb at 511 then 0xFF else 0)
 
 -- a byte with its place has another bit set
-abbrev pub hasOther : ℕ × ℕ → Bool
-hasOther byte = not (eqb (clearIn 8 byte.1 (namedBits byte.0 byte.1)) 0)
+abbrev pub has_other : ℕ × ℕ → Bool
+has_other byte = not (eqb (clear_in 8 byte.1 (named_bits byte.0 byte.1)) 0)
 
 -- how many bytes have, unless the page is refused
-unfoldable pub countOtherBytes : List ℕ → Result ℕ Refusal
-countOtherBytes page = unless (first_of (ladder10 page)) (count_by hasOther (enumerate_from 0 page))
+unfoldable pub count_other_bytes : List ℕ → Result ℕ Refusal
+count_other_bytes page = unless (first_of (ladder10 page)) (count_by has_other (enumerate_from 0 page))
 
 -- what the count promises: it or the refusal, and the refusal exactly by its list
 pub record OtherBytesGiven (page : List ℕ) (r : Result ℕ Refusal) : Type 0 where
-  pub answer : r ≡ countOtherBytes page
+  pub answer : r ≡ count_other_bytes page
   pub refusal : refusal_in r ≡ first_of (ladder10 page)

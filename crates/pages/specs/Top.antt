@@ -3,9 +3,9 @@ use Rattle.std.specs.Prelude.{ℕ, ◌*◌, ◌-◌, ◌^◌, min, Bool, eqb}
 use Rattle.pages.specs.declared.value.CounterValue.{CounterValue}
 
 -- the largest value of n bytes, of which a value has at most 8
-unfoldable pub topOf : ℕ → ℕ
-topOf n = 2 ^ (8 * min n 8) - 1
+unfoldable pub top_of : ℕ → ℕ
+top_of n = 2 ^ (8 * min n 8) - 1
 
 -- a value is the largest of its width
-unfoldable pub atTop : CounterValue → Bool
-atTop v = eqb v.value (topOf v.bytes)
+unfoldable pub at_top : CounterValue → Bool
+at_top v = eqb v.value (top_of v.bytes)

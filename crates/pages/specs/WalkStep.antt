@@ -3,32 +3,32 @@ use Rattle.std.specs.Prelude.{◌≡◌, ℕ, ◌+◌, Bool, ◌||◌, List, Opt
 use Rattle.bits.specs.Pick.{pick}
 use Rattle.refusals.specs.declared.reasons.Refusal.{Refusal}
 use Rattle.refusals.specs.declared.reasons.Refusal.TheVariants.{PageDamaged}
-use Rattle.pages.specs.Entries.{CounterEntry, entry_at, id_at, ends_at, bytesIn, wrongWidth, pastEnd, nameless}
+use Rattle.pages.specs.Entries.{CounterEntry, entry_at, id_at, ends_at, bytes_in, wrong_width, past_end, nameless}
 use Rattle.pages.specs.declared.walk.Walk.{Walk}
 use Rattle.pages.specs.declared.walk.WalkEntry.{WalkEntry}
 
 -- an entry that the page may not have
 abbrev pub faulty : CounterEntry → Bool
-faulty e = (wrongWidth e || pastEnd e) || nameless e
+faulty e = (wrong_width e || past_end e) || nameless e
 
 -- an entry as the walk finds it: its identifier, where its value starts, and the value's bytes
-abbrev pub walkEntry : ℕ → ℕ → ℕ → WalkEntry
-walkEntry id start bytes = record { id = record { 0 = id }; start = start; bytes = bytes }
+abbrev pub walk_entry : ℕ → ℕ → ℕ → WalkEntry
+walk_entry id start bytes = record { id = record { 0 = id }; start = start; bytes = bytes }
 
 -- what stands at a place: nothing more at 508 or at 0000h, a fault, or an entry
-unfoldable pub stepAt : List ℕ → ℕ → Option (Result WalkEntry Refusal)
-stepAt page at =
+unfoldable pub step_at : List ℕ → ℕ → Option (Result WalkEntry Refusal)
+step_at page at =
     pick (ends_at page at) None
-    (Some (pick (faulty (entry_at page at)) (Err PageDamaged) (Ok (walkEntry (id_at page at) (at + 2) (bytesIn (id_at page at))))))
+    (Some (pick (faulty (entry_at page at)) (Err PageDamaged) (Ok (walk_entry (id_at page at) (at + 2) (bytes_in (id_at page at))))))
 
 -- where the walk stands then: behind an entry, and at the end of the entries behind a fault
-abbrev pub placeAfter : ℕ → Option (Result WalkEntry Refusal) → ℕ
-placeAfter at (Some (Ok e)) = e.start + e.bytes
-placeAfter at (Some (Err r)) = 508
-placeAfter at None = at
+abbrev pub place_after : ℕ → Option (Result WalkEntry Refusal) → ℕ
+place_after at (Some (Ok e)) = e.start + e.bytes
+place_after at (Some (Err r)) = 508
+place_after at None = at
 
 -- what a step answers, and the walk that it leaves
 pub record Stepped (w : Walk) (r : Option (Result WalkEntry Refusal)) (w' : Walk) : Type 0 where
-  pub answer : r ≡ stepAt w.page.now w.at
+  pub answer : r ≡ step_at w.page.now w.at
   pub page : w'.page ≡ w.page
-  pub at : w'.at ≡ placeAfter w.at r
+  pub at : w'.at ≡ place_after w.at r

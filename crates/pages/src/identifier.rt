@@ -1,7 +1,7 @@
 // The identifier that an entry of page 11h begins with.
 ghost use Rattle.std.specs.Prelude.{◌≡◌, ◌<◌};
-ghost use Rattle.pages.specs.Entries.{counterEntry, width_of, number_in, vendorOf, idAsked};
-ghost use Rattle.pages.specs.Others11.{idOther};
+ghost use Rattle.pages.specs.Entries.{counter_entry, width_of, number_in, vendor_of, id_asked};
+ghost use Rattle.pages.specs.Others11.{id_other};
 ghost use Rattle.pages.specs.WalkStep.{faulty};
 
 use crate::ENTRIES_END;
@@ -26,7 +26,7 @@ impl Identifier {
     }
 
     fn is_vendor(self) -> bool
-        ensures { result ≡ vendorOf self.0 }
+        ensures { result ≡ vendor_of self.0 }
     {
         bits::bit(u32::from(self.0), 15)
     }
@@ -34,7 +34,7 @@ impl Identifier {
     // Whether its entry, at a place, is one that no page may have. A vendor's has a width too, but its number may be 0.
     pub(crate) fn is_faulty(self, at: usize) -> bool
         requires { at < ENTRIES_END }
-        ensures { result ≡ faulty (counterEntry at self.0) }
+        ensures { result ≡ faulty (counter_entry at self.0) }
     {
         let width = self.width();
         !(1..=4).contains(&width)
@@ -44,14 +44,14 @@ impl Identifier {
 
     // Whether it is the asked counter's. Those with bit 15 are stepped over.
     pub(crate) fn is_asked(self, number: u16) -> bool
-        ensures { result ≡ idAsked number self.0 }
+        ensures { result ≡ id_asked number self.0 }
     {
         !self.is_vendor() && self.number() == number
     }
 
     // Whether it is none of the sixteen counters': a vendor's, or one whose number has no row.
     pub(crate) fn is_other(self) -> bool
-        ensures { result ≡ idOther self.0 }
+        ensures { result ≡ id_other self.0 }
     {
         self.is_vendor() || counters::row_of(self.number()).is_none()
     }

@@ -1,6 +1,6 @@
 // Log page 11h made by value, for the writer that refuses.
 ghost use Rattle.std.specs.Prelude.{◌≡◌, ◌<◌};
-ghost use Rattle.pages.specs.Layout11.{rowBytes, page11};
+ghost use Rattle.pages.specs.Layout11.{row_bytes, page11};
 
 use crate::PAGE_SIZE;
 use counters::{Counters, IDENTIFIERS, is_kept};
@@ -15,10 +15,10 @@ const ENTRY_SIZE: usize = 6;
 const FOUR_BYTES: u16 = 2 << 12;
 
 // A row: 2000h + identifier, then the value.
-#[tactic(auto, unfolding(crate::specs::Layout11::rowBytes))]
+#[tactic(auto, unfolding(crate::specs::Layout11::row_bytes))]
 fn row_bytes(id: u16, value: u32) -> [u8; ENTRY_SIZE]
     requires { id < 4096 }
-    ensures { result ≡ rowBytes id value }
+    ensures { result ≡ row_bytes id value }
 {
     let [i0, i1] = (FOUR_BYTES | id).to_le_bytes();
     let [v0, v1, v2, v3] = value.to_le_bytes();

@@ -1,14 +1,14 @@
 // The bytes of page 10h of which a bit is set that no field is named for.
 ghost use Rattle.std.specs.Prelude.{◌≡◌, count_by};
 ghost use Rattle.std.specs.List.{enumerate_from};
-ghost use Rattle.pages.specs.Others10.{namedBits, hasOther, OtherBytesGiven};
+ghost use Rattle.pages.specs.Others10.{named_bits, has_other, OtherBytesGiven};
 
 use crate::{PAGE_SIZE, byte_sum};
 use refusals::Refusal;
 
 // The bits of the byte at a place that are named: those of the fields, and all of the sum byte. Under NQ no tag is told.
 fn named_bits(at: usize, byte: u8) -> u8
-    ensures { result ≡ namedBits at byte }
+    ensures { result ≡ named_bits at byte }
 {
     match at {
         0 if frames::flag(byte, 7) => 0x80,
@@ -19,7 +19,7 @@ fn named_bits(at: usize, byte: u8) -> u8
 }
 
 fn count_bytes(page: &[u8; PAGE_SIZE]) -> usize
-    ensures { result ≡ count_by hasOther (enumerate_from 0 page.now) }
+    ensures { result ≡ count_by has_other (enumerate_from 0 page.now) }
 {
     page.iter()
         .enumerate()
@@ -29,7 +29,7 @@ fn count_bytes(page: &[u8; PAGE_SIZE]) -> usize
 
 /// How many bytes of page 10h have a bit set that is no named field's: bits 6:5 of byte 0, and 4:0 under NQ, and all of bytes
 /// 1, 11 and 14 to 510. `PageLength` where the page is not 512 bytes long, else `PageSum` where its sum is wrong.
-#[tactic(auto, unfolding(crate::specs::Others10::countOtherBytes, refusals::specs::First::first_of))]
+#[tactic(auto, unfolding(crate::specs::Others10::count_other_bytes, refusals::specs::First::first_of))]
 pub fn count_other_bytes(page: &[u8]) -> Result<usize, Refusal>
     ensures { OtherBytesGiven page.now result }
 {

@@ -2,8 +2,8 @@
 ghost use Rattle.std.specs.Prelude.{◌≡◌, Ok, Err, count_by};
 ghost use Rattle.bits.specs.Pick.{pick};
 ghost use Rattle.pages.specs.Entries.{entries};
-ghost use Rattle.pages.specs.Read11.{anyFault};
-ghost use Rattle.pages.specs.Others11.{entryOther, OthersGiven};
+ghost use Rattle.pages.specs.Read11.{any_fault};
+ghost use Rattle.pages.specs.Others11.{entry_other, OthersGiven};
 
 use crate::walk::Walk;
 use crate::{PAGE_SIZE, byte_sum};
@@ -12,7 +12,7 @@ use refusals::Refusal;
 // The whole walk, since a fault anywhere refuses the page.
 #[tactic(auto, using(crate::proofs::Counting::counting))]
 fn count_walked(page: &[u8; PAGE_SIZE]) -> Result<usize, Refusal>
-    ensures { result ≡ pick (anyFault (entries page.now)) (Err Refusal.PageDamaged) (Ok (count_by entryOther (entries page.now))) }
+    ensures { result ≡ pick (any_fault (entries page.now)) (Err Refusal.PageDamaged) (Ok (count_by entry_other (entries page.now))) }
 {
     let mut others = 0;
     for entry in Walk::new(page) {
@@ -26,7 +26,7 @@ fn count_walked(page: &[u8; PAGE_SIZE]) -> Result<usize, Refusal>
 /// How many entries of page 11h are none of the sixteen counters of `counters::IDENTIFIERS`: a vendor's, or of a number
 /// outside the sixteen, each as often as it stands there. `PageLength` where the page is not 512 bytes long, else
 /// `PageSum` where its sum is wrong, else `PageDamaged` where it has an entry that no page may have.
-#[tactic(auto, unfolding(crate::specs::Others11::countOthers, refusals::specs::First::first_of))]
+#[tactic(auto, unfolding(crate::specs::Others11::count_others, refusals::specs::First::first_of))]
 pub fn count_others(page: &[u8]) -> Result<usize, Refusal>
     ensures { OthersGiven page.now result }
 {

@@ -1,6 +1,6 @@
 // Log page 10h: the error record, made by value and read.
 ghost use Rattle.std.specs.Prelude.{◌≡◌};
-ghost use Rattle.pages.specs.Page10.{firstByte, tagShown, fits10, page10, fields10, LogGiven};
+ghost use Rattle.pages.specs.Page10.{first_byte, tag_shown, fits10, page10, fields10, LogGiven};
 
 use crate::{PAGE_SIZE, byte_sum, seal};
 use frames::{Registers, Task};
@@ -33,7 +33,7 @@ impl ErrorLog {
 
 // Byte 0: bit 7 NQ, bits 4:0 tag.
 fn first_byte(nq: bool, tag: u8) -> u8
-    ensures { result ≡ firstByte nq tag }
+    ensures { result ≡ first_byte nq tag }
 {
     (u8::from(nq) << 7) | (tag & 31)
 }
@@ -57,7 +57,7 @@ pub(crate) fn page10_bytes(log: ErrorLog) -> [u8; PAGE_SIZE]
 
 // The tag as it stands, and 0 under NQ.
 fn tag_shown(first: u8, nq: bool) -> u8
-    ensures { result ≡ tagShown first nq }
+    ensures { result ≡ tag_shown first nq }
 {
     if nq { 0 } else { first & 31 }
 }

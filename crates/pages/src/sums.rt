@@ -1,6 +1,6 @@
 // The sum of a page's bytes.
 ghost use Rattle.std.specs.Prelude.{◌≡◌};
-ghost use Rattle.pages.specs.Sum.{sum256, sealed};
+ghost use Rattle.pages.specs.Sum.{sum256, sealed_page};
 
 use crate::PAGE_SIZE;
 
@@ -13,9 +13,9 @@ pub fn byte_sum(bytes: &[u8]) -> u8
 }
 
 /// Sets the last byte of a page, which is still 0, to what is missing to a sum of 0 modulo 256.
-#[tactic(auto, unfolding(crate::specs::Sum::sealed))]
+#[tactic(auto, unfolding(crate::specs::Sum::sealed_page))]
 pub fn seal(page: &mut [u8; PAGE_SIZE])
-    ensures { page.new ≡ sealed page.old }
+    ensures { page.new ≡ sealed_page page.old }
 {
     page[PAGE_SIZE - 1] = byte_sum(page).wrapping_neg();
 }

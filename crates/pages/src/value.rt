@@ -1,6 +1,6 @@
 // A counter's value with its width, and whether it stands at the top of it.
 ghost use Rattle.std.specs.Prelude.{◌≡◌};
-ghost use Rattle.pages.specs.Top.{topOf, atTop};
+ghost use Rattle.pages.specs.Top.{top_of, at_top};
 
 /// A counter's value as a page has it.
 #[derive(Clone, Copy, Debug, PartialEq, Eq)]
@@ -12,9 +12,9 @@ pub struct CounterValue {
 }
 
 // The largest value of so many bytes, of which a value has at most 8.
-#[tactic(auto, unfolding(crate::specs::Top::topOf), using(std::proofs::lemmas::Nat::one_shl))]
+#[tactic(auto, unfolding(crate::specs::Top::top_of), using(std::proofs::lemmas::Nat::one_shl))]
 fn top_of(bytes: usize) -> u64
-    ensures { result ≡ topOf bytes }
+    ensures { result ≡ top_of bytes }
 {
     if 8 <= bytes {
         return u64::MAX;
@@ -24,9 +24,9 @@ fn top_of(bytes: usize) -> u64
 
 impl CounterValue {
     /// Whether the value is the largest of its width.
-    #[tactic(auto, unfolding(crate::specs::Top::atTop))]
+    #[tactic(auto, unfolding(crate::specs::Top::at_top))]
     pub fn is_top(self) -> bool
-        ensures { result ≡ atTop self }
+        ensures { result ≡ at_top self }
     {
         self.value == top_of(self.bytes)
     }

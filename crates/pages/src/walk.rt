@@ -1,9 +1,9 @@
 // The walk over the entries of page 11h. It is the crate's own: only a page that has passed 20, 23 and 21 is walked.
 // Places are even: the walk starts at 4, an identifier takes 2 bytes and a value 2, 4, 6 or 8. So an identifier never
-// straddles 508 (`no-straddle`), and it is enough to test where each value ends.
+// straddles 508 (`no_straddle`), and it is enough to test where each value ends.
 ghost use Rattle.std.specs.Prelude.{◌≡◌, ◌-◌};
 ghost use Rattle.std.specs.Iterator.{at_most};
-ghost use Rattle.pages.specs.WalkStep.{stepAt, Stepped};
+ghost use Rattle.pages.specs.WalkStep.{step_at, Stepped};
 
 use crate::identifier::Identifier;
 use crate::{ENTRIES_END, ENTRIES_START};
@@ -18,9 +18,9 @@ pub(crate) struct WalkEntry {
 }
 
 // What stands at a place: an entry, or what no page may have; `None` at 508 or at 0000h, where no more is to come.
-#[tactic(auto, unfolding(crate::specs::WalkStep::stepAt, crate::specs::Entries::id_at))]
+#[tactic(auto, unfolding(crate::specs::WalkStep::step_at, crate::specs::Entries::id_at))]
 pub(crate) fn entry_at(page: &[u8], at: usize) -> Option<Result<WalkEntry, Refusal>>
-    ensures { result ≡ stepAt page.now at }
+    ensures { result ≡ step_at page.now at }
 {
     if ENTRIES_END <= at {
         return None;

@@ -1,7 +1,7 @@
 // Page 10h by value, and its writer: the page in front of the buffer, or 25, or 26, and then no byte is changed.
 ghost use Rattle.std.specs.Prelude.{◌≡◌};
 ghost use Rattle.frames.specs.Emit.{WriteGiven};
-ghost use Rattle.pages.specs.Page10.{fits10, page10, logPage};
+ghost use Rattle.pages.specs.Page10.{fits10, page10, log_page};
 
 use crate::PAGE_SIZE;
 use crate::page10::{ErrorLog, page10_bytes};
@@ -10,7 +10,7 @@ use refusals::Refusal;
 impl ErrorLog {
     /// The page of a record; `Unfit` where a value is too large for its bits or a tag stands under NQ.
     pub fn page(self) -> Result<[u8; PAGE_SIZE], Refusal>
-        ensures { result ≡ logPage self }
+        ensures { result ≡ log_page self }
     {
         if !self.fits() {
             return Err(Refusal::Unfit);

@@ -2,7 +2,7 @@
 #![tactic(auto, using(crate::proofs::Promised::shown))]
 
 ghost use Rattle.worked_examples.specs.Points.{Hold, examples as all};
-ghost use Rattle.worked_examples.specs.Whole.{Placed, wholeFrames, WholeShows};
+ghost use Rattle.worked_examples.specs.Whole.{Placed, whole_frames, WholeShows};
 ghost use Rattle.worked_examples.specs.Story.{ExampleShows};
 ghost use Rattle.worked_examples.specs.Second.{SecondShows, LongShows};
 
@@ -13,7 +13,7 @@ pub fn points()
 
 /// A frame of each kind and both pages, no two fields alike, byte for byte.
 pub fn bytes_in_full()
-    ensures frames { Placed wholeFrames }
+    ensures frames { Placed whole_frames }
     ensures pages { WholeShows }
 {}
 

@@ -4,14 +4,14 @@
 
 ghost use Rattle.std.specs.Prelude.{◌≡◌, false, List, ℕ, map};
 ghost use Rattle.device_state.specs.declared.shapes.Settings.{Settings};
-ghost use Rattle.device.specs.Device.{powerOn, contradictoryDevice};
+ghost use Rattle.device.specs.Device.{power_on, contradictory_device};
 ghost use Rattle.device.specs.Step.{Given};
 ghost use Rattle.device.specs.declared.state.Device.{Device};
 ghost use Rattle.device.specs.Lent.{Lent};
 ghost use Rattle.device.specs.declared.state.Outcome.{Outcome};
 ghost use Rattle.history.specs.Seen.{seen};
 ghost use Rattle.history.specs.Run.{Done, AllTyped, run_from};
-ghost use Rattle.history.specs.Follows.{final, lents, historyOf, Began};
+ghost use Rattle.history.specs.Follows.{final, lents, history_of, Began};
 ghost use Rattle.history.specs.Powered.{Powered};
 ghost use Rattle.history.specs.Refused.{Refusals};
 ghost use Rattle.history.specs.Answered.{Answers};
@@ -22,7 +22,7 @@ ghost use Rattle.history.specs.StateAgrees.{AgreesAsked, AgreesCount, AgreesDue,
 ghost use Rattle.history.specs.Promised.{Always, AtTheEnd};
 ghost use Rattle.history.specs.NoChoice.{NoChoice};
 ghost use Rattle.history.specs.Serves.{Serves};
-ghost use Rattle.history.specs.Struck.{takenOf, lentTaken, StruckRun};
+ghost use Rattle.history.specs.Struck.{taken_of, lent_taken, StruckRun};
 
 /// Every queued command accepted is exactly one of four: outstanding, finished, given up at an error, dropped by a reset; and what is no longer outstanding never changes.
 pub fn one_fate()
@@ -78,7 +78,7 @@ pub fn answered_exactly()
 
 /// Power-on is refused with 1 exactly where its settings are out of bounds, and replies nothing.
 pub fn powered_exactly()
-    ensures { (s : Settings) → Powered s.depth s.capacity s.mask (powerOn s).refusal (powerOn s).len }
+    ensures { (s : Settings) → Powered s.depth s.capacity s.mask (power_on s).refusal (power_on s).len }
 {}
 
 /// A counter asked for by its number is answered with its events since its last zeroing, held at 4,294,967,295, or absent; the count of outstanding commands with their number; both are refused just as the rules say. The host data that is due is what is left of an open write phase, 8,192 bytes at most.
@@ -110,5 +110,5 @@ pub fn exists_always()
 
 /// A state that is handed in and does not contradict itself, reached or not, serves each outstanding command by the range that the command's own bytes name.
 pub fn any_state_serves()
-    ensures { (d : Device) → contradictoryDevice d ≡ false → Serves Given d }
+    ensures { (d : Device) → contradictory_device d ≡ false → Serves Given d }
 {}

@@ -3,24 +3,24 @@
 
 ghost use Rattle.std.specs.Prelude.{◌≡◌, ◌<◌, ◌^◌, true, false, List, ℕ, get_or, Some, None, Ok};
 ghost use Rattle.bits.specs.Little.{Bytes};
-ghost use Rattle.frames.specs.Read.{readFrame};
+ghost use Rattle.frames.specs.Read.{read_frame};
 ghost use Rattle.frames.specs.Write.{FrameValue, encode, fits};
-ghost use Rattle.frames.specs.RoundTrip.{readBack, again, zeroed};
+ghost use Rattle.frames.specs.RoundTrip.{read_back, again, zeroed};
 ghost use Rattle.frames.specs.declared.shapes.Frame.{Frame};
 ghost use Rattle.pages.specs.Page10.{page10, fits10, read_log};
 ghost use Rattle.pages.specs.declared.page10.ErrorLog.{ErrorLog};
 ghost use Rattle.counters.specs.Rows.{id_of, kept};
 ghost use Rattle.pages.specs.Layout11.{page11};
-ghost use Rattle.pages.specs.Read11.{readCounter, rowValue};
+ghost use Rattle.pages.specs.Read11.{read_counter, row_value};
 
 /// A frame that can be written is read as it was.
 pub fn frames_read_back()
-    ensures { (f : FrameValue) → fits f ≡ true → readFrame (encode f) ≡ Ok (readBack f) }
+    ensures { (f : FrameValue) → fits f ≡ true → read_frame (encode f) ≡ Ok (read_back f) }
 {}
 
 /// A frame that was read is written again as it stood, its bits and bytes that have no name zeroed.
 pub fn frames_write_back()
-    ensures { (l : List ℕ) → Bytes l → (f : Frame) → readFrame l ≡ Ok f → encode (again l f) ≡ zeroed l }
+    ensures { (l : List ℕ) → Bytes l → (f : Frame) → read_frame l ≡ Ok f → encode (again l f) ≡ zeroed l }
 {}
 
 /// A page 10h that can be written is read as it was.
@@ -30,6 +30,6 @@ pub fn errors_read_back()
 
 /// Of a page 11h each kept counter is read as it was, and a number that is no kept counter's is absent.
 pub fn counters_read_back()
-    ensures kept { (mask : ℕ) (values : List ℕ) → ((k : ℕ) → get_or values k 0 < 2 ^ 32) → (k : ℕ) → k < 16 → kept mask k ≡ true → readCounter (page11 mask values) (id_of k) ≡ Ok (Some (rowValue (get_or values k 0))) }
-    ensures absent { (mask : ℕ) (values : List ℕ) → ((k : ℕ) → get_or values k 0 < 2 ^ 32) → (number : ℕ) → 0 < number → number < 4096 → ((k : ℕ) → k < 16 → id_of k ≡ number → kept mask k ≡ false) → readCounter (page11 mask values) number ≡ Ok None }
+    ensures kept { (mask : ℕ) (values : List ℕ) → ((k : ℕ) → get_or values k 0 < 2 ^ 32) → (k : ℕ) → k < 16 → kept mask k ≡ true → read_counter (page11 mask values) (id_of k) ≡ Ok (Some (row_value (get_or values k 0))) }
+    ensures absent { (mask : ℕ) (values : List ℕ) → ((k : ℕ) → get_or values k 0 < 2 ^ 32) → (number : ℕ) → 0 < number → number < 4096 → ((k : ℕ) → k < 16 → id_of k ≡ number → kept mask k ≡ false) → read_counter (page11 mask values) number ≡ Ok None }
 {}

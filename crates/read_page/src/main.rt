@@ -1,5 +1,5 @@
 // Tells log pages in words: the page of standard input, or those of the files that are named. What is written of them, and the exit status,
-// is `page_program`'s; here the words of the command line are read.
+// is `page_text`'s; here the words of the command line are read.
 #![tactic(auto)]
 
 ghost use Rattle.std.specs.Prelude.{None};

@@ -9,11 +9,11 @@ use Rattle.refusals.specs.contracts.firsts as firsts-said
 use Rattle.refusals.proofs.reasons
 use Rattle.refusals.specs.contracts.reasons as reasons-said
 
-pub tied-check : Tied firsts-said.check.ended firsts.check.Reads.Asked firsts.check.Reads.Post (λ κs a r ws. r ≡ unless (first_of a.0.now) tt)
-tied-check = named (say (λ κs a. tt) (λ κs a r ws p. p)) (λ κs a ws ws'. refl)
+pub tied_check : Tied firsts-said.check.ended firsts.check.Reads.Asked firsts.check.Reads.Post (λ κs a r ws. r ≡ unless (first_of a.0.now) tt)
+tied_check = named (say (λ κs a. tt) (λ κs a r ws p. p)) (λ κs a ws ws'. refl)
 
-pub tied-number : Tied reasons-said.Refusal.number.ended reasons.Refusal.number.Reads.Asked reasons.Refusal.number.Reads.Post (λ κs a r ws. r ≡ number a.0)
-tied-number = named (say (λ κs a. tt) (λ κs a r ws p. p)) (λ κs a ws ws'. refl)
+pub tied_number : Tied reasons-said.Refusal.number.ended reasons.Refusal.number.Reads.Asked reasons.Refusal.number.Reads.Post (λ κs a r ws. r ≡ number a.0)
+tied_number = named (say (λ κs a. tt) (λ κs a r ws p. p)) (λ κs a ws ws'. refl)
 
-pub tied-number-told : Tied reasons-said.Refusal.number_told.ended reasons.Refusal.number_told.Reads.Asked reasons.Refusal.number_told.Reads.Post (λ κs a r ws. r ≡ number_told a.0)
-tied-number-told = named (say (λ κs a. tt) (λ κs a r ws p. p)) (λ κs a ws ws'. refl)
+pub tied_number_told : Tied reasons-said.Refusal.number_told.ended reasons.Refusal.number_told.Reads.Asked reasons.Refusal.number_told.Reads.Post (λ κs a r ws. r ≡ number_told a.0)
+tied_number_told = named (say (λ κs a. tt) (λ κs a r ws p. p)) (λ κs a ws ws'. refl)

@@ -29,8 +29,8 @@ refusal_in (Ok a) = None
 refusal_in (Err r) = Some r
 
 -- what stands past the end of a list of rungs
-abbrev pub noRung : Rung
-noRung = rung Contradiction false
+abbrev pub no_rung : Rung
+no_rung = rung Contradiction false
 
 -- each way round
 abbrev pub Iff : Type 0 → Type 0 → Type 0
@@ -38,13 +38,13 @@ Iff A B = (A → B) × (B → A)
 
 -- no rung in front of the k-th holds
 abbrev pub NoneBefore : List Rung → ℕ → Type 0
-NoneBefore rs k = (j : ℕ) → j < k → (get_or rs j noRung).0 ≡ false
+NoneBefore rs k = (j : ℕ) → j < k → (get_or rs j no_rung).0 ≡ false
 
 -- `given` is each rung's refusal exactly when that rung holds and none in front of it does, none exactly when none holds, and never another
 pub record FirstExactly (rs : List Rung) (given : Option Refusal) : Type 0 where
-  pub each : (k : ℕ) → k < length rs → Iff (given ≡ Some (get_or rs k noRung).1) (((get_or rs k noRung).0 ≡ true) × NoneBefore rs k)
+  pub each : (k : ℕ) → k < length rs → Iff (given ≡ Some (get_or rs k no_rung).1) (((get_or rs k no_rung).0 ≡ true) × NoneBefore rs k)
   pub none : Iff (given ≡ None) (NoneBefore rs (length rs))
-  pub other : ((k : ℕ) → k < length rs → given ≡ Some (get_or rs k noRung).1 → ⊥) → given ≡ None
+  pub other : ((k : ℕ) → k < length rs → given ≡ Some (get_or rs k no_rung).1 → ⊥) → given ≡ None
 
 -- the refusal has another number than each of the rungs
 abbrev pub fresh : Refusal → List Rung → Bool

@@ -1,30 +1,30 @@
 -- A device register reply repeats bytes 4-10 and 12-13 of the command. Assumes nothing.
 use Rattle.std.proofs.Common.{Option, ◌≡◌, refl, ap, true, List, [], ◌∷◌, ℕ}
-use Rattle.frames.specs.Shared.{taskFits}
+use Rattle.frames.specs.Shared.{task_fits}
 use Rattle.frames.specs.declared.shared.Task.{Task}
 use Rattle.frames.specs.Write.{FrameValue}
 use Rattle.frames.specs.declared.shapes.HostReg.{HostReg}
-use Rattle.rules.specs.Decide.{bad, fault, tagAsked, entryFor}
+use Rattle.rules.specs.Decide.{bad, fault, tag_asked, entry_for}
 use Rattle.replies.specs.declared.shown.Shown.{Shown}
 use Rattle.rules.specs.declared.acts.Act.TheVariants.{Accept}
-use Rattle.device_state.proofs.EchoLaws.{echo-task}
-use Rattle.replies.specs.Replies.{good, badReply, repliesOf}
+use Rattle.device_state.proofs.EchoLaws.{echo_task}
+use Rattle.replies.specs.Replies.{good, bad_reply, replies_of}
 
 abbrev one : FrameValue → List FrameValue
 one f = f ∷ []
 
 module _ (s : Shown) (part : List ℕ) (h : HostReg) where
   -- bad without a halt
-  pub bad-repeats : (e : ℕ) → repliesOf s part (bad h e) ≡ badReply e h.task ∷ []
-  unfolding repliesOf
-  bad-repeats e = refl
+  pub bad_repeats : (e : ℕ) → replies_of s part (bad h e) ≡ bad_reply e h.task ∷ []
+  unfolding replies_of
+  bad_repeats e = refl
 
   -- bad with a halt
-  pub fault-repeats : (t : Option ℕ) (e : ℕ) → taskFits h.task ≡ true → repliesOf s part (fault h t e) ≡ badReply e h.task ∷ []
-  unfolding repliesOf
-  fault-repeats t e f = ap (λ (x : Task). one (badReply e x)) (echo-task h.task f)
+  pub fault_repeats : (t : Option ℕ) (e : ℕ) → task_fits h.task ≡ true → replies_of s part (fault h t e) ≡ bad_reply e h.task ∷ []
+  unfolding replies_of
+  fault_repeats t e f = ap (λ (x : Task). one (bad_reply e x)) (echo_task h.task f)
 
   -- good
-  pub accept-repeats : taskFits h.task ≡ true → repliesOf s part (Accept (record { tag = tagAsked h; entry = entryFor h })) ≡ good h.task ∷ []
-  unfolding repliesOf
-  accept-repeats f = ap (λ (x : Task). one (good x)) (echo-task h.task f)
+  pub accept_repeats : task_fits h.task ≡ true → replies_of s part (Accept (record { tag = tag_asked h; entry = entry_for h })) ≡ good h.task ∷ []
+  unfolding replies_of
+  accept_repeats f = ap (λ (x : Task). one (good x)) (echo_task h.task f)

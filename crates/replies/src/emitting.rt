@@ -2,7 +2,7 @@
 ghost use Rattle.std.specs.Prelude.{◌≡◌, [], ◌∷◌, leb, length};
 ghost use Rattle.std.specs.Result.{result_unwrap_or};
 ghost use Rattle.bits.specs.Pick.{pick};
-ghost use Rattle.replies.specs.Replies.{logReplies, openReplies, repliesOf, RepliesGiven};
+ghost use Rattle.replies.specs.Replies.{log_replies, open_replies, replies_of, RepliesGiven};
 ghost use Rattle.replies.specs.Framed.{framed};
 ghost use Rattle.replies.specs.Sends.{Sends};
 
@@ -44,7 +44,7 @@ fn put_if(room: &mut [u8], on: bool, reply: Reply<'_>) -> usize
 
 // DMA Setup, and for a write an Activate.
 fn put_open(room: &mut [u8], queued: &Queued) -> usize
-    ensures { Sends (openReplies queued.now) room.old result room.new }
+    ensures { Sends (open_replies queued.now) room.old result room.new }
 {
     let mut len = put(room, Reply::setup(queued));
     len += put_if(&mut room[len..], queued.entry.write, Reply::Activate);
@@ -53,7 +53,7 @@ fn put_open(room: &mut [u8], queued: &Queued) -> usize
 
 // Sweep, PIO Setup and page.
 fn put_log(room: &mut [u8], sweep: bool, task: Task, page: Result<Page, Refusal>) -> usize
-    ensures { Sends (logReplies sweep task (result_unwrap_or page [])) room.old result room.new }
+    ensures { Sends (log_replies sweep task (result_unwrap_or page [])) room.old result room.new }
 {
     let mut len = put_if(room, sweep, Reply::sweep());
     len += put(&mut room[len..], Reply::pio(task));
@@ -61,9 +61,9 @@ fn put_log(room: &mut [u8], sweep: bool, task: Task, page: Result<Page, Refusal>
     len
 }
 
-#[tactic(auto, using(crate::proofs::Sending::sends_nothing, crate::proofs::Sending::page_bytes_pick), unfolding(crate::specs::Replies::repliesOf))]
+#[tactic(auto, using(crate::proofs::Sending::sends_nothing, crate::proofs::Sending::page_bytes_pick), unfolding(crate::specs::Replies::replies_of))]
 fn put_all(room: &mut [u8], act: &Act, shown: &Shown<'_>, part: &[u8]) -> usize
-    ensures { Sends (repliesOf shown.now part.now act.now) room.old result room.new }
+    ensures { Sends (replies_of shown.now part.now act.now) room.old result room.new }
 {
     match act {
         Act::Bad(bad) => put(room, Reply::bad(bad.error, bad.task)),
@@ -86,9 +86,9 @@ fn put_all(room: &mut [u8], act: &Act, shown: &Shown<'_>, part: &[u8]) -> usize
 
 /// The replies of an act, in front of `reply`, and how many bytes they are; none where `reply` is under the 8,196 bytes that
 /// every call which replies asks for.
-#[tactic(auto, unfolding(crate::specs::Replies::sentAll, frames::specs::Cut::joined), using(crate::proofs::Room::replies_room))]
+#[tactic(auto, unfolding(crate::specs::Replies::sent_all, frames::specs::Cut::joined_bytes), using(crate::proofs::Room::replies_room))]
 pub fn emit(reply: &mut [u8], act: &Act, shown: &Shown<'_>, part: &[u8]) -> usize
-    ensures { RepliesGiven (pick (leb 8196 (length reply.old)) (repliesOf shown.now part.now act.now) []) reply.old result reply.new }
+    ensures { RepliesGiven (pick (leb 8196 (length reply.old)) (replies_of shown.now part.now act.now) []) reply.old result reply.new }
 {
     if reply.len() < DATA_FRAME_LIMIT {
         return 0;

@@ -1,7 +1,7 @@
 // A reply, by its kind: each that an act gives, and how it is written.
 ghost use Rattle.std.specs.Prelude.{◌≡◌};
-ghost use Rattle.frames.specs.Write.{setBits, FrameWriteGiven};
-ghost use Rattle.replies.specs.Replies.{register, good, badReply, signature, sweep, pioReply, setupReply, finishReply, mediaReply};
+ghost use Rattle.frames.specs.Write.{set_bits, FrameWriteGiven};
+ghost use Rattle.replies.specs.Replies.{register, good, bad_reply, signature, sweep, pio_reply, setup_reply, finish_reply, media_reply};
 ghost use Rattle.replies.specs.Framed.{framed};
 
 use crate::status::{READY, READY_DATA, READY_ERROR, WELL};
@@ -33,7 +33,7 @@ impl<'a> Reply<'a> {
     }
 
     fn bits(interrupt: bool, status: u8, error: u8, active: u32) -> Reply<'a>
-        ensures { framed result ≡ setBits (record { interrupt = interrupt; status = status; error = error; active = active }) }
+        ensures { framed result ≡ set_bits (record { interrupt = interrupt; status = status; error = error; active = active }) }
     {
         Reply::Bits(SetBits {
             interrupt,
@@ -50,7 +50,7 @@ impl<'a> Reply<'a> {
     }
 
     pub(crate) fn bad(error: u8, task: Task) -> Reply<'a>
-        ensures { framed result ≡ badReply error task }
+        ensures { framed result ≡ bad_reply error task }
     {
         Reply::register(true, READY_ERROR, error, task)
     }
@@ -73,19 +73,19 @@ impl<'a> Reply<'a> {
     }
 
     pub(crate) fn finish(set: u32) -> Reply<'a>
-        ensures { framed result ≡ finishReply set }
+        ensures { framed result ≡ finish_reply set }
     {
         Reply::bits(true, READY, 0, set)
     }
 
     pub(crate) fn media(error: u8) -> Reply<'a>
-        ensures { framed result ≡ mediaReply error }
+        ensures { framed result ≡ media_reply error }
     {
         Reply::bits(true, READY_ERROR, error, 0)
     }
 
     pub(crate) fn pio(task: Task) -> Reply<'a>
-        ensures { framed result ≡ pioReply task }
+        ensures { framed result ≡ pio_reply task }
     {
         Reply::Pio(PioSetup {
             interrupt: true,
@@ -99,7 +99,7 @@ impl<'a> Reply<'a> {
     }
 
     pub(crate) fn setup(queued: &Queued) -> Reply<'a>
-        ensures { framed result ≡ setupReply queued.now }
+        ensures { framed result ≡ setup_reply queued.now }
     {
         Reply::Setup(DmaSetup {
             auto: false,

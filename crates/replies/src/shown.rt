@@ -1,6 +1,6 @@
 // What an act's replies show, over plain values.
 ghost use Rattle.std.specs.Prelude.{◌≡◌};
-ghost use Rattle.replies.specs.Replies.{logOf};
+ghost use Rattle.replies.specs.Replies.{log_of};
 
 use crate::status::READY_ERROR;
 use counters::Counters;
@@ -32,7 +32,7 @@ impl<'a> Model for Shown<'a> {
 
 // The record as page 10h shows it.
 pub(crate) fn log_of(errors: &ErrorRecord) -> ErrorLog
-    ensures { result ≡ logOf errors.now }
+    ensures { result ≡ log_of errors.now }
 {
     if !errors.set {
         return ErrorLog {

@@ -1,8 +1,8 @@
 -- What a verdict tells of its tests. Assumes nothing.
 use Rattle.std.proofs.Common.{Option, Some, None, Result, Ok, Err, ◌≡◌, refl, Bool, true, false, arith}
 use Rattle.std.specs.Option.{ok_or}
-use Rattle.rules.specs.QueuedRule.{queuedRule}
-use Rattle.rules.specs.OtherRule.{asksErrors, asksCounters}
+use Rattle.rules.specs.QueuedRule.{queued_rule}
+use Rattle.rules.specs.OtherRule.{asks_errors, asks_counters}
 use Rattle.frames.specs.declared.log_pages.LogPage.{LogPage}
 use Rattle.frames.specs.declared.log_pages.LogPage.TheVariants.{Errors, Counters}
 use Rattle.rules.specs.declared.errors.CommandError.TheVariants.{Aborted}
@@ -10,12 +10,12 @@ use Rattle.rules.specs.declared.command_rules.Bad.{Bad}
 use Rattle.rules.specs.declared.command_rules.Bad.TheVariants.{Only}
 
 -- a good queued command ends at or below capacity
-pub good-near : (r : Result Unit Bad) (halted tag far : Bool) → r ≡ Ok tt → r ≡ queuedRule halted tag far → far ≡ false
-good-near r halted tag far g e = grind arith
+pub good_near : (r : Result Unit Bad) (halted tag far : Bool) → r ≡ Ok tt → r ≡ queued_rule halted tag far → far ≡ false
+good_near r halted tag far g e = grind arith
 
 -- what a command that asks for a page comes to, by the page
-pub by-page : (P : Result LogPage Bad → Type 0) (page : Option LogPage) → (asksErrors page ≡ true → P (Ok Errors))
-    → (asksErrors page ≡ false → asksCounters page ≡ true → P (Ok Counters)) → (asksErrors page ≡ false → P (Err (Only Aborted))) → P (ok_or page (Only Aborted))
-by-page P (Some Errors) e c b = e refl
-by-page P (Some Counters) e c b = c refl refl
-by-page P None e c b = b refl
+pub by_page : (P : Result LogPage Bad → Type 0) (page : Option LogPage) → (asks_errors page ≡ true → P (Ok Errors))
+    → (asks_errors page ≡ false → asks_counters page ≡ true → P (Ok Counters)) → (asks_errors page ≡ false → P (Err (Only Aborted))) → P (ok_or page (Only Aborted))
+by_page P (Some Errors) e c b = e refl
+by_page P (Some Counters) e c b = c refl refl
+by_page P None e c b = b refl

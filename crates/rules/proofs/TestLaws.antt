@@ -4,7 +4,7 @@ use Rattle.refusals.specs.First.{Rung, first_of, fresh, apart}
 use Rattle.refusals.specs.Number.{number}
 use Rattle.refusals.specs.declared.reasons.Refusal.TheVariants.{Contradiction, NoFrame}
 use Rattle.bits.proofs.Picks.{pick_yes}
-use Rattle.rules.specs.Call.{Call, hostFrame, happens}
+use Rattle.rules.specs.Call.{Call, host_frame, happens}
 use Rattle.rules.specs.declared.event.DeviceEvent.TheVariants.{SendData, LinkEvent}
 use Rattle.rules.specs.Handed.{handed}
 use Rattle.rules.specs.Tests.{tests}
@@ -31,13 +31,13 @@ pub record TestLaws (v : Facts) (c : Call) : Type 0 where
   pub once : T (apart (tests v c))
   pub rising : rises (tests v c) ≡ true
   pub one : v.contradicts ≡ true → first_of (tests v c) ≡ Some Contradiction
-  pub no-24 : fresh NoFrame (tests v c) ≡ true
+  pub no_24 : fresh NoFrame (tests v c) ≡ true
   pub unlent : (handed c).medium ≡ false → (w : Bool) → act (otherwise v w v.reply_short) c ≡ act v c
   pub unbuffered : (handed c).buffer ≡ false → (s : Bool) → act (otherwise v v.medium_wrong s) c ≡ act v c
 
-pub test-laws : (v : Facts) (c : Call) → TestLaws v c
+pub test_laws : (v : Facts) (c : Call) → TestLaws v c
 unfolding tests does act
-test-laws v (hostFrame f) = record { once = tt; rising = refl; one = first_holds _ _; no-24 = refl; unlent = λ h. absurd (true≢false h); unbuffered = λ h. absurd (true≢false h) }
-test-laws v (happens SendData) = record { once = tt; rising = refl; one = first_holds _ _; no-24 = refl; unlent = λ h. absurd (true≢false h); unbuffered = λ h. absurd (true≢false h) }
-test-laws v (happens (LinkEvent r)) = record { once = tt; rising = refl; one = first_holds _ _; no-24 = refl; unlent = λ h w. refl; unbuffered = λ h s. refl }
-test-laws v _ = record { once = tt; rising = refl; one = first_holds _ _; no-24 = refl; unlent = λ h w. refl; unbuffered = λ h. absurd (true≢false h) }
+test_laws v (host_frame f) = record { once = tt; rising = refl; one = first_holds _ _; no_24 = refl; unlent = λ h. absurd (true≢false h); unbuffered = λ h. absurd (true≢false h) }
+test_laws v (happens SendData) = record { once = tt; rising = refl; one = first_holds _ _; no_24 = refl; unlent = λ h. absurd (true≢false h); unbuffered = λ h. absurd (true≢false h) }
+test_laws v (happens (LinkEvent r)) = record { once = tt; rising = refl; one = first_holds _ _; no_24 = refl; unlent = λ h w. refl; unbuffered = λ h s. refl }
+test_laws v _ = record { once = tt; rising = refl; one = first_holds _ _; no_24 = refl; unlent = λ h w. refl; unbuffered = λ h. absurd (true≢false h) }

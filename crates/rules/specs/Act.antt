@@ -3,14 +3,14 @@ use Rattle.std.specs.Prelude.{ℕ, Some, Result}
 use Rattle.bits.specs.Little.{byte_of}
 use Rattle.refusals.specs.First.{first_of, unless}
 use Rattle.refusals.specs.declared.reasons.Refusal.{Refusal}
-use Rattle.frames.specs.Read.{readFrame}
+use Rattle.frames.specs.Read.{read_frame}
 use Rattle.frames.specs.declared.shapes.Frame.{Frame}
 use Rattle.device_state.specs.declared.shapes.Echo.{Echo}
-use Rattle.rules.specs.Call.{Call, hostFrame, happens}
+use Rattle.rules.specs.Call.{Call, host_frame, happens}
 use Rattle.rules.specs.declared.event.DeviceEvent.TheVariants.{OpenPhase, SendData, FinishTags, MediaError, LinkEvent, Comreset}
 use Rattle.rules.specs.Positions.{move_of}
-use Rattle.rules.specs.Tests.{kindTests, frameTests, tests}
-use Rattle.rules.specs.Decide.{frameAct}
+use Rattle.rules.specs.Tests.{kind_tests, frame_tests, tests}
+use Rattle.rules.specs.Decide.{frame_act}
 use Rattle.rules.specs.declared.facts.Facts.{Facts}
 use Rattle.rules.specs.declared.acts.Act.{Act}
 use Rattle.rules.specs.declared.acts.Act.TheVariants.{Open, Send, Finish, Media, Count, Renew}
@@ -28,7 +28,7 @@ failing e sector = record e {
 
 -- a call that is not turned down: a host frame by its rules; open a phase for a tag; send min(8,192, what is left) bytes; finish a set; media error; link event; COMRESET
 unfoldable pub does : Facts → Call → Act
-does v (hostFrame f) = frameAct v (readFrame f)
+does v (host_frame f) = frame_act v (read_frame f)
 does v (happens (OpenPhase t)) = Open (record { tag = t; entry = v.entry })
 does v (happens SendData) = Send (move_of v.status v.entry 8192)
 does v (happens (FinishTags s)) = Finish s
@@ -41,9 +41,9 @@ unfoldable pub act : Facts → Call → Result Act Refusal
 act v c = unless (first_of (tests v c)) (does v c)
 
 -- of a host frame as it was read: what its code comes to
-abbrev pub heardAct : Facts → Result Frame Refusal → Result Act Refusal
-heardAct v f = unless (first_of (frameTests v f)) (frameAct v f)
+abbrev pub heard_act : Facts → Result Frame Refusal → Result Act Refusal
+heard_act v f = unless (first_of (frame_tests v f)) (frame_act v f)
 
 -- the same by 4, 5 and 6 alone, where 1, 2 and 3 do not hold
-abbrev pub kindAct : Facts → Result Frame Refusal → Result Act Refusal
-kindAct v f = unless (first_of (kindTests v f)) (frameAct v f)
+abbrev pub kind_act : Facts → Result Frame Refusal → Result Act Refusal
+kind_act v f = unless (first_of (kind_tests v f)) (frame_act v f)

@@ -4,5 +4,5 @@ use Rattle.rules.specs.declared.event.DeviceEvent.{DeviceEvent}
 
 -- a host frame as its bytes, or a device event
 pub data Call : Type 0 where
-  hostFrame : List ℕ → Call
+  host_frame : List ℕ → Call
   happens : DeviceEvent → Call

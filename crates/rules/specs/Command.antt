@@ -5,5 +5,5 @@ use Rattle.rules.specs.declared.command.Command.{Command}
 use Rattle.rules.specs.declared.command.Command.TheVariants.{ReadLogExt, ReadFpdmaQueued, WriteFpdmaQueued}
 
 -- the command that a byte names: 2Fh, 60h and 61h alone
-abbrev pub commandNamed : ℕ → Option Command
-commandNamed byte = pick (eqb byte 0x2F) (Some ReadLogExt) (pick (eqb byte 0x60) (Some ReadFpdmaQueued) (pick (eqb byte 0x61) (Some WriteFpdmaQueued) None))
+abbrev pub command_named : ℕ → Option Command
+command_named byte = pick (eqb byte 0x2F) (Some ReadLogExt) (pick (eqb byte 0x60) (Some ReadFpdmaQueued) (pick (eqb byte 0x61) (Some WriteFpdmaQueued) None))

@@ -1,6 +1,6 @@
 -- What an act takes from the medium, or puts there. Assumes nothing.
 use Rattle.std.specs.Prelude.{List, [], ℕ, take, drop}
-unfoldable pub use Rattle.device_state.specs.Stored.{stored}
+unfoldable pub use Rattle.device_state.specs.Stored.{stored_medium}
 use Rattle.rules.specs.declared.acts.Move.{Move}
 use Rattle.rules.specs.declared.acts.Act.{Act}
 use Rattle.rules.specs.declared.acts.Act.TheVariants.{Store, Send}
@@ -18,21 +18,21 @@ touch_of (Send k) = sends k
 touch_of _ = leaves
 
 -- what of the medium m such a touch sends
-abbrev pub sentBy : Touch → List ℕ → List ℕ
-sentBy leaves m = []
-sentBy (sends k) m = take k.size (drop k.at m)
-sentBy (stores k) m = []
+abbrev pub sent_by : Touch → List ℕ → List ℕ
+sent_by leaves m = []
+sent_by (sends k) m = take k.size (drop k.at m)
+sent_by (stores k) m = []
 
 -- what of the medium m an act sends
 abbrev pub part_of : Act → List ℕ → List ℕ
-part_of a m = sentBy (touch_of a) m
+part_of a m = sent_by (touch_of a) m
 
 -- the medium m after such a touch, by frame f
-abbrev pub keptBy : Touch → List ℕ → List ℕ → List ℕ
-keptBy leaves f m = m
-keptBy (sends k) f m = m
-keptBy (stores k) f m = stored k.at f m
+abbrev pub kept_by : Touch → List ℕ → List ℕ → List ℕ
+kept_by leaves f m = m
+kept_by (sends k) f m = m
+kept_by (stores k) f m = stored_medium k.at f m
 
 -- the medium m after an act of frame f
-abbrev pub mediumAfter : Act → List ℕ → List ℕ → List ℕ
-mediumAfter a f m = keptBy (touch_of a) f m
+abbrev pub medium_after : Act → List ℕ → List ℕ → List ℕ
+medium_after a f m = kept_by (touch_of a) f m

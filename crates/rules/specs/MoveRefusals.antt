@@ -7,5 +7,5 @@ abbrev pub longer : ℕ → ℕ → Bool
 longer left n = ltb left n
 
 -- 11: a tag of the set that is not outstanding or not wholly moved
-abbrev pub notReady : Bool → Bool → ℕ → ℕ → Bool
-notReady asked busy moved whole = asked && (not busy || not (wholly moved whole))
+abbrev pub not_ready : Bool → Bool → ℕ → ℕ → Bool
+not_ready asked busy moved whole = asked && (not busy || not (wholly moved whole))

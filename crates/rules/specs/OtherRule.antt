@@ -2,7 +2,7 @@
 use Rattle.std.specs.Prelude.{Bool, true, false, not, ◌&&◌, ℕ, Option, Some, Result, Err}
 use Rattle.std.specs.Option.{ok_or}
 use Rattle.bits.specs.Pick.{pick}
-use Rattle.bits.specs.Bit.{bitIn}
+use Rattle.bits.specs.Bit.{bit_in}
 use Rattle.frames.specs.declared.log_pages.LogPage.{LogPage}
 use Rattle.frames.specs.declared.log_pages.LogPage.TheVariants.{Errors, Counters}
 use Rattle.rules.specs.declared.errors.CommandError.TheVariants.{Aborted}
@@ -10,19 +10,19 @@ use Rattle.rules.specs.declared.command_rules.Bad.{Bad}
 use Rattle.rules.specs.declared.command_rules.Bad.TheVariants.{Only, Halts}
 
 -- page 10h is asked for
-abbrev pub asksErrors : Option LogPage → Bool
-asksErrors (Some Errors) = true
-asksErrors _ = false
+abbrev pub asks_errors : Option LogPage → Bool
+asks_errors (Some Errors) = true
+asks_errors _ = false
 
 -- page 11h is asked for
-abbrev pub asksCounters : Option LogPage → Bool
-asksCounters (Some Counters) = true
-asksCounters _ = false
+abbrev pub asks_counters : Option LogPage → Bool
+asks_counters (Some Counters) = true
+asks_counters _ = false
 
 -- any other command: halted and not a well-formed READ LOG EXT of page 10h: bad; something outstanding: bad, halt; the page that it asks for, 10h or 11h; otherwise bad, no halt
-abbrev pub otherRule : Bool → Option LogPage → Bool → Result LogPage Bad
-otherRule halted page busy = pick (halted && not (asksErrors page)) (Err (Only Aborted)) (pick busy (Err (Halts Aborted)) (ok_or page (Only Aborted)))
+abbrev pub other_rule : Bool → Option LogPage → Bool → Result LogPage Bad
+other_rule halted page busy = pick (halted && not (asks_errors page)) (Err (Only Aborted)) (pick busy (Err (Halts Aborted)) (ok_or page (Only Aborted)))
 
 -- page 11h with features bit 0 zeroes the counters
-abbrev pub logZeroes : ℕ → Bool
-logZeroes features = bitIn 8 features 0
+abbrev pub log_zeroes : ℕ → Bool
+log_zeroes features = bit_in 8 features 0

@@ -4,5 +4,5 @@ use Rattle.device_state.specs.declared.shapes.ErrorRecord.{ErrorRecord}
 use Rattle.rules.specs.declared.acts.Fault.{Fault}
 
 -- set: with the tag of a queued command, or NQ and tag 0; its error and its bytes
-abbrev pub recordOf : Fault → ErrorRecord
-recordOf f = record { set = true; nq = is_none f.tag; tag = unwrap_or f.tag 0; error = f.error; echo = f.echo }
+abbrev pub record_of : Fault → ErrorRecord
+record_of f = record { set = true; nq = is_none f.tag; tag = unwrap_or f.tag 0; error = f.error; echo = f.echo }

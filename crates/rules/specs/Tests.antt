@@ -3,85 +3,85 @@ use Rattle.std.specs.Prelude.{Bool, true, false, not, ◌&&◌, ◌||◌, List, 
 use Rattle.refusals.specs.First.{Rung, rung}
 use Rattle.refusals.specs.declared.reasons.Refusal.{Refusal}
 use Rattle.refusals.specs.declared.reasons.Refusal.TheVariants.{NoHostFrame, WrongTime, TooLong}
-use Rattle.bits.specs.Bit.{bitIn}
-use Rattle.frames.specs.Read.{readFrame}
+use Rattle.bits.specs.Bit.{bit_in}
+use Rattle.frames.specs.Read.{read_frame}
 use Rattle.frames.specs.declared.shapes.Frame.{Frame}
 use Rattle.frames.specs.declared.shapes.Frame.TheVariants.{Host, Data, Bist}
-use Rattle.refusals.specs.Ladders.{hostLadder, openLadder, sendLadder, finishLadder, mediaLadder, linkLadder, comresetLadder}
-use Rattle.device_state.specs.Range.{outsideOf}
+use Rattle.refusals.specs.Ladders.{host_ladder, open_ladder, send_ladder, finish_ladder, media_ladder, link_ladder, comreset_ladder}
+use Rattle.device_state.specs.Range.{outside_of}
 use Rattle.device_state.specs.Progress.{wholly}
-use Rattle.rules.specs.MoveRefusals.{longer, notReady}
+use Rattle.rules.specs.MoveRefusals.{longer, not_ready}
 use Rattle.device_state.specs.State.{whole_of}
-use Rattle.device_state.specs.Table.{someBelow, entry_of}
-use Rattle.device_state.specs.UnderWay.{linkBusy}
-use Rattle.device_state.specs.Contradictory.{rowRefused}
+use Rattle.device_state.specs.Table.{some_below, entry_of}
+use Rattle.device_state.specs.UnderWay.{link_busy}
+use Rattle.device_state.specs.Contradictory.{row_refused}
 use Rattle.device_state.specs.declared.shapes.Entry.{Entry}
-use Rattle.rules.specs.Call.{Call, hostFrame, happens}
+use Rattle.rules.specs.Call.{Call, host_frame, happens}
 use Rattle.rules.specs.declared.event.DeviceEvent.TheVariants.{OpenPhase, SendData, FinishTags, MediaError, LinkEvent, Comreset}
 use Rattle.rules.specs.Positions.{left_of}
 use Rattle.rules.specs.declared.facts.Facts.{Facts}
 
 -- 4: frame type not 27h, 46h, 58h; wrong length, for which the reader refuses the frame
-unfoldable pub wrongKind : Result Frame Refusal → Bool
-wrongKind (Ok (Host h)) = false
-wrongKind (Ok (Data n)) = false
-wrongKind (Ok Bist) = false
-wrongKind _ = true
+unfoldable pub wrong_kind : Result Frame Refusal → Bool
+wrong_kind (Ok (Host h)) = false
+wrong_kind (Ok (Data n)) = false
+wrong_kind (Ok Bist) = false
+wrong_kind _ = true
 
 -- 5: command while reset is held or a phase is open; data with no write phase; BIST while a phase is open
-unfoldable pub wrongTime : Facts → Result Frame Refusal → Bool
-wrongTime v (Ok (Host h)) = h.command_bit && (v.status.held || linkBusy v.status)
-wrongTime v (Ok (Data n)) = is_none v.status.phase || not v.entry.write
-wrongTime v (Ok Bist) = linkBusy v.status
-wrongTime v _ = false
+unfoldable pub wrong_time : Facts → Result Frame Refusal → Bool
+wrong_time v (Ok (Host h)) = h.command_bit && (v.status.held || link_busy v.status)
+wrong_time v (Ok (Data n)) = is_none v.status.phase || not v.entry.write
+wrong_time v (Ok Bist) = link_busy v.status
+wrong_time v _ = false
 
 -- 6: the payload is longer than what is left of the command
-unfoldable pub wrongSize : Facts → Result Frame Refusal → Bool
-wrongSize v (Ok (Data n)) = longer (left_of v.entry) n
-wrongSize v _ = false
+unfoldable pub wrong_size : Facts → Result Frame Refusal → Bool
+wrong_size v (Ok (Data n)) = longer (left_of v.entry) n
+wrong_size v _ = false
 
 -- 4, 5 and 6: what of a host frame's row its kind decides
-abbrev pub kindTests : Facts → Result Frame Refusal → List Rung
-kindTests v f = rung NoHostFrame (wrongKind f) ∷ rung WrongTime (wrongTime v f) ∷ rung TooLong (wrongSize v f) ∷ []
+abbrev pub kind_tests : Facts → Result Frame Refusal → List Rung
+kind_tests v f = rung NoHostFrame (wrong_kind f) ∷ rung WrongTime (wrong_time v f) ∷ rung TooLong (wrong_size v f) ∷ []
 
 -- the whole row of a host frame, as it was read
-abbrev pub frameTests : Facts → Result Frame Refusal → List Rung
-frameTests v f = hostLadder v.contradicts v.medium_wrong v.reply_short (wrongKind f) (wrongTime v f) (wrongSize v f)
+abbrev pub frame_tests : Facts → Result Frame Refusal → List Rung
+frame_tests v f = host_ladder v.contradicts v.medium_wrong v.reply_short (wrong_kind f) (wrong_time v f) (wrong_size v f)
 
 -- 7: a tag that is not outstanding; a tag of 32 or more never is
-abbrev pub idleTag : Facts → ℕ → Bool
-idleTag v tag = not (bitIn 32 v.status.outstanding tag)
+abbrev pub idle_tag : Facts → ℕ → Bool
+idle_tag v tag = not (bit_in 32 v.status.outstanding tag)
 
 -- 9: wholly moved
-abbrev pub allMoved : Entry → Bool
-allMoved e = wholly e.moved (whole_of e.count)
+abbrev pub all_moved : Entry → Bool
+all_moved e = wholly e.moved (whole_of e.count)
 
 -- 10: no read phase
-abbrev pub noReadPhase : Facts → Bool
-noReadPhase v = is_none v.status.phase || v.entry.write
+abbrev pub no_read_phase : Facts → Bool
+no_read_phase v = is_none v.status.phase || v.entry.write
 
 -- 11: a tag of the set that is not outstanding or not wholly moved
 abbrev pub unready : Entry → Bool → Bool → Bool
-unready e asked busy = notReady asked busy e.moved (whole_of e.count)
+unready e asked busy = not_ready asked busy e.moved (whole_of e.count)
 
 -- of tag t, in the table
-abbrev pub unreadyAt : List Entry → ℕ → ℕ → ℕ → Bool
-unreadyAt es outstanding set t = unready (entry_of es t) (bitIn 32 set t) (bitIn 32 outstanding t)
+abbrev pub unready_at : List Entry → ℕ → ℕ → ℕ → Bool
+unready_at es outstanding set t = unready (entry_of es t) (bit_in 32 set t) (bit_in 32 outstanding t)
 
 -- of some tag: one refuses the whole set
-unfoldable pub someUnready : List Entry → ℕ → ℕ → Bool
-someUnready es outstanding set = someBelow 32 (unreadyAt es outstanding set)
+unfoldable pub some_unready : List Entry → ℕ → ℕ → Bool
+some_unready es outstanding set = some_below 32 (unready_at es outstanding set)
 
 -- 12: a sector outside the command
 abbrev pub outside : Entry → ℕ → Bool
-outside e sector = outsideOf e.first e.count sector
+outside e sector = outside_of e.first e.count sector
 
 -- the refusal table: a call's tests, the lowest number first
 unfoldable pub tests : Facts → Call → List Rung
-tests v (hostFrame f) = frameTests v (readFrame f)
-tests v (happens (OpenPhase t)) = openLadder v.contradicts v.reply_short (idleTag v t) (linkBusy v.status) (allMoved v.entry)
-tests v (happens SendData) = sendLadder v.contradicts v.medium_wrong v.reply_short (noReadPhase v)
-tests v (happens (FinishTags s)) = finishLadder v.contradicts v.reply_short (linkBusy v.status) (eqb s 0 || v.unready)
-tests v (happens (MediaError t e s)) = mediaLadder v.contradicts v.reply_short (idleTag v t) (eqb e 0 || outside v.entry s)
-tests v (happens (LinkEvent r)) = linkLadder v.contradicts (rowRefused v.settings.mask r)
-tests v (happens Comreset) = comresetLadder v.contradicts v.reply_short
+tests v (host_frame f) = frame_tests v (read_frame f)
+tests v (happens (OpenPhase t)) = open_ladder v.contradicts v.reply_short (idle_tag v t) (link_busy v.status) (all_moved v.entry)
+tests v (happens SendData) = send_ladder v.contradicts v.medium_wrong v.reply_short (no_read_phase v)
+tests v (happens (FinishTags s)) = finish_ladder v.contradicts v.reply_short (link_busy v.status) (eqb s 0 || v.unready)
+tests v (happens (MediaError t e s)) = media_ladder v.contradicts v.reply_short (idle_tag v t) (eqb e 0 || outside v.entry s)
+tests v (happens (LinkEvent r)) = link_ladder v.contradicts (row_refused v.settings.mask r)
+tests v (happens Comreset) = comreset_ladder v.contradicts v.reply_short

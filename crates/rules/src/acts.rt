@@ -1,6 +1,6 @@
 // What a call makes the device do: what was asked for, and of the state the entry alone. Its replies, the medium and the new state are made from the act and the old state.
 ghost use Rattle.std.specs.Prelude.{◌≡◌};
-ghost use Rattle.rules.specs.Record.{recordOf};
+ghost use Rattle.rules.specs.Record.{record_of};
 
 use device_state::{Echo, Entry, ErrorRecord};
 use frames::Task;
@@ -27,7 +27,7 @@ pub struct Fault {
 
 /// The record of a fault: with NQ, and then tag 0, for a command that was not queued.
 impl From<Fault> for ErrorRecord {
-    ghost from_gives = { λ fault errors. errors ≡ recordOf fault };
+    ghost from_gives = { λ fault errors. errors ≡ record_of fault };
 
     fn from(fault: Fault) -> ErrorRecord {
         ErrorRecord {

@@ -1,6 +1,6 @@
 // The commands that the device tells apart.
 ghost use Rattle.std.specs.Prelude.{◌≡◌};
-ghost use Rattle.rules.specs.Command.{commandNamed};
+ghost use Rattle.rules.specs.Command.{command_named};
 
 /// A command that the device tells apart, by its name in the ATA standard; its discriminant is its byte.
 #[derive(Clone, Copy, Debug, PartialEq, Eq)]
@@ -16,7 +16,7 @@ pub(crate) enum Command {
 impl Command {
     /// The command that a byte names, if it is one of the three.
     pub(crate) fn from_byte(byte: u8) -> Option<Command>
-        ensures { result ≡ commandNamed byte }
+        ensures { result ≡ command_named byte }
     {
         match byte {
             0x2F => Some(Command::ReadLogExt),

@@ -1,8 +1,8 @@
 // Which rule holds for a command.
 ghost use Rattle.std.specs.Prelude.{◌≡◌};
-ghost use Rattle.device_state.specs.Range.{tooFar};
-ghost use Rattle.rules.specs.QueuedRule.{tagRefused, queuedRule};
-ghost use Rattle.rules.specs.OtherRule.{otherRule, logZeroes};
+ghost use Rattle.device_state.specs.Range.{too_far};
+ghost use Rattle.rules.specs.QueuedRule.{tag_refused, queued_rule};
+ghost use Rattle.rules.specs.OtherRule.{other_rule, log_zeroes};
 
 use crate::errors::CommandError;
 use device_state::Sectors;
@@ -29,7 +29,7 @@ pub struct TagNamed {
 impl TagNamed {
     /// True where it is at or above the depth, or outstanding already.
     pub fn is_refused(self, depth: u32) -> bool
-        ensures { result ≡ tagRefused depth self.tag self.busy }
+        ensures { result ≡ tag_refused depth self.tag self.busy }
     {
         depth <= u32::from(self.tag) || self.busy
     }
@@ -43,7 +43,7 @@ pub fn queued_rule(
     capacity: u32,
     sectors: Sectors,
 ) -> Result<(), Bad>
-    ensures { result ≡ queuedRule halted (tagRefused depth tag.tag tag.busy) (tooFar capacity sectors.first sectors.count) }
+    ensures { result ≡ queued_rule halted (tag_refused depth tag.tag tag.busy) (too_far capacity sectors.first sectors.count) }
 {
     if halted {
         return Err(Bad::Only(CommandError::Aborted));
@@ -59,7 +59,7 @@ pub fn queued_rule(
 
 /// Any other command: bad, or the log page that is sent. `page`: the one that it asks for, if it asks for one. `busy`: something is outstanding.
 pub fn other_rule(halted: bool, page: Option<LogPage>, busy: bool) -> Result<LogPage, Bad>
-    ensures { result ≡ otherRule halted page busy }
+    ensures { result ≡ other_rule halted page busy }
 {
     if halted && page != Some(LogPage::Errors) {
         return Err(Bad::Only(CommandError::Aborted));
@@ -72,7 +72,7 @@ pub fn other_rule(halted: bool, page: Option<LogPage>, busy: bool) -> Result<Log
 
 /// True where page 11h zeroes the counters once it is made. `features`: the low byte of the command that asks for it.
 pub fn log_zeroes(features: u8) -> bool
-    ensures { result ≡ logZeroes features }
+    ensures { result ≡ log_zeroes features }
 {
     frames::flag(features, 0)
 }

@@ -1,9 +1,9 @@
 // What a host frame makes the device do: the first rule that holds.
 ghost use Rattle.std.specs.Prelude.{◌≡◌, eqb, Ok};
 ghost use Rattle.frames.specs.declared.shapes.Frame.TheVariants.{Host, Data, Bist};
-ghost use Rattle.rules.specs.Decide.{badDoes, queuedAct, logPage, pageAsked, otherAct, controlAct, registerAct};
-ghost use Rattle.device_state.specs.State.{echoOf};
-ghost use Rattle.rules.specs.Act.{kindAct, heardAct};
+ghost use Rattle.rules.specs.Decide.{bad_does, queued_act, log_page, page_asked, other_act, control_act, register_act};
+ghost use Rattle.device_state.specs.State.{echo_of};
+ghost use Rattle.rules.specs.Act.{kind_act, heard_act};
 
 use crate::acts::{Act, BadReply, CountersRead, Fault, Queued};
 use crate::command::Command;
@@ -15,7 +15,7 @@ use refusals::{Refusal, check};
 
 // A bad command: answered, and if it halts, for its tag if it was queued.
 fn bad_act(host: HostReg, tag: Option<u8>, bad: Bad) -> Act
-    ensures { result ≡ badDoes host tag bad }
+    ensures { result ≡ bad_does host tag bad }
 {
     match bad {
         Bad::Only(error) => Act::Bad(BadReply {
@@ -31,9 +31,9 @@ fn bad_act(host: HostReg, tag: Option<u8>, bad: Bad) -> Act
 }
 
 // The page that a well-formed READ LOG EXT asks for.
-#[tactic(auto, unfolding(crate::specs::Decide::logPage, device_state::specs::State::echoOf))]
+#[tactic(auto, unfolding(crate::specs::Decide::log_page, device_state::specs::State::echo_of))]
 fn log_page(task: Task) -> Option<LogPage>
-    ensures { result ≡ logPage 0x2F (echoOf task) }
+    ensures { result ≡ log_page 0x2F (echo_of task) }
 {
     let [page, b5, _, _, b9, ..] = task.lba.to_le_bytes();
     if b5 == 0 && b9 == 0 && task.count == 1 {
@@ -44,10 +44,10 @@ fn log_page(task: Task) -> Option<LogPage>
 
 impl Facts {
     // Rules 1 to 4 of a queued command, a write or a read.
-    #[tactic(auto, unfolding(crate::specs::Decide::queuedAct))]
+    #[tactic(auto, unfolding(crate::specs::Decide::queued_act))]
     fn queued_act(&self, host: HostReg, write: bool) -> Act
         requires { write ≡ eqb host.command 0x61 }
-        ensures { result ≡ queuedAct self.now host }
+        ensures { result ≡ queued_act self.now host }
     {
         let tag = frames::tag_of(host.task.count);
         let count = frames::sectors_of(host.features, host.features_high);
@@ -85,10 +85,10 @@ impl Facts {
     }
 
     // Any other command, with the page that it asks for, if it asks for one.
-    #[tactic(auto, unfolding(crate::specs::Decide::otherAct))]
+    #[tactic(auto, unfolding(crate::specs::Decide::other_act))]
     fn other_act(&self, host: HostReg, page: Option<LogPage>) -> Act
-        requires { page ≡ pageAsked host }
-        ensures { result ≡ otherAct self.now host }
+        requires { page ≡ page_asked host }
+        ensures { result ≡ other_act self.now host }
     {
         match crate::other_rule(self.status.halted, page, self.status.outstanding != 0) {
             Err(bad) => bad_act(host, None, bad),
@@ -101,9 +101,9 @@ impl Facts {
     }
 
     // A control frame.
-    #[tactic(auto, unfolding(crate::specs::Decide::controlAct))]
+    #[tactic(auto, unfolding(crate::specs::Decide::control_act))]
     fn control_act(&self, host: HostReg) -> Act
-        ensures { result ≡ controlAct self.now host }
+        ensures { result ≡ control_act self.now host }
     {
         if frames::srst(host.control) {
             return Act::Reset;
@@ -115,9 +115,9 @@ impl Facts {
     }
 
     // A register frame at its time: a control frame, or a command.
-    #[tactic(auto, unfolding(crate::specs::Decide::registerAct, crate::specs::Decide::logPage))]
+    #[tactic(auto, unfolding(crate::specs::Decide::register_act, crate::specs::Decide::log_page))]
     fn register_act(&self, host: HostReg) -> Act
-        ensures { result ≡ registerAct self.now host }
+        ensures { result ≡ register_act self.now host }
     {
         if !host.command_bit {
             return self.control_act(host);
@@ -131,9 +131,9 @@ impl Facts {
     }
 
     // 27h.
-    #[tactic(auto, unfolding(crate::specs::Decide::frameAct, crate::specs::Tests::wrongKind, crate::specs::Tests::wrongTime, crate::specs::Tests::wrongSize, refusals::specs::First::first_of))]
+    #[tactic(auto, unfolding(crate::specs::Decide::frame_act, crate::specs::Tests::wrong_kind, crate::specs::Tests::wrong_time, crate::specs::Tests::wrong_size, refusals::specs::First::first_of))]
     fn host_act(&self, host: HostReg) -> Result<Act, Refusal>
-        ensures { result ≡ kindAct self.now (Ok (Host host)) }
+        ensures { result ≡ kind_act self.now (Ok (Host host)) }
     {
         if host.command_bit && (self.status.held || self.status.is_link_busy()) {
             return Err(Refusal::WrongTime);
@@ -142,9 +142,9 @@ impl Facts {
     }
 
     // 46h: host data in a write phase.
-    #[tactic(auto, unfolding(crate::specs::Decide::frameAct, crate::specs::Tests::wrongKind, crate::specs::Tests::wrongTime, crate::specs::Tests::wrongSize, crate::specs::Positions::move_of, refusals::specs::First::first_of))]
+    #[tactic(auto, unfolding(crate::specs::Decide::frame_act, crate::specs::Tests::wrong_kind, crate::specs::Tests::wrong_time, crate::specs::Tests::wrong_size, crate::specs::Positions::move_of, refusals::specs::First::first_of))]
     fn data_act(&self, size: usize) -> Result<Act, Refusal>
-        ensures { result ≡ kindAct self.now (Ok (Data size)) }
+        ensures { result ≡ kind_act self.now (Ok (Data size)) }
     {
         let Some(tag) = self.open_phase(true) else {
             return Err(Refusal::WrongTime);
@@ -156,9 +156,9 @@ impl Facts {
     }
 
     // 58h.
-    #[tactic(auto, unfolding(crate::specs::Decide::frameAct, crate::specs::Tests::wrongKind, crate::specs::Tests::wrongTime, crate::specs::Tests::wrongSize, refusals::specs::First::first_of))]
+    #[tactic(auto, unfolding(crate::specs::Decide::frame_act, crate::specs::Tests::wrong_kind, crate::specs::Tests::wrong_time, crate::specs::Tests::wrong_size, refusals::specs::First::first_of))]
     fn bist_act(&self) -> Result<Act, Refusal>
-        ensures { result ≡ kindAct self.now (Ok Bist) }
+        ensures { result ≡ kind_act self.now (Ok Bist) }
     {
         if self.status.is_link_busy() {
             return Err(Refusal::WrongTime);
@@ -167,9 +167,9 @@ impl Facts {
     }
 
     // A host frame for which what is lent is right.
-    #[tactic(auto, unfolding(crate::specs::Tests::wrongKind, refusals::specs::First::first_of))]
+    #[tactic(auto, unfolding(crate::specs::Tests::wrong_kind, refusals::specs::First::first_of))]
     fn kind_act(&self, frame: Result<Frame, Refusal>) -> Result<Act, Refusal>
-        ensures { result ≡ kindAct self.now frame }
+        ensures { result ≡ kind_act self.now frame }
     {
         let Ok(Frame::Host(host)) = frame else {
             let Ok(Frame::Data(size)) = frame else {
@@ -190,7 +190,7 @@ impl Facts {
     /// turned it down, or its kind is no host's), `WrongTime` (5), `TooLong` (6).
     #[tactic(auto, unfolding(refusals::specs::First::first_of))]
     pub fn frame_act(&self, frame: Result<Frame, Refusal>) -> Result<Act, Refusal>
-        ensures { result ≡ heardAct self.now frame }
+        ensures { result ≡ heard_act self.now frame }
     {
         check(&[
             (self.contradicts, Refusal::Contradiction),

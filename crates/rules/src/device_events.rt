@@ -2,7 +2,7 @@
 ghost use Rattle.std.specs.Prelude.{◌≡◌};
 ghost use Rattle.refusals.specs.First.{first_of, unless};
 ghost use Rattle.rules.specs.Call.{happens};
-ghost use Rattle.rules.specs.Tests.{tests, someUnready};
+ghost use Rattle.rules.specs.Tests.{tests, some_unready};
 ghost use Rattle.rules.specs.Act.{does, failing, act};
 
 use crate::acts::{Act, Fault, Queued};
@@ -14,7 +14,7 @@ use refusals::{Refusal, check};
 
 /// True where a tag of the set is not outstanding, or not wholly moved: one walk over the thirty-two entries.
 pub fn some_unready(entries: &Entries, status: Status, set: u32) -> bool
-    ensures { result ≡ someUnready entries.now status.outstanding set }
+    ensures { result ≡ some_unready entries.now status.outstanding set }
 {
     entries.iter().enumerate().any(|(tag, entry)| {
         let tag = tag as u32;

@@ -1,6 +1,6 @@
 // What a decision looks at: lengths and control values, never medium or payload bytes.
 ghost use Rattle.std.specs.Prelude.{◌≡◌};
-ghost use Rattle.rules.specs.Positions.{phaseTo, moveFor};
+ghost use Rattle.rules.specs.Positions.{phase_to, move_for};
 
 use crate::acts::Move;
 use device_state::{Entry, Settings, Status};
@@ -28,16 +28,16 @@ pub struct Facts {
 impl Facts {
     /// The tag of the open phase, if one is open whose command moves data that way. `write`: from the host.
     pub(crate) fn open_phase(&self, write: bool) -> Option<u32>
-        ensures { result ≡ phaseTo self.now.status self.now.entry write }
+        ensures { result ≡ phase_to self.now.status self.now.entry write }
     {
         self.status.phase.filter(|_| self.entry.write == write)
     }
 }
 
 /// The next `size` bytes of a command of a tag, or what is left of it.
-#[tactic(auto, unfolding(crate::specs::Positions::advancedBy))]
+#[tactic(auto, unfolding(crate::specs::Positions::advanced_by))]
 pub fn next_move(tag: u32, entry: Entry, size: usize) -> Move
-    ensures { result ≡ moveFor tag entry size }
+    ensures { result ≡ move_for tag entry size }
 {
     let progress = entry.progress();
     Move {

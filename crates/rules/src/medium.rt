@@ -1,6 +1,6 @@
 // What an act takes from the medium, and what it puts there.
 ghost use Rattle.std.specs.Prelude.{◌≡◌};
-ghost use Rattle.rules.specs.Medium.{part_of, mediumAfter};
+ghost use Rattle.rules.specs.Medium.{part_of, medium_after};
 
 use crate::acts::Act;
 
@@ -19,7 +19,7 @@ impl Act {
     /// The payload of the host's data frame goes to the medium, where the act says so.
     #[tactic(auto, unfolding(crate::specs::Medium::touch_of))]
     pub fn store(self, medium: &mut [u8], frame: &[u8])
-        ensures { medium.new ≡ mediumAfter self frame.now medium.old }
+        ensures { medium.new ≡ medium_after self frame.now medium.old }
     {
         if let Act::Store(moved) = self {
             device_state::store(medium, moved.at, frame);

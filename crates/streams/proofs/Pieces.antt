@@ -12,20 +12,20 @@ pub record Written (old new : Option (List ℕ)) (text rest : List ℕ) : Type 0
   pub bytes : Appends old new done
 
 -- n bytes of the rest more
-pub written-more : (a b c : Option (List ℕ)) (text rest : List ℕ) (n : ℕ) → Written a b text rest → Appends b c (take n rest) → Written a c text (take (length rest - n) (drop n rest))
-written-more a b c text rest n w more = record {
+pub written_more : (a b c : Option (List ℕ)) (text rest : List ℕ) (n : ℕ) → Written a b text rest → Appends b c (take n rest) → Written a c text (take (length rest - n) (drop n rest))
+written_more a b c text rest n w more = record {
   done = w.done ++ take n rest;
   parts = w.parts ∙ ap (λ l. w.done ++ l) (sym (take-append-drop n rest)) ∙ sym (append_assoc w.done (take n rest) (drop n rest)) ∙ ap (λ l. (w.done ++ take n rest) ++ l) (sym (take_rest rest n));
   bytes = Appends-trans a b c w.done (take n rest) w.bytes more;
 }
 
 -- a write that took nothing
-pub written-kept : (a b c : Option (List ℕ)) (text rest : List ℕ) → Written a b text rest → Keeps b c → Written a c text rest
-written-kept a b c text rest w kept = record { done = w.done; parts = w.parts; bytes = Appends-kept a b c w.done w.bytes kept }
+pub written_kept : (a b c : Option (List ℕ)) (text rest : List ℕ) → Written a b text rest → Keeps b c → Written a c text rest
+written_kept a b c text rest w kept = record { done = w.done; parts = w.parts; bytes = Appends-kept a b c w.done w.bytes kept }
 
 -- what was written is a front of the text
-pub written-front : (a b : Option (List ℕ)) (text rest : List ℕ) → Written a b text rest → AppendsFront a b text
-written-front a b text rest w = (length w.done, subst (Appends a b) (sym (ap (take (length w.done)) w.parts ∙ take_at w.done rest (length w.done) refl)) w.bytes)
+pub written_front : (a b : Option (List ℕ)) (text rest : List ℕ) → Written a b text rest → AppendsFront a b text
+written_front a b text rest w = (length w.done, subst (Appends a b) (sym (ap (take (length w.done)) w.parts ∙ take_at w.done rest (length w.done) refl)) w.bytes)
 
 -- what the check needs of it
-pub ruleset writes = (written-more, written-kept)
+pub ruleset writes = (written_more, written_kept)

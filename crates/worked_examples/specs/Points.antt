@@ -2,19 +2,19 @@
 use Rattle.std.specs.Prelude.{◌≡◌, false, List, [], ◌∷◌, map, ℕ, ◌*◌, get_or, take, drop, replicate, Option, Result}
 use Rattle.bits.specs.Little.{le_bytes}
 use Rattle.refusals.specs.declared.reasons.Refusal.{Refusal}
-use Rattle.frames.specs.Cut.{joined}
+use Rattle.frames.specs.Cut.{joined_bytes}
 use Rattle.frames.specs.Write.{encode}
-use Rattle.pages.specs.Read11.{readCounter, counterAnswer}
+use Rattle.pages.specs.Read11.{read_counter, counter_answer}
 use Rattle.pages.specs.declared.value.CounterValue.{CounterValue}
-use Rattle.device_state.specs.State.{blankRecord}
-use Rattle.replies.specs.Replies.{page10Of, page11Of}
-use Rattle.device.specs.Device.{freshDevice}
-use Rattle.device.specs.Step.{Step, stepBy, step}
-use Rattle.rules.specs.Call.{hostFrame, happens}
+use Rattle.device_state.specs.State.{blank_record}
+use Rattle.replies.specs.Replies.{page10_of, page11_of}
+use Rattle.device.specs.Device.{fresh_device}
+use Rattle.device.specs.Step.{Step, step_by, step}
+use Rattle.rules.specs.Call.{host_frame, happens}
 use Rattle.rules.specs.declared.event.DeviceEvent.TheVariants.{OpenPhase, SendData, FinishTags, MediaError}
 use Rattle.rules.specs.Act.{act}
 use Rattle.device.specs.Lent.{lent}
-use Rattle.device.specs.FactsOf.{factsWith}
+use Rattle.device.specs.FactsOf.{facts_with}
 use Rattle.device.specs.declared.state.Device.{Device}
 
 -- one example: its number in 01, what the definitions give, and what 01 says
@@ -29,24 +29,24 @@ Hold [] = Unit
 Hold (e ∷ es) = (e.given ≡ e.wanted) × Hold es
 
 -- the bytes of a step's replies, each as it is written
-abbrev pub replyBytes : Step → List ℕ
-replyBytes s = joined (map encode s.frames)
+abbrev pub reply_bytes : Step → List ℕ
+reply_bytes s = joined_bytes (map encode s.frames)
 
 -- the last byte of a page, which is its sum byte
-abbrev pub lastByte : List ℕ → List ℕ
-lastByte page = drop 511 page
+abbrev pub last_byte : List ℕ → List ℕ
+last_byte page = drop 511 page
 
 -- an answer as its number and its values: absent has none
 abbrev pub said : Result (Option CounterValue) Refusal → List ℕ
-said r = (counterAnswer r).number ∷ (counterAnswer r).values
+said r = (counter_answer r).number ∷ (counter_answer r).values
 
 -- a fresh device of depth 32, rows 0 and 9 kept
-abbrev pub freshWith : ℕ → Device
-freshWith capacity = freshDevice (record { depth = 32; capacity = capacity; mask = 0x0201 })
+abbrev pub fresh_with : ℕ → Device
+fresh_with capacity = fresh_device (record { depth = 32; capacity = capacity; mask = 0x0201 })
 
 -- a queued read: count field, sector, device 40h, tag
-abbrev pub queuedRead : ℕ → ℕ → ℕ → List ℕ
-queuedRead count sector tag =
+abbrev pub queued_read : ℕ → ℕ → ℕ → List ℕ
+queued_read count sector tag =
     0x27 ∷ 0x80 ∷ 0x60 ∷ count ∷ get_or (le_bytes 3 sector) 0 0 ∷ get_or (le_bytes 3 sector) 1 0 ∷ get_or (le_bytes 3 sector) 2 0 ∷ 0x40
     ∷ 0 ∷ 0 ∷ 0 ∷ 0 ∷ 8 * tag ∷ 0 ∷ 0 ∷ 0 ∷ 0 ∷ 0 ∷ 0 ∷ 0 ∷ []
 
@@ -54,52 +54,52 @@ queuedRead count sector tag =
 abbrev pub room : List ℕ
 room = replicate 8196 0
 
--- what a host frame comes to with a medium of the right length and room enough; that this is the machine's own `step` is `reply-to-is`
-abbrev pub replyTo : Device → List ℕ → Step
-replyTo d f = stepBy d (lent (hostFrame f) [] room) (act (factsWith d d.status.phase false false 8196) (hostFrame f))
+-- what a host frame comes to with a medium of the right length and room enough; that this is the machine's own `step` is `reply_to_is`
+abbrev pub reply_to : Device → List ℕ → Step
+reply_to d f = step_by d (lent (host_frame f) [] room) (act (facts_with d d.status.phase false false 8196) (host_frame f))
 
 -- READ LOG EXT of page 10h
-abbrev pub readLog10 : List ℕ
-readLog10 = 0x27 ∷ 0x80 ∷ 0x2F ∷ 0 ∷ 0x10 ∷ 0 ∷ 0 ∷ 0 ∷ 0 ∷ 0 ∷ 0 ∷ 0 ∷ 1 ∷ 0 ∷ 0 ∷ 0 ∷ 0 ∷ 0 ∷ 0 ∷ 0 ∷ []
+abbrev pub read_log10 : List ℕ
+read_log10 = 0x27 ∷ 0x80 ∷ 0x2F ∷ 0 ∷ 0x10 ∷ 0 ∷ 0 ∷ 0 ∷ 0 ∷ 0 ∷ 0 ∷ 0 ∷ 1 ∷ 0 ∷ 0 ∷ 0 ∷ 0 ∷ 0 ∷ 0 ∷ 0 ∷ []
 
 -- a read of 8 sectors from 60h with tag 5 is outstanding; then its media error at sector 64h
 abbrev pub reading : Device
-reading = (replyTo (freshWith 256) (queuedRead 8 0x60 5)).state
+reading = (reply_to (fresh_with 256) (queued_read 8 0x60 5)).state
 
 -- its media error: tag 5, error 40h, sector 64h
 abbrev pub failed : Step
 failed = step reading (lent (happens (MediaError 5 0x40 0x64)) [] room)
 
 -- reads of a sector each with tags 0 and 5, both sent
-abbrev pub sentWith : Device → ℕ → Device
-sentWith d tag = (step (step d (lent (happens (OpenPhase tag)) [] room)).state (lent (happens SendData) (replicate 512 0) room)).state
+abbrev pub sent_with : Device → ℕ → Device
+sent_with d tag = (step (step d (lent (happens (OpenPhase tag)) [] room)).state (lent (happens SendData) (replicate 512 0) room)).state
 
 -- of a device of one sector
-abbrev pub bothSent : Device
-bothSent = sentWith (sentWith (replyTo (replyTo (freshWith 1) (queuedRead 1 0 0)).state (queuedRead 1 0 5)).state 0) 5
+abbrev pub both_sent : Device
+both_sent = sent_with (sent_with (reply_to (reply_to (fresh_with 1) (queued_read 1 0 0)).state (queued_read 1 0 5)).state 0) 5
 
 -- P7's page: mask 0201h, values 0 and 3
-abbrev pub twoRows : List ℕ
-twoRows = page11Of 0x0201 (0 ∷ 0 ∷ 0 ∷ 0 ∷ 0 ∷ 0 ∷ 0 ∷ 0 ∷ 0 ∷ 3 ∷ 0 ∷ 0 ∷ 0 ∷ 0 ∷ 0 ∷ 0 ∷ [])
+abbrev pub two_rows : List ℕ
+two_rows = page11_of 0x0201 (0 ∷ 0 ∷ 0 ∷ 0 ∷ 0 ∷ 0 ∷ 0 ∷ 0 ∷ 0 ∷ 3 ∷ 0 ∷ 0 ∷ 0 ∷ 0 ∷ 0 ∷ 0 ∷ [])
 
 -- kind, I, status and error of the answer to a queued read
 abbrev pub answer : ℕ → ℕ → ℕ → List ℕ
-answer capacity count sector = take 4 (replyBytes (replyTo (freshWith capacity) (queuedRead count sector 0)))
+answer capacity count sector = take 4 (reply_bytes (reply_to (fresh_with capacity) (queued_read count sector 0)))
 
 -- P1 to P11, in one list
 unfoldable pub examples : List Example
 examples =
-    record { number = 1; given = lastByte (page10Of blankRecord); wanted = 0x80 ∷ [] }
-    ∷ record { number = 2; given = lastByte (page10Of failed.state.errors); wanted = 0xAE ∷ [] }
-    ∷ record { number = 3; given = replyBytes (step bothSent (lent (happens (FinishTags 0x21)) [] room)); wanted = 0xA1 ∷ 0x40 ∷ 0x40 ∷ 0x00 ∷ 0x21 ∷ 0x00 ∷ 0x00 ∷ 0x00 ∷ [] }
-    ∷ record { number = 4; given = take 8 (replyBytes (replyTo failed.state readLog10)); wanted = 0xA1 ∷ 0x00 ∷ 0x40 ∷ 0x00 ∷ 0xFF ∷ 0xFF ∷ 0xFF ∷ 0xFF ∷ [] }
-    ∷ record { number = 5; given = replyBytes failed; wanted = 0xA1 ∷ 0x40 ∷ 0x41 ∷ 0x40 ∷ 0x00 ∷ 0x00 ∷ 0x00 ∷ 0x00 ∷ [] }
-    ∷ record { number = 6; given = take 1 (drop 1 (replyBytes (step reading (lent (happens (OpenPhase 5)) [] room)))); wanted = 0x20 ∷ [] }
-    ∷ record { number = 6; given = take 4 (drop 20 (replyBytes (step reading (lent (happens (OpenPhase 5)) [] room)))); wanted = 0x00 ∷ 0x10 ∷ 0x00 ∷ 0x00 ∷ [] }
-    ∷ record { number = 7; given = lastByte twoRows; wanted = 0xB2 ∷ [] }
-    ∷ record { number = 7; given = said (readCounter twoRows 0x001); wanted = 0 ∷ 0 ∷ [] }
-    ∷ record { number = 7; given = said (readCounter twoRows 0x00A); wanted = 0 ∷ 3 ∷ [] }
-    ∷ record { number = 7; given = said (readCounter twoRows 0x002); wanted = 0 ∷ [] }
+    record { number = 1; given = last_byte (page10_of blank_record); wanted = 0x80 ∷ [] }
+    ∷ record { number = 2; given = last_byte (page10_of failed.state.errors); wanted = 0xAE ∷ [] }
+    ∷ record { number = 3; given = reply_bytes (step both_sent (lent (happens (FinishTags 0x21)) [] room)); wanted = 0xA1 ∷ 0x40 ∷ 0x40 ∷ 0x00 ∷ 0x21 ∷ 0x00 ∷ 0x00 ∷ 0x00 ∷ [] }
+    ∷ record { number = 4; given = take 8 (reply_bytes (reply_to failed.state read_log10)); wanted = 0xA1 ∷ 0x00 ∷ 0x40 ∷ 0x00 ∷ 0xFF ∷ 0xFF ∷ 0xFF ∷ 0xFF ∷ [] }
+    ∷ record { number = 5; given = reply_bytes failed; wanted = 0xA1 ∷ 0x40 ∷ 0x41 ∷ 0x40 ∷ 0x00 ∷ 0x00 ∷ 0x00 ∷ 0x00 ∷ [] }
+    ∷ record { number = 6; given = take 1 (drop 1 (reply_bytes (step reading (lent (happens (OpenPhase 5)) [] room)))); wanted = 0x20 ∷ [] }
+    ∷ record { number = 6; given = take 4 (drop 20 (reply_bytes (step reading (lent (happens (OpenPhase 5)) [] room)))); wanted = 0x00 ∷ 0x10 ∷ 0x00 ∷ 0x00 ∷ [] }
+    ∷ record { number = 7; given = last_byte two_rows; wanted = 0xB2 ∷ [] }
+    ∷ record { number = 7; given = said (read_counter two_rows 0x001); wanted = 0 ∷ 0 ∷ [] }
+    ∷ record { number = 7; given = said (read_counter two_rows 0x00A); wanted = 0 ∷ 3 ∷ [] }
+    ∷ record { number = 7; given = said (read_counter two_rows 0x002); wanted = 0 ∷ [] }
     ∷ record { number = 8; given = answer 65536 0 0; wanted = 0x34 ∷ 0x00 ∷ 0x40 ∷ 0x00 ∷ [] }
     ∷ record { number = 9; given = answer 65536 0 1; wanted = 0x34 ∷ 0x40 ∷ 0x41 ∷ 0x10 ∷ [] }
     ∷ record { number = 10; given = answer 64 1 63; wanted = 0x34 ∷ 0x00 ∷ 0x40 ∷ 0x00 ∷ [] }

@@ -1,20 +1,20 @@
 -- Frames and pages in full, no two fields alike: which byte and which bits each field has, of what is written and of what is read. Byte k of a frame and of page 10h is 10h + k
 -- wherever a field fills it. Assumes nothing.
 use Rattle.std.specs.Prelude.{◌≡◌, true, false, List, [], ◌∷◌, ◌++◌, map, ℕ, replicate, Some, Option, Result, Ok, Err}
-use Rattle.bits.specs.Laid.{laid}
+use Rattle.bits.specs.Laid.{overlay}
 use Rattle.refusals.specs.Number.{number}
 use Rattle.refusals.specs.declared.reasons.Refusal.{Refusal}
 use Rattle.refusals.specs.declared.reasons.Refusal.TheVariants.{Contradiction, MediumLength, ReplyShort, NoHostFrame, WrongTime, TooLong, TagIdle, PhaseOpen, AllMoved, NoReadPhase, SetUnready, OutsideCommand, NoRow, PageLength, PageSum, PageDamaged, NoCounter, NoFrame, Unfit, BufferShort}
-use Rattle.frames.specs.Shared.{srstOf, tag_of, sectorsOf}
-use Rattle.frames.specs.Cut.{joined, cut}
+use Rattle.frames.specs.Shared.{srst_of, tag_of, sectors_of}
+use Rattle.frames.specs.Cut.{joined_bytes, cut}
 use Rattle.frames.specs.declared.shared.Task.{Task}
-use Rattle.frames.specs.Read.{readFrame}
-use Rattle.frames.specs.Write.{FrameValue, host, device, setBits, setup, activate, payload, bist, pio, encode}
-use Rattle.frames.specs.RoundTrip.{readBack}
+use Rattle.frames.specs.Read.{read_frame}
+use Rattle.frames.specs.Write.{FrameValue, host, device, set_bits, setup, activate, payload, bist, pio, encode}
+use Rattle.frames.specs.RoundTrip.{read_back}
 use Rattle.pages.specs.Page10.{page10, read_log}
 use Rattle.pages.specs.declared.page10.ErrorLog.{ErrorLog}
 use Rattle.pages.specs.Layout11.{page11}
-use Rattle.pages.specs.Read11.{rowValue, readCounter}
+use Rattle.pages.specs.Read11.{row_value, read_counter}
 use Rattle.pages.specs.declared.value.CounterValue.{CounterValue}
 
 -- a frame, its bytes, and those bytes with every unnamed bit set
@@ -26,32 +26,32 @@ pub record WholeFrame : Type 0 where
 -- each of a list is written as its bytes, and is what the reader sees in them, whatever the unnamed bits
 unfoldable pub Placed : List WholeFrame → Type 0
 Placed [] = Unit
-Placed (w ∷ ws) = (encode w.frame ≡ w.bytes) × ((readFrame w.bytes ≡ Ok (readBack w.frame)) × ((readFrame w.noisy ≡ Ok (readBack w.frame)) × Placed ws))
+Placed (w ∷ ws) = (encode w.frame ≡ w.bytes) × ((read_frame w.bytes ≡ Ok (read_back w.frame)) × ((read_frame w.noisy ≡ Ok (read_back w.frame)) × Placed ws))
 
 -- bytes 4-6 and 8-10, 7, and 12-13
-abbrev pub wholeTask : Task
-wholeTask = record { lba = 0x1A1918161514; device = 0x17; count = 0x1D1C }
+abbrev pub whole_task : Task
+whole_task = record { lba = 0x1A1918161514; device = 0x17; count = 0x1D1C }
 
 -- one of each kind; of A1h, 41h and 5Fh two, in which I, A and D, and the bits of status, differ
-unfoldable pub wholeFrames : List WholeFrame
-wholeFrames =
+unfoldable pub whole_frames : List WholeFrame
+whole_frames =
     record {
-      frame = host (record { command_bit = true; command = 0x12; features = 0x13; task = wholeTask; features_high = 0x1B; control = 0x1F });
+      frame = host (record { command_bit = true; command = 0x12; features = 0x13; task = whole_task; features_high = 0x1B; control = 0x1F });
       bytes = 0x27 ∷ 0x80 ∷ 0x12 ∷ 0x13 ∷ 0x14 ∷ 0x15 ∷ 0x16 ∷ 0x17 ∷ 0x18 ∷ 0x19 ∷ 0x1A ∷ 0x1B ∷ 0x1C ∷ 0x1D ∷ 0x00 ∷ 0x1F ∷ 0x00 ∷ 0x00 ∷ 0x00 ∷ 0x00 ∷ [];
       noisy = 0x27 ∷ 0xFF ∷ 0x12 ∷ 0x13 ∷ 0x14 ∷ 0x15 ∷ 0x16 ∷ 0x17 ∷ 0x18 ∷ 0x19 ∷ 0x1A ∷ 0x1B ∷ 0x1C ∷ 0x1D ∷ 0xFF ∷ 0x1F ∷ 0xFF ∷ 0xFF ∷ 0xFF ∷ 0xFF ∷ [];
     }
     ∷ record {
-      frame = device (record { interrupt = true; status = 0x12; error = 0x13; task = wholeTask });
+      frame = device (record { interrupt = true; status = 0x12; error = 0x13; task = whole_task });
       bytes = 0x34 ∷ 0x40 ∷ 0x12 ∷ 0x13 ∷ 0x14 ∷ 0x15 ∷ 0x16 ∷ 0x17 ∷ 0x18 ∷ 0x19 ∷ 0x1A ∷ 0x00 ∷ 0x1C ∷ 0x1D ∷ 0x00 ∷ 0x00 ∷ 0x00 ∷ 0x00 ∷ 0x00 ∷ 0x00 ∷ [];
       noisy = 0x34 ∷ 0xFF ∷ 0x12 ∷ 0x13 ∷ 0x14 ∷ 0x15 ∷ 0x16 ∷ 0x17 ∷ 0x18 ∷ 0x19 ∷ 0x1A ∷ 0xFF ∷ 0x1C ∷ 0x1D ∷ 0xFF ∷ 0xFF ∷ 0xFF ∷ 0xFF ∷ 0xFF ∷ 0xFF ∷ [];
     }
     ∷ record {
-      frame = setBits (record { interrupt = true; status = 0x12; error = 0x13; active = 0x17161514 });
+      frame = set_bits (record { interrupt = true; status = 0x12; error = 0x13; active = 0x17161514 });
       bytes = 0xA1 ∷ 0x40 ∷ 0x12 ∷ 0x13 ∷ 0x14 ∷ 0x15 ∷ 0x16 ∷ 0x17 ∷ [];
       noisy = 0xA1 ∷ 0xFF ∷ 0x9A ∷ 0x13 ∷ 0x14 ∷ 0x15 ∷ 0x16 ∷ 0x17 ∷ [];
     }
     ∷ record {
-      frame = setBits (record { interrupt = false; status = 0x65; error = 0x13; active = 0x17161514 });
+      frame = set_bits (record { interrupt = false; status = 0x65; error = 0x13; active = 0x17161514 });
       bytes = 0xA1 ∷ 0x00 ∷ 0x65 ∷ 0x13 ∷ 0x14 ∷ 0x15 ∷ 0x16 ∷ 0x17 ∷ [];
       noisy = 0xA1 ∷ 0xBF ∷ 0xED ∷ 0x13 ∷ 0x14 ∷ 0x15 ∷ 0x16 ∷ 0x17 ∷ [];
     }
@@ -77,49 +77,49 @@ wholeFrames =
       noisy = 0x58 ∷ 0xFF ∷ 0xFF ∷ 0xFF ∷ 0xFF ∷ 0xFF ∷ 0xFF ∷ 0xFF ∷ 0xFF ∷ 0xFF ∷ 0xFF ∷ 0xFF ∷ [];
     }
     ∷ record {
-      frame = pio (record { interrupt = true; to_host = false; status = 0x12; error = 0x13; task = wholeTask; ending = 0x1F; bytes = 0x2120 });
+      frame = pio (record { interrupt = true; to_host = false; status = 0x12; error = 0x13; task = whole_task; ending = 0x1F; bytes = 0x2120 });
       bytes = 0x5F ∷ 0x40 ∷ 0x12 ∷ 0x13 ∷ 0x14 ∷ 0x15 ∷ 0x16 ∷ 0x17 ∷ 0x18 ∷ 0x19 ∷ 0x1A ∷ 0x00 ∷ 0x1C ∷ 0x1D ∷ 0x00 ∷ 0x1F ∷ 0x20 ∷ 0x21 ∷ 0x00 ∷ 0x00 ∷ [];
       noisy = 0x5F ∷ 0xDF ∷ 0x12 ∷ 0x13 ∷ 0x14 ∷ 0x15 ∷ 0x16 ∷ 0x17 ∷ 0x18 ∷ 0x19 ∷ 0x1A ∷ 0xFF ∷ 0x1C ∷ 0x1D ∷ 0xFF ∷ 0x1F ∷ 0x20 ∷ 0x21 ∷ 0xFF ∷ 0xFF ∷ [];
     }
     ∷ record {
-      frame = pio (record { interrupt = false; to_host = true; status = 0x12; error = 0x13; task = wholeTask; ending = 0x1F; bytes = 0x2120 });
+      frame = pio (record { interrupt = false; to_host = true; status = 0x12; error = 0x13; task = whole_task; ending = 0x1F; bytes = 0x2120 });
       bytes = 0x5F ∷ 0x20 ∷ 0x12 ∷ 0x13 ∷ 0x14 ∷ 0x15 ∷ 0x16 ∷ 0x17 ∷ 0x18 ∷ 0x19 ∷ 0x1A ∷ 0x00 ∷ 0x1C ∷ 0x1D ∷ 0x00 ∷ 0x1F ∷ 0x20 ∷ 0x21 ∷ 0x00 ∷ 0x00 ∷ [];
       noisy = 0x5F ∷ 0xBF ∷ 0x12 ∷ 0x13 ∷ 0x14 ∷ 0x15 ∷ 0x16 ∷ 0x17 ∷ 0x18 ∷ 0x19 ∷ 0x1A ∷ 0xFF ∷ 0x1C ∷ 0x1D ∷ 0xFF ∷ 0x1F ∷ 0x20 ∷ 0x21 ∷ 0xFF ∷ 0xFF ∷ [];
     } ∷ []
 
 -- a record of tag 26, and its page: tag, status, error, the command's bytes, and the sum byte
-abbrev pub wholeLog : ErrorLog
-wholeLog = record { nq = false; tag = 26; status = 0x12; error = 0x13; task = wholeTask }
+abbrev pub whole_log : ErrorLog
+whole_log = record { nq = false; tag = 26; status = 0x12; error = 0x13; task = whole_task }
 
-abbrev pub logBytes : List ℕ
-logBytes = (0x1A ∷ 0x00 ∷ 0x12 ∷ 0x13 ∷ 0x14 ∷ 0x15 ∷ 0x16 ∷ 0x17 ∷ 0x18 ∷ 0x19 ∷ 0x1A ∷ 0x00 ∷ 0x1C ∷ 0x1D ∷ []) ++ (replicate 497 0x00 ++ 0xE7 ∷ [])
+abbrev pub log_bytes : List ℕ
+log_bytes = (0x1A ∷ 0x00 ∷ 0x12 ∷ 0x13 ∷ 0x14 ∷ 0x15 ∷ 0x16 ∷ 0x17 ∷ 0x18 ∷ 0x19 ∷ 0x1A ∷ 0x00 ∷ 0x1C ∷ 0x1D ∷ []) ++ (replicate 497 0x00 ++ 0xE7 ∷ [])
 
 -- the same with every unnamed bit set
-abbrev pub logNoisy : List ℕ
-logNoisy = (0x7A ∷ 0xFF ∷ 0x12 ∷ 0x13 ∷ 0x14 ∷ 0x15 ∷ 0x16 ∷ 0x17 ∷ 0x18 ∷ 0x19 ∷ 0x1A ∷ 0xFF ∷ 0x1C ∷ 0x1D ∷ []) ++ (replicate 497 0xFF ++ 0x7A ∷ [])
+abbrev pub log_noisy : List ℕ
+log_noisy = (0x7A ∷ 0xFF ∷ 0x12 ∷ 0x13 ∷ 0x14 ∷ 0x15 ∷ 0x16 ∷ 0x17 ∷ 0x18 ∷ 0x19 ∷ 0x1A ∷ 0xFF ∷ 0x1C ∷ 0x1D ∷ []) ++ (replicate 497 0xFF ++ 0x7A ∷ [])
 
 -- of a command that is not queued: bit 7 of byte 0, and the tag is read as 0, whatever stands there
-abbrev pub plainLog : ErrorLog
-plainLog = record { nq = true; tag = 0; status = 0x12; error = 0x13; task = wholeTask }
+abbrev pub plain_log : ErrorLog
+plain_log = record { nq = true; tag = 0; status = 0x12; error = 0x13; task = whole_task }
 
-abbrev pub plainBytes : List ℕ
-plainBytes = (0x80 ∷ 0x00 ∷ 0x12 ∷ 0x13 ∷ 0x14 ∷ 0x15 ∷ 0x16 ∷ 0x17 ∷ 0x18 ∷ 0x19 ∷ 0x1A ∷ 0x00 ∷ 0x1C ∷ 0x1D ∷ []) ++ (replicate 497 0x00 ++ 0x81 ∷ [])
+abbrev pub plain_bytes : List ℕ
+plain_bytes = (0x80 ∷ 0x00 ∷ 0x12 ∷ 0x13 ∷ 0x14 ∷ 0x15 ∷ 0x16 ∷ 0x17 ∷ 0x18 ∷ 0x19 ∷ 0x1A ∷ 0x00 ∷ 0x1C ∷ 0x1D ∷ []) ++ (replicate 497 0x00 ++ 0x81 ∷ [])
 
-abbrev pub plainNoisy : List ℕ
-plainNoisy = (0xFA ∷ 0xFF ∷ 0x12 ∷ 0x13 ∷ 0x14 ∷ 0x15 ∷ 0x16 ∷ 0x17 ∷ 0x18 ∷ 0x19 ∷ 0x1A ∷ 0xFF ∷ 0x1C ∷ 0x1D ∷ []) ++ (replicate 497 0xFF ++ 0xFA ∷ [])
+abbrev pub plain_noisy : List ℕ
+plain_noisy = (0xFA ∷ 0xFF ∷ 0x12 ∷ 0x13 ∷ 0x14 ∷ 0x15 ∷ 0x16 ∷ 0x17 ∷ 0x18 ∷ 0x19 ∷ 0x1A ∷ 0xFF ∷ 0x1C ∷ 0x1D ∷ []) ++ (replicate 497 0xFF ++ 0xFA ∷ [])
 
 -- the sixteen counters by their numbers, and a value for each, of which no two bytes are alike
-abbrev pub wholeNumbers : List ℕ
-wholeNumbers = 0x001 ∷ 0x002 ∷ 0x003 ∷ 0x004 ∷ 0x005 ∷ 0x006 ∷ 0x007 ∷ 0x008 ∷ 0x009 ∷ 0x00A ∷ 0x00B ∷ 0x00D ∷ 0x00F ∷ 0x010 ∷ 0x012 ∷ 0x013 ∷ []
+abbrev pub whole_numbers : List ℕ
+whole_numbers = 0x001 ∷ 0x002 ∷ 0x003 ∷ 0x004 ∷ 0x005 ∷ 0x006 ∷ 0x007 ∷ 0x008 ∷ 0x009 ∷ 0x00A ∷ 0x00B ∷ 0x00D ∷ 0x00F ∷ 0x010 ∷ 0x012 ∷ 0x013 ∷ []
 
-abbrev pub wholeValues : List ℕ
-wholeValues =
+abbrev pub whole_values : List ℕ
+whole_values =
     0x04030201 ∷ 0x08070605 ∷ 0x0C0B0A09 ∷ 0x100F0E0D ∷ 0x14131211 ∷ 0x18171615 ∷ 0x1C1B1A19 ∷ 0x201F1E1D
     ∷ 0x24232221 ∷ 0x28272625 ∷ 0x2C2B2A29 ∷ 0x302F2E2D ∷ 0x34333231 ∷ 0x38373635 ∷ 0x3C3B3A39 ∷ 0x403F3E3D ∷ []
 
 -- their page, from byte 4 on a row of six bytes for each
-abbrev pub rowsBytes : List ℕ
-rowsBytes =
+abbrev pub rows_bytes : List ℕ
+rows_bytes =
     (0x00 ∷ 0x00 ∷ 0x00 ∷ 0x00
     ∷ 0x01 ∷ 0x20 ∷ 0x01 ∷ 0x02 ∷ 0x03 ∷ 0x04
     ∷ 0x02 ∷ 0x20 ∷ 0x05 ∷ 0x06 ∷ 0x07 ∷ 0x08
@@ -139,8 +139,8 @@ rowsBytes =
     ∷ 0x13 ∷ 0x20 ∷ 0x3D ∷ 0x3E ∷ 0x3F ∷ 0x40 ∷ []) ++ (replicate 411 0x00 ++ 0x4D ∷ [])
 
 -- that of mask C201h: bits 0, 9, 14 and 15 keep 001h, 00Ah, 012h and 013h
-abbrev pub someBytes : List ℕ
-someBytes =
+abbrev pub some_bytes : List ℕ
+some_bytes =
     (0x00 ∷ 0x00 ∷ 0x00 ∷ 0x00
     ∷ 0x01 ∷ 0x20 ∷ 0x01 ∷ 0x02 ∷ 0x03 ∷ 0x04
     ∷ 0x0A ∷ 0x20 ∷ 0x25 ∷ 0x26 ∷ 0x27 ∷ 0x28
@@ -148,8 +148,8 @@ someBytes =
     ∷ 0x13 ∷ 0x20 ∷ 0x3D ∷ 0x3E ∷ 0x3F ∷ 0x40 ∷ []) ++ (replicate 483 0x00 ++ 0xC8 ∷ [])
 
 -- what the reader answers of a row's value
-abbrev pub readAs : ℕ → Result (Option CounterValue) Refusal
-readAs v = Ok (Some (rowValue v))
+abbrev pub read_as : ℕ → Result (Option CounterValue) Refusal
+read_as v = Ok (Some (row_value v))
 
 -- three frames one behind the other: a DMA Setup, an Activate, and data that take what is left, another frame's kind among them
 abbrev pub three : List (List ℕ)
@@ -161,29 +161,29 @@ three =
 -- what stands in the bytes of pages, of frames one behind the other, and of a command
 pub record WholeShows : Type 0 where
   -- page 10h as it is written and read
-  pub log : page10 wholeLog ≡ logBytes
-  pub logRead : map read_log (logBytes ∷ logNoisy ∷ []) ≡ Ok wholeLog ∷ Ok wholeLog ∷ []
-  pub plain : page10 plainLog ≡ plainBytes
-  pub plainRead : map read_log (plainBytes ∷ plainNoisy ∷ []) ≡ Ok plainLog ∷ Ok plainLog ∷ []
+  pub log : page10 whole_log ≡ log_bytes
+  pub log_read : map read_log (log_bytes ∷ log_noisy ∷ []) ≡ Ok whole_log ∷ Ok whole_log ∷ []
+  pub plain : page10 plain_log ≡ plain_bytes
+  pub plain_read : map read_log (plain_bytes ∷ plain_noisy ∷ []) ≡ Ok plain_log ∷ Ok plain_log ∷ []
   -- page 11h of all sixteen rows as it is written and read, and that of four
-  pub rows : page11 0xFFFF wholeValues ≡ rowsBytes
-  pub rowsRead : map (readCounter rowsBytes) wholeNumbers ≡ map readAs wholeValues
-  pub someRows : page11 0xC201 wholeValues ≡ someBytes
+  pub rows : page11 0xFFFF whole_values ≡ rows_bytes
+  pub rows_read : map (read_counter rows_bytes) whole_numbers ≡ map read_as whole_values
+  pub some_rows : page11 0xC201 whole_values ≡ some_bytes
   -- frames are cut where each ends; one whose kind is not known takes what is left, and one that is too short what there is
-  pub parts : cut (joined three) ≡ three
+  pub parts : cut (joined_bytes three) ≡ three
   pub unknown : cut (0x39 ∷ 0x00 ∷ 0x00 ∷ 0x00 ∷ 0x77 ∷ 0x39 ∷ 0x00 ∷ 0x00 ∷ 0x00 ∷ []) ≡ (0x39 ∷ 0x00 ∷ 0x00 ∷ 0x00 ∷ []) ∷ (0x77 ∷ 0x39 ∷ 0x00 ∷ 0x00 ∷ 0x00 ∷ []) ∷ []
   pub short : cut (0x39 ∷ 0x00 ∷ 0x00 ∷ 0x00 ∷ 0xA1 ∷ 0x00 ∷ []) ≡ (0x39 ∷ 0x00 ∷ 0x00 ∷ 0x00 ∷ []) ∷ (0xA1 ∷ 0x00 ∷ []) ∷ []
   -- the tag is bits 7:3 of byte 12, whatever stands beside it
   pub tag : map tag_of (0x00A8 ∷ 0xFF57 ∷ 0x0007 ∷ 0xFF00 ∷ []) ≡ 0x15 ∷ 0x0A ∷ 0 ∷ 0 ∷ []
   -- features and features high are the sector count, and 0 is 65,536
-  pub sectors : sectorsOf 0x34 0x12 ∷ sectorsOf 0xFF 0xFF ∷ sectorsOf 1 0 ∷ sectorsOf 0 1 ∷ sectorsOf 0 0 ∷ [] ≡ 0x1234 ∷ 65535 ∷ 1 ∷ 256 ∷ 65536 ∷ []
+  pub sectors : sectors_of 0x34 0x12 ∷ sectors_of 0xFF 0xFF ∷ sectors_of 1 0 ∷ sectors_of 0 1 ∷ sectors_of 0 0 ∷ [] ≡ 0x1234 ∷ 65535 ∷ 1 ∷ 256 ∷ 65536 ∷ []
   -- SRST is bit 2 of control, and no other
-  pub srst : map srstOf (0x04 ∷ 0xFF ∷ 0xFB ∷ 0x00 ∷ []) ≡ true ∷ true ∷ false ∷ false ∷ []
+  pub srst : map srst_of (0x04 ∷ 0xFF ∷ 0xFB ∷ 0x00 ∷ []) ≡ true ∷ true ∷ false ∷ false ∷ []
   -- replies stand in front of the buffer, and what stood behind them is as it was
-  pub front : laid (1 ∷ 2 ∷ []) (7 ∷ 8 ∷ 9 ∷ []) ≡ 1 ∷ 2 ∷ 9 ∷ []
+  pub front : overlay (1 ∷ 2 ∷ []) (7 ∷ 8 ∷ 9 ∷ []) ≡ 1 ∷ 2 ∷ 9 ∷ []
   -- the number of each refusal: those of the device's calls, of the readers, and of the writers
-  pub callNumbers : map number (Contradiction ∷ MediumLength ∷ ReplyShort ∷ NoHostFrame ∷ WrongTime ∷ TooLong ∷ TagIdle ∷ PhaseOpen ∷ AllMoved ∷ NoReadPhase ∷ SetUnready ∷ OutsideCommand ∷ NoRow ∷ [])
+  pub call_numbers : map number (Contradiction ∷ MediumLength ∷ ReplyShort ∷ NoHostFrame ∷ WrongTime ∷ TooLong ∷ TagIdle ∷ PhaseOpen ∷ AllMoved ∷ NoReadPhase ∷ SetUnready ∷ OutsideCommand ∷ NoRow ∷ [])
       ≡ 1 ∷ 2 ∷ 3 ∷ 4 ∷ 5 ∷ 6 ∷ 7 ∷ 8 ∷ 9 ∷ 10 ∷ 11 ∷ 12 ∷ 13 ∷ []
-  pub otherNumbers : map number (PageLength ∷ PageSum ∷ PageDamaged ∷ NoCounter ∷ NoFrame ∷ Unfit ∷ BufferShort ∷ []) ≡ 20 ∷ 21 ∷ 22 ∷ 23 ∷ 24 ∷ 25 ∷ 26 ∷ []
+  pub other_numbers : map number (PageLength ∷ PageSum ∷ PageDamaged ∷ NoCounter ∷ NoFrame ∷ Unfit ∷ BufferShort ∷ []) ≡ 20 ∷ 21 ∷ 22 ∷ 23 ∷ 24 ∷ 25 ∷ 26 ∷ []
   -- a host register of 19 or 21 bytes is no frame, nor a BIST Activate of 11 or 13, nor data of 3 or 8,196 bytes; nor is any of another kind
-  pub lengths : map readFrame (replicate 19 0x27 ∷ replicate 21 0x27 ∷ replicate 11 0x58 ∷ replicate 13 0x58 ∷ replicate 7 0x46 ∷ replicate 8200 0x46 ∷ replicate 20 0x77 ∷ []) ≡ replicate 7 (Err NoFrame)
+  pub lengths : map read_frame (replicate 19 0x27 ∷ replicate 21 0x27 ∷ replicate 11 0x58 ∷ replicate 13 0x58 ∷ replicate 7 0x46 ∷ replicate 8200 0x46 ∷ replicate 20 0x77 ∷ []) ≡ replicate 7 (Err NoFrame)

@@ -1,9 +1,9 @@
 use Rattle.std.proofs.Common.{refl}
 use Rattle.rules.specs.Call.{happens}
 use Rattle.rules.specs.declared.event.DeviceEvent.TheVariants.{LinkEvent}
-use Rattle.device.proofs.Typing.{none-typed}
-use Rattle.caller.proofs.Continuing.{continues-alone}
+use Rattle.device.proofs.Typing.{none_typed}
+use Rattle.caller.proofs.Continuing.{continues_alone}
 use Rattle.caller.proofs.calling.link_event.Goals as goal
 
 pub returns : goal.returns
-returns c = continues-alone _ (happens (LinkEvent _)) _ refl refl none-typed c.link_event.ensures
+returns c = continues_alone _ (happens (LinkEvent _)) _ refl refl none_typed c.link_event.ensures

@@ -1,9 +1,9 @@
 use Rattle.std.proofs.Common.{refl}
 use Rattle.rules.specs.Call.{happens}
 use Rattle.rules.specs.declared.event.DeviceEvent.TheVariants.{OpenPhase}
-use Rattle.device.proofs.Typing.{none-typed}
-use Rattle.caller.proofs.Continuing.{continues-replying}
+use Rattle.device.proofs.Typing.{none_typed}
+use Rattle.caller.proofs.Continuing.{continues_replying}
 use Rattle.caller.proofs.calling.open.Goals as goal
 
 pub returns : goal.returns
-returns c = continues-replying _ (happens (OpenPhase _)) _ _ _ refl none-typed c.open.ensures
+returns c = continues_replying _ (happens (OpenPhase _)) _ _ _ refl none_typed c.open.ensures

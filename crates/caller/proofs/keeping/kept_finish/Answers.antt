@@ -2,8 +2,8 @@ use Rattle.std.proofs.Common.{arith, refl}
 use Rattle.rules.specs.Call.{happens}
 use Rattle.rules.specs.declared.event.DeviceEvent.TheVariants.{FinishTags}
 use Rattle.device.proofs.Typing.{set_typed}
-use Rattle.caller.proofs.Continuing.{continues-replying}
+use Rattle.caller.proofs.Continuing.{continues_replying}
 use Rattle.caller.proofs.keeping.kept_finish.Goals as goal
 
 pub returns : goal.returns
-returns c = continues-replying _ (happens (FinishTags _)) _ _ _ refl (set_typed _ (omega arith)) c.finish.ensures
+returns c = continues_replying _ (happens (FinishTags _)) _ _ _ refl (set_typed _ (omega arith)) c.finish.ensures

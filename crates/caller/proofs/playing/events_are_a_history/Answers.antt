@@ -1,8 +1,8 @@
-use Rattle.caller.proofs.Plays.{plays-continue, plays-given}
+use Rattle.caller.proofs.Plays.{plays_continue, plays_given}
 use Rattle.caller.proofs.playing.events_are_a_history.Goals as goal
 
 pub returns-clause-together : goal.returns-clause-together
-returns-clause-together c = plays-continue
+returns-clause-together c = plays_continue
 
 pub returns-clause-given : goal.returns-clause-given
-returns-clause-given c = plays-given
+returns-clause-given c = plays_given

@@ -1,18 +1,18 @@
 use Rattle.std.proofs.Common.{arith, refl, Ok, Err}
 use Rattle.std.proofs.KnownBytes.{Appends-nil}
 use Rattle.events.specs.declared.errors.RunError.TheVariants.{Input, TooMany}
-use Rattle.events.proofs.Played.{none-yet, one-more, some-passed, lost, ended}
-use Rattle.events.proofs.Runs.{output-lost}
+use Rattle.events.proofs.Played.{none_yet, one_more, some_passed, lost, ended}
+use Rattle.events.proofs.Runs.{output_lost}
 use Rattle.events.proofs.running.play_on.Goals as goal
 
 pub loop-number-init : goal.loop-number-init
-loop-number-init g c = none-yet _ _ _ _ _
+loop-number-init g c = none_yet _ _ _ _ _
 
 -- one event more
 pub loop-number-preserved : goal.loop-number-preserved
 loop-number-preserved g c =
-    let more = one-more c.loop-number.invariant c.in-Ok-Ok.field-0-is c.in-Ok-Ok.ensures.ok c.play_and_tell.ensures.kept c.in_ok-play_and_tell-in-Ok-Ok.ensures.line in
-    some-passed more _ _ c.in_ok-pass_on-in-Ok-Ok.ensures.ok
+    let more = one_more c.loop-number.invariant c.in-Ok-Ok.field-0-is c.in-Ok-Ok.ensures.ok c.play_and_tell.ensures.kept c.in_ok-play_and_tell-in-Ok-Ok.ensures.line in
+    some_passed more _ _ c.in_ok-pass_on-in-Ok-Ok.ensures.ok
 
 -- no memory for a line
 pub returns-in_err-play_and_tell-in-Ok-Ok : goal.returns-in_err-play_and_tell-in-Ok-Ok
@@ -23,10 +23,10 @@ returns-in_err-play_and_tell-in-Ok-Ok g c =
 -- the lines could not be passed on
 pub returns-in_err-pass_on-in-Ok-Ok : goal.returns-in_err-pass_on-in-Ok-Ok
 returns-in_err-pass_on-in-Ok-Ok g c =
-    let more = one-more c.loop-number.invariant c.in-Ok-Ok.field-0-is c.in-Ok-Ok.ensures.ok c.play_and_tell.ensures.kept c.in_ok-play_and_tell-in-Ok-Ok.ensures.line in
+    let more = one_more c.loop-number.invariant c.in-Ok-Ok.field-0-is c.in-Ok-Ok.ensures.ok c.play_and_tell.ensures.kept c.in_ok-play_and_tell-in-Ok-Ok.ensures.line in
     let failed = c.in_err-pass_on-in-Ok-Ok.ensures.err in
     let handed = c.from_residual-in_err-pass_on-in-Ok-Ok.ensures in
-    lost more _ _ _ _ handed.0 handed.1 (output-lost _ failed.0) failed.1
+    lost more _ _ _ _ handed.0 handed.1 (output_lost _ failed.0) failed.1
 
 -- the input ends, cleanly or not
 pub returns-in-Ok-Err : goal.returns-in-Ok-Err

@@ -1,5 +1,5 @@
-use Rattle.history.proofs.Demand3.{promised-given}
+use Rattle.history.proofs.Demand3.{promised_given}
 use Rattle.promises.proofs.histories.answered_exactly.Goals as goal
 
 pub returns : goal.returns
-returns c = λ s r xs b t. (promised-given s r xs b t).answers
+returns c = λ s r xs b t. (promised_given s r xs b t).answers
