@@ -14,6 +14,7 @@ use Rattle.device.specs.contracts.sealed.Sealed as said
 use Rattle.device.proofs.Lending.{unlent, unlent_both}
 use Rattle.device.proofs.Kept.{answered_state}
 use Rattle.rules.specs.Call.{host_frame, happens}
+use Rattle.rules.specs.declared.event.DeviceEvent.{DeviceEvent}
 use Rattle.rules.specs.declared.event.DeviceEvent.TheVariants.{OpenPhase, SendData, FinishTags, MediaError, LinkEvent, Comreset}
 use Rattle.device.specs.Lent.{Lent, lent, Gave, gave, answered}
 use Rattle.history.specs.Run.{Done, done, AllTyped}
@@ -37,6 +38,9 @@ pub data Keeps : Sealed → Lent → Gave → Sealed → Type 0 where
       → Allows said.link_event.ended calls.link_event.Reads.Post κs (k, (row, tt)) r (k', (tt, tt)) → Keeps k.now (lent (happens (LinkEvent row)) m b) (gave (answered k'.device r) m b) k'
   reset : (κs : Lfts 2) (k : MutBor Sealed) (b : MutBor (List ℕ)) (r : Result ℕ Refusal) (k' : Sealed) (m b' : List ℕ)
       → Allows said.comreset.ended calls.comreset.Reads.Post κs (k, (b, tt)) r (k', (b', tt)) → Keeps k.now (lent (happens Comreset) m b.now) (gave (answered k'.device r) m b') k'
+  -- any device event, as an event file names it
+  happened : (κs : Lfts 3) (k : MutBor Sealed) (e : DeviceEvent) (m : Bor (List ℕ)) (b : MutBor (List ℕ)) (r : Result ℕ Refusal) (k' : Sealed) (b' : List ℕ)
+      → Allows said.event.ended calls.event.Reads.Post κs (k, (e, (m, (b, tt)))) r (k', (tt, (tt, (b', tt)))) → Keeps k.now (lent (happens e) m.now b.now) (gave (answered k'.device r) m.now b') k'
 
 -- calls one after the other, the oldest first, each of what the last one kept
 pub data KeepsOn : Sealed → List Done → Sealed → Type 0 where
@@ -56,6 +60,7 @@ keeps_given (finished κs k s b r k' m b' p) = (unlent k.now.device (happens (Fi
 keeps_given (failed κs k t e s b r k' m b' p) = (unlent k.now.device (happens (MediaError t e s)) m b.now b' (answered k'.device r) refl p, answered_state k'.device r)
 keeps_given (linked κs k row r k' m b p) = (unlent_both k.now.device (happens (LinkEvent row)) m b (answered k'.device r) refl refl p, answered_state k'.device r)
 keeps_given (reset κs k b r k' m b' p) = (unlent k.now.device (happens Comreset) m b.now b' (answered k'.device r) refl p, answered_state k'.device r)
+keeps_given (happened κs k e m b r k' b' p) = (p, answered_state k'.device r)
 
 -- so a sequence is one of results as the one contract promises them, and ends with what is kept
 pub keeps_follows : {k end : Sealed} {xs : List Done} → KeepsOn k xs end → FollowsBy Given k.device xs × (final k.device xs ≡ end.device)
