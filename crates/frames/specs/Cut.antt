@@ -7,7 +7,7 @@ use Rattle.frames.specs.Size.{fixed_size}
 unfoldable pub first_length : List ℕ → ℕ
 first_length l = min (unwrap_or (fixed_size (get_or l 0 0)) (length l)) (length l)
 
--- the pieces of l, at most n of them; nothing is left of l once n is its length (`Cut-all`)
+-- the pieces of l, at most n of them; nothing is left of l once n is its length (`cut_all`)
 unfoldable pub cut_to : ℕ → List ℕ → List (List ℕ)
 cut_to zero l = []
 cut_to (suc n) l = pick (eqb (length l) 0) [] (take (first_length l) l ∷ cut_to n (drop (first_length l) l))
