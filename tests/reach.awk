@@ -1,6 +1,7 @@
 # Prints each row of docs/PROMISES.md that names a definition which no theorem of the row speaks of: neither the theorem, as it is written,
-# nor a definition or a law that it names, nor one that these name, and so on.
-# Reads the files of crates/*/specs and crates/*/proofs, the page behind them.
+# nor a definition or a law that it names, nor one that these name, and so on. What names a function's contract speaks of what that cites: its
+# `ensures` in the source, or what its trait's ghost member says.
+# Reads the files of crates/*/src, crates/*/specs and crates/*/proofs, the page behind them.
 
 # A file as its names begin: `specs/crate:File`.
 function place(kind, crate, file) { return kind "/" crate ":" file }
@@ -10,6 +11,7 @@ function imports(text,    part, list, n, i, pair, from) {
   sub(/^.*use Rattle\./, "", text)
   split(text, part, /[. ]/)
   if (part[2] != "specs" && part[2] != "proofs") return
+  if (text ~ /^[a-z_0-9]+\.specs\.contracts\./) { contracts(text, part[1]); return }
   from = place(part[2], part[1], part[3])
   if (text ~ /\{/) {
     sub(/^.*\{/, "", text); sub(/\}.*/, "", text)
@@ -24,6 +26,20 @@ function imports(text,    part, list, n, i, pair, from) {
   }
 }
 
+# The contracts of a module or of a type's methods: `src/crate:module`, `src/crate:module.Type`.
+function contracts(text, crate,    of, alias) {
+  of = text; sub(/^.*\.contracts\./, "", of); sub(/ .*/, "", of)
+  alias = text; sub(/^.* as /, "", alias)
+  module[text ~ / as / ? alias : of] = "src/" crate ":" of
+}
+
+# One of them, as `said.Type.name.ended` names it: `src/crate:module.name`, of a method `src/crate:Type.name`, whichever file it stands in.
+function contract(from, text,    step, n) {
+  sub(/\.ended.*$/, "", text); sub(/^[^.]*/, from, text)
+  n = split(text, step, /[:.]/)
+  return step[1] ":" step[n - 1] "." step[n]
+}
+
 # The names in a line are what its declaration speaks of.
 function speaks(text,    list, n, i, step, name) {
   gsub(/[(){}\[\],;]/, " ", text)
@@ -31,10 +47,36 @@ function speaks(text,    list, n, i, step, name) {
   for (i = 1; i <= n; i++) {
     split(list[i], step, ".")
     if (step[1] in word) name = word[step[1]]
-    else if (step[1] in module) name = module[step[1]] "." step[2]
+    else if (step[1] in module) name = module[step[1]] ~ /^src\// ? contract(module[step[1]], list[i]) : module[step[1]] "." step[2]
     else name = here "." step[1]
     if (!((block, name) in spoken)) { spoken[block, name] = 1; names[block] = names[block] "\n" name }
   }
+}
+
+FNR == 1 && FILENAME ~ /\.rt$/ {
+  split(FILENAME, path, "/"); file = path[4]; sub(/\.rt$/, "", file); here = place("src", path[2], file); type = given = ""
+  block = ""; split("", word); split("", module)
+}
+
+FILENAME ~ /\.rt$/ {
+  sub(/\/\/.*/, "")
+  if (/^[ ]*ghost use Rattle\./) { sub(/;.*/, ""); imports($0); next }
+  if (/^impl/) {
+    # the methods of a type, or of a trait for it: `TaskFromEcho` is `impl From<Echo> for Task`
+    type = $0; sub(/^impl(<[^>]*>)? /, "", type); sub(/ \{.*/, "", type); given = ""
+    if (type ~ / for /) { given = type; sub(/ for .*/, "", given); gsub(/[^A-Za-z0-9]/, "", given); sub(/^.* for /, "", type) }
+    sub(/<.*/, "", type); type = type given
+  }
+  if (/^}/) type = given = ""
+  if (given != "" && /^ *ghost [a-z_]+_gives = /) {
+    # what a trait's ghost member says is the contract of its method
+    name = $2; sub(/_gives$/, "", name); block = "src/" path[2] ":" type "." name; owner[block] = block
+    sub(/^[^=]*=/, ""); speaks($0)
+  } else if (/^ *(pub(\([a-z]+\))? )?fn /) {
+    name = $0; sub(/^.*fn /, "", name); sub(/[^a-z0-9_].*/, "", name)
+    block = type == "" ? here "." name : "src/" path[2] ":" type "." name; owner[block] = block
+  } else if (/^ *ensures/) speaks($0)
+  next
 }
 
 FNR == 1 && FILENAME ~ /\.antt$/ {

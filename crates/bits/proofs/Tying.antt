@@ -3,23 +3,21 @@ use Rattle.std.proofs.Common.{◌≡◌, sym, ◌∙◌}
 use contract.Lifetimes.{Lfts}
 use denote.Triple.Entry.{Args, Res}
 use denote.Triple.Clauses.{Ended, Lasts}
-use Rattle.bits.specs.Contract.{Premise, Contract, Claim, Allows, Says, Single, Tied}
+use Rattle.bits.specs.Contract.{Premise, Contract, Claim, Allows, Says, Single, Sole, Tied}
 
 -- two values that are a third
 pub same : {A : Type 0} {x y z : A} → x ≡ z → y ≡ z → x ≡ y
 same p q = p ∙ sym q
+
+-- a function that asks nothing, with a contract that allows one answer only
+pub sole : {T : Ended} {Asked : Premise T} {Post : Contract T} → ((κs : Lfts T.signature.lifetimes) (a : Args T.signature κs) → Asked κs a) → Single T (Allows T Post) → Sole T Asked Post
+sole f u = record { free = f; single = u }
 
 -- a function that asks nothing, with a contract that says a claim
 pub say : {T : Ended} {Asked : Premise T} {Post : Contract T} {C : Claim T} → ((κs : Lfts T.signature.lifetimes) (a : Args T.signature κs) → Asked κs a)
     → ((κs : Lfts T.signature.lifetimes) (a : Args T.signature κs) (r : Res T.signature κs) (ws : Lasts T κs a) → Allows T Post κs a r ws → C κs a r ws) → Says T Asked Post C
 say f s = record { free = f; says = s }
 
--- where the claim allows one answer only
+-- both, where the claim allows one answer only
 pub by : {T : Ended} {Asked : Premise T} {Post : Contract T} {C : Claim T} → Says T Asked Post C → Single T C → Tied T Asked Post C
 by p u = record { promise = p; single = λ κs a r r' ws ws' x y. u κs a r r' ws ws' (p.says κs a r ws x) (p.says κs a r' ws' y) }
-
--- where the claim names the result, and nothing is lent to be changed
-pub named : {T : Ended} {Asked : Premise T} {Post : Contract T} {f : (κs : Lfts T.signature.lifetimes) → Args T.signature κs → Res T.signature κs}
-    → Says T Asked Post (λ κs a r ws. r ≡ f κs a) → ((κs : Lfts T.signature.lifetimes) (a : Args T.signature κs) (ws ws' : Lasts T κs a) → ws ≡ ws')
-    → Tied T Asked Post (λ κs a r ws. r ≡ f κs a)
-named p u = by p (λ κs a r r' ws ws' x y. (same x y, u κs a ws ws'))

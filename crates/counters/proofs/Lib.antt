@@ -1,3 +1,2 @@
-pub mod TiedCounts
 pub mod RowLaws
 pub mod Tied

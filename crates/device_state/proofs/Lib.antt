@@ -1,6 +1,4 @@
 pub mod Storing
-pub mod TiedMoves
-pub mod TiedClauses
 pub mod TableLaws
 pub mod Walk
 pub mod EchoLaws

@@ -1,14 +1,8 @@
--- Each public function's own contract: what it says, and that two answers which it allows are equal. Assumes nothing.
-use Rattle.std.proofs.Common.{◌≡◌, refl}
-use Rattle.rules.specs.Call.{host_frame}
-use Rattle.device.specs.Lent.{lent, gave, answered}
-use Rattle.device.specs.Sealing.{powered_of}
-use Rattle.device.specs.Step.{Given, Gives}
-use Rattle.events.specs.HostData.{host_data_frame}
-use Rattle.events.specs.Played.{event_step}
-use Rattle.events.specs.Start.{start_of}
-use Rattle.bits.specs.Contract.{Tied}
-use Rattle.bits.proofs.Tying.{same, say, by}
+-- Each public function's own contract: it asks nothing, and two answers which it allows are equal. Assumes nothing.
+use Rattle.std.proofs.Common.{refl}
+use Rattle.device.specs.Lent.{answered}
+use Rattle.bits.specs.Contract.{Sole}
+use Rattle.bits.proofs.Tying.{same, sole}
 use Rattle.device.proofs.Outcomes.{given_once}
 use Rattle.device.proofs.Kept.{kept_once, powered_once, same_answer, same_state}
 use Rattle.events.proofs.by_value
@@ -20,14 +14,14 @@ use Rattle.events.specs.contracts.plays as plays-said
 use Rattle.events.proofs.starts
 use Rattle.events.specs.contracts.starts as starts-said
 
-pub tied_host_data : Tied host_data-said.host_data.ended host_data.host_data.Reads.Asked host_data.host_data.Reads.Post (λ κs a r ws. Given a.0.now.device (lent (host_frame (host_data_frame a.0.now.device a.1.0)) a.1.1.0.now a.1.1.1.0.now) (gave (answered ws.0.device r) ws.1.1.0 ws.1.1.1.0))
-tied_host_data = by (say (λ κs a. tt) (λ κs a r ws p. p)) (λ κs a r r' ws ws' p q. let e = given_once _ _ (answered ws.0.device r) (answered ws'.0.device r') ws.1.1.0 ws'.1.1.0 ws.1.1.1.0 ws'.1.1.1.0 p q in (same_answer ws.0.device ws'.0.device r r' e.0, λ i. (kept_once ws.0 ws'.0 (same_state ws.0.device ws'.0.device r r' e.0) i, (tt, (e.1.0 i, (e.1.1 i, tt))))))
+pub tied_host_data : Sole host_data-said.host_data.ended host_data.host_data.Reads.Asked host_data.host_data.Reads.Post
+tied_host_data = sole (λ κs a. tt) (λ κs a r r' ws ws' p q. let e = given_once _ _ (answered ws.0.device r) (answered ws'.0.device r') ws.1.1.0 ws'.1.1.0 ws.1.1.1.0 ws'.1.1.1.0 p q in (same_answer ws.0.device ws'.0.device r r' e.0, λ i. (kept_once ws.0 ws'.0 (same_state ws.0.device ws'.0.device r r' e.0) i, (tt, (e.1.0 i, (e.1.1 i, tt))))))
 
-pub tied_play : Tied plays-said.play.ended plays.play.Reads.Asked plays.play.Reads.Post (λ κs a r ws. Gives (event_step a.0.now.device a.1.0.now a.1.1.0.now a.1.1.1.0.now) a.1.1.1.0.now (gave (answered ws.0.device r) ws.1.1.0 ws.1.1.1.0))
-tied_play = by (say (λ κs a. tt) (λ κs a r ws p. p)) (λ κs a r r' ws ws' p q. let e = given_once _ _ (answered ws.0.device r) (answered ws'.0.device r') ws.1.1.0 ws'.1.1.0 ws.1.1.1.0 ws'.1.1.1.0 p q in (same_answer ws.0.device ws'.0.device r r' e.0, λ i. (kept_once ws.0 ws'.0 (same_state ws.0.device ws'.0.device r r' e.0) i, (tt, (e.1.0 i, (e.1.1 i, tt))))))
+pub tied_play : Sole plays-said.play.ended plays.play.Reads.Asked plays.play.Reads.Post
+tied_play = sole (λ κs a. tt) (λ κs a r r' ws ws' p q. let e = given_once _ _ (answered ws.0.device r) (answered ws'.0.device r') ws.1.1.0 ws'.1.1.0 ws.1.1.1.0 ws'.1.1.1.0 p q in (same_answer ws.0.device ws'.0.device r r' e.0, λ i. (kept_once ws.0 ws'.0 (same_state ws.0.device ws'.0.device r r' e.0) i, (tt, (e.1.0 i, (e.1.1 i, tt))))))
 
-pub tied_play_by_value : Tied by_value-said.play_by_value.ended by_value.play_by_value.Reads.Asked by_value.play_by_value.Reads.Post (λ κs a r ws. Gives (event_step a.0 a.1.0.now a.1.1.0.now a.1.1.1.0.now) a.1.1.1.0.now (gave r ws.1.1.0 ws.1.1.1.0))
-tied_play_by_value = by (say (λ κs a. tt) (λ κs a r ws p. p)) (λ κs a r r' ws ws' p q. let e = given_once _ _ r r' ws.1.1.0 ws'.1.1.0 ws.1.1.1.0 ws'.1.1.1.0 p q in (e.0, λ i. (tt, (tt, (e.1.0 i, (e.1.1 i, tt))))))
+pub tied_play_by_value : Sole by_value-said.play_by_value.ended by_value.play_by_value.Reads.Asked by_value.play_by_value.Reads.Post
+tied_play_by_value = sole (λ κs a. tt) (λ κs a r r' ws ws' p q. let e = given_once _ _ r r' ws.1.1.0 ws'.1.1.0 ws.1.1.1.0 ws'.1.1.1.0 p q in (e.0, λ i. (tt, (tt, (e.1.0 i, (e.1.1 i, tt))))))
 
-pub tied_start : Tied starts-said.start.ended starts.start.Reads.Asked starts.start.Reads.Post (λ κs a r ws. powered_of r ≡ start_of a.0.now)
-tied_start = by (say (λ κs a. tt) (λ κs a r ws p. p)) (λ κs a r r' ws ws' p q. (powered_once r r' (same p q), refl))
+pub tied_start : Sole starts-said.start.ended starts.start.Reads.Asked starts.start.Reads.Post
+tied_start = sole (λ κs a. tt) (λ κs a r r' ws ws' p q. (powered_once r r' (same p q), refl))

@@ -1,10 +1,7 @@
--- Each public function's own contract: what it says, and that two answers which it allows are equal. Assumes nothing.
-use Rattle.std.proofs.Common.{◌≡◌, refl}
-use Rattle.events.specs.Kinds.{kind_named, body_of, event_kind, misplaced}
-use Rattle.events.specs.Requests.{request_of}
-use Rattle.events.specs.Settings.{asked_of}
-use Rattle.bits.specs.Contract.{Tied}
-use Rattle.bits.proofs.Tying.{say, named}
+-- Each public function's own contract: it asks nothing, and two answers which it allows are equal. Assumes nothing.
+use Rattle.std.proofs.Common.{refl}
+use Rattle.bits.specs.Contract.{Sole}
+use Rattle.bits.proofs.Tying.{same, sole}
 use Rattle.events.proofs.asked
 use Rattle.events.specs.contracts.asked as asked-said
 use Rattle.events.proofs.kinds
@@ -12,20 +9,20 @@ use Rattle.events.specs.contracts.kinds as kinds-said
 use Rattle.events.proofs.settings
 use Rattle.events.specs.contracts.settings as settings-said
 
-pub tied_from_byte : Tied kinds-said.Kind.from_byte.ended kinds.Kind.from_byte.Reads.Asked kinds.Kind.from_byte.Reads.Post (λ κs a r ws. r ≡ kind_named a.0)
-tied_from_byte = named (say (λ κs a. tt) (λ κs a r ws p. p)) (λ κs a ws ws'. refl)
+pub tied_from_byte : Sole kinds-said.Kind.from_byte.ended kinds.Kind.from_byte.Reads.Asked kinds.Kind.from_byte.Reads.Post
+tied_from_byte = sole (λ κs a. tt) (λ κs a r r' ws ws' p q. (same p q, refl))
 
-pub tied_body_length : Tied kinds-said.Kind.body_length.ended kinds.Kind.body_length.Reads.Asked kinds.Kind.body_length.Reads.Post (λ κs a r ws. r ≡ body_of a.0)
-tied_body_length = named (say (λ κs a. tt) (λ κs a r ws p. p)) (λ κs a ws ws'. refl)
+pub tied_body_length : Sole kinds-said.Kind.body_length.ended kinds.Kind.body_length.Reads.Asked kinds.Kind.body_length.Reads.Post
+tied_body_length = sole (λ κs a. tt) (λ κs a r r' ws ws' p q. (same p q, refl))
 
-pub tied_is_misplaced : Tied kinds-said.Kind.is_misplaced.ended kinds.Kind.is_misplaced.Reads.Asked kinds.Kind.is_misplaced.Reads.Post (λ κs a r ws. r ≡ misplaced a.1.0 a.0)
-tied_is_misplaced = named (say (λ κs a. tt) (λ κs a r ws p. p)) (λ κs a ws ws'. refl)
+pub tied_is_misplaced : Sole kinds-said.Kind.is_misplaced.ended kinds.Kind.is_misplaced.Reads.Asked kinds.Kind.is_misplaced.Reads.Post
+tied_is_misplaced = sole (λ κs a. tt) (λ κs a r r' ws ws' p q. (same p q, refl))
 
-pub tied_event_kind : Tied kinds-said.event_kind.ended kinds.event_kind.Reads.Asked kinds.event_kind.Reads.Post (λ κs a r ws. r ≡ event_kind a.0.now)
-tied_event_kind = named (say (λ κs a. tt) (λ κs a r ws p. p)) (λ κs a ws ws'. refl)
+pub tied_event_kind : Sole kinds-said.event_kind.ended kinds.event_kind.Reads.Asked kinds.event_kind.Reads.Post
+tied_event_kind = sole (λ κs a. tt) (λ κs a r r' ws ws' p q. (same p q, refl))
 
-pub tied_request_of : Tied asked-said.request_of.ended asked.request_of.Reads.Asked asked.request_of.Reads.Post (λ κs a r ws. r ≡ request_of a.0.now)
-tied_request_of = named (say (λ κs a. tt) (λ κs a r ws p. p)) (λ κs a ws ws'. refl)
+pub tied_request_of : Sole asked-said.request_of.ended asked.request_of.Reads.Asked asked.request_of.Reads.Post
+tied_request_of = sole (λ κs a. tt) (λ κs a r r' ws ws' p q. (same p q, refl))
 
-pub tied_settings_asked : Tied settings-said.settings_asked.ended settings.settings_asked.Reads.Asked settings.settings_asked.Reads.Post (λ κs a r ws. r ≡ asked_of a.0.now)
-tied_settings_asked = named (say (λ κs a. tt) (λ κs a r ws p. p)) (λ κs a ws ws'. refl)
+pub tied_settings_asked : Sole settings-said.settings_asked.ended settings.settings_asked.Reads.Asked settings.settings_asked.Reads.Post
+tied_settings_asked = sole (λ κs a. tt) (λ κs a r r' ws ws' p q. (same p q, refl))

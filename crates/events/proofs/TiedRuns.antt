@@ -6,7 +6,7 @@ use mir.Syntax.{Dict}
 use Rattle.std.specs.declared.io.traits.Read as Reader
 use Rattle.std.specs.declared.io.traits.Write as Writer
 use Rattle.bits.specs.Contract.{SaysOver, Tied}
-use Rattle.bits.proofs.Tying.{say, by, named}
+use Rattle.bits.proofs.Tying.{same, say, by}
 use Rattle.events.specs.Runs.{Ran, HasRun, OneText, OneBroken, exit_status_of}
 use Rattle.events.proofs.ended
 use Rattle.events.specs.contracts.ended as ended-said
@@ -29,4 +29,4 @@ pub tied_run_in_pieces : (R W E : RattleType) (l : Laws R) (m : Laws W) (n : Law
 tied_run_in_pieces R W E l m n g d f h e i j = record { same = λ κs a b h. h; some = (([], ([], (R.lives, (W.lives, (E.lives, tt))))), λ a. ((λ x h. h), ((λ x h. h), (λ x h. h)))); says = λ κs a r ws p. p }
 
 pub tied_exit_status : Tied ended-said.Ended.exit_status.ended ended.Ended.exit_status.Reads.Asked ended.Ended.exit_status.Reads.Post (λ κs a r ws. r ≡ exit_status_of a.0.now.run)
-tied_exit_status = named (say (λ κs a. tt) (λ κs a r ws p. p)) (λ κs a ws ws'. refl)
+tied_exit_status = by (say (λ κs a. tt) (λ κs a r ws p. p)) (λ κs a r r' ws ws' p q. (same p q, refl))

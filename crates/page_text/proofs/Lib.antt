@@ -2,7 +2,6 @@ pub mod Collecting
 pub mod RoundTrip
 pub mod Spaces
 pub mod Swapping
-pub mod TiedHex
 pub mod Filing
 pub mod Fits
 pub mod Owing

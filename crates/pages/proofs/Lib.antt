@@ -1,5 +1,4 @@
 pub mod Sealed
-pub mod TiedSum
 pub mod Filling
 pub mod Bytes11
 pub mod TiedMade
