@@ -1,7 +1,7 @@
 -- What each contract of a caller says. The answer itself is said by the contract of the device's call, which is tied there. Assumes nothing.
 use Rattle.std.proofs.Common.{[], IfSome}
 use Rattle.bits.specs.Contract.{Says, SaysOver}
-use Rattle.bits.proofs.Tying.{same, say}
+use Rattle.bits.proofs.Tying.{say}
 use Rattle.rules.specs.Call.{host_frame, happens}
 use Rattle.rules.specs.declared.event.DeviceEvent.TheVariants.{OpenPhase, SendData, FinishTags, MediaError, LinkEvent, Comreset}
 use Rattle.device.specs.Lent.{lent, gave, answered}
