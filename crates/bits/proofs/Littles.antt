@@ -1,5 +1,5 @@
 -- Laws of little-endian numbers, over the width. Assumes nothing.
-use Rattle.std.proofs.Common.{◌≡◌, refl, sym, ap, ◌∙◌, List, [], ◌∷◌, ◌++◌, ℕ, zero, suc, ◌+◌, ◌-◌, ◌*◌, ◌/◌, ◌%◌, ◌^◌, ◌≤◌, ◌<◌, min, div-one, mod-eq_of_lt, not-suc-le-zero, le_of_suc-le-suc, arith, lit≤, lit<, pow-add, shr-shr, get_or, length, length-take, take, drop, replicate, get_or-drop}
+use Rattle.std.proofs.Common.{◌≡◌, refl, sym, ap, ◌∙◌, List, [], ◌∷◌, ◌++◌, ℕ, zero, suc, ◌+◌, ◌-◌, ◌*◌, ◌/◌, ◌%◌, ◌^◌, ◌≤◌, ◌<◌, min, div-one, mod-eq_of_lt, not-suc-le-zero, le_of_suc-le-suc, arith, lit≤, lit<, pow-add, shr-shr, get_or, length, length-take, take, drop, replicate}
 use native.Mathlib.Nat.{mod-one}
 use lib.Arith.{digits_lt}
 use lib.Pow.{mod-pow-add}
@@ -28,16 +28,6 @@ le_at_take l zero = refl
 le_at_take [] (suc n) = le_at_none 0 (suc n)
 le_at_take (b ∷ l) (suc n) =
     ap (λ (x : ℕ). x * 256 + b) (le_at_tail b l 0 n ∙ le_at_take l n ∙ sym (le_at_tail b (take n l) 0 (length (take n l))))
-
--- what of some bytes is taken are bytes
-bytes_take : (n : ℕ) (l : List ℕ) → Bytes l → Bytes (take n l)
-bytes_take zero l bytes i = lit< tt
-bytes_take (suc n) [] bytes i = lit< tt
-bytes_take (suc n) (b ∷ l) bytes zero = bytes 0
-bytes_take (suc n) (b ∷ l) bytes (suc i) = bytes_take n l (λ j. bytes (suc j)) i
-
-pub bytes_part : (l : List ℕ) → Bytes l → (at n : ℕ) → Bytes (take n (drop at l))
-bytes_part l bytes at n = bytes_take n (drop at l) (λ i. rw get_or-drop (bytes (at + i)))
 
 -- so that a number is that of the bytes that there are
 pub le_at_there : (l : List ℕ) (at n : ℕ) → le_at l at n ≡ le_at (take n (drop at l)) 0 (length (take n (drop at l)))

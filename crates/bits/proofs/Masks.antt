@@ -1,15 +1,11 @@
 -- Laws of single bits and masks, over the width and the index. Bit `t` of `m` is `m / 2 ^ t % 2`. Assumes nothing.
-use Rattle.std.proofs.Common.{◌≡◌, sym, ap, ◌∙◌, ℕ, zero, suc, ◌+◌, ◌-◌, ◌*◌, ◌/◌, ◌%◌, ◌^◌, ◌≤◌, ◌<◌, min, false, mod-lt, pow-suc, le_of_suc-le-suc, one-add, arith, pow_pos, shr-shr, shl_exact, bit_and, bit_or, ltb}
+use Rattle.std.proofs.Common.{◌≡◌, sym, ap, ◌∙◌, ℕ, zero, suc, ◌+◌, ◌-◌, ◌*◌, ◌/◌, ◌%◌, ◌^◌, ◌<◌, min, false, mod-lt, pow-suc, le_of_suc-le-suc, one-add, arith, pow_pos, shr-shr, bit_and, bit_or, ltb}
 use mathlib.Core.Bool.{and-false}
 use native.Mathlib.Nat.{zero-div}
 use Rattle.std.proofs.lemmas.Nat.Bits.{bit_at_or, bit_at_and, bit_at-pow_same, bit_at-pow_other, bit_at-lt}
 use lib.Pow.{split}
-use lib.Bits.{and_block, or_shifted}
+use lib.Bits.{and_block}
 use Rattle.bits.specs.Bit.{bit_in}
-
--- `(hi << k) | lo` at a width of w digits
-pub shl_or : (j k w : ℕ) {a b : ℕ} → j + k ≤ w → a < 2 ^ j → b < 2 ^ k → bit_or ((a * 2 ^ k) % 2 ^ w) b ≡ a * 2 ^ k + b
-shl_or j k w {a} {b} h ha hb = rw (shl_exact j k w ha h) (or_shifted a k b hb)
 
 -- a mask of two runs: the digits from k on by a, those below by b
 pub and_two : (n k a b : ℕ) → b < 2 ^ k → bit_and n (a * 2 ^ k + b) ≡ bit_and (n / 2 ^ k) a * 2 ^ k + bit_and (n % 2 ^ k) b

@@ -1,7 +1,6 @@
 -- Laws of the sixteen rows: each identifier has its row, and no other number has one. Assumes nothing.
-use Rattle.std.proofs.Common.{◌≡◌, refl, ap, sym, ◌∙◌, Bool, false, ℕ, ◌<◌, ◌≤◌, length, Option, Some, None, T, eqb, ltb, ltb→lt, eqb-true, arith}
+use Rattle.std.proofs.Common.{◌≡◌, refl, ap, sym, ◌∙◌, Bool, false, ℕ, ◌<◌, length, Option, Some, None, T, eqb, ltb, ltb→lt, eqb-true, arith}
 use Rattle.std.proofs.lemmas.List.Quantifiers.{position-Some}
-use lib.ListN.{get_or-eq_default}
 use Rattle.bits.proofs.Tables.{below_all}
 use Rattle.counters.specs.Rows.{ids, id_of, row_of, place_answer}
 use Rattle.counters.specs.declared.rows.TheConstants.{IDENTIFIERS}
@@ -15,9 +14,6 @@ identifiers_ids = refl
 pub length_ids : length ids ≡ 16
 unfolding ids
 length_ids = refl
-
-pub id_past : (row : ℕ) → 16 ≤ row → id_of row ≡ 0
-id_past row h = get_or-eq_default ids 0 (rw length_ids h)
 
 -- ---- the table
 

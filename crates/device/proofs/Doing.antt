@@ -87,11 +87,7 @@ host_unsent d f m b a e = ruled_unsent (facts_of d (lent (host_frame f) m b)) m 
 ruled_left : (v : Facts) (m : List ℕ) {e : DeviceEvent} {a : Act} → by.Ruled v (happens e) (Ok a) → m ≡ medium_after a (frame_in (happens e)) m
 unfolding touch_of
 ruled_left v m (by.own (by.opened t g s o l w)) = refl
-ruled_left v m (by.own (by.sent g w s p r)) = refl
-ruled_left v m (by.own (by.finished s g r l z u)) = refl
-ruled_left v m (by.own (by.failed t e s g r o z x)) = refl
-ruled_left v m (by.own (by.linked r g x)) = refl
-ruled_left v m (by.own (by.renewed g s)) = refl
+ruled_left v m (by.own _) = refl
 
 pub event_left : (d : Device) (e : DeviceEvent) (m b : List ℕ) (a : Act) → Ok a ≡ act_of d (lent (happens e) m b) → m ≡ medium_after a (frame_in (happens e)) m
 event_left d e m b a q = ruled_left (facts_of d (lent (happens e) m b)) m (act_ruled d (lent (happens e) m b) a q)

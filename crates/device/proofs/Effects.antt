@@ -148,8 +148,5 @@ act_settings d a = (act_laws d a).settings
 pub record_stays : (d : Device) (a : Act) → (traits a).anew ≡ false → (after_of d a).errors ≡ d.errors
 record_stays d a = (act_laws d a).stays
 
-pub opens_only : (d : Device) (a : Act) → is_none (after_of d a).status.phase ≡ false → (traits a).opens ≡ false → is_none d.status.phase ≡ false
-opens_only d a = (act_laws d a).opened
-
 pub act_wide : (d : Device) (a : Act) → Wide d → Puts a → Wide (after_of d a)
 act_wide d a = (act_laws d a).wide

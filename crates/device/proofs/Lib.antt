@@ -35,5 +35,4 @@ pub mod Moves
 pub mod Due
 pub mod Contradicted
 pub mod Zeros
-pub mod Sound
 pub mod Defaults

@@ -1,5 +1,5 @@
 -- What each rule and each device event keeps: its replies can be written, what it puts into the state is of bytes, and the state does not contradict itself. Assumes nothing.
-use Rattle.std.proofs.Common.{Option, Some, None, Result, is_none, unwrap_or, ◌≡◌, refl, subst, sym, Bool, ◌&&◌, false, true, List, [], ◌%◌, ◌*◌, ◌+◌, ◌<◌, ◌^◌, ◌≤◌, min, ℕ, arith, eqb, leb, ltb, lit<, length, take, drop, length-drop, length-take, eq-eqb, eqb-true, le-leb, le-ltb}
+use Rattle.std.proofs.Common.{Option, Some, None, Result, is_none, unwrap_or, ◌≡◌, refl, subst, sym, Bool, ◌&&◌, false, true, true≢false, List, [], ◌%◌, ◌*◌, ◌+◌, ◌<◌, ◌^◌, ◌≤◌, min, ℕ, arith, eqb, leb, ltb, lit<, length, take, drop, length-drop, length-take, eq-eqb, eqb-true, le-leb, le-ltb}
 use Rattle.bits.specs.Bit.{bit_in}
 use Rattle.bits.proofs.Picks.{and_right}
 use Rattle.frames.specs.Size.{payload_size}
@@ -15,6 +15,7 @@ use Rattle.rules.specs.Handed.{handed}
 use Rattle.rules.specs.Positions.{advanced_by, left_of, move_of}
 use Rattle.rules.specs.Decide.{entry_for, fault, tag_asked}
 use Rattle.rules.specs.Medium.{part_of, touch_of}
+use Rattle.rules.specs.declared.facts.Facts.{Facts}
 use Rattle.rules.specs.declared.acts.Act.{Act}
 use Rattle.rules.proofs.Ruled as by
 use Rattle.replies.specs.Replies.{replies_of}
@@ -91,9 +92,9 @@ module _ (d : Device) (wrong some : Bool) (room : ℕ) (g : contradictory_device
     puts = λ t _. (lit< tt, echo_bytes h.task t);
     good = λ _. accepted_good d (record { tag = tag_asked h; entry = entry_for h }) g x c.free c.calm (tag_small h.task.count) (entry_good d.settings h (settings_good d g) (grind arith) y);
   }
-  heard_keeps k l r (by.other_busy h c x) = record { fits = λ t _. (omega arith, echo_bytes h.task t); puts = λ t _. (omega arith, echo_bytes h.task t); good = λ _. fault_good d h None 0x04 g refl }
-  heard_keeps k l r (by.page10 h c e p) = record { fits = λ t z. (t, record_fits d z g); puts = λ _ _. none_puts; good = λ _. unhalted_good d g }
-  heard_keeps k l r (by.page11 h c x e p) = record { fits = λ t _. (t, both_kept d g); puts = λ _ _. none_puts; good = λ _. zeroed_good d (bit_in 8 h.features 0) g }
+  heard_keeps k l r (by.other h c (by.busy x)) = record { fits = λ t _. (omega arith, echo_bytes h.task t); puts = λ t _. (omega arith, echo_bytes h.task t); good = λ _. fault_good d h None 0x04 g refl }
+  heard_keeps k l r (by.other h c (by.page10 e p)) = record { fits = λ t z. (t, record_fits d z g); puts = λ _ _. none_puts; good = λ _. unhalted_good d g }
+  heard_keeps k l r (by.other h c (by.page11 x e p)) = record { fits = λ t _. (t, both_kept d g); puts = λ _ _. none_puts; good = λ _. zeroed_good d (bit_in 8 h.features 0) g }
   heard_keeps k l r (by.due n p w s) = record { fits = λ _ _. tt; puts = λ _ es. (lit< tt, move_small d n p es); good = λ _. moving_good d n g p (eqb-true (n % 4) 0 (and_right (leb 4 n && leb n 8192) (eqb (n % 4) 0) r.1.1)) }
   heard_keeps k l r (by.bist b) = record { fits = λ _ _. tt; puts = λ _ _. none_puts; good = λ _. zeroed_good d true g }
   heard_keeps k l r _ = record { fits = λ t _. (omega arith, t); puts = λ _ _. none_puts; good = λ _. g }
@@ -136,6 +137,11 @@ own_rule d m b (by.failed u e x g s o y w) = record {
 own_rule d m b (by.linked r g x) = record { fits = λ _ _. tt; puts = λ _ _. none_puts; good = λ _. counted_good d r g (grind arith) }
 own_rule d m b (by.renewed g s) = record { fits = λ _ _. tt; puts = λ _ _. none_puts; good = λ _. renewed_good d g }
 
-pub own_keeps : (d : Device) (m b : List ℕ) {c : Call} {a : Act} → by.Own (facts_of d (lent c m b)) c a → OwnKeeps d (part_of a m) c a
+-- by the event: one that is lent a buffer is not asked, and the rest replies nothing
+own_silent : (d : Device) {v : Facts} {c : Call} {a : Act} → by.Own v c a → (handed c).buffer ≡ false → (sent : List ℕ) → replies_of (state_shown d) sent a ≡ []
 unfolding replies_of
-own_keeps d m b y = record { keeps = own_rule d m b y; silent = grind arith }
+own_silent d (by.opened u g s o p e) h sent = absurd (true≢false h)
+own_silent d _ h sent = grind arith
+
+pub own_keeps : (d : Device) (m b : List ℕ) {c : Call} {a : Act} → by.Own (facts_of d (lent c m b)) c a → OwnKeeps d (part_of a m) c a
+own_keeps d m b y = record { keeps = own_rule d m b y; silent = own_silent d y }

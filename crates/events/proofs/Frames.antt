@@ -1,5 +1,6 @@
 -- The frame of host data. Assumes nothing.
 use Rattle.std.proofs.Common.{Option, unwrap_or, ◌≡◌, refl, ap, subst, ◌∙◌, List, ◌∷◌, ℕ, zero, suc, ◌+◌, ◌≤◌, arith, lit≤, take, replicate}
+use Rattle.std.proofs.lemmas.List.{take-replicate}
 use Rattle.rules.specs.Call.{host_frame}
 use Rattle.device.specs.Lent.{Gave, lent}
 use Rattle.device.specs.DataDue.{data_due}
@@ -7,11 +8,6 @@ use Rattle.device.specs.Step.{Given}
 use Rattle.device.specs.declared.state.Device.{Device}
 use Rattle.device.proofs.Due.{due_most}
 use Rattle.events.specs.HostData.{data_frame, host_data_frame}
-
-take-replicate : (n m b : ℕ) → n ≤ m → take n (replicate m b) ≡ replicate n b
-take-replicate zero m b h = refl
-take-replicate (suc n) zero b h = absurd (omega arith)
-take-replicate (suc n) (suc m) b h = ap (λ (l : List ℕ). b ∷ l) (take-replicate n m b (omega arith))
 
 take_data : (n m b : ℕ) → n ≤ m → take (suc (suc (suc (suc n)))) (data_frame m b) ≡ data_frame n b
 unfolding data_frame

@@ -5,6 +5,7 @@ use Rattle.bits.specs.Laid.{overlay}
 use Rattle.frames.specs.Cut.{joined_bytes}
 use Rattle.frames.specs.Write.{FrameValue}
 use Rattle.replies.specs.Replies.{sent_all}
+use Rattle.rules.specs.Handed.{handed}
 use Rattle.rules.specs.Medium.{Touch, kept_by}
 use Rattle.rules.specs.Call.{Call, host_frame, happens}
 use Rattle.rules.specs.declared.event.DeviceEvent.TheVariants.{OpenPhase, SendData, FinishTags, MediaError, LinkEvent, Comreset}
@@ -34,10 +35,10 @@ unlent_left d c m b u = by_turn d (lent c m b) (λ (s : Step). s.medium ≡ m) (
 sent_left : (d : Device) (m b : List ℕ) → (step d (lent (happens SendData) m b)).medium ≡ m
 sent_left d m b = by_turn d (lent (happens SendData) m b) (λ (s : Step). s.medium ≡ m) (λ r q. refl) (λ a q. sym (event_left d SendData m b a q))
 
--- a link event is lent no buffer, and leaves the empty one as it is
-link_left : (d : Device) (r : ℕ) → (result d (lent (happens (LinkEvent r)) [] [])).buffer ≡ []
+-- a call that is lent no buffer leaves the empty one as it is
+silent_left : (d : Device) (c : Call) → (handed c).buffer ≡ false → (result d (lent c [] [])).buffer ≡ []
 unfolding sent_all joined_bytes
-link_left d r = ap (λ (x : List FrameValue). overlay (sent_all x) []) (silent_frames d (happens (LinkEvent r)) [] [] refl)
+silent_left d c u = ap (λ (x : List FrameValue). overlay (sent_all x) []) (silent_frames d c [] [] u)
 
 -- what the definitions give is as the one contract promises it, with a medium and a buffer that are the same
 gives : (d : Device) (l : Lent) (m b : List ℕ) → (result d l).medium ≡ m → (result d l).buffer ≡ b → Given d l (gave (result d l).outcome m b)
@@ -47,6 +48,10 @@ gives d l m b e k = record { state = refl; refusal = refl; len = refl; reply = s
 bare : (d : Device) (c : Call) (b : List ℕ) → Unlent c → Given d (lent c [] b) (gave (result d (lent c [] b)).outcome [] (result d (lent c [] b)).buffer)
 bare d c b u = gives d (lent c [] b) [] _ (unlent_left d c [] b u) refl
 
+-- nor, where it is not lent a buffer, of one
+nowhere : (d : Device) (c : Call) → Unlent c → (handed c).buffer ≡ false → Given d (lent c [] []) (gave (result d (lent c [] [])).outcome [] [])
+nowhere d c u s = gives d (lent c [] []) [] [] (unlent_left d c [] [] u) (silent_left d c s)
+
 -- every call is allowed some result, in every state and with anything lent
 pub allowed_some : (d : Device) (c : Call) (m b : List ℕ) → (g : Gave) × Allowed d (lent c m b) g
 allowed_some d (host_frame f) m b = (_, hosted ([], ([], ([], tt))) (lent_to f) (lent_for m) (lent_for b) _ _ _ (gives d (lent (host_frame f) m b) _ _ refl refl))
@@ -54,7 +59,7 @@ allowed_some d (happens (OpenPhase t)) m b = (_, opened ([], tt) t (lent_for b) 
 allowed_some d (happens SendData) m b = (_, sent ([], ([], tt)) (lent_to m) (lent_for b) _ _ (gives d (lent (happens SendData) m b) m _ (sent_left d m b) refl))
 allowed_some d (happens (FinishTags s)) m b = (_, finished ([], tt) s (lent_for b) _ m _ (bare d (happens (FinishTags s)) b refl))
 allowed_some d (happens (MediaError t e s)) m b = (_, failed ([], tt) t e s (lent_for b) _ m _ (bare d (happens (MediaError t e s)) b refl))
-allowed_some d (happens (LinkEvent r)) m b = (_, linked r _ m b (gives d (lent (happens (LinkEvent r)) [] []) [] [] (unlent_left d (happens (LinkEvent r)) [] [] refl) (link_left d r)))
+allowed_some d (happens (LinkEvent r)) m b = (_, linked r _ m b (nowhere d (happens (LinkEvent r)) refl refl))
 allowed_some d (happens Comreset) m b = (_, reset ([], tt) (lent_for b) _ m _ (bare d (happens Comreset) b refl))
 
 -- and so is every sequence of calls

@@ -165,11 +165,7 @@ module _ (d : Device) (h : List Event) (k : Stands d h) where
   heard_answers x m b g t (by.rule2 f c y u) e = rw (c.command, c.kind, k.known.halted, y, used_is f, u, echo_task f.task t) refl
   heard_answers x m b g t (by.rule3 f c y u z) e = rw (c.command, c.kind, k.known.halted, y, used_is f, u, z, echo_task f.task t) refl
   heard_answers x m b g t (by.rule4 f c y u z) e = rw (c.command, c.kind, k.known.halted, y, used_is f, u, z, echo_task f.task t) refl
-  heard_answers x m b g t (by.other_halted f c y) e = ap (Replies d []) e ∙ others _ f refl refl g t c
-  heard_answers x m b g t (by.other_busy f c y) e = ap (Replies d []) e ∙ others _ f refl refl g t c
-  heard_answers x m b g t (by.page10 f c y p) e = ap (Replies d []) e ∙ others _ f refl refl g t c
-  heard_answers x m b g t (by.page11 f c y z p) e = ap (Replies d []) e ∙ others _ f refl refl g t c
-  heard_answers x m b g t (by.other_bad f c y z) e = ap (Replies d []) e ∙ others _ f refl refl g t c
+  heard_answers x m b g t (by.other f c y) e = ap (Replies d []) e ∙ others _ f refl refl g t c
   heard_answers x m b g t (by.due n p w y) e = due_answers n g p w
   heard_answers x m b g t (by.bist y) e = refl
 
@@ -209,10 +205,7 @@ module _ (d : Device) (h : List Event) (k : Stands d h) where
   own_answers m b (by.sent g w s p r) l =
       let y = move_of d.status (phase_entry d) 8192 in
       ap (λ (f : FrameValue). f ∷ []) (send_answers m (take y.size (drop y.at m)) l (part_long m y.at y.size (move_within d g p 8192 (length m) w) ∙ ap (min 8192) (sym (left_is g p true r))))
-  own_answers m b (by.finished u g s p e r) l = refl
-  own_answers m b (by.failed t e x g s o y w) l = refl
-  own_answers m b (by.linked r g x) l = refl
-  own_answers m b (by.renewed g s) l = refl
+  own_answers m b _ l = refl
 
   -- a call that is taken
   ruled_answers : (m b : List ℕ) {c : Call} {a : Act} → Typed c → by.Ruled (facts_of d (lent c m b)) c (Ok a) → a ≡ does (facts_of d (lent c m b)) c → Lies h m (sent_in (Replies d (part_of a m) a))

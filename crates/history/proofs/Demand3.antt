@@ -22,7 +22,7 @@ use Rattle.history.specs.Follows.{final, lents, history_of, Began}
 use Rattle.history.proofs.Allowed.{BeganCode, CounterCode, CountCode}
 use Rattle.history.proofs.Counters.{counters_tell}
 use Rattle.history.proofs.RefusedTests.{powered}
-use Rattle.history.proofs.Runs.{demand3_fates, demand3_data, demand3_sactive, demand3_waiting, demand3_depth, demand3_single, demand3_reply_rules, refused_exactly, log_told_lem, held}
+use Rattle.history.proofs.Runs.{demand3_fates, demand3_data, demand3_sactive, demand3_waiting, demand3_depth, demand3_single, demand3_reply_rules, refused_exactly, log_agrees, held}
 use Rattle.history.proofs.StateAgrees.{told_outstanding, told_waits, told_counters, told_asked, told_depth, told_count, told_due, told_consistent}
 use Rattle.history.proofs.Lasting.{lasting}
 use Rattle.history.proofs.Contracts.{for_all, began_code, counter_code, count_code}
@@ -59,7 +59,7 @@ promised s as' t = record {
   power = powered s;
   refusals = refused_exactly s as' t;
   answers = (held s as' t).answers;
-  errors = log_told_lem s as' t;
+  errors = log_agrees s as' t;
   demand3 = demand3 s as' t;
   lasting = λ m. lasting m (history s as') (demand3_data s as' t).1 (demand3_data s as' t).0;
   state = told s as' t;

@@ -1,8 +1,9 @@
 -- Reset is held by the state where it is by the history: what each call does to it. Assumes nothing.
-use Rattle.std.proofs.Common.{Ok, ◌≡◌, refl, Bool, true, false, ◌||◌, List, [], ◌∷◌, ℕ, ne_eqb, arith}
+use Rattle.std.proofs.Common.{Ok, ◌≡◌, refl, sym, ap, ◌∙◌, Bool, true, false, ◌||◌, List, [], ◌∷◌, ℕ, ne_eqb, arith}
 use Rattle.bits.specs.Pick.{pick}
 use Rattle.bits.specs.Bit.{bit_in}
 use Rattle.device_state.specs.Contradictory.{status_bad}
+use Rattle.frames.specs.declared.shapes.HostReg.{HostReg}
 use Rattle.rules.specs.Call.{Call, host_frame}
 use Rattle.rules.specs.Positions.{move_of}
 use Rattle.rules.specs.declared.acts.Act.{Act}
@@ -10,6 +11,7 @@ use Rattle.rules.specs.declared.facts.Facts.{Facts}
 use Rattle.rules.proofs.Ruled as by
 use Rattle.device.specs.Device.{contradictory_device, power_on, fresh_device}
 use Rattle.device_state.specs.declared.shapes.Settings.{Settings}
+use Rattle.device_state.specs.declared.shapes.Status.{Status}
 use Rattle.device.specs.Lent.{Lent, lent}
 use Rattle.device.specs.After.{after_of, halt_with, reset_held, released_device, accepted_by, unhalted_device, zeroed_if, moved_by, opened_for, finished_by, failed_by, renewed_device, with_value}
 use Rattle.device.specs.FactsOf.{facts_of}
@@ -39,6 +41,12 @@ busy_free d g t b =
     let some = ne_eqb f.outstanding 0 (λ z. no_busy f.outstanding t z b) in
     grind arith
 
+-- a command that is not queued holds no reset
+other_holds : (d : Device) {v : Facts} {h : HostReg} {a : Act} → by.Other v h a → d.status.held ≡ false → (after_of d a).status.held ≡ false
+unfolding after_of unhalted_device zeroed_if halt_with
+other_holds d (by.busy x) e = refl
+other_holds d _ e = e
+
 -- a host frame that is not turned down
 heard_holds : (d : Device) (v : Facts) {f : FrameRead} {a : Act} → v.status ≡ d.status → by.Heard v f a → next (frame_frees f) (frame_asks f).resets d.status.held ≡ (after_of d a).status.held
 unfolding after_of reset_held released_device accepted_by unhalted_device zeroed_if moved_by halt_with move_of
@@ -49,23 +57,15 @@ heard_holds d v e (by.rule1 h c y) = rw c.command
 heard_holds d v e (by.rule2 h c y u) = rw (c.command, ← e, c.free)
 heard_holds d v e (by.rule3 h c y u z) = rw (c.command, ← e, c.free)
 heard_holds d v e (by.rule4 h c y u z) = rw c.command
-heard_holds d v e (by.other_halted h c y) = rw c.command
-heard_holds d v e (by.other_busy h c y) = rw (c.command, ← e, c.free)
-heard_holds d v e (by.page10 h c x p) = rw c.command
-heard_holds d v e (by.page11 h c y x p) = rw c.command
-heard_holds d v e (by.other_bad h c y x) = rw c.command
+heard_holds d v e (by.other h c y) = rw (c.command, ← e, c.free) (sym (other_holds d y (sym (ap (λ (s : Status). s.held) e) ∙ c.free)))
 heard_holds d v e (by.due n p w y) = refl
 heard_holds d v e (by.bist y) = refl
 
 -- a device event that is taken
 own_holds : (d : Device) (m b : List ℕ) {c : Call} {a : Act} → by.Own (facts_of d (lent c m b)) c a → next (frees c) (call_asks c).resets d.status.held ≡ (after_of d a).status.held
 unfolding after_of opened_for moved_by finished_by failed_by halt_with renewed_device released_device reset_held with_value move_of
-own_holds d m b (by.opened t g s o p e) = refl
-own_holds d m b (by.sent g w s p r) = refl
-own_holds d m b (by.finished set g s p e r) = refl
 own_holds d m b (by.failed t e x g s o y w) = busy_free d g t o
-own_holds d m b (by.linked r g x) = refl
-own_holds d m b (by.renewed g s) = refl
+own_holds d m b _ = refl
 
 -- a call that is taken
 ruled_holds : (d : Device) (m b : List ℕ) {c : Call} {a : Act} → by.Ruled (facts_of d (lent c m b)) c (Ok a) → next (frees c) (call_asks c).resets d.status.held ≡ (after_of d a).status.held

@@ -86,9 +86,9 @@ module _ (d : Device) (g : contradictory_device d ≡ false) where
   heard_goes x m b r (by.rule4 h c y u z) =
       mildly h _ refl refl refl refl refl (λ k. k) (to_queued h c.command c.kind _ refl refl)
       (hosts.accepted d g h c.command c.kind y (none_open d.status.phase c.calm) (or_right (leb d.settings.depth (tag_asked h)) (bit_in 32 d.status.outstanding (tag_asked h)) u))
-  heard_goes x m b r (by.other_halted h c y) = badly h 0x04 c.command (hosts.answered_again d g h 0x04 c.command y)
-  heard_goes x m b r (by.other_busy h c y) = faultily h None 0x04 c.command (hosts.busy_faulted d g h c.command c.kind y)
-  heard_goes x m b r (by.page10 h c e p) = record {
+  heard_goes x m b r (by.other h c (by.halted y)) = badly h 0x04 c.command (hosts.answered_again d g h 0x04 c.command y)
+  heard_goes x m b r (by.other h c (by.busy y)) = faultily h None 0x04 c.command (hosts.busy_faulted d g h c.command c.kind y)
+  heard_goes x m b r (by.other h c (by.page10 e p)) = record {
     medium = untouched _ _ refl (λ _. refl);
     shaped = to_log h c.command d.status.halted h.task (page10_of d.errors);
     said = ten_said h h.task (page10_of d.errors) (reads_errors h c.command p) d.status.halted;
@@ -97,7 +97,7 @@ module _ (d : Device) (g : contradictory_device d ≡ false) where
     marked = λ _ e. absurd (false≢true e);
     comes = hosts.ten_comes d g h c.command (reads_errors h c.command p) (hosts.other d g h c.command c.kind) c.calm;
   }
-  heard_goes x m b r (by.page11 h c y e p) = record {
+  heard_goes x m b r (by.other h c (by.page11 y e p)) = record {
     medium = untouched _ _ refl (λ _. refl);
     shaped = to_log h c.command false h.task _;
     said = λ _. eleven_said h h.task _ (reads_counters h c.command p);
@@ -106,7 +106,7 @@ module _ (d : Device) (g : contradictory_device d ≡ false) where
     marked = λ k. k;
     comes = hosts.paged_eleven d g h c.command (hosts.other d g h c.command c.kind) y (bit_in 8 h.features 0);
   }
-  heard_goes x m b r (by.other_bad h c y e) = badly h 0x04 c.command (hosts.answered_free d g h 0x04 c.command (hosts.other d g h c.command c.kind) y (eqb-true d.status.outstanding 0 e))
+  heard_goes x m b r (by.other h c (by.neither y e)) = badly h 0x04 c.command (hosts.answered_free d g h 0x04 c.command (hosts.other d g h c.command c.kind) y (eqb-true d.status.outstanding 0 e))
   heard_goes x m b r (by.due n p w y) =
       let last = (move_of d.status (phase_entry d) n).last in
       record { medium = host_data_frame n _; shaped = to_data n (not last); said = λ _. kept_said (Ok (fs.Data n)) (not last); unsent = active_none (not last); heard = data_heard d n _; marked = λ k. k; comes = hosts.data_comes d g n r.1.1 p w y }

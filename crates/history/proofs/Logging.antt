@@ -95,11 +95,11 @@ module _ (d : Device) (h : List Event) (w : waits (map seen h) ≡ d.status.halt
   heard_logged x m b g t (by.rule2 f c y z) = rw (c.command, c.kind, w, y, echo_task f.task t) refl
   heard_logged x m b g t (by.rule3 f c y z v) = rw (c.command, c.kind, w, y, echo_task f.task t) refl
   heard_logged x m b g t (by.rule4 f c y z v) = rw c.command k
-  heard_logged x m b g t (by.other_halted f c y) = rw (c.command, c.kind, w, y, and-false _) k
-  heard_logged x m b g t (by.other_busy f c y) = rw (c.command, c.kind, w, calm g y, u, y, echo_task f.task t) refl
-  heard_logged x m b g t (by.page10 f c y p) = stays (register_asks f) (log_replies d.status.halted f.task (page10_of d.errors)) _ (let b = c.command in grind arith) (let b = c.command in grind arith) (let b = c.command in grind arith)
-  heard_logged x m b g t (by.page11 f c y z p) = rw c.command k
-  heard_logged x m b g t (by.other_bad f c y z) = rw (c.command, c.kind, w, y, u, z) k
+  heard_logged x m b g t (by.other f c (by.halted y)) = rw (c.command, c.kind, w, y, and-false _) k
+  heard_logged x m b g t (by.other f c (by.busy y)) = rw (c.command, c.kind, w, calm g y, u, y, echo_task f.task t) refl
+  heard_logged x m b g t (by.other f c (by.page10 y p)) = stays (register_asks f) (log_replies d.status.halted f.task (page10_of d.errors)) _ (let b = c.command in grind arith) (let b = c.command in grind arith) (let b = c.command in grind arith)
+  heard_logged x m b g t (by.other f c (by.neither y z)) = rw (c.command, c.kind, w, y, u, z) k
+  heard_logged x m b g t (by.other f c _) = rw c.command k
   heard_logged x m b g t (by.due l p q y) = let on = not (move_of d.status (phase_entry d) l).last in let i = is_brought l on in stays (data_asks l) (activate_if on) _ i.bad i.fails i.resets
   heard_logged x m b g t (by.bist y) = k
 
@@ -108,11 +108,9 @@ module _ (d : Device) (h : List Event) (w : waits (map seen h) ≡ d.status.halt
       → Next (call_asks c) (replies_of (state_shown d) (part_of a m) a) (call_log (error_of (replies_of (state_shown d) (part_of a m) a)) h c) ≡ log_of (after_of d a).errors
   unfolding view some collect replies_of after_of opened_for moved_by finished_by failed_by halt_with renewed_device released_device reset_held with_value move_of
   own_logged m b (by.opened t g s o p e) = setup_logged (record { tag = t; entry = entry_of d.entries t }) _
-  own_logged m b (by.sent g v s p r) = k
-  own_logged m b (by.finished set g s p e r) = k
   own_logged m b (by.failed t e x g s o y v) = rw (w, busy_calm d g t o, failing_task _ x _ (sector_small d t x g o v) (n t o)) refl
-  own_logged m b (by.linked r g x) = k
   own_logged m b (by.renewed g s) = refl
+  own_logged m b _ = k
 
   -- a call that is taken
   ruled_logged : (m b : List ℕ) {c : Call} {a : Act} → Typed c → by.Ruled (facts_of d (lent c m b)) c (Ok a)

@@ -17,6 +17,7 @@ use Rattle.rules.specs.Call.{Call, host_frame}
 use Rattle.rules.specs.Decide.{tag_asked, entry_for}
 use Rattle.rules.specs.Medium.{part_of}
 use Rattle.rules.specs.Positions.{move_of, advanced_by}
+use Rattle.rules.specs.declared.facts.Facts.{Facts}
 use Rattle.rules.specs.declared.acts.Queued.{Queued}
 use Rattle.rules.specs.declared.acts.Act.{Act}
 use Rattle.rules.proofs.Ruled as by
@@ -94,6 +95,16 @@ finished_stay d set w t b =
       ap (λ (x : Entry). task_in x.echo) (cleared_other d.entries set t l (not-true (bit_in 32 set t) (and_left (not (bit_in 32 set t)) (busy_at d t) both))),
     )
 
+-- a command that is not queued leaves each command that is still outstanding as it was
+other_stay : (d : Device) {v : Facts} {f : HostReg} {a : Act} → by.Other v f a → Stay d (after_of d a)
+unfolding after_of unhalted_device zeroed_if halt_with
+other_stay d (by.busy z) = empty_stay d _ refl
+other_stay d _ = λ t b. (b, refl)
+
+-- and is not accepted, whatever it is answered
+unqueued : (f : HostReg) → (eqb f.command 0x60 || eqb f.command 0x61) ≡ false → (rs : List FrameValue) → accepts (view (register_asks f) rs) ≡ false
+unqueued f e rs = grind arith
+
 module _ (d : Device) (h : List Event) (n : Named d h) where
   -- what the history tells next, from what was asked and sent, and the bytes of the call
   abbrev Next : Asked → List FrameValue → Task → ℕ → Task
@@ -113,11 +124,6 @@ module _ (d : Device) (h : List Event) (n : Named d h) where
   -- DMA Setup, with an Activate or without
   setup_named : (q : Queued) (task : Task) (d' : Device) → Stay d d' → Names quiet (setup_reply q ∷ activate_if q.entry.write) task d'
   setup_named q task d' s = stays quiet (setup_reply q ∷ activate_if q.entry.write) task d' (is_setup _ q.entry.write).accepted s
-
-  -- page 10h, with or without the sweep
-  paged_named : (f : HostReg) (on : Bool) (p : List ℕ) (task : Task) (d' : Device) → f.command_bit ≡ true → (eqb f.command 0x60 || eqb f.command 0x61) ≡ false → Stay d d' → Names (register_asks f) (log_replies on f.task p) task d'
-  unfolding view some collect
-  paged_named f on p task d' c e s = stays (register_asks f) (log_replies on f.task p) task d' (grind arith) s
 
   -- rule 4
   accepted_named : (f : HostReg) → f.command_bit ≡ true → (eqb f.command 0x60 || eqb f.command 0x61) ≡ true → f.task ≡ task_in (entry_for f).echo → (rs : List FrameValue) → accepts (view (register_asks f) rs) ≡ true
@@ -151,11 +157,7 @@ module _ (d : Device) (h : List Event) (n : Named d h) where
   heard_named x m b {y} {a} t (by.rule2 f c z u) = by_act (frame_asks y) [] (frame_task y) a (and-false _) (empty_stay d (after_of d a) refl)
   heard_named x m b {y} {a} t (by.rule3 f c z u v) = by_act (frame_asks y) [] (frame_task y) a (and-false _) (empty_stay d (after_of d a) refl)
   heard_named x m b {y} {a} t (by.rule4 f c z u v) = accepted_named f c.command c.kind (sym (echo_task f.task t)) (replies_of (state_shown d) [] a) (rw (c.command, c.kind) refl)
-  heard_named x m b {y} {a} t (by.other_halted f c z) = by_act (frame_asks y) [] (frame_task y) a (and-false _) same
-  heard_named x m b {y} {a} t (by.other_busy f c z) = by_act (frame_asks y) [] (frame_task y) a (and-false _) (empty_stay d (after_of d a) refl)
-  heard_named x m b {y} {a} t (by.page10 f c z p) = paged_named f d.status.halted (page10_of d.errors) f.task (after_of d a) c.command c.kind same
-  heard_named x m b {y} {a} t (by.page11 f c z u p) = paged_named f false (page11_of d.settings.mask d.values) f.task (after_of d a) c.command c.kind same
-  heard_named x m b {y} {a} t (by.other_bad f c z u) = by_act (frame_asks y) [] (frame_task y) a (and-false _) same
+  heard_named x m b {y} {a} t (by.other f c z) = by_act (frame_asks y) [] (frame_task y) a (unqueued f c.kind (replies_of (state_shown d) [] a)) (other_stay d z)
   heard_named x m b {y} {a} t (by.due l p q z) = by_act (frame_asks y) [] (frame_task y) a (is_brought l (not (move_of d.status (phase_entry d) l).last)).accepted (moved_stay d l p)
   heard_named x m b {y} {a} t (by.bist z) = by_act (frame_asks y) [] (frame_task y) a refl same
 
@@ -166,8 +168,8 @@ module _ (d : Device) (h : List Event) (n : Named d h) where
   own_named m b {c} {a} y (by.sent g v s p r) = by_act (call_asks c) (part_of a m) (call_task c) a refl (moved_stay d 8192 p)
   own_named m b {c} {a} y (by.finished set g s p e r) = by_act (call_asks c) (part_of a m) (call_task c) a refl (finished_stay d set y.1)
   own_named m b {c} {a} y (by.failed t e x g s o p v) = by_act (call_asks c) (part_of a m) (call_task c) a refl (empty_stay d (after_of d a) refl)
-  own_named m b y (by.linked r g x) = λ u o. n u o
   own_named m b {c} {a} y (by.renewed g s) = by_act (call_asks c) (part_of a m) (call_task c) a refl (empty_stay d (after_of d a) refl)
+  own_named m b y _ = λ u o. n u o
 
   -- a call that is taken
   ruled_named : (m b : List ℕ) {c : Call} {a : Act} → Typed c → by.Ruled (facts_of d (lent c m b)) c (Ok a) → Names (call_asks c) (replies_of (state_shown d) (part_of a m) a) (call_task c) (after_of d a)

@@ -56,7 +56,7 @@ pub record Held (s : Settings) (d : Device) (h : List Event) : Type 0 where
   pub refusals : Refusals s.depth s.capacity s.mask h
   pub named : Named d h
   pub logged : log_by h ≡ log_of d.errors
-  pub log_told_lem : LogTold h
+  pub log_agrees : LogTold h
   pub masked : Masked s.mask d
   pub counting : Counting d h
   pub counters : Counters s.mask h
@@ -86,7 +86,7 @@ held_step s d a h t i =
       refusals = (refusing s d a h i.sound i.knows, i.refusals);
       named = named_step d h i.named a t i.wide.sized;
       logged = logged_step d h i.knows.halted (ap (ltb 0) (inv_total i.inv) ∙ ones_some d.status.outstanding) i.named i.logged a t i.wide.sized;
-      log_told_lem = (told_step d a h t i.wide.sized i.logged, i.log_told_lem);
+      log_agrees = (told_step d a h t i.wide.sized i.logged, i.log_agrees);
       masked = masked_step s.mask d a i.masked;
       counting = counting_step d a h r i.counting;
       counters = (counters_step s.mask d a h i.masked i.counting r, i.counters);
@@ -113,7 +113,7 @@ held_power s =
       refusals = tt;
       named = named_power s;
       logged = logged_power s;
-      log_told_lem = tt;
+      log_agrees = tt;
       masked = masked_start s;
       counting = counting_start s;
       counters = tt;
@@ -139,8 +139,8 @@ pub refused_exactly : (s : Settings) (as' : List Lent) → AllTyped as' → Refu
 refused_exactly s as' t = (held s as' t).refusals
 
 -- every page 10h ever sent tells the last error since the last reset, as the history before it has it
-pub log_told_lem : (s : Settings) (as' : List Lent) → AllTyped as' → LogTold (history s as')
-log_told_lem s as' t = (held s as' t).log_told_lem
+pub log_agrees : (s : Settings) (as' : List Lent) → AllTyped as' → LogTold (history s as')
+log_agrees s as' t = (held s as' t).log_agrees
 
 -- no more ones than the depth
 within_depth : (s : Settings) (d : Device) (h : List Event) → Held s d h → total (map seen h) ≤ s.depth

@@ -25,7 +25,3 @@ is_none_true o e = grind arith
 
 pub is_none_false : {A : Type 0} (o : Option A) → is_none o ≡ false → o ≡ None → ⊥
 is_none_false o e z = grind arith
-
--- and back
-pub is_none_some : {A : Type 0} (o : Option A) → (o ≡ None → ⊥) → is_none o ≡ false
-is_none_some o n = grind arith

@@ -62,8 +62,8 @@ module _ (d : Device) where
   heard_page : (x m b : List ℕ) {f : FrameRead} {a : Act} → by.Heard (facts_of d (lent (host_frame x) m b)) f a → pio_in (replies_of (state_shown d) [] a) ≡ true → (frame_asks f).reads 0x10 ≡ true
       → page_in (replies_of (state_shown d) [] a) ≡ page10_of d.errors
   unfolding replies_of some
-  heard_page x m b (by.page10 f c y z) p q = ten_page d.status.halted f.task (page10_of d.errors)
-  heard_page x m b (by.page11 f c y z v) p q = absurd (not_ten f c.command v q)
+  heard_page x m b (by.other f c (by.page10 y z)) p q = ten_page d.status.halted f.task (page10_of d.errors)
+  heard_page x m b (by.other f c (by.page11 y z v)) p q = absurd (not_ten f c.command v q)
   heard_page x m b (by.due l y z v) p q = absurd (false≢true q)
   heard_page x m b _ p q = absurd (false≢true p)
 

@@ -1,5 +1,6 @@
 -- The other bytes of page 10h: how many there can be, and what holds where there are none. Assumes nothing.
-use Rattle.std.proofs.Common.{◌≡◌, refl, ◌∙◌, ℕ, ◌≤◌, ◌<◌, Bool, true, false, not, List, length, get_or, cond, None, arith, zero-add, eqb, lit<, eqb-true}
+use Rattle.std.proofs.Common.{◌≡◌, refl, ◌∙◌, ℕ, ◌≤◌, ◌<◌, false, not, List, length, get_or, cond, None, arith, zero-add, eqb, lit<, eqb-true}
+use borrow.Author.Tests.{not-false}
 use Rattle.std.specs.List.{count_by, enumerate_from}
 use Rattle.std.proofs.lemmas.List.Sums.{count_by-le-length, get_or-le-sum_by}
 use Rattle.std.proofs.lemmas.List.FromFn.{length-enumerate_from, get_or-enumerate_from}
@@ -8,9 +9,6 @@ use Rattle.refusals.specs.First.{first_of}
 use Rattle.refusals.proofs.FirstLaws as firsts
 use Rattle.pages.specs.Page10.{ladder10}
 use Rattle.pages.specs.Others10.{named_bits, has_other}
-
-not-false : (b : Bool) → not b ≡ false → b ≡ true
-not-false b h = grind arith
 
 -- a page that is not refused has 512 bytes
 pub others_most : (page : List ℕ) → first_of (ladder10 page) ≡ None → count_by has_other (enumerate_from 0 page) ≤ 512

@@ -39,6 +39,14 @@ pub record TimelyCommand (v : Facts) (h : HostReg) (queued : Bool) : Type 0 wher
   pub calm : link_busy v.status ≡ false
   pub kind : is_queued h ≡ queued
 
+-- a command that is not queued, by its rule
+pub data Other (v : Facts) (h : HostReg) : Act → Type 0 where
+  halted : v.status.halted ≡ true → Other v h (bad h 0x04)
+  busy : eqb v.status.outstanding 0 ≡ false → Other v h (fault h None 0x04)
+  page10 : eqb v.status.outstanding 0 ≡ true → asks_errors (page_asked h) ≡ true → Other v h (Log10 h.task)
+  page11 : v.status.halted ≡ false → eqb v.status.outstanding 0 ≡ true → asks_counters (page_asked h) ≡ true → Other v h (Log11 (record { zero = bit_in 8 h.features 0; task = h.task }))
+  neither : v.status.halted ≡ false → eqb v.status.outstanding 0 ≡ true → Other v h (bad h 0x04)
+
 -- a host frame that is not turned down, as it was read
 pub data Heard (v : Facts) : Result Frame Refusal → Act → Type 0 where
   -- control frames
@@ -54,12 +62,7 @@ pub data Heard (v : Facts) : Result Frame Refusal → Act → Type 0 where
   rule4 : (h : HostReg) → TimelyCommand v h true → v.status.halted ≡ false → leb v.settings.depth (tag_asked h) || bit_in 32 v.status.outstanding (tag_asked h) ≡ false
       → ltb v.settings.capacity (h.task.lba + count_asked h) ≡ false → Heard v (Ok (Host h)) (Accept (record { tag = tag_asked h; entry = entry_for h }))
   -- any other command
-  other_halted : (h : HostReg) → TimelyCommand v h false → v.status.halted ≡ true → Heard v (Ok (Host h)) (bad h 0x04)
-  other_busy : (h : HostReg) → TimelyCommand v h false → eqb v.status.outstanding 0 ≡ false → Heard v (Ok (Host h)) (fault h None 0x04)
-  page10 : (h : HostReg) → TimelyCommand v h false → eqb v.status.outstanding 0 ≡ true → asks_errors (page_asked h) ≡ true → Heard v (Ok (Host h)) (Log10 h.task)
-  page11 : (h : HostReg) → TimelyCommand v h false → v.status.halted ≡ false → eqb v.status.outstanding 0 ≡ true → asks_counters (page_asked h) ≡ true
-      → Heard v (Ok (Host h)) (Log11 (record { zero = bit_in 8 h.features 0; task = h.task }))
-  other_bad : (h : HostReg) → TimelyCommand v h false → v.status.halted ≡ false → eqb v.status.outstanding 0 ≡ true → Heard v (Ok (Host h)) (bad h 0x04)
+  other : (h : HostReg) → {a : Act} → TimelyCommand v h false → Other v h a → Heard v (Ok (Host h)) a
   -- host data, BIST
   due : (n : ℕ) → is_none v.status.phase ≡ false → v.entry.write ≡ true → ltb (left_of v.entry) n ≡ false → Heard v (Ok (Data n)) (Store (move_of v.status v.entry n))
   bist : link_busy v.status ≡ false → Heard v (Ok Bist) ZeroCounters
@@ -123,16 +126,16 @@ module _ (v : Facts) where
       let used : Bool = tag_refused v.settings.depth (tag_asked h) (bit_in 32 v.status.outstanding (tag_asked h)) in
       by_test R v.status.halted _ _ (rule1 h c) (λ x. by_test R used _ _ (rule2 h c x) (λ u. by_test R far _ _ (rule3 h c x u) (rule4 h c x u)))
 
-  other_heard : (h : HostReg) → TimelyCommand v h false → Heard v (Ok (Host h)) (other_act v h)
+  other_ruled : (h : HostReg) → Other v h (other_act v h)
   unfolding other_act
-  other_heard h c =
-      let R : Result LogPage verdict.Bad → Type 0 = λ r. Heard v (Ok (Host h)) (other_does h r) in
+  other_ruled h =
+      let R : Result LogPage verdict.Bad → Type 0 = λ r. Other v h (other_does h r) in
       let asked : Bool = asks_errors (page_asked h) in
-      by_test R (v.status.halted && not asked) _ _ (λ x. other_halted h c (and_left v.status.halted (not asked) x))
-      (λ x. by_test R (not (eqb v.status.outstanding 0)) _ _ (λ y. other_busy h c (not-true (eqb v.status.outstanding 0) y))
+      by_test R (v.status.halted && not asked) _ _ (λ x. halted (and_left v.status.halted (not asked) x))
+      (λ x. by_test R (not (eqb v.status.outstanding 0)) _ _ (λ y. busy (not-true (eqb v.status.outstanding 0) y))
       (λ z. let e = not-false (eqb v.status.outstanding 0) z in
       let awake : asked ≡ false → v.status.halted ≡ false = and_other v.status.halted asked x in
-      by_page R (page_asked h) (page10 h c e) (λ n. page11 h c (awake n) e) (λ n. other_bad h c (awake n) e)))
+      by_page R (page_asked h) (page10 e) (λ n. page11 (awake n) e) (λ n. neither (awake n) e)))
 
   register_heard : (h : HostReg) → h.command_bit && (v.status.held || link_busy v.status) ≡ false → Heard v (Ok (Host h)) (register_act v h)
   unfolding register_act
@@ -143,7 +146,7 @@ module _ (v : Facts) where
       let c = not-false h.command_bit n in
       let w : v.status.held || link_busy v.status ≡ false = rw c at t in
       let made : (q : Bool) → is_queued h ≡ q → TimelyCommand v h q = λ q e. record { command = c; free = or_left v.status.held (link_busy v.status) w; calm = or_right v.status.held (link_busy v.status) w; kind = e } in
-      by_test R (is_queued h) (queued_act v h) (other_act v h) (λ q. queued_heard h (made true q)) (λ q. other_heard h (made false q)))
+      by_test R (is_queued h) (queued_act v h) (other_act v h) (λ q. queued_heard h (made true q)) (λ q. other h (made false q) (other_ruled h)))
 
   -- a host frame that no test of 4, 5 and 6 turns down
   heard : (f : Result Frame Refusal) → wrong_kind f ≡ false → wrong_time v f ≡ false → wrong_size v f ≡ false → Heard v f (frame_act v f)

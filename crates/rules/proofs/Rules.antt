@@ -1,17 +1,12 @@
 -- What a verdict tells of its tests. Assumes nothing.
-use Rattle.std.proofs.Common.{Option, Some, None, Result, Ok, Err, ◌≡◌, refl, Bool, true, false, arith}
+use Rattle.std.proofs.Common.{Option, Some, None, Result, Ok, Err, ◌≡◌, refl, true, false}
 use Rattle.std.specs.Option.{ok_or}
-use Rattle.rules.specs.QueuedRule.{queued_rule}
 use Rattle.rules.specs.OtherRule.{asks_errors, asks_counters}
 use Rattle.frames.specs.declared.log_pages.LogPage.{LogPage}
 use Rattle.frames.specs.declared.log_pages.LogPage.TheVariants.{Errors, Counters}
 use Rattle.rules.specs.declared.errors.CommandError.TheVariants.{Aborted}
 use Rattle.rules.specs.declared.command_rules.Bad.{Bad}
 use Rattle.rules.specs.declared.command_rules.Bad.TheVariants.{Only}
-
--- a good queued command ends at or below capacity
-pub good_near : (r : Result Unit Bad) (halted tag far : Bool) → r ≡ Ok tt → r ≡ queued_rule halted tag far → far ≡ false
-good_near r halted tag far g e = grind arith
 
 -- what a command that asks for a page comes to, by the page
 pub by_page : (P : Result LogPage Bad → Type 0) (page : Option LogPage) → (asks_errors page ≡ true → P (Ok Errors))

@@ -1,11 +1,11 @@
 -- What holds of every call's row of the refusal table. Assumes nothing.
-use Rattle.std.proofs.Common.{Some, ◌≡◌, refl, Bool, true, false, ◌&&◌, true≢false, List, [], ◌∷◌, T, ltb}
+use Rattle.std.proofs.Common.{Some, ◌≡◌, refl, Bool, true, false, ◌&&◌, true≢false, List, [], ◌∷◌, T, ltb, arith}
 use Rattle.refusals.specs.First.{Rung, first_of, fresh, apart}
 use Rattle.refusals.specs.Number.{number}
 use Rattle.refusals.specs.declared.reasons.Refusal.TheVariants.{Contradiction, NoFrame}
 use Rattle.bits.proofs.Picks.{pick_yes}
 use Rattle.rules.specs.Call.{Call, host_frame, happens}
-use Rattle.rules.specs.declared.event.DeviceEvent.TheVariants.{SendData, LinkEvent}
+use Rattle.rules.specs.declared.event.DeviceEvent.TheVariants.{SendData}
 use Rattle.rules.specs.Handed.{handed}
 use Rattle.rules.specs.Tests.{tests}
 use Rattle.rules.specs.Act.{does, act}
@@ -39,5 +39,4 @@ pub test_laws : (v : Facts) (c : Call) → TestLaws v c
 unfolding tests does act
 test_laws v (host_frame f) = record { once = tt; rising = refl; one = first_holds _ _; no_24 = refl; unlent = λ h. absurd (true≢false h); unbuffered = λ h. absurd (true≢false h) }
 test_laws v (happens SendData) = record { once = tt; rising = refl; one = first_holds _ _; no_24 = refl; unlent = λ h. absurd (true≢false h); unbuffered = λ h. absurd (true≢false h) }
-test_laws v (happens (LinkEvent r)) = record { once = tt; rising = refl; one = first_holds _ _; no_24 = refl; unlent = λ h w. refl; unbuffered = λ h s. refl }
-test_laws v _ = record { once = tt; rising = refl; one = first_holds _ _; no_24 = refl; unlent = λ h w. refl; unbuffered = λ h. absurd (true≢false h) }
+test_laws v _ = record { once = tt; rising = refl; one = first_holds _ _; no_24 = refl; unlent = λ h w. refl; unbuffered = λ h s. grind arith }
