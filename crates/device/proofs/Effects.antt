@@ -1,5 +1,5 @@
--- What each change of the state does, said of its parts; and of every act: settings, record, phase, bytes. Assumes nothing.
-use Rattle.std.proofs.Common.{Option, None, is_none, ◌≡◌, refl, sym, subst, Bool, true, false, true≢false, ℕ, ◌<◌, lit<, replicate, arith}
+-- What each change of the state does, said of its parts; and of every act: settings, record, bytes. Assumes nothing.
+use Rattle.std.proofs.Common.{None, ◌≡◌, refl, sym, subst, Bool, true, false, true≢false, ℕ, ◌<◌, lit<, replicate, arith}
 use Rattle.bits.specs.Pick.{pick}
 use Rattle.bits.specs.Bit.{bit_in}
 use Rattle.device_state.specs.State.{blank_record, zero_echo}
@@ -8,7 +8,7 @@ use Rattle.device_state.specs.declared.shapes.Entry.{Entry}
 use Rattle.device_state.specs.declared.shapes.ErrorRecord.{ErrorRecord}
 use Rattle.rules.specs.declared.acts.Fault.{Fault}
 use Rattle.rules.specs.declared.acts.Act.{Act}
-use Rattle.rules.specs.declared.acts.Act.TheVariants.{BadAndHalt, Accept, Reset, Store, Open, Send, Finish, Media, Renew}
+use Rattle.rules.specs.declared.acts.Act.TheVariants.{BadAndHalt, Accept, Reset, Store, Send, Finish, Media, Renew}
 use Rattle.device.specs.After.{with_value, halt_with, unhalted_device, zeroed_if, reset_held, released_device, accepted_by, moved_by, opened_for, finished_by, failed_by, renewed_device, after_of}
 use Rattle.device.specs.declared.state.Device.{Device}
 use Rattle.device.proofs.Widths.{Small, SmallAll, Wide, zero_small, placed_small, cleared_small, idle_small}
@@ -40,32 +40,27 @@ released_effect d = (refl, refl)
 
 -- ---- every act
 
--- what an act has to do with record, phase and table: it sets or clears the record; it opens a phase; the error byte and the command's bytes that it puts there, zeros for none
+-- what an act has to do with record and table: it sets or clears the record; the error byte and the command's bytes that it puts there, zeros for none
 pub record Traits : Type 0 where
   pub anew : Bool
-  pub opens : Bool
   pub error : ℕ
   pub echo : Echo
 
 -- nothing
 abbrev none : Traits
-none = record { anew = false; opens = false; error = 0; echo = zero_echo }
+none = record { anew = false; error = 0; echo = zero_echo }
 
 -- a halt sets the record
 abbrev halting : Fault → Traits
-halting f = record { anew = true; opens = false; error = f.error; echo = f.echo }
+halting f = record { anew = true; error = f.error; echo = f.echo }
 
 -- a reset clears it
 abbrev clearing : Traits
-clearing = record { anew = true; opens = false; error = 0; echo = zero_echo }
+clearing = record { anew = true; error = 0; echo = zero_echo }
 
 -- an entry goes into the table
 abbrev entering : Entry → Traits
-entering e = record { anew = false; opens = false; error = 0; echo = e.echo }
-
--- a phase opens
-abbrev opening : Traits
-opening = record { anew = false; opens = true; error = 0; echo = zero_echo }
+entering e = record { anew = false; error = 0; echo = e.echo }
 
 -- an act's
 unfoldable pub traits : Act → Traits
@@ -73,7 +68,6 @@ traits (BadAndHalt f) = halting f
 traits (Accept q) = entering q.entry
 traits Reset = clearing
 traits (Store m) = entering m.entry
-traits (Open q) = opening
 traits (Send m) = entering m.entry
 traits (Media f) = halting f
 traits Renew = clearing
@@ -83,21 +77,16 @@ traits _ = none
 abbrev pub Puts : Act → Type 0
 Puts a = ((traits a).error < 256) × Small (traits a).echo
 
--- no act changes a setting; the record stays until the next halt or reset; a phase is open after an act only if one was open before it, or the act is an open; record and table stay bytes
+-- no act changes a setting; the record stays until the next halt or reset; record and table stay bytes
 pub record ActLaws (d : Device) (a : Act) : Type 0 where
   pub settings : (after_of d a).settings ≡ d.settings
   pub stays : (traits a).anew ≡ false → (after_of d a).errors ≡ d.errors
-  pub opened : is_none (after_of d a).status.phase ≡ false → (traits a).opens ≡ false → is_none d.status.phase ≡ false
   pub wide : Wide d → Puts a → Wide (after_of d a)
 
 -- nor does a media error
 failed_settings : (d : Device) (f : Fault) → (b : Bool) → (halt_with (pick b (with_value d 0) d) f).settings ≡ d.settings
 unfolding halt_with with_value
 failed_settings d f b = grind arith
-
--- what moves closes a phase, or leaves it
-still : (last : Bool) (phase : Option ℕ) → is_none (pick last None phase) ≡ false → is_none phase ≡ false
-still last phase e = grind arith
 
 -- one more event at a row leaves record and table
 raised_wide : (d : Device) (row : ℕ) → Wide d → Wide (with_value d row)
@@ -113,33 +102,28 @@ unfolding traits after_of halt_with accepted_by unhalted_device zeroed_if reset_
 act_laws d (BadAndHalt f) = record {
   settings = refl;
   stays = λ h. absurd (true≢false h);
-  opened = λ p _. absurd (true≢false p);
   wide = λ _ p. record { sized = record { error = p.0; echo = p.1 }; entries = idle_small };
 }
-act_laws d (Accept q) = record { settings = refl; stays = λ _. refl; opened = λ p _. p; wide = λ w p. same_record refl w (placed_small d.entries q.tag q.entry w.entries p.1) }
+act_laws d (Accept q) = record { settings = refl; stays = λ _. refl; wide = λ w p. same_record refl w (placed_small d.entries q.tag q.entry w.entries p.1) }
 act_laws d Reset = record {
   settings = refl;
   stays = λ h. absurd (true≢false h);
-  opened = λ p _. absurd (true≢false p);
   wide = λ _ _. record { sized = record { error = lit< tt; echo = zero_small }; entries = idle_small };
 }
-act_laws d (Store m) = record { settings = refl; stays = λ _. refl; opened = λ p _. still m.last d.status.phase p; wide = λ w p. same_record refl w (placed_small d.entries m.tag m.entry w.entries p.1) }
-act_laws d (Open q) = record { settings = refl; stays = λ _. refl; opened = λ _ e. absurd (true≢false e); wide = λ w _. same_record refl w w.entries }
-act_laws d (Send m) = record { settings = refl; stays = λ _. refl; opened = λ p _. still m.last d.status.phase p; wide = λ w p. same_record refl w (placed_small d.entries m.tag m.entry w.entries p.1) }
-act_laws d (Finish set) = record { settings = refl; stays = λ _. refl; opened = λ p _. p; wide = λ w _. same_record refl w (cleared_small d.entries set w.entries) }
+act_laws d (Store m) = record { settings = refl; stays = λ _. refl; wide = λ w p. same_record refl w (placed_small d.entries m.tag m.entry w.entries p.1) }
+act_laws d (Send m) = record { settings = refl; stays = λ _. refl; wide = λ w p. same_record refl w (placed_small d.entries m.tag m.entry w.entries p.1) }
+act_laws d (Finish set) = record { settings = refl; stays = λ _. refl; wide = λ w _. same_record refl w (cleared_small d.entries set w.entries) }
 act_laws d (Media f) = record {
   settings = failed_settings d f (bit_in 8 f.error 7);
   stays = λ h. absurd (true≢false h);
-  opened = λ p _. absurd (true≢false p);
   wide = λ _ p. record { sized = record { error = p.0; echo = p.1 }; entries = idle_small };
 }
 act_laws d Renew = record {
   settings = refl;
   stays = λ h. absurd (true≢false h);
-  opened = λ p _. absurd (true≢false p);
   wide = λ _ _. raised_wide (released_device (reset_held d)) 9 (record { sized = record { error = lit< tt; echo = zero_small }; entries = idle_small });
 }
-act_laws d _ = record { settings = refl; stays = λ _. refl; opened = λ p _. p; wide = λ w _. same_record refl w w.entries }
+act_laws d _ = record { settings = refl; stays = λ _. refl; wide = λ w _. same_record refl w w.entries }
 
 -- each by its name
 pub act_settings : (d : Device) (a : Act) → (after_of d a).settings ≡ d.settings
