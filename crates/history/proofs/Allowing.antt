@@ -1,5 +1,5 @@
 -- Sequences of results that the contracts allow exist, whatever the settings and the calls: what is said of all of them is said of some. Assumes nothing.
-use Rattle.std.proofs.Common.{◌≡◌, refl, sym, ap, List, [], ◌∷◌, ℕ}
+use Rattle.std.proofs.Common.{◌≡◌, refl, sym, ap, false, List, [], ◌∷◌, ℕ}
 use Rattle.std.specs.Borrow.{Bor, MutBor}
 use Rattle.bits.specs.Laid.{overlay}
 use Rattle.frames.specs.Cut.{joined_bytes}

@@ -1,5 +1,5 @@
 -- Reset is held by the state where it is by the history: what each call does to it. Assumes nothing.
-use Rattle.std.proofs.Common.{Ok, ◌≡◌, refl, sym, ap, ◌∙◌, Bool, true, false, ◌||◌, List, [], ◌∷◌, ℕ, ne_eqb, arith}
+use Rattle.std.proofs.Common.{Ok, ◌≡◌, refl, sym, ◌∙◌, Bool, true, false, ◌||◌, List, [], ◌∷◌, ℕ, ne_eqb, arith}
 use Rattle.bits.specs.Pick.{pick}
 use Rattle.bits.specs.Bit.{bit_in}
 use Rattle.device_state.specs.Contradictory.{status_bad}
@@ -11,7 +11,6 @@ use Rattle.rules.specs.declared.facts.Facts.{Facts}
 use Rattle.rules.proofs.Ruled as by
 use Rattle.device.specs.Device.{contradictory_device, power_on, fresh_device}
 use Rattle.device_state.specs.declared.shapes.Settings.{Settings}
-use Rattle.device_state.specs.declared.shapes.Status.{Status}
 use Rattle.device.specs.Lent.{Lent, lent}
 use Rattle.device.specs.After.{after_of, halt_with, reset_held, released_device, accepted_by, unhalted_device, zeroed_if, moved_by, opened_for, finished_by, failed_by, renewed_device, with_value}
 use Rattle.device.specs.FactsOf.{facts_of}
@@ -57,7 +56,7 @@ heard_holds d v e (by.rule1 h c y) = rw c.command
 heard_holds d v e (by.rule2 h c y u) = rw (c.command, ← e, c.free)
 heard_holds d v e (by.rule3 h c y u z) = rw (c.command, ← e, c.free)
 heard_holds d v e (by.rule4 h c y u z) = rw c.command
-heard_holds d v e (by.other h c y) = rw (c.command, ← e, c.free) (sym (other_holds d y (sym (ap (λ (s : Status). s.held) e) ∙ c.free)))
+heard_holds d v e (by.other h c y) = let free : d.status.held ≡ false = rw (← e) c.free in rw c.command (free ∙ sym (other_holds d y free))
 heard_holds d v e (by.due n p w y) = refl
 heard_holds d v e (by.bist y) = refl
 

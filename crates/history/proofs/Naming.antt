@@ -1,5 +1,5 @@
 -- The bytes that the state keeps of a command are what the history tells of it: what each call does to them. Assumes nothing.
-use Rattle.std.proofs.Common.{ne_eqb, Ok, Err, is_none, unwrap_or, ◌≡◌, refl, sym, ap, subst, ◌∙◌, Bool, true, false, not, ◌&&◌, ◌||◌, List, [], ◌∷◌, ⊎_elim, ℕ, ◌^◌, ◌<◌, eqb, eqb-true, arith}
+use Rattle.std.proofs.Common.{ne_eqb, Ok, Err, is_none, unwrap_or, ◌≡◌, refl, sym, ap, subst, ◌∙◌, true, false, not, ◌&&◌, ◌||◌, List, [], ◌∷◌, ⊎_elim, ℕ, ◌^◌, ◌<◌, eqb, eqb-true, arith}
 use mathlib.Core.Bool.{and-false}
 use borrow.Author.Tests.{eqb-false, not-true}
 use Rattle.bits.specs.Pick.{pick}
@@ -21,7 +21,7 @@ use Rattle.rules.specs.declared.facts.Facts.{Facts}
 use Rattle.rules.specs.declared.acts.Queued.{Queued}
 use Rattle.rules.specs.declared.acts.Act.{Act}
 use Rattle.rules.proofs.Ruled as by
-use Rattle.replies.specs.Replies.{setup_reply, log_replies, activate_if, page10_of, page11_of, replies_of}
+use Rattle.replies.specs.Replies.{setup_reply, activate_if, replies_of}
 use Rattle.device.specs.Device.{power_on, fresh_device}
 use Rattle.device.specs.Lent.{Lent, lent, Typed}
 use Rattle.device.specs.After.{after_of, halt_with, reset_held, released_device, accepted_by, unhalted_device, zeroed_if, moved_by, opened_for, finished_by, failed_by, renewed_device, with_value}
@@ -98,11 +98,12 @@ finished_stay d set w t b =
 -- a command that is not queued leaves each command that is still outstanding as it was
 other_stay : (d : Device) {v : Facts} {f : HostReg} {a : Act} → by.Other v f a → Stay d (after_of d a)
 unfolding after_of unhalted_device zeroed_if halt_with
-other_stay d (by.busy z) = empty_stay d _ refl
+other_stay d {a = a} (by.busy z) = empty_stay d (after_of d a) refl
 other_stay d _ = λ t b. (b, refl)
 
 -- and is not accepted, whatever it is answered
 unqueued : (f : HostReg) → (eqb f.command 0x60 || eqb f.command 0x61) ≡ false → (rs : List FrameValue) → accepts (view (register_asks f) rs) ≡ false
+unfolding view
 unqueued f e rs = grind arith
 
 module _ (d : Device) (h : List Event) (n : Named d h) where
