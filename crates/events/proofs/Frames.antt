@@ -1,5 +1,5 @@
 -- The frame of host data. Assumes nothing.
-use Rattle.std.proofs.Common.{Option, unwrap_or, ◌≡◌, refl, ap, subst, ◌∙◌, List, ◌∷◌, ℕ, zero, suc, ◌+◌, ◌≤◌, arith, lit≤, take, replicate}
+use Rattle.std.proofs.Common.{Option, unwrap_or, ◌≡◌, ap, subst, ◌∙◌, List, ◌∷◌, ℕ, suc, ◌+◌, ◌≤◌, arith, lit≤, take}
 use Rattle.std.proofs.lemmas.List.{take-replicate}
 use Rattle.rules.specs.Call.{host_frame}
 use Rattle.device.specs.Lent.{Gave, lent}
