@@ -29,7 +29,7 @@ facts_with d tag wrong some room = record {
   settings = d.settings;
   status = d.status;
   entry = entry_meant d.entries tag;
-  unready = some;
+  some_unready = some;
 }
 
 -- the tag whose entry a call is about, if it is about one: its own, or that of the open phase

@@ -63,8 +63,8 @@ impl Device {
 impl Sealed {
     // What a decision looks at, of a call about a tag's entry, if it is about one: that the device does not contradict
     // itself is known by its field.
-    fn facts(&self, tag: Option<u32>, unready: bool, medium: &[u8], reply: &[u8]) -> Facts
-        ensures { let device = self.now.device in result ≡ facts_with device tag (medium_wrong device.settings.capacity (length medium.now)) unready (length reply.now) }
+    fn facts(&self, tag: Option<u32>, some_unready: bool, medium: &[u8], reply: &[u8]) -> Facts
+        ensures { let device = self.now.device in result ≡ facts_with device tag (medium_wrong device.settings.capacity (length medium.now)) some_unready (length reply.now) }
     {
         let device = &self.device;
         Facts {
@@ -74,7 +74,7 @@ impl Sealed {
             settings: device.settings,
             status: device.status,
             entry: device.entry_meant(tag),
-            unready,
+            some_unready,
         }
     }
 
@@ -111,7 +111,7 @@ impl Sealed {
         ensures act { result ≡ act_of self.now.device (lent (happens event) medium.now reply.now) }
         ensures typed { (handed (happens event)).set < 2 ^ 32 }
     {
-        let tag = event.tag(self.device.status.phase);
+        let tag = event.tag_meant(self.device.status.phase);
         let facts = self.facts(tag, self.is_unready(event), medium, reply);
         facts.event_act(event)
     }

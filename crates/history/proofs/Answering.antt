@@ -52,7 +52,7 @@ use Rattle.history.specs.Seen.{seen}
 use Rattle.history.specs.Fates.{Command, commands, own_tag, outstanding, total, All}
 use Rattle.history.specs.ByHistory.{is_out, under_way_after, left_in_transfer}
 use Rattle.history.specs.Placed.{due_place}
-use Rattle.history.specs.Counted.{told, counts}
+use Rattle.history.specs.Counted.{row_count, counts}
 use Rattle.history.specs.Carried.{span}
 use Rattle.history.specs.Logged.{log_by}
 use Rattle.history.specs.Answered.{host_replies, opened_replies, sent_reply, replies_by, answer, AnsweredBy}
@@ -104,7 +104,7 @@ by_places f (x ∷ xs) a h = ap₂ (λ (y : ℕ) (ys : List ℕ). y ∷ ys) (h 0
 -- sixteen counters that tell a history are what it counted
 counts_told : (values : List ℕ) (h : List Event) → ValuesTell values h → values ≡ counts h
 counts_told values h i =
-    by_places (λ r. told r h) values 0 (λ r s u e. rw (e, zero-add r) (i.value r (subst (λ (n : ℕ). r < n) i.long u))) ∙ ap (λ (n : ℕ). map (λ r. told r h) (span 0 n)) i.long
+    by_places (λ r. row_count r h) values 0 (λ r s u e. rw (e, zero-add r) (i.value r (subst (λ (n : ℕ). r < n) i.long u))) ∙ ap (λ (n : ℕ). map (λ r. row_count r h) (span 0 n)) i.long
 
 module _ (d : Device) (h : List Event) (k : Stands d h) where
   -- something is outstanding

@@ -41,8 +41,8 @@ demand3 s as' t = record {
 }
 
 -- the state at the end is what the history tells
-pub told : (s : Settings) (as' : List Lent) → AllTyped as' → StateAgrees s (run_from s as').state (history s as')
-told s as' t = record {
+pub state_agrees : (s : Settings) (as' : List Lent) → AllTyped as' → StateAgrees s (run_from s as').state (history s as')
+state_agrees s as' t = record {
   outstanding = told_outstanding s as' t;
   waits = told_waits s as' t;
   counters = told_counters s as' t;
@@ -62,7 +62,7 @@ promised s as' t = record {
   errors = log_agrees s as' t;
   demand3 = demand3 s as' t;
   lasting = λ m. lasting m (history s as') (demand3_data s as' t).1 (demand3_data s as' t).0;
-  state = told s as' t;
+  state = state_agrees s as' t;
 }
 
 -- of every sequence of results that are as the one contract promises them, each call given the state that the last one returned
@@ -111,8 +111,8 @@ module _ (s : Settings) (r : Outcome) (xs : List Done) (b : BeganCode s r xs) wh
     media_code = (promised_code s r xs b t).all.lasting
 
     -- and their last state is what their history tells
-    pub told_code : StateAgrees s (final r.state xs) (history_of xs)
-    told_code = (promised_code s r xs b t).all.state
+    pub state_agrees_code : StateAgrees s (final r.state xs) (history_of xs)
+    state_agrees_code = (promised_code s r xs b t).all.state
 
     -- what each reply may say follows
     pub reply_rules_code : AllReplyRules (history_of xs)

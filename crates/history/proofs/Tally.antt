@@ -13,7 +13,7 @@ use Rattle.history.proofs.Soundness.{from_power}
 use Rattle.std.proofs.lemmas.List.{get_or-replicate}
 use Rattle.std.proofs.lemmas.Bool.{cases_lt}
 use Rattle.history.specs.Event.{Event}
-use Rattle.history.specs.Counted.{zeroes, raises_row, counted_in, told}
+use Rattle.history.specs.Counted.{zeroes, raises_row, counted_in, row_count}
 
 -- the values after an event that zeroes them, or else raises a row, which is one of the sixteen or none
 abbrev pub counted : Bool → ℕ → List ℕ → List ℕ
@@ -27,7 +27,7 @@ pub record Reads (e : Event) (z : Bool) (row : ℕ) : Type 0 where
 -- each of sixteen counters is its events since the last zeroing, held at the top
 pub record ValuesTell (values : List ℕ) (h : List Event) : Type 0 where
   pub long : length values ≡ 16
-  pub value : (r : ℕ) → r < 16 → get_or values r 0 ≡ told r h
+  pub value : (r : ℕ) → r < 16 → get_or values r 0 ≡ row_count r h
 
 -- of a device
 abbrev pub Counting : Device → List Event → Type 0

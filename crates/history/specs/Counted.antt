@@ -21,16 +21,16 @@ counted_in r [] = 0
 counted_in r (e ∷ h) = pick (zeroes e) 0 (pick (raises_row r e) 1 0 + counted_in r h)
 
 -- held at the top
-abbrev pub told : ℕ → List Event → ℕ
-told r h = min 4294967295 (counted_in r h)
+abbrev pub row_count : ℕ → List Event → ℕ
+row_count r h = min 4294967295 (counted_in r h)
 
 -- the sixteen rows, each as it was counted
 abbrev pub counts : List Event → List ℕ
-counts h = map (λ row. told row h) (span 0 16)
+counts h = map (λ row. row_count row h) (span 0 16)
 
 -- what a page must show of a row: for a kept one its count; absent for one that is not kept, and where there is no row
 abbrev pub told_at : ℕ → List Event → Option ℕ → Option ℕ
-told_at mask h (Some k) = pick (kept mask k) (Some (told k h)) None
+told_at mask h (Some k) = pick (kept mask k) (Some (row_count k h)) None
 told_at mask h None = None
 
 -- of a counter's number

@@ -12,7 +12,7 @@ use Rattle.history.specs.Event.{Event}
 use Rattle.history.specs.Seen.{seen}
 use Rattle.history.specs.Fates.{one, total, total_with}
 use Rattle.history.specs.Waits.{waits}
-use Rattle.history.specs.Counted.{told}
+use Rattle.history.specs.Counted.{row_count}
 use Rattle.history.specs.Polled.{counter_polled, count_polled, due_polled}
 
 -- bit t of the mask is set exactly when a command with tag t, accepted in the history, is outstanding by the history; and there is at most one
@@ -25,7 +25,7 @@ AgreesWaits d h = waits (map seen h) ≡ d.status.halted
 
 -- every counter is its events since the last zeroing, held at the top
 abbrev pub AgreesCounters : Device → List Event → Type 0
-AgreesCounters d h = (row : ℕ) → row < 16 → get_or d.values row 0 ≡ told row h
+AgreesCounters d h = (row : ℕ) → row < 16 → get_or d.values row 0 ≡ row_count row h
 
 -- every answer that `Device::counter` promises is what settings and history tell of its number, or its refusal
 abbrev pub AgreesAsked : Settings → Device → List Event → Type 0

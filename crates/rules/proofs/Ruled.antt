@@ -72,7 +72,7 @@ pub data Own (v : Facts) : Call → Act → Type 0 where
   opened : (t : ℕ) → v.contradicts ≡ false → v.reply_short ≡ false → bit_in 32 v.status.outstanding t ≡ true → link_busy v.status ≡ false → all_moved v.entry ≡ false
       → Own v (happens (OpenPhase t)) (Open (record { tag = t; entry = v.entry }))
   sent : v.contradicts ≡ false → v.medium_wrong ≡ false → v.reply_short ≡ false → is_none v.status.phase ≡ false → v.entry.write ≡ false → Own v (happens SendData) (Send (move_of v.status v.entry 8192))
-  finished : (s : ℕ) → v.contradicts ≡ false → v.reply_short ≡ false → link_busy v.status ≡ false → eqb s 0 ≡ false → v.unready ≡ false → Own v (happens (FinishTags s)) (Finish s)
+  finished : (s : ℕ) → v.contradicts ≡ false → v.reply_short ≡ false → link_busy v.status ≡ false → eqb s 0 ≡ false → v.some_unready ≡ false → Own v (happens (FinishTags s)) (Finish s)
   failed : (t e s : ℕ) → v.contradicts ≡ false → v.reply_short ≡ false → bit_in 32 v.status.outstanding t ≡ true → eqb e 0 ≡ false → outside v.entry s ≡ false
       → Own v (happens (MediaError t e s)) (Media (record { tag = Some t; error = e; echo = failing v.entry.echo s }))
   linked : (r : ℕ) → v.contradicts ≡ false → row_refused v.settings.mask r ≡ false → Own v (happens (LinkEvent r)) (Count r)
@@ -172,7 +172,7 @@ module _ (v : Facts) where
   taken (happens (FinishTags s)) z =
       let none = (firsts.first_exactly (tests v (happens (FinishTags s))) tt).none.0 z in
       let last = none 3 (lit< tt) in
-      own (finished s (none 0 (lit< tt)) (none 1 (lit< tt)) (none 2 (lit< tt)) (or_left (eqb s 0) v.unready last) (or_right (eqb s 0) v.unready last))
+      own (finished s (none 0 (lit< tt)) (none 1 (lit< tt)) (none 2 (lit< tt)) (or_left (eqb s 0) v.some_unready last) (or_right (eqb s 0) v.some_unready last))
   taken (happens (MediaError t e s)) z =
       let none = (firsts.first_exactly (tests v (happens (MediaError t e s))) tt).none.0 z in
       let last = none 3 (lit< tt) in

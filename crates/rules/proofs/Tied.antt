@@ -18,8 +18,8 @@ tied_frame_act = sole (λ κs a. tt) (λ κs a r r' ws ws' p q. (same p q, refl)
 pub tied_event_act : Sole facts-said.Facts.event_act.ended facts.Facts.event_act.Reads.Asked facts.Facts.event_act.Reads.Post
 tied_event_act = sole (λ κs a. tt) (λ κs a r r' ws ws' p q. (same p q, refl))
 
-pub tied_tag : Sole event-said.DeviceEvent.tag.ended event.DeviceEvent.tag.Reads.Asked event.DeviceEvent.tag.Reads.Post
-tied_tag = sole (λ κs a. tt) (λ κs a r r' ws ws' p q. (same p q, refl))
+pub tied_tag_meant : Sole event-said.DeviceEvent.tag_meant.ended event.DeviceEvent.tag_meant.Reads.Asked event.DeviceEvent.tag_meant.Reads.Post
+tied_tag_meant = sole (λ κs a. tt) (λ κs a r r' ws ws' p q. (same p q, refl))
 
 pub tied_some_unready : Sole device_events-said.some_unready.ended device_events.some_unready.Reads.Asked device_events.some_unready.Reads.Post
 tied_some_unready = sole (λ κs a. tt) (λ κs a r r' ws ws' p q. (same p q, refl))

@@ -81,7 +81,7 @@ unfoldable pub tests : Facts → Call → List Rung
 tests v (host_frame f) = frame_tests v (read_frame f)
 tests v (happens (OpenPhase t)) = open_ladder v.contradicts v.reply_short (idle_tag v t) (link_busy v.status) (all_moved v.entry)
 tests v (happens SendData) = send_ladder v.contradicts v.medium_wrong v.reply_short (no_read_phase v)
-tests v (happens (FinishTags s)) = finish_ladder v.contradicts v.reply_short (link_busy v.status) (eqb s 0 || v.unready)
+tests v (happens (FinishTags s)) = finish_ladder v.contradicts v.reply_short (link_busy v.status) (eqb s 0 || v.some_unready)
 tests v (happens (MediaError t e s)) = media_ladder v.contradicts v.reply_short (idle_tag v t) (eqb e 0 || outside v.entry s)
 tests v (happens (LinkEvent r)) = link_ladder v.contradicts (row_refused v.settings.mask r)
 tests v (happens Comreset) = comreset_ladder v.contradicts v.reply_short

@@ -68,7 +68,7 @@ impl Facts {
                 (self.contradicts, Refusal::Contradiction),
                 (self.reply_short, Refusal::ReplyShort),
                 (self.status.is_link_busy(), Refusal::PhaseOpen),
-                (set == 0 || self.unready, Refusal::SetUnready),
+                (set == 0 || self.some_unready, Refusal::SetUnready),
             ]),
             // in any phase
             DeviceEvent::MediaError { tag, error, sector } => check(&[

@@ -29,7 +29,7 @@ pub enum DeviceEvent {
 
 impl DeviceEvent {
     /// The tag whose entry it is about, if it is about one: its own, or that of the open phase, which is handed in.
-    pub fn tag(self, phase: Option<u32>) -> Option<u32>
+    pub fn tag_meant(self, phase: Option<u32>) -> Option<u32>
         ensures { result ≡ (handed (happens self)).tag phase }
     {
         match self {

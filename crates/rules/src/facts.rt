@@ -22,7 +22,7 @@ pub struct Facts {
     /// that of the tag asked for, or of the open phase; an idle one if there is none
     pub entry: Entry,
     /// `SetUnready` (11): a tag of the set asked for is not outstanding or not wholly moved; false of a call that names no set
-    pub unready: bool,
+    pub some_unready: bool,
 }
 
 impl Facts {

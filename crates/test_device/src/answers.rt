@@ -85,7 +85,7 @@ impl<'a> TestedDevice<'a> {
             settings: self.state.settings,
             status: self.state.status,
             entry: device_state::Entry::default(),
-            unready: false,
+            some_unready: false,
         };
         let frame = frames::read_frame(&case[9..29]);
         lines::say_ruling(out, facts.frame_act(frame))
