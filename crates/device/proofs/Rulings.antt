@@ -137,7 +137,7 @@ own_rule d m b (by.failed u e x g s o y w) = record {
 own_rule d m b (by.linked r g x) = record { fits = λ _ _. tt; puts = λ _ _. none_puts; good = λ _. counted_good d r g (grind arith) }
 own_rule d m b (by.renewed g s) = record { fits = λ _ _. tt; puts = λ _ _. none_puts; good = λ _. renewed_good d g }
 
--- by the event: one that is lent a buffer is not asked, and the rest replies nothing
+-- by the event: nothing is said of one that is lent a buffer, and the rest replies nothing
 own_silent : (d : Device) {v : Facts} {c : Call} {a : Act} → by.Own v c a → (handed c).buffer ≡ false → (sent : List ℕ) → replies_of (state_shown d) sent a ≡ []
 unfolding replies_of
 own_silent d (by.opened u g s o p e) h sent = absurd (true≢false h)
