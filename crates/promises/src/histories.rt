@@ -1,5 +1,5 @@
 // Of every sequence of calls from power-on, each given the state that the last returned, and each as the one contract of the calls promises it: whatever the settings, the calls, and
-// what is lent to them. That the contract of each public function is that one is proved below (device:Tied, history:Contracts). And of any state at all.
+// what is lent to them. That the contract of each public function is that one is proved below (history:Contracts). And of any state at all.
 #![tactic(auto, using(crate::proofs::Promised::histories))]
 
 ghost use Rattle.std.specs.Prelude.{◌≡◌, false, List, ℕ, map};
