@@ -1,10 +1,8 @@
 -- Each public function's own contract: what it says, and that two answers which it allows are equal. Assumes nothing.
 use Rattle.std.proofs.Common.{◌≡◌, refl}
-use Rattle.rules.specs.Call.{host_frame}
-use Rattle.device.specs.Lent.{lent, gave, answered}
+use Rattle.device.specs.Lent.{gave, answered}
 use Rattle.device.specs.Sealing.{powered_of}
-use Rattle.device.specs.Step.{Given, Gives}
-use Rattle.events.specs.HostData.{host_data_frame}
+use Rattle.device.specs.Step.{Gives}
 use Rattle.events.specs.Played.{event_step}
 use Rattle.events.specs.Start.{start_of}
 use Rattle.bits.specs.Contract.{Tied}
@@ -13,15 +11,10 @@ use Rattle.device.proofs.Outcomes.{given_once}
 use Rattle.device.proofs.Kept.{kept_once, powered_once, same_answer, same_state}
 use Rattle.events.proofs.by_value
 use Rattle.events.specs.contracts.by_value as by_value-said
-use Rattle.events.proofs.host_data
-use Rattle.events.specs.contracts.host_data as host_data-said
 use Rattle.events.proofs.plays
 use Rattle.events.specs.contracts.plays as plays-said
 use Rattle.events.proofs.starts
 use Rattle.events.specs.contracts.starts as starts-said
-
-pub tied_host_data : Tied host_data-said.host_data.ended host_data.host_data.Reads.Asked host_data.host_data.Reads.Post (λ κs a r ws. Given a.0.now.device (lent (host_frame (host_data_frame a.0.now.device a.1.0)) a.1.1.0.now a.1.1.1.0.now) (gave (answered ws.0.device r) ws.1.1.0 ws.1.1.1.0))
-tied_host_data = by (say (λ κs a. tt) (λ κs a r ws p. p)) (λ κs a r r' ws ws' p q. let e = given_once _ _ (answered ws.0.device r) (answered ws'.0.device r') ws.1.1.0 ws'.1.1.0 ws.1.1.1.0 ws'.1.1.1.0 p q in (same_answer ws.0.device ws'.0.device r r' e.0, λ i. (kept_once ws.0 ws'.0 (same_state ws.0.device ws'.0.device r r' e.0) i, (tt, (e.1.0 i, (e.1.1 i, tt))))))
 
 pub tied_play : Tied plays-said.play.ended plays.play.Reads.Asked plays.play.Reads.Post (λ κs a r ws. Gives (event_step a.0.now.device a.1.0.now a.1.1.0.now a.1.1.1.0.now) a.1.1.1.0.now (gave (answered ws.0.device r) ws.1.1.0 ws.1.1.1.0))
 tied_play = by (say (λ κs a. tt) (λ κs a r ws p. p)) (λ κs a r r' ws ws' p q. let e = given_once _ _ (answered ws.0.device r) (answered ws'.0.device r') ws.1.1.0 ws'.1.1.0 ws.1.1.1.0 ws'.1.1.1.0 p q in (same_answer ws.0.device ws'.0.device r r' e.0, λ i. (kept_once ws.0 ws'.0 (same_state ws.0.device ws'.0.device r r' e.0) i, (tt, (e.1.0 i, (e.1.1 i, tt))))))

@@ -7,7 +7,10 @@ ghost use Rattle.events.specs.Running.{Kept, kept, step_in, told, after};
 
 use crate::errors::RunError;
 use crate::lines::{Format, Line};
+use crate::plays::make_call;
+use crate::request_of;
 use device::Sealed;
+use frames::DATA_FRAME_LIMIT;
 use refusals::Refusal;
 use std::marker::Model;
 
@@ -17,6 +20,8 @@ pub(crate) struct Bench<'a> {
     sealed: Sealed,
     medium: &'a mut [u8],
     reply: &'a mut [u8],
+    // where the frames of host data are laid
+    room: [u8; DATA_FRAME_LIMIT],
 }
 
 impl<'a> Model for Bench<'a> {
@@ -33,14 +38,24 @@ impl<'a> Bench<'a> {
             sealed,
             medium,
             reply,
+            room: [0; DATA_FRAME_LIMIT],
         }
     }
 
+    #[tactic(auto, unfolding(crate::specs::Played::step_for, replies::specs::Replies::sent_all, frames::specs::Cut::joined_bytes))]
     // One event played: how many bytes of replies stand in front of the buffer, or the refusal.
     fn play(&mut self, event: &[u8]) -> Result<usize, Refusal>
         ensures { Gives (step_in self.old event.now) self.old.reply (gave (answered self.new.device result) self.new.medium self.new.reply) }
     {
-        crate::play(&mut self.sealed, event, self.medium, self.reply)
+        let request = request_of(event).ok_or(Refusal::NoFrame)?;
+        make_call(
+            &mut self.sealed,
+            request,
+            event,
+            &mut self.room,
+            self.medium,
+            self.reply,
+        )
     }
 
     fn outstanding(&self) -> u32

@@ -6,6 +6,7 @@ ghost use Rattle.events.specs.Played.{event_step};
 use crate::plays::make_call;
 use crate::request_of;
 use device::{Device, Outcome, Sealed};
+use frames::DATA_FRAME_LIMIT;
 use refusals::Refusal;
 
 /// One event to its call, as `play`, of a state that is handed in and back as by the calls of `Device`. What is no event
@@ -19,7 +20,8 @@ pub fn play_by_value(device: Device, event: &[u8], medium: &mut [u8], reply: &mu
     };
     match Sealed::try_from(device) {
         Ok(mut sealed) => {
-            let answer = make_call(&mut sealed, request, event, medium, reply);
+            let mut room = [0; DATA_FRAME_LIMIT];
+            let answer = make_call(&mut sealed, request, event, &mut room, medium, reply);
             sealed.device.with(answer)
         }
         Err(refusal) => device.with(Err(refusal)),

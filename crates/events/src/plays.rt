@@ -8,6 +8,7 @@ ghost use Rattle.events.specs.Played.{step_for, event_step};
 use crate::host_data::host_data;
 use crate::{Request, request_of};
 use device::Sealed;
+use frames::DATA_FRAME_LIMIT;
 use refusals::Refusal;
 
 // A frame is handed on as it came, its kind being its first byte.
@@ -16,6 +17,7 @@ pub(crate) fn make_call(
     sealed: &mut Sealed,
     request: Request,
     event: &[u8],
+    room: &mut [u8; DATA_FRAME_LIMIT],
     medium: &mut [u8],
     reply: &mut [u8],
 ) -> Result<usize, Refusal>
@@ -23,7 +25,7 @@ pub(crate) fn make_call(
 {
     match request {
         Request::Event(event) => sealed.event(event, medium, reply),
-        Request::HostData(byte) => host_data(sealed, byte, medium, reply),
+        Request::HostData(byte) => host_data(sealed, byte, room, medium, reply),
         Request::HostFrame => sealed.host_frame(event, medium, reply),
     }
 }
@@ -39,5 +41,6 @@ pub fn play(
     ensures { Gives (event_step sealed.old.device event.now medium.old reply.old) reply.old (gave (answered sealed.new.device result) medium.new reply.new) }
 {
     let request = request_of(event).ok_or(Refusal::NoFrame)?;
-    make_call(sealed, request, event, medium, reply)
+    let mut room = [0; DATA_FRAME_LIMIT];
+    make_call(sealed, request, event, &mut room, medium, reply)
 }
