@@ -1,7 +1,7 @@
 -- Each public function's own contract: what it says, and that two answers which it allows are equal. Assumes nothing.
 use Rattle.std.proofs.Common.{◌≡◌, refl}
 use Rattle.events.specs.Kinds.{kind_named, body_of, event_kind, misplaced}
-use Rattle.events.specs.Requests.{request_of}
+use Rattle.events.specs.Asked.{event_of}
 use Rattle.events.specs.Settings.{asked_of}
 use Rattle.bits.specs.Contract.{Tied}
 use Rattle.bits.proofs.Tying.{say, named}
@@ -24,8 +24,8 @@ tied_is_misplaced = named (say (λ κs a. tt) (λ κs a r ws p. p)) (λ κs a ws
 pub tied_event_kind : Tied kinds-said.event_kind.ended kinds.event_kind.Reads.Asked kinds.event_kind.Reads.Post (λ κs a r ws. r ≡ event_kind a.0.now)
 tied_event_kind = named (say (λ κs a. tt) (λ κs a r ws p. p)) (λ κs a ws ws'. refl)
 
-pub tied_request_of : Tied asked-said.request_of.ended asked.request_of.Reads.Asked asked.request_of.Reads.Post (λ κs a r ws. r ≡ request_of a.0.now)
-tied_request_of = named (say (λ κs a. tt) (λ κs a r ws p. p)) (λ κs a ws ws'. refl)
+pub tied_event_of : Tied asked-said.event_of.ended asked.event_of.Reads.Asked asked.event_of.Reads.Post (λ κs a r ws. r ≡ event_of a.0.now)
+tied_event_of = named (say (λ κs a. tt) (λ κs a r ws p. p)) (λ κs a ws ws'. refl)
 
 pub tied_settings_asked : Tied settings-said.settings_asked.ended settings.settings_asked.Reads.Asked settings.settings_asked.Reads.Post (λ κs a r ws. r ≡ asked_of a.0.now)
 tied_settings_asked = named (say (λ κs a. tt) (λ κs a r ws p. p)) (λ κs a ws ws'. refl)

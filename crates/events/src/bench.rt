@@ -3,12 +3,12 @@ ghost use Rattle.std.specs.Prelude.{◌≡◌, ◌≤◌, ◌++◌, OnOk, IfErr,
 ghost use Rattle.device.specs.Lent.{gave, answered};
 ghost use Rattle.device.specs.Step.{Gives};
 ghost use Rattle.events.specs.declared.errors.RunError.TheVariants.{Memory};
-ghost use Rattle.events.specs.Running.{Kept, kept, step_in, told, after};
+ghost use Rattle.events.specs.Running.{Kept, kept, step_of, after_step, step_told};
 
+use crate::Event;
 use crate::errors::RunError;
 use crate::lines::{Format, Line};
 use crate::plays::make_call;
-use crate::request_of;
 use device::Sealed;
 use frames::DATA_FRAME_LIMIT;
 use refusals::Refusal;
@@ -42,15 +42,12 @@ impl<'a> Bench<'a> {
         }
     }
 
-    #[tactic(auto, unfolding(crate::specs::Played::step_for, replies::specs::Replies::sent_all, frames::specs::Cut::joined_bytes))]
     // One event played: how many bytes of replies stand in front of the buffer, or the refusal.
-    fn play(&mut self, event: &[u8]) -> Result<usize, Refusal>
-        ensures { Gives (step_in self.old event.now) self.old.reply (gave (answered self.new.device result) self.new.medium self.new.reply) }
+    fn play(&mut self, event: Event) -> Result<usize, Refusal>
+        ensures { Gives (step_of self.old event) self.old.reply (gave (answered self.new.device result) self.new.medium self.new.reply) }
     {
-        let request = request_of(event).ok_or(Refusal::NoFrame)?;
         make_call(
             &mut self.sealed,
-            request,
             event,
             &mut self.room,
             self.medium,
@@ -77,10 +74,10 @@ impl<'a> Bench<'a> {
         format: Format,
         lines: &mut Vec<u8>,
         number: u64,
-        event: &[u8],
+        event: Event,
     ) -> Result<(), RunError>
-        ensures kept { self.new ≡ after self.old event.now }
-        ensures line { OnOk result (lines.new.items ≡ lines.old.items ++ told format.traced number self.old event.now) }
+        ensures kept { self.new ≡ after_step self.old (step_of self.old event) }
+        ensures line { OnOk result (lines.new.items ≡ lines.old.items ++ step_told format.traced number (step_of self.old event)) }
         ensures err { IfErr result (λ e. e ≡ Memory) }
     {
         let answer = self.play(event);
