@@ -4,6 +4,7 @@ pub mod ExactlyNext
 pub mod Recording
 pub mod TiedKinds
 pub mod Cuts
+pub mod Digits
 pub mod Fields
 pub mod Fronts
 pub mod Nexts

@@ -21,6 +21,7 @@ pub enum Event {
 }
 
 /// What the bytes of an event of a kind ask for; `None` for settings.
+#[inline(always)]
 #[tactic(auto, unfolding(crate::specs::Asked::event_by_kind, crate::specs::Kinds::body_of))]
 pub(crate) fn event_by_kind(kind: Kind, event: &[u8]) -> Option<Event>
     requires { length event.now ≡ body_of kind + 1 }

@@ -1,17 +1,16 @@
 // What a run keeps between two events.
-ghost use Rattle.std.specs.Prelude.{◌≡◌, ◌≤◌, ◌++◌, OnOk, IfErr, length, take};
+ghost use Rattle.std.specs.Prelude.{◌≡◌, ◌≤◌, ◌++◌, OnOk, length, take};
 ghost use Rattle.device.specs.Lent.{gave, answered};
 ghost use Rattle.device.specs.Step.{Gives};
-ghost use Rattle.events.specs.declared.errors.RunError.TheVariants.{Memory};
 ghost use Rattle.events.specs.Running.{Kept, kept, step_of, after_step, step_told};
 
 use crate::Event;
-use crate::errors::RunError;
 use crate::lines::{Format, Line};
 use crate::plays::make_call;
 use device::Sealed;
 use frames::DATA_FRAME_LIMIT;
 use refusals::Refusal;
+use std::alloc::AllocError;
 use std::marker::Model;
 
 /// The device of a run, its medium, and the buffer of its replies. A contract sees these three as what a run keeps.
@@ -75,10 +74,9 @@ impl<'a> Bench<'a> {
         lines: &mut Vec<u8>,
         number: u64,
         event: Event,
-    ) -> Result<(), RunError>
+    ) -> Result<(), AllocError>
         ensures kept { self.new ≡ after_step self.old (step_of self.old event) }
         ensures line { OnOk result (lines.new.items ≡ lines.old.items ++ step_told format.traced number (step_of self.old event)) }
-        ensures err { IfErr result (λ e. e ≡ Memory) }
     {
         let answer = self.play(event);
         let line = Line {
@@ -87,8 +85,6 @@ impl<'a> Bench<'a> {
             outstanding: self.outstanding(),
             replies: self.replies(answer.unwrap_or(0)),
         };
-        format
-            .write_line(lines, &line)
-            .map_err(|_| RunError::Memory)
+        format.push_line(lines, &line)
     }
 }

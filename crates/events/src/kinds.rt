@@ -41,6 +41,7 @@ pub enum Kind {
 
 impl Kind {
     /// The kind that a byte names, if it names one.
+    #[inline(always)]
     #[tactic(auto, unfolding(crate::specs::Kinds::kind_named))]
     pub fn from_byte(byte: u8) -> Option<Kind>
         ensures { result ≡ kind_named byte }
@@ -62,6 +63,7 @@ impl Kind {
     }
 
     /// The length of the kind's body.
+    #[inline(always)]
     #[tactic(auto, unfolding(crate::specs::Kinds::body_of))]
     pub fn body_length(self) -> usize
         ensures { result ≡ body_of self }

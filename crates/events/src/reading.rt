@@ -80,6 +80,7 @@ pub(crate) fn read_bytes<'a, R: Read>(
 }
 
 // The event that bytes begin with, where all of it is there, and how many bytes it has.
+#[inline(always)]
 #[tactic(auto, using(crate::proofs::Nexts::short_body))]
 fn front_event(bytes: &[u8]) -> Option<(Event, usize)>
     ensures { IfSome result (λ found. BeginsWith bytes.now found.0 found.1) }
@@ -91,6 +92,7 @@ fn front_event(bytes: &[u8]) -> Option<(Event, usize)>
 }
 
 // The next event, where all of it lies in the reader's buffer; else nothing is read.
+#[inline(always)]
 fn read_ahead<R: BufRead>(reader: &mut R) -> io::Result<Option<Event>>
     ensures ok { IfOk result (λ event. ReadAhead (R.remaining reader.old) event (R.remaining reader.new)) }
     ensures err { OnErr result (Keeps (R.remaining reader.old) (R.remaining reader.new)) }
@@ -103,7 +105,7 @@ fn read_ahead<R: BufRead>(reader: &mut R) -> io::Result<Option<Event>>
 }
 
 // The next event, read to its end.
-#[cold]
+#[inline(never)]
 fn read_whole<R: Read>(reader: &mut R) -> io::Result<Result<Event, InputEnd>>
     ensures ok { IfOk result (λ next. ReadNext (R.remaining reader.old) next (R.remaining reader.new)) }
     ensures err { OnErr result (BreaksIn false (R.remaining reader.old) (R.remaining reader.new)) }
@@ -116,6 +118,7 @@ fn read_whole<R: Read>(reader: &mut R) -> io::Result<Result<Event, InputEnd>>
 }
 
 /// The next event behind the settings, or how the input ends.
+#[inline(always)]
 pub(crate) fn read_event<R: BufRead>(reader: &mut R) -> io::Result<Result<Event, InputEnd>>
     ensures ok { IfOk result (λ next. ReadNext (R.remaining reader.old) next (R.remaining reader.new)) }
     ensures err { OnErr result (BreaksIn false (R.remaining reader.old) (R.remaining reader.new)) }

@@ -53,9 +53,7 @@ fn start_with<R: BufRead, W: Write>(
         outstanding: 0,
         replies: &[],
     };
-    format
-        .write_line(&mut lines, &line)
-        .map_err(|_| RunError::Memory)?;
+    format.push_line(&mut lines, &line)?;
     let Ok(sealed) = begun else {
         return finish(out, &lines, Ok(InputEnd::Clean));
     };
