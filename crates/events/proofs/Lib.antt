@@ -1,8 +1,10 @@
 pub mod Asking
+pub mod Ahead
 pub mod ExactlyNext
 pub mod Recording
 pub mod TiedKinds
 pub mod Cuts
+pub mod Digits
 pub mod Fields
 pub mod Fronts
 pub mod Nexts

@@ -1,13 +1,16 @@
 -- What the known bytes begin with, by what was read of them. Assumes nothing.
-use Rattle.std.proofs.Common.{◌≡◌, ℕ, ◌+◌, ◌<◌, Bool, true, false, List, [], ◌∷◌, ◌++◌, length, Option, Some, None, IfSome, refl, ap, ◌∙◌, append-nil, arith, ◌≤◌, ne_eqb, eqb, Result, Ok, Err}
+use Rattle.std.proofs.Common.{◌≡◌, ℕ, ◌+◌, ◌<◌, Bool, true, false, List, [], ◌∷◌, ◌++◌, length, length-take-le, take, get_or, Option, Some, None, IfSome, refl, ap, ◌∙◌, append-nil, arith, ◌≤◌, ne_eqb, eqb, Result, Ok, Err}
 use Rattle.std.proofs.lemmas.Bool.Decides.{nat_tests}
 use Rattle.std.specs.Io.KnownBytes.{Consumes, IsAtEnd}
 use Rattle.events.specs.declared.kinds.InputEnd.{InputEnd}
 use Rattle.events.specs.declared.kinds.InputEnd.TheVariants.{NoEvent}
-use Rattle.events.specs.Kinds.{kind_named, body_of, misplaced, next_whole, next_by, next_of}
+use Rattle.events.specs.Kinds.{kind_named, body_of, body_length, misplaced, next_whole, next_by, next_of, fits_length, is_event, event_kind}
 use Rattle.events.specs.declared.kinds.Kind.{Kind}
 use borrow.Author.Tests.{lt-leb}
-use Rattle.events.specs.Reading.{Ends, placed_kind}
+use Rattle.events.specs.Reading.{Ends, placed_kind, BeginsWith}
+use Rattle.events.specs.declared.asked.Event.{Event}
+use Rattle.events.specs.Asked.{event_by_kind, event_of}
+use Rattle.std.proofs.lemmas.List.{get_or-take}
 
 -- what holds of all bytes that begin so holds of the known ones
 pub begun : (P : List ℕ → Type 0) (u v : Option (List ℕ)) (a : List ℕ) → Consumes u v a → ((more : List ℕ) → P (a ++ more)) → IfSome u P
@@ -61,3 +64,21 @@ short_body k kind e = grind arith
 
 pub placed_short : (first : Bool) (k : ℕ) (kind : Kind) → placed_kind first (kind_named k) ≡ Some kind → body_of kind ≤ 19
 placed_short first k kind e = short_body k kind (placed_named first (kind_named k) kind e).0
+
+-- the settings ask for nothing
+asked_later : (e : List ℕ) (kind : Kind) (event : Event) → event_by_kind e kind ≡ Some event → misplaced false kind ≡ false
+unfolding event_by_kind misplaced
+asked_later e kind event h = grind arith
+
+-- bytes begin with the event of the kind that their first byte names, where all of it is there
+pub front_is : (l : List ℕ) (kind : Kind) (n : ℕ) (event : Event) → kind_named (get_or l 0 0) ≡ Some kind → n ≡ body_of kind + 1 → n ≤ length l → event_by_kind (take n l) kind ≡ Some event → BeginsWith l event n
+unfolding next_of next_by next_whole event_of event_kind is_event body_length fits_length
+front_is l kind n event named size there asked =
+    let later = asked_later (take n l) kind event asked in
+    let same : get_or (take n l) 0 0 ≡ get_or l 0 0 = get_or-take n l 0 0 (omega (arith, size)) in
+    let all : length (take n l) ≡ body_of kind + 1 = length-take-le n l there ∙ size in
+    record {
+      within = there;
+      whole = rw (same, named, later, all) (grind (arith, nat_tests));
+      asked = rw (same, named, all) (grind (arith, nat_tests, asked));
+    }

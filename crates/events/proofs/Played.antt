@@ -1,7 +1,6 @@
 -- Where a run stands behind the events that it has played. Assumes nothing.
 use Rattle.std.proofs.Common.{◌≡◌, ℕ, ◌+◌, ◌-◌, ◌^◌, Bool, false, List, [], ◌∷◌, ◌++◌, length, length-append, append-nil, Option, Result, IsErr, IsErrAnd, refl, sym, subst, ◌∙◌, arith, Ok}
 use Rattle.std.proofs.KnownBytes.{Appends-nil, Appends-trans, Consumes-nil, Consumes-trans}
-use Rattle.std.specs.Borrow.{Bor}
 use Rattle.std.specs.Io.KnownBytes.{Appends, Consumes}
 use Rattle.streams.specs.Fronts.{AppendsFront}
 use Rattle.events.specs.declared.errors.RunError.{RunError}
@@ -9,8 +8,10 @@ use Rattle.events.specs.declared.kinds.InputEnd.{InputEnd}
 use Rattle.frames.specs.Cut.{joined_bytes}
 use Rattle.events.specs.Ends.{Finished}
 use Rattle.events.specs.Output.{PassedOn}
-use Rattle.events.specs.Reading.{IsEvent, ReadEvent}
-use Rattle.events.specs.Running.{Kept, told, after, lines_from, kept_after, AllEvents}
+use Rattle.events.specs.Reading.{IsEvent, ReadNext}
+use Rattle.events.specs.declared.asked.Event.{Event}
+use Rattle.events.proofs.Steps.{step_asked}
+use Rattle.events.specs.Running.{Kept, step_of, after_step, step_told, told, after, lines_from, kept_after, AllEvents}
 use Rattle.events.specs.Runs.{lines_on, later, always, PlayedOn}
 use Rattle.streams.proofs.Fronts.{front_then}
 use Rattle.events.proofs.Fronts.{front_first}
@@ -45,9 +46,13 @@ module _ {traced : Bool} {first : Kept} {l : List ℕ} {known old now new : Opti
     text = text_more traced first l p.es e p.done lines lines' p.text (rw (p.state, sym p.number) at t);
   }
 
-  pub one_more : {next : Result (Bor (List ℕ)) InputEnd} {event : Bor (List ℕ)} {now' : Option (List ℕ)} {k' : Kept} {lines' : List ℕ} → next ≡ Ok event → ReadEvent false now next now' → k' ≡ after k event.now → lines' ≡ lines ++ told traced n k event.now
+  pub one_more : {next : Result Event InputEnd} {event : Event} {now' : Option (List ℕ)} {k' : Kept} {lines' : List ℕ} → next ≡ Ok event → ReadNext now next now' → k' ≡ after_step k (step_of k event) → lines' ≡ lines ++ step_told traced n (step_of k event)
       → Played traced first l known old now' new k' lines' (n + 1)
-  one_more {event = event} w came q t = let read = rw w at came in one_read event.now _ _ _ read.0 read.1 q t
+  unfolding after told
+  one_more {event = event} w came q t =
+      let read = rw w at came in
+      let same = step_asked k read.0 event read.3 in
+      one_read read.0 _ _ _ read.1 read.2 (rw same q) (rw same t)
 
   -- some of the lines are written
   pub some_passed : (new' : Option (List ℕ)) (left : List ℕ) → PassedOn new new' lines left → Played traced first l known old now new' k left n

@@ -8,7 +8,7 @@ use Rattle.events.specs.declared.kinds.InputEnd.TheVariants.{Clean, NoEvent}
 use Rattle.events.specs.Reading.{Ends}
 use Rattle.events.specs.Running.{ending}
 use mathlib.Core.Bool.{false≢true}
-use Rattle.std.proofs.Common.{is_ok, Result, Ok, Err, IsErr, IsErrAnd, OnOk, IfErr, MatchResult, subst}
+use Rattle.std.proofs.Common.{is_ok, Result, Ok, Err, IsErr, IsErrAnd, IfErr, MatchResult, subst}
 use Rattle.events.specs.declared.errors.RunError.{RunError}
 use Rattle.events.specs.declared.errors.RunError.TheVariants.{Input, Output, Memory, TooMany}
 use Rattle.std.proofs.KnownBytes.{Consumes-trans}
@@ -94,17 +94,6 @@ pub told_lost : (P Q : List (List ℕ) → Type 0) (N : List (List ℕ) → List
     → IsErr r → IsErrAnd r (λ x. x ≡ e) → IsLost e → Loses P T known w w' → Told P Q N T n known known' w w' r
 told_lost P Q N T n known known' w w' (Ok u) e i h o l = absurd (false≢true i)
 told_lost P Q N T n known known' w w' (Err x) e i h o l = lost_by P Q N T n known known' w w' x (subst IsLost (sym h) o) l
-
--- a result whose error was told anew holds a value where it held one
-pub on_ok : {A D E : Type 0} (r : Result A E) (q : Result A D) (x : A) (P : Type 0) → is_ok q ≡ is_ok r → q ≡ Ok x → OnOk r P → P
-on_ok (Ok y) q x P v e p = p
-on_ok (Err f) q x P v e p = absurd (false≢true (sym v ∙ ap is_ok e))
-
-pub ok_so : {A D E : Type 0} (r : Result A E) (q : Result A D) (P : Type 0) → is_ok q ≡ is_ok r → OnOk r P → OnOk q P
-ok_so (Ok y) (Ok x) P v p = p
-ok_so (Ok y) (Err f) P v p = tt
-ok_so (Err e) (Ok x) P v p = absurd (false≢true (sym v))
-ok_so (Err e) (Err f) P v p = tt
 
 -- what a run came to behind the events es: the end of the input, a read that failed behind a part that is no event, or the last number
 abbrev pub CameTo : (Q : List (List ℕ) → Type 0) (N : List (List ℕ) → List ℕ → Result ℕ InputEnd) (n : ℕ) (now known' : Option (List ℕ)) (es : List (List ℕ)) → Result InputEnd RunError → Type 0

@@ -1,5 +1,5 @@
 -- What the device gives for an event is what a run keeps and tells of it. Assumes nothing.
-use Rattle.std.proofs.Common.{◌≡◌, ℕ, Bool, List, length, take, drop, ap₂, ◌∙◌, sym, Option, Result, Ok, Err}
+use Rattle.std.proofs.Common.{◌≡◌, ℕ, Bool, List, length, take, drop, ap, ap₂, ◌∙◌, sym, Option, Some, option_map, Result, Ok, Err}
 use lib.Seq.{take-append_seam}
 use Rattle.std.specs.Result.{result_err, result_unwrap_or}
 use Rattle.refusals.specs.declared.reasons.Refusal.{Refusal}
@@ -8,30 +8,35 @@ use Rattle.device.specs.Step.{Step, bytes_of, Gives}
 use Rattle.device.specs.declared.state.Device.{Device}
 use Rattle.device.proofs.Kept.{answered_state}
 use Rattle.events.specs.Lines.{line_of}
-use Rattle.events.specs.Running.{Kept, kept, step_in, after, told}
+use Rattle.events.specs.Running.{Kept, kept, step_in, step_of, after_step, step_told}
+use Rattle.events.specs.Asked.{event_of}
+use Rattle.events.specs.Calls.{call_of}
+use Rattle.events.specs.Played.{step_for}
+use Rattle.events.specs.declared.asked.Event.{Event}
 
 -- the same device, medium and reply buffer are kept alike
 pub same_kept : {d d' : Device} {m m' b b' : List ℕ} → d ≡ d' → m ≡ m' → b ≡ b' → kept d m b ≡ kept d' m' b'
 same_kept p q r = cc
 
-pub kept_is : (k : Kept) (e : List ℕ) (d : Device) (r : Result ℕ Refusal) (m b : List ℕ) → Gives (step_in k e) k.reply (gave (answered d r) m b) → kept d m b ≡ after k e
-unfolding after
-kept_is k e d r m b p = same_kept (sym (answered_state d r) ∙ p.state) p.medium p.reply
+pub kept_is : (k : Kept) (s : Step) (d : Device) (r : Result ℕ Refusal) (m b : List ℕ) → Gives s k.reply (gave (answered d r) m b) → kept d m b ≡ after_step k s
+kept_is k s d r m b p = same_kept (sym (answered_state d r) ∙ p.state) p.medium p.reply
 
 front_is : (s : Step) (b : List ℕ) (g : Gave) → Gives s b g → take g.outcome.len g.buffer ≡ bytes_of s
 front_is s b g p = let f = bytes_of s in ap₂ (λ (n : ℕ) (l : List ℕ). take n l) p.len p.reply ∙ take-append_seam f (drop (length f) b)
 
-told_by : (traced : Bool) (n : ℕ) (k : Kept) (e : List ℕ) (g : Gave) → Gives (step_in k e) k.reply g
-    → line_of traced n g.outcome.refusal g.outcome.state.status.outstanding (take g.outcome.len g.buffer) ≡ told traced n k e
-unfolding told
-told_by traced n k e g p = let f = front_is (step_in k e) k.reply g p in cc (f, p.refusal, p.state)
+told_by : (traced : Bool) (n : ℕ) (s : Step) (old : List ℕ) (g : Gave) → Gives s old g → line_of traced n g.outcome.refusal g.outcome.state.status.outstanding (take g.outcome.len g.buffer) ≡ step_told traced n s
+told_by traced n s old g p = let f = front_is s old g p in cc (f, p.refusal, p.state)
 
-told_answered : (traced : Bool) (n : ℕ) (k : Kept) (e : List ℕ) (d : Device) (r : Result ℕ Refusal) (m b : List ℕ) → Gives (step_in k e) k.reply (gave (answered d r) m b)
-    → line_of traced n (result_err r) d.status.outstanding (take (result_unwrap_or r 0) b) ≡ told traced n k e
-told_answered traced n k e d (Ok len) m b p = told_by traced n k e (gave (answered d (Ok len)) m b) p
-told_answered traced n k e d (Err r) m b p = told_by traced n k e (gave (answered d (Err r)) m b) p
+told_answered : (traced : Bool) (n : ℕ) (s : Step) (old : List ℕ) (d : Device) (r : Result ℕ Refusal) (m b : List ℕ) → Gives s old (gave (answered d r) m b)
+    → line_of traced n (result_err r) d.status.outstanding (take (result_unwrap_or r 0) b) ≡ step_told traced n s
+told_answered traced n s old d (Ok len) m b p = told_by traced n s old (gave (answered d (Ok len)) m b) p
+told_answered traced n s old d (Err r) m b p = told_by traced n s old (gave (answered d (Err r)) m b) p
 
 -- the line of what the device answered: its refusal, and the replies in front of the buffer
-pub told_is : (traced : Bool) (n : ℕ) (k : Kept) (e : List ℕ) (d : Device) (r : Result ℕ Refusal) (m b : List ℕ) (given : Option Refusal) (len : ℕ) → given ≡ result_err r → len ≡ result_unwrap_or r 0
-    → Gives (step_in k e) k.reply (gave (answered d r) m b) → line_of traced n given d.status.outstanding (take len b) ≡ told traced n k e
-told_is traced n k e d r m b given len p q g = rw (p, q) (told_answered traced n k e d r m b g)
+pub told_is : (traced : Bool) (n : ℕ) (s : Step) (old : List ℕ) (d : Device) (r : Result ℕ Refusal) (m b : List ℕ) (given : Option Refusal) (len : ℕ) → given ≡ result_err r → len ≡ result_unwrap_or r 0
+    → Gives s old (gave (answered d r) m b) → line_of traced n given d.status.outstanding (take len b) ≡ step_told traced n s
+told_is traced n s old d r m b given len p q g = rw (p, q) (told_answered traced n s old d r m b g)
+
+-- the step of an event's bytes is that of the event
+pub step_asked : (k : Kept) (e : List ℕ) (event : Event) → event_of e ≡ Some event → step_in k e ≡ step_of k event
+step_asked k e event q = ap (λ (o : Option Event). step_for k.device k.medium k.reply (option_map (call_of k.device) o)) q

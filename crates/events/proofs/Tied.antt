@@ -7,15 +7,10 @@ use Rattle.device.proofs.Outcomes.{given_once}
 use Rattle.device.proofs.Kept.{kept_once, powered_once, same_answer, same_state}
 use Rattle.events.proofs.by_value
 use Rattle.events.specs.contracts.by_value as by_value-said
-use Rattle.events.proofs.host_data
-use Rattle.events.specs.contracts.host_data as host_data-said
 use Rattle.events.proofs.plays
 use Rattle.events.specs.contracts.plays as plays-said
 use Rattle.events.proofs.starts
 use Rattle.events.specs.contracts.starts as starts-said
-
-pub tied_host_data : Sole host_data-said.host_data.ended host_data.host_data.Reads.Asked host_data.host_data.Reads.Post
-tied_host_data = sole (λ κs a. tt) (λ κs a r r' ws ws' p q. let e = given_once _ _ (answered ws.0.device r) (answered ws'.0.device r') ws.1.1.0 ws'.1.1.0 ws.1.1.1.0 ws'.1.1.1.0 p q in (same_answer ws.0.device ws'.0.device r r' e.0, λ i. (kept_once ws.0 ws'.0 (same_state ws.0.device ws'.0.device r r' e.0) i, (tt, (e.1.0 i, (e.1.1 i, tt))))))
 
 pub tied_play : Sole plays-said.play.ended plays.play.Reads.Asked plays.play.Reads.Post
 tied_play = sole (λ κs a. tt) (λ κs a r r' ws ws' p q. let e = given_once _ _ (answered ws.0.device r) (answered ws'.0.device r') ws.1.1.0 ws'.1.1.0 ws.1.1.1.0 ws'.1.1.1.0 p q in (same_answer ws.0.device ws'.0.device r r' e.0, λ i. (kept_once ws.0 ws'.0 (same_state ws.0.device ws'.0.device r r' e.0) i, (tt, (e.1.0 i, (e.1.1 i, tt))))))

@@ -21,8 +21,8 @@ tied_is_misplaced = sole (λ κs a. tt) (λ κs a r r' ws ws' p q. (same p q, re
 pub tied_event_kind : Sole kinds-said.event_kind.ended kinds.event_kind.Reads.Asked kinds.event_kind.Reads.Post
 tied_event_kind = sole (λ κs a. tt) (λ κs a r r' ws ws' p q. (same p q, refl))
 
-pub tied_request_of : Sole asked-said.request_of.ended asked.request_of.Reads.Asked asked.request_of.Reads.Post
-tied_request_of = sole (λ κs a. tt) (λ κs a r r' ws ws' p q. (same p q, refl))
+pub tied_event_of : Sole asked-said.event_of.ended asked.event_of.Reads.Asked asked.event_of.Reads.Post
+tied_event_of = sole (λ κs a. tt) (λ κs a r r' ws ws' p q. (same p q, refl))
 
 pub tied_settings_asked : Sole settings-said.settings_asked.ended settings.settings_asked.Reads.Asked settings.settings_asked.Reads.Post
 tied_settings_asked = sole (λ κs a. tt) (λ κs a r r' ws ws' p q. (same p q, refl))

@@ -4,6 +4,7 @@ use denote.RattleType.{RattleType}
 use denote.Param.Laws.{Laws}
 use mir.Syntax.{Dict}
 use Rattle.std.specs.declared.io.traits.Read as Reader
+use Rattle.std.specs.declared.io.traits.BufRead as Buffered
 use Rattle.std.specs.declared.io.traits.Write as Writer
 use Rattle.bits.specs.Contract.{SaysOver, Tied}
 use Rattle.bits.proofs.Tying.{same, say, by}
@@ -15,10 +16,10 @@ use Rattle.events.specs.contracts.running as running-said
 use Rattle.events.proofs.pieces
 use Rattle.events.specs.contracts.pieces as pieces-said
 
-pub tied_run : (R W : RattleType) (l : Laws R) (m : Laws W) (g : Reader.Ghosts R.Denot) (d : Dict) (h : Writer.Ghosts W.Denot) (e : Dict)
-    → SaysOver (running-said.run.ended R W g d h e) (running.run.Reads.Asked R W l m g d h e) (running.run.Reads.Post R W l m g d h e)
+pub tied_run : (R W : RattleType) (l : Laws R) (m : Laws W) (b : Buffered.Ghosts R.Denot) (c : Dict) (g : Reader.Ghosts R.Denot) (d : Dict) (h : Writer.Ghosts W.Denot) (e : Dict)
+    → SaysOver (running-said.run.ended R W b c g d h e) (running.run.Reads.Asked R W l m b c g d h e) (running.run.Reads.Post R W l m b c g d h e)
     (λ κs a r ws. Ran a.0.traced (g.remaining a.1.0.now) (g.remaining ws.1.0) (h.contents a.1.1.0.now) (h.contents ws.1.1.0) r)
-tied_run R W l m g d h e = record { same = λ κs a b h. h; some = (([], ([], (R.lives, (W.lives, tt)))), λ a. ((λ x h. h), (λ x h. h))); says = λ κs a r ws p. p }
+tied_run R W l m b c g d h e = record { same = λ κs a b h. h; some = (([], ([], (R.lives, (W.lives, tt)))), λ a. ((λ x h. h), (λ x h. h))); says = λ κs a r ws p. p }
 
 pub tied_a_run_has_one_text : Tied running-said.a_run_has_one_text.ended running.a_run_has_one_text.Reads.Asked running.a_run_has_one_text.Reads.Post (λ κs a r ws. OneText × OneBroken)
 tied_a_run_has_one_text = by (say (λ κs a. tt) (λ κs a r ws p. (p.0, p.1))) (λ κs a r r' ws ws' p q. (refl, refl))

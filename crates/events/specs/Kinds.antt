@@ -1,11 +1,8 @@
 -- What the rest of the input begins with. Assumes nothing.
-use Rattle.std.specs.Prelude.{Bool, false, not, List, ℕ, ◌+◌, ◌-◌, eqb, leb, length, get_or, Option, Some, None, option_map, Result, Ok, Err}
-use Rattle.std.specs.Option.{option_map_or}
+use Rattle.std.specs.Prelude.{Bool, false, not, List, ℕ, ◌+◌, eqb, leb, length, get_or, Option, Some, None, option_map, Result, Ok, Err}
 use Rattle.bits.specs.Pick.{pick}
-use Rattle.frames.specs.Size.{size_of}
-use Rattle.frames.specs.declared.kinds.FrameKind.TheVariants.{HostRegister, BistActivate}
 use Rattle.events.specs.declared.kinds.Kind.{Kind}
-use Rattle.events.specs.declared.kinds.Kind.TheVariants.{Settings, OpenPhase, SendData, FinishTags, MediaError, LinkEvent, Comreset, HostData, HostFrame}
+use Rattle.events.specs.declared.kinds.Kind.TheVariants.{Settings, OpenPhase, SendData, FinishTags, MediaError, LinkEvent, Comreset, HostData, HostRegister, Bist}
 use Rattle.events.specs.declared.kinds.InputEnd.{InputEnd}
 use Rattle.events.specs.declared.kinds.InputEnd.TheVariants.{Clean, NoEvent}
 
@@ -20,10 +17,10 @@ kind_named k =
     (pick (eqb k 0x05) (Some LinkEvent)
     (pick (eqb k 0x06) (Some Comreset)
     (pick (eqb k 0x07) (Some HostData)
-    (pick (eqb k 0x27) (Some (HostFrame HostRegister))
-    (pick (eqb k 0x58) (Some (HostFrame BistActivate)) None)))))))))
+    (pick (eqb k 0x27) (Some HostRegister)
+    (pick (eqb k 0x58) (Some Bist) None)))))))))
 
--- the length of a kind's body: settings 7, tag 1, none 0, mask 4, tag, error and sector 6, row 1, byte 1, and of a frame what is behind its type
+-- the length of a kind's body: settings 7, tag 1, none 0, mask 4, tag, error and sector 6, row 1, byte 1, and of a frame of 20 or 12 bytes what is behind its type
 unfoldable pub body_of : Kind → ℕ
 body_of Settings = 7
 body_of OpenPhase = 1
@@ -33,7 +30,8 @@ body_of MediaError = 6
 body_of LinkEvent = 1
 body_of Comreset = 0
 body_of HostData = 1
-body_of (HostFrame kind) = option_map_or (λ size. size - 1) (size_of kind) 0
+body_of HostRegister = 19
+body_of Bist = 11
 
 -- a body whose length the kind fixes
 unfoldable pub body_length : ℕ → Option ℕ

@@ -1,5 +1,5 @@
 pub mod Kinds
-pub mod Requests
+pub mod Asked
 pub mod Settings
 pub mod Stops
 pub mod Ends

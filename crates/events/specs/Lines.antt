@@ -19,17 +19,29 @@ abbrev pub traced_of : Bool → List ℕ → List ℕ
 traced_of true reply = trace_of reply
 traced_of false reply = []
 
--- a blank, and type:length of a reply
+-- a blank, and type:length
+abbrev pub typed : ℕ → ℕ → List ℕ
+typed kind n = 32 ∷ encode_upper (kind ∷ []) ++ 58 ∷ decimal n
+
+-- those of a reply
+abbrev pub label_of : List ℕ → List ℕ
+label_of reply = typed (get_or reply 0 0) (length reply)
+
+-- and its bytes, where the run is traced
 abbrev pub field_of : Bool → List ℕ → List ℕ
-field_of traced reply = 32 ∷ encode_upper (get_or reply 0 0 ∷ []) ++ 58 ∷ decimal (length reply) ++ traced_of traced reply
+field_of traced reply = label_of reply ++ traced_of traced reply
 
 -- those of all replies, in their order
 abbrev pub fields_of : Bool → List (List ℕ) → List ℕ
 fields_of traced replies = flat_map (field_of traced) replies
 
--- number from 0, the refusal's number (0 = taken), both decimal, outstanding tags in eight upper-case hex digits
+-- a refusal's number (0 = taken), decimal, and outstanding tags in eight upper-case hex digits
+abbrev pub told_of : ℕ → ℕ → List ℕ
+told_of told outstanding = 32 ∷ decimal told ++ 32 ∷ upper8 outstanding
+
+-- number from 0, decimal, and those of an event
 abbrev pub head_of : ℕ → Option Refusal → ℕ → List ℕ
-head_of number refusal outstanding = decimal number ++ 32 ∷ decimal (number_told refusal) ++ 32 ∷ upper8 outstanding
+head_of number refusal outstanding = decimal number ++ told_of (number_told refusal) outstanding
 
 -- one line an event: one blank between fields, none at the end, LF
 abbrev pub line_of : Bool → ℕ → Option Refusal → ℕ → List ℕ → List ℕ

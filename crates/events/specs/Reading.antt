@@ -1,11 +1,13 @@
 -- What is told of the next event. Assumes nothing.
-use Rattle.std.specs.Prelude.{◌≡◌, Bool, not, List, [], ◌∷◌, ℕ, length, IfSome, Option, Some, None, Result, Ok, Err}
+use Rattle.std.specs.Prelude.{◌≡◌, ◌≤◌, Bool, false, not, List, [], ◌∷◌, ℕ, length, take, IfSome, Option, Some, None, Result, Ok, Err}
 use Rattle.std.specs.Bool.{then_some}
 use Rattle.std.specs.Borrow.{Bor}
-use Rattle.std.specs.Io.KnownBytes.{Consumes, IsAtEnd}
+use Rattle.std.specs.Io.KnownBytes.{Consumes, Keeps, IsAtEnd}
 use Rattle.events.specs.declared.kinds.InputEnd.{InputEnd}
 use Rattle.events.specs.declared.kinds.Kind.{Kind}
 use Rattle.events.specs.Kinds.{misplaced, next_of}
+use Rattle.events.specs.Asked.{event_of}
+use Rattle.events.specs.declared.asked.Event.{Event}
 
 -- one byte was read, or the input is at its end
 abbrev pub ReadKind : Option (List ℕ) → Option ℕ → Option (List ℕ) → Type 0
@@ -30,6 +32,22 @@ Ends (Err end) = Unit
 abbrev pub ReadEvent : Bool → Option (List ℕ) → Result (Bor (List ℕ)) InputEnd → Option (List ℕ) → Type 0
 ReadEvent first old (Ok event) new = IsEvent first event.now × Consumes old new event.now
 ReadEvent first old (Err end) new = IfSome old (λ input. next_of first input ≡ Err end)
+
+-- the first n of some bytes are one event, which asks for that
+pub record BeginsWith (l : List ℕ) (event : Event) (n : ℕ) : Type 0 where
+  pub within : n ≤ length l
+  pub whole : IsEvent false (take n l)
+  pub asked : event_of (take n l) ≡ Some event
+
+-- the bytes of an event were read, and no more; or of the bytes that were left, whatever they are, it is known what they begin with
+abbrev pub ReadNext : Option (List ℕ) → Result Event InputEnd → Option (List ℕ) → Type 0
+ReadNext old (Ok event) new = (e : List ℕ) × IsEvent false e × Consumes old new e × (event_of e ≡ Some event)
+ReadNext old (Err end) new = IfSome old (λ input. next_of false input ≡ Err end)
+
+-- so is an event that lies whole in the reader's buffer; of another nothing is read
+abbrev pub ReadAhead : Option (List ℕ) → Option Event → Option (List ℕ) → Type 0
+ReadAhead old (Some event) new = ReadNext old (Ok event) new
+ReadAhead old None new = Keeps old new
 
 -- a read failed: what came before it is no event, and begins with none
 abbrev pub BreaksIn : Bool → Option (List ℕ) → Option (List ℕ) → Type 0

@@ -1,11 +1,13 @@
 -- What is written for the events of a run. Assumes nothing.
-use Rattle.std.specs.Prelude.{◌≡◌, Bool, true, false, List, [], ◌∷◌, ◌++◌, ℕ, ◌+◌, replicate, is_some, codes, Result, Ok, Err}
+use Rattle.std.specs.Prelude.{◌≡◌, Bool, true, false, List, [], ◌∷◌, ◌++◌, ℕ, ◌+◌, replicate, is_some, codes, Some, Result, Ok, Err}
 use Rattle.bits.specs.Pick.{pick}
 use Rattle.bits.specs.Laid.{overlay}
 use Rattle.device_state.specs.State.{medium_size}
 use Rattle.device.specs.Step.{Step, bytes_of}
 use Rattle.device.specs.declared.state.Device.{Device}
-use Rattle.events.specs.Played.{event_step}
+use Rattle.events.specs.Played.{step_for, event_step}
+use Rattle.events.specs.Calls.{call_of}
+use Rattle.events.specs.declared.asked.Event.{Event}
 use Rattle.events.specs.Start.{start_of}
 use Rattle.events.specs.declared.kinds.InputEnd.{InputEnd}
 use Rattle.events.specs.declared.kinds.InputEnd.TheVariants.{Clean, NoEvent}
@@ -24,16 +26,28 @@ abbrev pub kept : Device → List ℕ → List ℕ → Kept
 kept d m b = record { device = d; medium = m; reply = b }
 
 -- the step of an event in what is kept
+abbrev pub step_of : Kept → Event → Step
+step_of k event = step_for k.device k.medium k.reply (Some (call_of k.device event))
+
+-- and of an event's bytes
 abbrev pub step_in : Kept → List ℕ → Step
 step_in k e = event_step k.device e k.medium k.reply
 
+-- what a step leaves behind
+abbrev pub after_step : Kept → Step → Kept
+after_step k s = kept s.state s.medium (overlay (bytes_of s) k.reply)
+
+-- the line of a step: its refusal, the tags outstanding after it, and its replies
+abbrev pub step_told : Bool → ℕ → Step → List ℕ
+step_told traced number s = line_of traced number s.refusal s.state.status.outstanding (bytes_of s)
+
 -- what an event leaves behind
 unfoldable pub after : Kept → List ℕ → Kept
-after k e = record { device = (step_in k e).state; medium = (step_in k e).medium; reply = overlay (bytes_of (step_in k e)) k.reply }
+after k e = after_step k (step_in k e)
 
--- its line: its refusal, the tags outstanding after it, and its replies
+-- its line
 unfoldable pub told : Bool → ℕ → Kept → List ℕ → List ℕ
-told traced number k e = line_of traced number (step_in k e).refusal (step_in k e).state.status.outstanding (bytes_of (step_in k e))
+told traced number k e = step_told traced number (step_in k e)
 
 -- the lines of events, numbered on, each played in what the last one left
 unfoldable pub lines_from : Bool → ℕ → Kept → List (List ℕ) → List ℕ

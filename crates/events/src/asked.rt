@@ -1,31 +1,37 @@
-// What an event asks for, read from its bytes.
-ghost use Rattle.std.specs.Prelude.{◌≡◌};
-ghost use Rattle.events.specs.Requests.{request_of};
+// What an event asks for, read from its bytes once.
+ghost use Rattle.std.specs.Prelude.{◌≡◌, ◌+◌, length};
+ghost use Rattle.events.specs.Kinds.{body_of};
+ghost use Rattle.events.specs.Asked.{event_by_kind, event_of};
 
 use crate::kinds::{Kind, event_kind};
 use frames::byte_of;
 use rules::DeviceEvent;
 
-/// What an event asks of the device.
+/// An event behind the settings record.
 #[derive(Clone, Copy, Debug, PartialEq, Eq)]
-pub enum Request {
+pub enum Event {
     /// A device event.
-    Event(DeviceEvent),
+    OfDevice(DeviceEvent),
     /// Host data of the length due, all of one byte.
     HostData(u8),
-    /// A frame from the host: the event itself.
-    HostFrame,
+    /// 27h, a frame from the host: a command, or control.
+    HostRegister([u8; 20]),
+    /// 58h, a frame from the host: a test of the link.
+    Bist([u8; 12]),
 }
 
-/// What the bytes of an event ask for; `None` for what is no event, and for settings.
-#[tactic(auto, unfolding(crate::specs::Requests::request_of, crate::specs::Requests::request_by_kind))]
-pub fn request_of(event: &[u8]) -> Option<Request>
-    ensures { result ≡ request_of event.now }
+/// What the bytes of an event of a kind ask for; `None` for settings.
+#[inline(always)]
+#[tactic(auto, unfolding(crate::specs::Asked::event_by_kind, crate::specs::Kinds::body_of))]
+pub(crate) fn event_by_kind(kind: Kind, event: &[u8]) -> Option<Event>
+    requires { length event.now ≡ body_of kind + 1 }
+    ensures { result ≡ event_by_kind event.now kind }
 {
-    let device_event = match event_kind(event)? {
+    let device_event = match kind {
         Kind::Settings => return None,
-        Kind::HostData => return Some(Request::HostData(byte_of(event, 1))),
-        Kind::HostFrame(_) => return Some(Request::HostFrame),
+        Kind::HostData => return Some(Event::HostData(byte_of(event, 1))),
+        Kind::HostRegister => return Some(Event::HostRegister(*event.as_array()?)),
+        Kind::Bist => return Some(Event::Bist(*event.as_array()?)),
         Kind::OpenPhase => DeviceEvent::OpenPhase(byte_of(event, 1)),
         Kind::SendData => DeviceEvent::SendData,
         Kind::FinishTags => DeviceEvent::FinishTags(bits::le32(event, 1)),
@@ -37,5 +43,13 @@ pub fn request_of(event: &[u8]) -> Option<Request>
         Kind::LinkEvent => DeviceEvent::LinkEvent(byte_of(event, 1)),
         Kind::Comreset => DeviceEvent::Comreset,
     };
-    Some(Request::Event(device_event))
+    Some(Event::OfDevice(device_event))
+}
+
+/// What the bytes of an event ask for; `None` for what is no event, and for settings.
+#[tactic(auto, unfolding(crate::specs::Asked::event_of), using(crate::proofs::Recording::kind_length))]
+pub fn event_of(event: &[u8]) -> Option<Event>
+    ensures { result ≡ event_of event.now }
+{
+    event_by_kind(event_kind(event)?, event)
 }

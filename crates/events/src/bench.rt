@@ -1,14 +1,16 @@
 // What a run keeps between two events.
-ghost use Rattle.std.specs.Prelude.{◌≡◌, ◌≤◌, ◌++◌, OnOk, IfErr, length, take};
+ghost use Rattle.std.specs.Prelude.{◌≡◌, ◌≤◌, ◌++◌, OnOk, length, take};
 ghost use Rattle.device.specs.Lent.{gave, answered};
 ghost use Rattle.device.specs.Step.{Gives};
-ghost use Rattle.events.specs.declared.errors.RunError.TheVariants.{Memory};
-ghost use Rattle.events.specs.Running.{Kept, kept, step_in, told, after};
+ghost use Rattle.events.specs.Running.{Kept, kept, step_of, after_step, step_told};
 
-use crate::errors::RunError;
+use crate::Event;
 use crate::lines::{Format, Line};
+use crate::plays::make_call;
 use device::Sealed;
+use frames::DATA_FRAME_LIMIT;
 use refusals::Refusal;
+use std::alloc::AllocError;
 use std::marker::Model;
 
 /// The device of a run, its medium, and the buffer of its replies. A contract sees these three as what a run keeps.
@@ -17,6 +19,8 @@ pub(crate) struct Bench<'a> {
     sealed: Sealed,
     medium: &'a mut [u8],
     reply: &'a mut [u8],
+    // where the frames of host data are laid
+    room: [u8; DATA_FRAME_LIMIT],
 }
 
 impl<'a> Model for Bench<'a> {
@@ -33,14 +37,21 @@ impl<'a> Bench<'a> {
             sealed,
             medium,
             reply,
+            room: [0; DATA_FRAME_LIMIT],
         }
     }
 
     // One event played: how many bytes of replies stand in front of the buffer, or the refusal.
-    fn play(&mut self, event: &[u8]) -> Result<usize, Refusal>
-        ensures { Gives (step_in self.old event.now) self.old.reply (gave (answered self.new.device result) self.new.medium self.new.reply) }
+    fn play(&mut self, event: Event) -> Result<usize, Refusal>
+        ensures { Gives (step_of self.old event) self.old.reply (gave (answered self.new.device result) self.new.medium self.new.reply) }
     {
-        crate::play(&mut self.sealed, event, self.medium, self.reply)
+        make_call(
+            &mut self.sealed,
+            event,
+            &mut self.room,
+            self.medium,
+            self.reply,
+        )
     }
 
     fn outstanding(&self) -> u32
@@ -62,11 +73,10 @@ impl<'a> Bench<'a> {
         format: Format,
         lines: &mut Vec<u8>,
         number: u64,
-        event: &[u8],
-    ) -> Result<(), RunError>
-        ensures kept { self.new ≡ after self.old event.now }
-        ensures line { OnOk result (lines.new.items ≡ lines.old.items ++ told format.traced number self.old event.now) }
-        ensures err { IfErr result (λ e. e ≡ Memory) }
+        event: Event,
+    ) -> Result<(), AllocError>
+        ensures kept { self.new ≡ after_step self.old (step_of self.old event) }
+        ensures line { OnOk result (lines.new.items ≡ lines.old.items ++ step_told format.traced number (step_of self.old event)) }
     {
         let answer = self.play(event);
         let line = Line {
@@ -75,8 +85,6 @@ impl<'a> Bench<'a> {
             outstanding: self.outstanding(),
             replies: self.replies(answer.unwrap_or(0)),
         };
-        format
-            .write_line(lines, &line)
-            .map_err(|_| RunError::Memory)
+        format.push_line(lines, &line)
     }
 }

@@ -1,8 +1,10 @@
 // How a run ends.
 ghost use Rattle.std.specs.Prelude.{◌≡◌};
 ghost use Rattle.events.specs.Ends.{last_text};
+ghost use Rattle.events.specs.declared.errors.RunError.TheVariants.{Memory};
 
 use crate::InputEnd;
+use std::alloc::AllocError;
 use std::io;
 use thiserror::Error;
 
@@ -21,6 +23,15 @@ pub enum RunError {
     /// The last line number is used up.
     #[error("too many events")]
     TooMany,
+}
+
+/// No memory is had for lines alone.
+impl From<AllocError> for RunError {
+    ghost from_gives = { λ failed error. error ≡ Memory };
+
+    fn from(_: AllocError) -> RunError {
+        RunError::Memory
+    }
 }
 
 /// The last text of a run that ends so.

@@ -1,5 +1,5 @@
 // Host data of the length due, all of one byte.
-ghost use Rattle.std.specs.Prelude.{◌≡◌};
+ghost use Rattle.std.specs.Prelude.{◌≡◌, ◌≤◌};
 ghost use Rattle.rules.specs.Call.{host_frame};
 ghost use Rattle.device.specs.Lent.{lent, gave, answered};
 ghost use Rattle.device.specs.Step.{Given};
@@ -9,20 +9,25 @@ use device::Sealed;
 use frames::{DATA_FRAME_LIMIT, DATA_HEAD, DATA_HEAD_SIZE};
 use refusals::Refusal;
 
-// The longest data frame, its payload all of one byte: a front of it is the frame that is due.
-fn longest(byte: u8) -> [u8; DATA_FRAME_LIMIT]
-    ensures { result ≡ data_frame 8192 byte }
+// The data frame of `size` bytes, all of the one byte given, in front of a room for the longest: what stands behind it is not
+// looked at.
+fn lay_data(room: &mut [u8; DATA_FRAME_LIMIT], size: usize, byte: u8) -> &[u8]
+    requires { size ≤ 8192 }
+    ensures { result.now ≡ data_frame size byte }
 {
-    let mut frame = [byte; DATA_FRAME_LIMIT];
-    frame[..DATA_HEAD_SIZE].copy_from_slice(&DATA_HEAD);
+    let frame = &mut room[..DATA_HEAD_SIZE + size];
+    let (head, payload) = frame.split_at_mut(DATA_HEAD_SIZE);
+    head.copy_from_slice(&DATA_HEAD);
+    payload.fill(byte);
     frame
 }
 
-/// Host data of the length due, all of the one byte given.
+/// Host data of the length due, all of the one byte given; `room` is where the frame is laid.
 #[tactic(auto, using(crate::proofs::Frames::due_within))]
-pub fn host_data(
+pub(crate) fn host_data(
     sealed: &mut Sealed,
     byte: u8,
+    room: &mut [u8; DATA_FRAME_LIMIT],
     medium: &mut [u8],
     reply: &mut [u8],
 ) -> Result<usize, Refusal>
@@ -30,7 +35,7 @@ pub fn host_data(
 {
     // with no write phase the event carries 4 payload bytes, which the device refuses: with 2 or 3 where the medium
     // or the reply buffer lent to it is no good, and else with 5
-    let end = DATA_HEAD_SIZE + sealed.device.data_due().unwrap_or(4);
-    let frame = longest(byte);
-    sealed.host_frame(&frame[..end], medium, reply)
+    let size = sealed.device.data_due().unwrap_or(4);
+    let frame = lay_data(room, size, byte);
+    sealed.host_frame(frame, medium, reply)
 }

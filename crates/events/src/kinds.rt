@@ -2,8 +2,6 @@
 ghost use Rattle.std.specs.Prelude.{◌≡◌};
 ghost use Rattle.events.specs.Kinds.{kind_named, body_of, misplaced, event_kind};
 
-use frames::FrameKind;
-
 /// The most bytes of an event, its kind among them.
 pub const EVENT_LIMIT: usize = 20;
 
@@ -35,13 +33,16 @@ pub enum Kind {
     Comreset,
     /// 07h: host data, all of one byte.
     HostData,
-    /// 27h or 58h: a frame from the host, whose type is the event's kind.
-    HostFrame(FrameKind),
+    /// 27h: a frame from the host, a command or control.
+    HostRegister,
+    /// 58h: a frame from the host, a test of the link.
+    Bist,
 }
 
 impl Kind {
     /// The kind that a byte names, if it names one.
-    #[tactic(auto, unfolding(crate::specs::Kinds::kind_named, frames::specs::Size::kind_named))]
+    #[inline(always)]
+    #[tactic(auto, unfolding(crate::specs::Kinds::kind_named))]
     pub fn from_byte(byte: u8) -> Option<Kind>
         ensures { result ≡ kind_named byte }
     {
@@ -54,17 +55,15 @@ impl Kind {
             0x05 => Some(Kind::LinkEvent),
             0x06 => Some(Kind::Comreset),
             0x07 => Some(Kind::HostData),
-            // a data frame is no event: its length is what is due
-            _ => match FrameKind::from_byte(byte)? {
-                kind @ (FrameKind::HostRegister | FrameKind::BistActivate) => {
-                    Some(Kind::HostFrame(kind))
-                }
-                _ => None,
-            },
+            0x27 => Some(Kind::HostRegister),
+            0x58 => Some(Kind::Bist),
+            // 46h is none: the length of host data is what is due
+            _ => None,
         }
     }
 
     /// The length of the kind's body.
+    #[inline(always)]
     #[tactic(auto, unfolding(crate::specs::Kinds::body_of))]
     pub fn body_length(self) -> usize
         ensures { result ≡ body_of self }
@@ -75,7 +74,8 @@ impl Kind {
             Kind::SendData | Kind::Comreset => 0,
             Kind::FinishTags => 4,
             Kind::MediaError => 6,
-            Kind::HostFrame(kind) => kind.size().map_or(0, |size| size.saturating_sub(1)),
+            Kind::HostRegister => 19,
+            Kind::Bist => 11,
         }
     }
 

@@ -17,7 +17,7 @@ mod running;
 mod settings;
 mod starts;
 
-pub use asked::{Request, request_of};
+pub use asked::{Event, event_of};
 pub use by_value::play_by_value;
 pub use ended::Ended;
 pub use errors::RunError;

@@ -1,18 +1,17 @@
 // The line of an event.
-ghost use Rattle.std.specs.Prelude.{◌≡◌, ◌∷◌, [], OnOk};
-ghost use Rattle.std.specs.Io.KnownBytes.{Appends};
+ghost use Rattle.std.specs.Prelude.{◌≡◌, ◌++◌, ◌<◌, ◌≤◌, ◌∷◌, [], OnOk};
 ghost use Rattle.hex.specs.Hex.{encode_upper};
 ghost use Rattle.frames.specs.Cut.{cut};
-ghost use Rattle.events.specs.Lines.{upper8, head_of, trace_of, field_of, fields_of, line_of};
+ghost use Rattle.events.specs.Lines.{upper8, told_of, head_of, trace_of, typed, label_of, field_of, fields_of, line_of};
 
+use frames::byte_of;
 use refusals::Refusal;
-use std::alloc::Global;
-use std::io;
-use std::io::Write;
+use std::alloc::{AllocError, Global};
 
 const UPPER: [u8; 16] = *b"0123456789ABCDEF";
 
-// A byte in two upper-case hex digits. Not by `write!`: with it for a line's digits, a run took half as many instructions again.
+// A byte in two upper-case hex digits. Neither they nor the short decimal numbers below go by `write!` or `itoa`: a line's
+// pieces have a fixed size so, and are stored without a call.
 #[tactic(auto, unfolding(hex::specs::Hex::encode_with))]
 fn upper(byte: u8) -> [u8; 2]
     ensures { result ≡ encode_upper (byte ∷ []) }
@@ -20,14 +19,54 @@ fn upper(byte: u8) -> [u8; 2]
     [UPPER[usize::from(byte / 16)], UPPER[usize::from(byte % 16)]]
 }
 
-#[tactic(auto, using(crate::proofs::Fields::digits_on), unfolding(hex::specs::Hex::encode_with))]
-fn write_upper8<W: Write>(out: &mut W, number: u32) -> io::Result<()>
-    ensures { OnOk result (Appends (W.contents out.old) (W.contents out.new) (upper8 number)) }
+#[tactic(auto, unfolding(hex::specs::Hex::encode_with))]
+fn upper8(number: u32) -> [u8; 8]
+    ensures { result ≡ upper8 number }
 {
-    for byte in number.to_be_bytes() {
-        out.write_all(&upper(byte))?;
-    }
-    Ok(())
+    let [a, b, c, d] = number.to_be_bytes();
+    let [a1, a0] = upper(a);
+    let [b1, b0] = upper(b);
+    let [c1, c0] = upper(c);
+    let [d1, d0] = upper(d);
+    [a1, a0, b1, b0, c1, c0, d1, d0]
+}
+
+// Behind a line's number: the refusal's number, of one digit or two, and the tags outstanding.
+#[tactic(auto, using(crate::proofs::Digits::digits_one), unfolding(hex::specs::Hex::encode_with))]
+fn told_in_one(told: u8, outstanding: u32) -> [u8; 11]
+    requires { told < 10 }
+    ensures { result ≡ told_of told outstanding }
+{
+    let [a, b, c, d, e, f, g, h] = upper8(outstanding);
+    [b' ', b'0' + told, b' ', a, b, c, d, e, f, g, h]
+}
+
+#[tactic(auto, using(crate::proofs::Digits::digits_two), unfolding(hex::specs::Hex::encode_with))]
+fn told_in_two(told: u8, outstanding: u32) -> [u8; 12]
+    requires { (10 ≤ told) × (told < 100) }
+    ensures { result ≡ told_of told outstanding }
+{
+    let [a, b, c, d, e, f, g, h] = upper8(outstanding);
+    [b' ', b'0' + told / 10, b'0' + told % 10, b' ', a, b, c, d, e, f, g, h]
+}
+
+// A reply's type, and its length of one digit or two.
+#[tactic(auto, using(crate::proofs::Digits::digits_one), unfolding(hex::specs::Hex::encode_with))]
+fn label_in_one(kind: u8, length: u8) -> [u8; 5]
+    requires { length < 10 }
+    ensures { result ≡ typed kind length }
+{
+    let [high, low] = upper(kind);
+    [b' ', high, low, b':', b'0' + length]
+}
+
+#[tactic(auto, using(crate::proofs::Digits::digits_two), unfolding(hex::specs::Hex::encode_with))]
+fn label_in_two(kind: u8, length: u8) -> [u8; 6]
+    requires { (10 ≤ length) × (length < 100) }
+    ensures { result ≡ typed kind length }
+{
+    let [high, low] = upper(kind);
+    [b' ', high, low, b':', b'0' + length / 10, b'0' + length % 10]
 }
 
 /// What the line of an event tells.
@@ -40,16 +79,33 @@ pub(crate) struct Line<'a> {
 }
 
 impl<'a> Line<'a> {
-    fn write_head<W: Write>(&self, out: &mut W) -> io::Result<()>
-        ensures { OnOk result (Appends (W.contents out.old) (W.contents out.new) (head_of self.now.number self.now.refusal self.now.outstanding)) }
+    #[tactic(auto, using(crate::proofs::Digits::told_short))]
+    fn push_head(&self, lines: &mut Vec<u8>) -> Result<(), AllocError>
+        ensures { OnOk result (lines.new.items ≡ lines.old.items ++ head_of self.now.number self.now.refusal self.now.outstanding) }
     {
-        let mut digits = itoa::Buffer::new();
-        out.write_all(digits.format(self.number).as_bytes())?;
-        out.write_all(b" ")?;
-        out.write_all(digits.format(Refusal::number_told(self.refusal)).as_bytes())?;
-        out.write_all(b" ")?;
-        write_upper8(out, self.outstanding)
+        lines.extend_from_slice(itoa::Buffer::new().format(self.number).as_bytes())?;
+        let told = Refusal::number_told(self.refusal);
+        if told < 10 {
+            return lines.extend_from_slice(&told_in_one(told, self.outstanding));
+        }
+        lines.extend_from_slice(&told_in_two(told, self.outstanding))
     }
+}
+
+fn push_label(lines: &mut Vec<u8>, reply: &[u8]) -> Result<(), AllocError>
+    ensures { OnOk result (lines.new.items ≡ lines.old.items ++ label_of reply.now) }
+{
+    let kind = byte_of(reply, 0);
+    let length = reply.len();
+    if length < 10 {
+        return lines.extend_from_slice(&label_in_one(kind, length as u8));
+    }
+    if length < 100 {
+        return lines.extend_from_slice(&label_in_two(kind, length as u8));
+    }
+    let [high, low] = upper(kind);
+    lines.extend_from_slice(&[b' ', high, low, b':'])?;
+    lines.extend_from_slice(itoa::Buffer::new().format(length).as_bytes())
 }
 
 /// How a run writes its lines.
@@ -62,41 +118,40 @@ pub struct Format {
 }
 
 impl Format {
-    fn write_trace<W: Write>(self, out: &mut W, reply: &[u8]) -> io::Result<()>
-        ensures { OnOk result (Appends (W.contents out.old) (W.contents out.new) (trace_of reply.now)) }
+    #[inline(never)]
+    fn push_trace(self, lines: &mut Vec<u8>, reply: &[u8]) -> Result<(), AllocError>
+        ensures { OnOk result (lines.new.items ≡ lines.old.items ++ trace_of reply.now) }
     {
-        out.write_all(b"=")?;
-        out.write_all(hex::encode(self.alloc, reply)?.as_bytes())
+        lines.extend_from_slice(b"=")?;
+        lines.extend_from_slice(hex::encode(self.alloc, reply)?.as_bytes())
     }
 
-    fn write_field<W: Write>(self, out: &mut W, reply: &[u8]) -> io::Result<()>
-        ensures { OnOk result (Appends (W.contents out.old) (W.contents out.new) (field_of self.traced reply.now)) }
+    fn push_field(self, lines: &mut Vec<u8>, reply: &[u8]) -> Result<(), AllocError>
+        ensures { OnOk result (lines.new.items ≡ lines.old.items ++ field_of self.traced reply.now) }
     {
-        out.write_all(b" ")?;
-        out.write_all(&upper(frames::byte_of(reply, 0)))?;
-        out.write_all(b":")?;
-        out.write_all(itoa::Buffer::new().format(reply.len()).as_bytes())?;
+        push_label(lines, reply)?;
         if self.traced {
-            return self.write_trace(out, reply);
+            return self.push_trace(lines, reply);
         }
         Ok(())
     }
 
-    fn write_fields<W: Write>(self, out: &mut W, replies: &[u8]) -> io::Result<()>
-        ensures { OnOk result (Appends (W.contents out.old) (W.contents out.new) (fields_of self.traced (cut replies.now))) }
+    fn push_fields(self, lines: &mut Vec<u8>, replies: &[u8]) -> Result<(), AllocError>
+        ensures { OnOk result (lines.new.items ≡ lines.old.items ++ fields_of self.traced (cut replies.now)) }
     {
         for reply in frames::frames_of(replies) {
-            self.write_field(out, reply)?;
+            self.push_field(lines, reply)?;
         }
         Ok(())
     }
 
-    pub(crate) fn write_line<W: Write>(self, out: &mut W, line: &Line) -> io::Result<()>
-        ensures { OnOk result (Appends (W.contents out.old) (W.contents out.new) (line_of self.traced line.now.number line.now.refusal line.now.outstanding line.now.replies.now)) }
+    /// The line, behind the lines that are gathered.
+    pub(crate) fn push_line(self, lines: &mut Vec<u8>, line: &Line) -> Result<(), AllocError>
+        ensures { OnOk result (lines.new.items ≡ lines.old.items ++ line_of self.traced line.now.number line.now.refusal line.now.outstanding line.now.replies.now) }
     {
         let replies = line.replies;
-        line.write_head(out)?;
-        self.write_fields(out, replies)?;
-        out.write_all(b"\n")
+        line.push_head(lines)?;
+        self.push_fields(lines, replies)?;
+        lines.extend_from_slice(b"\n")
     }
 }

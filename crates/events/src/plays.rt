@@ -6,25 +6,27 @@ ghost use Rattle.events.specs.Calls.{call_of};
 ghost use Rattle.events.specs.Played.{step_for, event_step};
 
 use crate::host_data::host_data;
-use crate::{Request, request_of};
+use crate::{Event, event_of};
 use device::Sealed;
+use frames::DATA_FRAME_LIMIT;
 use refusals::Refusal;
 
-// A frame is handed on as it came, its kind being its first byte.
+/// An event to its call; `room` is where the frame of host data is laid.
 #[tactic(auto, unfolding(crate::specs::Calls::call_of, crate::specs::Played::step_for))]
 pub(crate) fn make_call(
     sealed: &mut Sealed,
-    request: Request,
-    event: &[u8],
+    event: Event,
+    room: &mut [u8; DATA_FRAME_LIMIT],
     medium: &mut [u8],
     reply: &mut [u8],
 ) -> Result<usize, Refusal>
-    ensures { Gives (step_for sealed.old.device medium.old reply.old (Some (call_of sealed.old.device event.now request))) reply.old (gave (answered sealed.new.device result) medium.new reply.new) }
+    ensures { Gives (step_for sealed.old.device medium.old reply.old (Some (call_of sealed.old.device event))) reply.old (gave (answered sealed.new.device result) medium.new reply.new) }
 {
-    match request {
-        Request::Event(event) => sealed.event(event, medium, reply),
-        Request::HostData(byte) => host_data(sealed, byte, medium, reply),
-        Request::HostFrame => sealed.host_frame(event, medium, reply),
+    match event {
+        Event::OfDevice(event) => sealed.event(event, medium, reply),
+        Event::HostData(byte) => host_data(sealed, byte, room, medium, reply),
+        Event::HostRegister(frame) => sealed.host_frame(&frame, medium, reply),
+        Event::Bist(frame) => sealed.host_frame(&frame, medium, reply),
     }
 }
 
@@ -38,6 +40,6 @@ pub fn play(
 ) -> Result<usize, Refusal>
     ensures { Gives (event_step sealed.old.device event.now medium.old reply.old) reply.old (gave (answered sealed.new.device result) medium.new reply.new) }
 {
-    let request = request_of(event).ok_or(Refusal::NoFrame)?;
-    make_call(sealed, request, event, medium, reply)
+    let event = event_of(event).ok_or(Refusal::NoFrame)?;
+    make_call(sealed, event, &mut [0; DATA_FRAME_LIMIT], medium, reply)
 }

@@ -5,16 +5,16 @@ use crate::bench::Bench;
 use crate::errors::RunError;
 use crate::lines::{Format, Line};
 use crate::output::{finish, pass_on};
-use crate::reading::read_event;
+use crate::reading::{read_bytes, read_event};
 use crate::{EVENT_LIMIT, InputEnd, RUN_CAPACITY_LIMIT};
 use device::Device;
-use std::io::{Read, Write};
+use std::io::{BufRead, Write};
 
 // The bytes of the longest medium, as the settings record is limited.
 const MEDIUM_LIMIT: usize = (RUN_CAPACITY_LIMIT as usize) * Device::SECTOR_SIZE;
 
 // The events behind the settings record, whose line stands in `lines`.
-fn play_on<R: Read, W: Write>(
+fn play_on<R: BufRead, W: Write>(
     format: Format,
     reader: &mut R,
     out: &mut W,
@@ -23,9 +23,8 @@ fn play_on<R: Read, W: Write>(
 ) -> Result<(), RunError>
     ensures { PlayedOn format.traced bench.old lines.old.items (R.remaining reader.old) (R.remaining reader.new) (W.contents out.old) (W.contents out.new) result }
 {
-    let mut room = [0u8; EVENT_LIMIT];
     for number in 1..u64::MAX {
-        match read_event(reader, &mut room, false) {
+        match read_event(reader) {
             Ok(Ok(event)) => {
                 bench.play_and_tell(format, lines, number, event)?;
                 pass_on(out, lines)?;
@@ -38,7 +37,7 @@ fn play_on<R: Read, W: Write>(
 }
 
 // The settings record, and what follows it.
-fn start_with<R: Read, W: Write>(
+fn start_with<R: BufRead, W: Write>(
     format: Format,
     reader: &mut R,
     out: &mut W,
@@ -54,9 +53,7 @@ fn start_with<R: Read, W: Write>(
         outstanding: 0,
         replies: &[],
     };
-    format
-        .write_line(&mut lines, &line)
-        .map_err(|_| RunError::Memory)?;
+    format.push_line(&mut lines, &line)?;
     let Ok(sealed) = begun else {
         return finish(out, &lines, Ok(InputEnd::Clean));
     };
@@ -68,11 +65,15 @@ fn start_with<R: Read, W: Write>(
 }
 
 /// Runs an event file: a line for each event, and `stop` where the input ends in no event.
-pub fn run<R: Read, W: Write>(format: Format, reader: &mut R, out: &mut W) -> Result<(), RunError>
+pub fn run<R: BufRead, W: Write>(
+    format: Format,
+    reader: &mut R,
+    out: &mut W,
+) -> Result<(), RunError>
     ensures { Ran format.traced (R.remaining reader.old) (R.remaining reader.new) (W.contents out.old) (W.contents out.new) result }
 {
     let mut room = [0u8; EVENT_LIMIT];
-    match read_event(reader, &mut room, true) {
+    match read_bytes(reader, &mut room, true) {
         Ok(Ok(event)) => start_with(format, reader, out, event),
         Ok(Err(end)) => finish(out, &[], Ok(end)),
         Err(failed) => finish(out, &[], Err(RunError::Input(failed))),

@@ -1,8 +1,8 @@
 // The replies of an act, each behind the ones before.
-ghost use Rattle.std.specs.Prelude.{◌≡◌, [], ◌∷◌, leb, length};
+ghost use Rattle.std.specs.Prelude.{◌≡◌, false, [], ◌∷◌, leb, length};
 ghost use Rattle.std.specs.Result.{result_unwrap_or};
 ghost use Rattle.bits.specs.Pick.{pick};
-ghost use Rattle.replies.specs.Replies.{log_replies, open_replies, replies_of, RepliesGiven};
+ghost use Rattle.replies.specs.Replies.{page10_of, page11_of, log_replies, open_replies, replies_of, RepliesGiven};
 ghost use Rattle.replies.specs.Framed.{framed};
 ghost use Rattle.replies.specs.Sends.{Sends};
 
@@ -11,7 +11,7 @@ use crate::shown::{Shown, log_of};
 use frames::{DATA_FRAME_LIMIT, Task};
 use pages::PAGE_SIZE;
 use refusals::Refusal;
-use rules::{Act, Queued};
+use rules::{Act, CountersRead, Queued};
 
 type Page = [u8; PAGE_SIZE];
 
@@ -61,7 +61,25 @@ fn put_log(room: &mut [u8], sweep: bool, task: Task, page: Result<Page, Refusal>
     len
 }
 
-#[tactic(auto, using(crate::proofs::Sending::sends_nothing, crate::proofs::Sending::page_bytes_pick), unfolding(crate::specs::Replies::replies_of))]
+// Page 10h and page 11h. Each has a function that is not inlined: every reply would pay for the room of a page's bytes.
+#[inline(never)]
+#[tactic(auto, using(crate::proofs::Sending::page_bytes_pick))]
+fn put_errors(room: &mut [u8], task: &Task, shown: &Shown<'_>) -> usize
+    ensures { Sends (log_replies shown.now.halted task.now (page10_of shown.now.errors)) room.old result room.new }
+{
+    put_log(room, shown.halted, *task, log_of(shown.errors).page())
+}
+
+#[inline(never)]
+#[tactic(auto, using(crate::proofs::Sending::page_bytes_pick))]
+fn put_counters(room: &mut [u8], log: &CountersRead, shown: &Shown<'_>) -> usize
+    ensures { Sends (log_replies false log.now.task (page11_of shown.now.mask shown.now.values)) room.old result room.new }
+{
+    let page = pages::counters_page(shown.mask, shown.values);
+    put_log(room, false, log.task, page)
+}
+
+#[tactic(auto, using(crate::proofs::Sending::sends_nothing), unfolding(crate::specs::Replies::replies_of))]
 fn put_all(room: &mut [u8], act: &Act, shown: &Shown<'_>, part: &[u8]) -> usize
     ensures { Sends (replies_of shown.now part.now act.now) room.old result room.new }
 {
@@ -69,11 +87,8 @@ fn put_all(room: &mut [u8], act: &Act, shown: &Shown<'_>, part: &[u8]) -> usize
         Act::Bad(bad) => put(room, Reply::bad(bad.error, bad.task)),
         Act::BadAndHalt(fault) => put(room, Reply::bad(fault.error, Task::from(fault.echo))),
         Act::Accept(queued) => put(room, Reply::good(Task::from(queued.entry.echo))),
-        Act::Log10(task) => put_log(room, shown.halted, *task, log_of(shown.errors).page()),
-        Act::Log11(log) => {
-            let page = pages::counters_page(shown.mask, shown.values);
-            put_log(room, false, log.task, page)
-        }
+        Act::Log10(task) => put_errors(room, task, shown),
+        Act::Log11(log) => put_counters(room, log, shown),
         Act::Release | Act::Renew => put(room, Reply::signature()),
         Act::Store(moved) => put_if(room, !moved.last, Reply::Activate),
         Act::Open(queued) => put_open(room, queued),

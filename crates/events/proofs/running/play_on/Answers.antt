@@ -1,6 +1,6 @@
 use Rattle.std.proofs.Common.{arith, refl, Ok, Err}
 use Rattle.std.proofs.KnownBytes.{Appends-nil}
-use Rattle.events.specs.declared.errors.RunError.TheVariants.{Input, TooMany}
+use Rattle.events.specs.declared.errors.RunError.TheVariants.{Input, Memory, TooMany}
 use Rattle.events.proofs.Played.{none_yet, one_more, some_passed, lost, ended}
 use Rattle.events.proofs.Runs.{output_lost}
 use Rattle.events.proofs.running.play_on.Goals as goal
@@ -18,7 +18,7 @@ loop-number-preserved g c =
 pub returns-in_err-play_and_tell-in-Ok-Ok : goal.returns-in_err-play_and_tell-in-Ok-Ok
 returns-in_err-play_and_tell-in-Ok-Ok g c =
     let handed = c.from_residual.ensures in
-    lost c.loop-number.invariant _ _ _ _ handed.0 handed.1 (rw c.in_err-play_and_tell-in-Ok-Ok.ensures.err tt) (0, Appends-nil _)
+    lost c.loop-number.invariant _ _ _ Memory handed.0 handed.1 tt (0, Appends-nil _)
 
 -- the lines could not be passed on
 pub returns-in_err-pass_on-in-Ok-Ok : goal.returns-in_err-pass_on-in-Ok-Ok

@@ -1,10 +1,10 @@
-use Rattle.std.proofs.Common.{rules, ◌≡◌, refl, ◌∙◌, ap, sym, arith}
+use Rattle.std.proofs.Common.{refl, ◌∙◌, ap, sym, arith}
 use Rattle.device.specs.Sealing.{powered_of}
 use Rattle.std.proofs.lemmas.List.{take-replicate}
 use Rattle.events.proofs.Starting.{loses_all, from_start, stays_refused, refused_yes, refused_no, first_line, started_is, medium_fits, room_is}
 use Rattle.events.specs.declared.errors.RunError.TheVariants.{Memory}
 use Rattle.events.specs.Running.{Plays, ReadsOn, next_behind, run_lines}
-use Rattle.events.proofs.Runs.{told_lost, on_ok}
+use Rattle.events.proofs.Runs.{told_lost}
 use Rattle.events.proofs.running.start_with.Goals as goal
 
 pub slice_bounds-medium-end : goal.slice_bounds-medium-end
@@ -13,20 +13,19 @@ slice_bounds-medium-end g c = let f = medium_fits c.args.settings.now c.start-be
 pub slice_bounds-new-end : goal.slice_bounds-new-end
 slice_bounds-new-end g c = room_is c.args.settings.now _ c.in-Ok.sealed c.start-begun.ensures c.in-Ok.is _ c.medium_size-size.ensures _ refl
 
-pub returns-in_err-map_err : goal.returns-in_err-map_err
-returns-in_err-map_err g c before i read =
-    let memory : c.in_err-map_err.field-0.0 ≡ Memory = search rules in
-    told_lost Plays ReadsOn next_behind (run_lines c.args.format.traced) _ _ _ _ _ c.from_residual.result c.in_err-map_err.field-0.0 c.from_residual.ensures.0 c.from_residual.ensures.1 (rw memory tt) (loses_all c.args.format.traced before _)
+pub returns-in_err-push_line : goal.returns-in_err-push_line
+returns-in_err-push_line g c before i read =
+    told_lost Plays ReadsOn next_behind (run_lines c.args.format.traced) _ _ _ _ _ c.from_residual.result Memory c.from_residual.ensures.0 c.from_residual.ensures.1 tt (loses_all c.args.format.traced before _)
 
 pub returns-in_default : goal.returns-in_default
 returns-in_default g c before i read =
-    let line = first_line c.args.format.traced c.args.settings.now _ c.start-begun.ensures c.as_ref.ensures.value c.err.ensures.value c.copied.ensures c.new-lines.ensures.items (on_ok _ _ _ _ c.map_err.ensures.variant c.in_ok-map_err.was c.write_line.ensures) in
+    let line = first_line c.args.format.traced c.args.settings.now _ c.start-begun.ensures c.as_ref.ensures.value c.err.ensures.value c.copied.ensures c.new-lines.ensures.items c.in_ok-push_line.ensures in
     let off = refused_yes c.args.settings.now c.in_default.field-0 (sym (ap powered_of c.in_default.is) ∙ c.start-begun.ensures) in
     stays_refused c.args.format.traced c.args.settings.now _ before _ _ _ _ c.finish.result off i read line (rw c.deref.ensures.value at c.finish.ensures)
 
 pub returns : goal.returns
 returns g c before i read =
-    let line = first_line c.args.format.traced c.args.settings.now _ c.start-begun.ensures c.as_ref.ensures.value c.err.ensures.value c.copied.ensures c.new-lines.ensures.items (on_ok _ _ _ _ c.map_err.ensures.variant c.in_ok-map_err.was c.write_line.ensures) in
+    let line = first_line c.args.format.traced c.args.settings.now _ c.start-begun.ensures c.as_ref.ensures.value c.err.ensures.value c.copied.ensures c.new-lines.ensures.items c.in_ok-push_line.ensures in
     let on = sym (ap powered_of c.in-Ok.is) ∙ c.start-begun.ensures in
     let f = medium_fits c.args.settings.now c.start-begun.ensures c.in-Ok.is in
     let begun = c.new-bench.ensures ∙ started_is c.args.settings.now _ _ _ on _ c.medium_size-size.ensures (take-replicate _ 32768 0 (omega (arith, f, c.medium_size-size.ensures))) refl in
