@@ -1,0 +1,88 @@
+//! An event program that is written by hand, to measure the proved one against: the same lines from the same files, with the
+//! standard library alone.
+//!
+//!     events [trace] [--no-check]       standard input to standard output
+//!     events --make KIND EVENTS [A]     an event file to measure on (mixes.rs)
+//!
+//! Each call tests first whether the state contradicts itself, as the device's public calls do; `--no-check` leaves that out.
+
+mod device;
+mod input;
+mod lines;
+mod mixes;
+mod pages;
+mod play;
+mod replies;
+mod state;
+
+use input::{kind, Input, Next};
+use lines::Lines;
+use play::Bench;
+use replies::Replies;
+use std::io::{self, Read, Write};
+use std::process::ExitCode;
+
+/// How a run went whose lines are all written.
+enum End {
+    Clean,
+    ReadFailed,
+}
+
+fn run(input: impl Read, out: impl Write, traced: bool, checked: bool) -> io::Result<End> {
+    let mut input = Input::new(input);
+    let mut lines = Lines::new(out, traced);
+    let begun = match input.next() {
+        Ok(Next::Event(record)) if record[0] == kind::SETTINGS => Bench::start(record, checked),
+        Ok(_) => return lines.stop().map(|()| End::Clean),
+        Err(_) => return lines.stop().map(|()| End::ReadFailed),
+    };
+    let refusal = begun.as_ref().map_or_else(|&refusal| refusal as u8, |_| 0);
+    lines.line(0, refusal, 0, &Replies::new())?;
+    match begun {
+        Ok(mut bench) => play_on(&mut bench, &mut input, &mut lines),
+        Err(_) => lines.pass_on().map(|()| End::Clean),
+    }
+}
+
+fn play_on<R: Read, W: Write>(bench: &mut Bench, input: &mut Input<R>, lines: &mut Lines<W>) -> io::Result<End> {
+    let mut number = 1;
+    loop {
+        match input.next() {
+            Ok(Next::Event(event)) if event[0] != kind::SETTINGS => {
+                let refusal = bench.play(event);
+                lines.line(number, refusal, bench.device.state.outstanding, &bench.replies)?;
+            }
+            Ok(Next::End) => return lines.pass_on().map(|()| End::Clean),
+            Ok(_) => return lines.stop().map(|()| End::Clean),
+            Err(_) => return lines.stop().map(|()| End::ReadFailed),
+        }
+        number += 1;
+    }
+}
+
+fn usage() -> ExitCode {
+    eprintln!("usage: events [trace] [--no-check], or events --make KIND EVENTS [A]");
+    ExitCode::from(2)
+}
+
+fn main() -> ExitCode {
+    let words: Vec<String> = std::env::args().skip(1).collect();
+    let words: Vec<&str> = words.iter().map(String::as_str).collect();
+    if let ["--make", kind, rest @ ..] = &words[..] {
+        let numbers: Option<Vec<u32>> = rest.iter().map(|word| word.parse().ok()).collect();
+        return match numbers.map(|numbers| mixes::make(kind, &numbers)) {
+            Some(Some(Ok(()))) => ExitCode::SUCCESS,
+            Some(Some(Err(_))) => ExitCode::from(4),
+            _ => usage(),
+        };
+    }
+    if words.iter().any(|word| !["trace", "--no-check"].contains(word)) {
+        return usage();
+    }
+    let (traced, checked) = (words.contains(&"trace"), !words.contains(&"--no-check"));
+    match run(io::stdin().lock(), io::stdout().lock(), traced, checked) {
+        Ok(End::Clean) => ExitCode::SUCCESS,
+        Ok(End::ReadFailed) => ExitCode::from(3),
+        Err(_) => ExitCode::from(4),
+    }
+}
