@@ -1,8 +1,10 @@
 //! The device: a host frame or a device event goes in; replies come out, or a refusal that changes nothing.
 
+use crate::echo::{sectors, Echo};
 use crate::pages;
 use crate::replies::{Replies, DATA_LIMIT};
-use crate::state::{sectors, Echo, Entry, Record, Settings, State, SECTOR};
+use crate::state::{Record, Settings, State, SECTOR};
+use crate::table::Entry;
 
 const ABORTED: u8 = 0x04;
 const NO_SUCH_SECTOR: u8 = 0x10;
@@ -46,7 +48,7 @@ impl Device {
 
     /// The length due of a host data frame's payload.
     pub fn data_due(&self) -> Option<usize> {
-        let entry = &self.state.entries[usize::from(self.state.phase?)];
+        let entry = self.state.table.entry(self.state.phase?);
         entry.write.then(|| DATA_LIMIT.min(entry.left() as usize))
     }
 
@@ -91,7 +93,7 @@ impl Device {
             return Err(Refusal::NoFrame);
         }
         let tag = self.state.phase.ok_or(Refusal::NotNow)?;
-        let entry = &mut self.state.entries[usize::from(tag)];
+        let entry = self.state.table.entry(tag);
         if !entry.write {
             return Err(Refusal::NotNow);
         }
@@ -100,8 +102,8 @@ impl Device {
         }
         let from = (entry.first * SECTOR + entry.moved) as usize;
         medium[from..from + payload.len()].copy_from_slice(payload);
-        entry.moved += payload.len() as u32;
-        if entry.left() == 0 {
+        self.state.table.move_on(tag, payload.len());
+        if payload.len() == entry.left() as usize {
             self.state.phase = None;
         } else {
             replies.activate();
@@ -137,7 +139,7 @@ impl Device {
     fn queued(&mut self, frame: &[u8; 20], replies: &mut Replies) {
         let echo = Echo::of(frame);
         let tag = echo.tag();
-        let features = [frame[3], frame[11]];
+        let features = u16::from_le_bytes([frame[3], frame[11]]);
         let count = sectors(features);
         if self.state.halted {
             return replies.register(Err(ABORTED), &echo);
@@ -149,8 +151,8 @@ impl Device {
             return self.bad(Record { tag, error: NO_SUCH_SECTOR, echo, ..Record::default() }, replies);
         }
         self.state.outstanding |= 1 << tag;
-        self.state.entries[usize::from(tag)] =
-            Entry { first: echo.sector() as u32, count, moved: 0, write: frame[2] == 0x61, features, echo };
+        let first = echo.sector() as u32;
+        self.state.table.put(tag, Entry { first, count, moved: 0, write: frame[2] == 0x61, features, echo });
         replies.register(Ok(()), &echo);
     }
 
@@ -202,7 +204,7 @@ impl Device {
         if self.state.phase.is_some() {
             return Err(Refusal::PhaseOpen);
         }
-        let entry = &self.state.entries[usize::from(tag)];
+        let entry = self.state.table.entry(tag);
         if entry.left() == 0 {
             return Err(Refusal::AllMoved);
         }
@@ -218,15 +220,15 @@ impl Device {
         self.test_state()?;
         self.test_medium(medium)?;
         let tag = self.state.phase.ok_or(Refusal::NoReadPhase)?;
-        let entry = &mut self.state.entries[usize::from(tag)];
+        let entry = self.state.table.entry(tag);
         if entry.write {
             return Err(Refusal::NoReadPhase);
         }
         let from = (entry.first * SECTOR + entry.moved) as usize;
         let length = DATA_LIMIT.min(entry.left() as usize);
         replies.data(&medium[from..from + length]);
-        entry.moved += length as u32;
-        if entry.left() == 0 {
+        self.state.table.move_on(tag, length);
+        if length == entry.left() as usize {
             self.state.phase = None;
         }
         Ok(())
@@ -248,7 +250,7 @@ impl Device {
     fn all_moved(&self, set: u32) -> bool {
         let mut rest = set;
         while rest != 0 {
-            if self.state.entries[rest.trailing_zeros() as usize].left() != 0 {
+            if self.state.table.entry(rest.trailing_zeros() as u8).left() != 0 {
                 return false;
             }
             rest &= rest - 1;
@@ -261,7 +263,7 @@ impl Device {
         if !self.state.is_outstanding(tag) {
             return Err(Refusal::NotOutstanding);
         }
-        let entry = &self.state.entries[usize::from(tag)];
+        let entry = self.state.table.entry(tag);
         if error == 0 || sector < entry.first || sector - entry.first >= entry.count {
             return Err(Refusal::NoSuchError);
         }

@@ -3,80 +3,151 @@
 use crate::replies::Replies;
 use std::io::{self, Write};
 
+/// So many bytes of lines are written at once.
 const ENOUGH: usize = 1 << 15;
+
+/// The longest line without the bytes of its replies: two numbers, the tags, and three replies.
+const LINE_LIMIT: usize = 64;
 const UPPER: &[u8; 16] = b"0123456789ABCDEF";
 const LOWER: &[u8; 16] = b"0123456789abcdef";
 
+const DIGITS: usize = 20;
+
+/// A number as its digits stand in a line, counted up in place. There is room behind them, so that so many bytes can always be
+/// taken from the first digit on.
+struct Numeral {
+    digits: [u8; 2 * DIGITS],
+    /// Where the first digit stands.
+    from: usize,
+}
+
+impl Numeral {
+    const ZERO: Numeral = Numeral { digits: [b'0'; 2 * DIGITS], from: DIGITS - 1 };
+
+    #[inline]
+    fn count_up(&mut self) {
+        let mut at = DIGITS - 1;
+        while self.digits[at] == b'9' && at > 0 {
+            self.digits[at] = b'0';
+            at -= 1;
+        }
+        self.digits[at] += 1;
+        self.from = self.from.min(at);
+    }
+}
+
+/// What is laid of a line, in room for all of it but the bytes of its replies.
+struct Part<'a> {
+    room: &'a mut [u8; LINE_LIMIT],
+    length: usize,
+}
+
+impl Part<'_> {
+    #[inline]
+    fn push<const N: usize>(&mut self, more: [u8; N]) {
+        self.room[self.length..][..N].copy_from_slice(&more);
+        self.length += N;
+    }
+
+    #[inline]
+    fn numeral(&mut self, number: &Numeral) {
+        self.room[self.length..][..DIGITS].copy_from_slice(&number.digits[number.from..][..DIGITS]);
+        self.length += DIGITS - number.from;
+    }
+
+    /// A number below 10,000: four digits are laid from the first on that counts, and their end is the number's.
+    #[inline]
+    fn decimal(&mut self, number: u16) {
+        let digit = |power: u16| b'0' + (number / power % 10) as u8;
+        let digits = u32::from_le_bytes([digit(1000), digit(100), digit(10), digit(1)]);
+        let leading = usize::from(number < 1000) + usize::from(number < 100) + usize::from(number < 10);
+        self.push((digits >> (8 * leading)).to_le_bytes());
+        self.length -= leading;
+    }
+
+    #[inline]
+    fn tags(&mut self, outstanding: u32) {
+        let mut digits = [0; 8];
+        for (digit, shift) in digits.iter_mut().zip((0..32).step_by(4).rev()) {
+            *digit = UPPER[(outstanding >> shift & 15) as usize];
+        }
+        self.push(digits);
+    }
+
+    #[inline]
+    fn reply(&mut self, frame: &[u8]) {
+        let kind = usize::from(frame[0]);
+        self.push([b' ', UPPER[kind >> 4], UPPER[kind & 15], b':']);
+        self.decimal(frame.len() as u16);
+    }
+}
+
 pub struct Lines<W> {
     out: W,
-    text: Vec<u8>,
+    text: Box<[u8; 2 * ENOUGH]>,
+    length: usize,
+    number: Numeral,
     /// Whether the bytes of each reply stand in its line.
     traced: bool,
 }
 
 impl<W: Write> Lines<W> {
     pub fn new(out: W, traced: bool) -> Lines<W> {
-        Lines { out, text: Vec::with_capacity(2 * ENOUGH), traced }
+        Lines { out, text: Box::new([0; 2 * ENOUGH]), length: 0, number: Numeral::ZERO, traced }
     }
 
-    pub fn line(&mut self, number: u64, refusal: u8, outstanding: u32, replies: &Replies) -> io::Result<()> {
-        self.decimal(number);
-        self.text.push(b' ');
-        self.decimal(u64::from(refusal));
-        self.text.push(b' ');
-        self.tags(outstanding);
+    #[inline]
+    pub fn line(&mut self, refusal: u8, outstanding: u32, replies: &Replies) -> io::Result<()> {
+        let mut part = part_of(&mut self.text, self.length);
+        part.numeral(&self.number);
+        part.push([b' ']);
+        part.decimal(u16::from(refusal));
+        part.push([b' ']);
+        part.tags(outstanding);
         for frame in replies.frames() {
-            self.reply(frame);
+            part.reply(frame);
+            if self.traced {
+                self.length += part.length;
+                self.length += trace(&mut self.text[self.length..], frame);
+                part = part_of(&mut self.text, self.length);
+            }
         }
-        self.text.push(b'\n');
-        match self.text.len() < ENOUGH {
+        part.push([b'\n']);
+        self.length += part.length;
+        self.number.count_up();
+        match self.length < ENOUGH {
             true => Ok(()),
             false => self.pass_on(),
         }
     }
 
     pub fn stop(&mut self) -> io::Result<()> {
-        self.text.extend_from_slice(b"stop\n");
+        let mut part = part_of(&mut self.text, self.length);
+        part.push(*b"stop\n");
+        self.length += part.length;
         self.pass_on()
     }
 
     pub fn pass_on(&mut self) -> io::Result<()> {
-        self.out.write_all(&self.text)?;
-        self.text.clear();
+        self.out.write_all(&self.text[..self.length])?;
+        self.length = 0;
         self.out.flush()
     }
+}
 
-    fn decimal(&mut self, number: u64) {
-        let mut digits = [0; 20];
-        let mut from = digits.len();
-        let mut rest = number;
-        loop {
-            from -= 1;
-            digits[from] = b'0' + (rest % 10) as u8;
-            rest /= 10;
-            if rest == 0 {
-                break;
-            }
-        }
-        self.text.extend_from_slice(&digits[from..]);
-    }
+/// The room for a line: a line begins below `ENOUGH`, and all replies of a call are no longer than the reply buffer.
+#[inline]
+fn part_of(text: &mut [u8; 2 * ENOUGH], from: usize) -> Part<'_> {
+    let room = text[from..].first_chunk_mut().expect("room for a line");
+    Part { room, length: 0 }
+}
 
-    fn tags(&mut self, outstanding: u32) {
-        let mut digits = [0; 8];
-        for (digit, shift) in digits.iter_mut().zip((0..32).step_by(4).rev()) {
-            *digit = UPPER[(outstanding >> shift & 15) as usize];
-        }
-        self.text.extend_from_slice(&digits);
+/// The bytes of a reply; how long they are in digits.
+fn trace(room: &mut [u8], frame: &[u8]) -> usize {
+    room[0] = b'=';
+    for (digits, byte) in room[1..].chunks_exact_mut(2).zip(frame) {
+        digits[0] = LOWER[usize::from(byte >> 4)];
+        digits[1] = LOWER[usize::from(byte & 15)];
     }
-
-    fn reply(&mut self, frame: &[u8]) {
-        let kind = usize::from(frame[0]);
-        self.text.extend_from_slice(&[b' ', UPPER[kind >> 4], UPPER[kind & 15], b':']);
-        self.decimal(frame.len() as u64);
-        if self.traced {
-            self.text.push(b'=');
-            let digits = frame.iter().flat_map(|&byte| [byte >> 4, byte & 15]);
-            self.text.extend(digits.map(|digit| LOWER[usize::from(digit)]));
-        }
-    }
+    1 + 2 * frame.len()
 }

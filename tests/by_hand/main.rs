@@ -7,6 +7,7 @@
 //! Each call tests first whether the state contradicts itself, as the device's public calls do; `--no-check` leaves that out.
 
 mod device;
+mod echo;
 mod input;
 mod lines;
 mod mixes;
@@ -14,6 +15,7 @@ mod pages;
 mod play;
 mod replies;
 mod state;
+mod table;
 
 use input::{kind, Input, Next};
 use lines::Lines;
@@ -37,7 +39,7 @@ fn run(input: impl Read, out: impl Write, traced: bool, checked: bool) -> io::Re
         Err(_) => return lines.stop().map(|()| End::ReadFailed),
     };
     let refusal = begun.as_ref().map_or_else(|&refusal| refusal as u8, |_| 0);
-    lines.line(0, refusal, 0, &Replies::new())?;
+    lines.line(refusal, 0, &Replies::new())?;
     match begun {
         Ok(mut bench) => play_on(&mut bench, &mut input, &mut lines),
         Err(_) => lines.pass_on().map(|()| End::Clean),
@@ -45,18 +47,16 @@ fn run(input: impl Read, out: impl Write, traced: bool, checked: bool) -> io::Re
 }
 
 fn play_on<R: Read, W: Write>(bench: &mut Bench, input: &mut Input<R>, lines: &mut Lines<W>) -> io::Result<End> {
-    let mut number = 1;
     loop {
         match input.next() {
             Ok(Next::Event(event)) if event[0] != kind::SETTINGS => {
                 let refusal = bench.play(event);
-                lines.line(number, refusal, bench.device.state.outstanding, &bench.replies)?;
+                lines.line(refusal, bench.device.state.outstanding, &bench.replies)?;
             }
             Ok(Next::End) => return lines.pass_on().map(|()| End::Clean),
             Ok(_) => return lines.stop().map(|()| End::Clean),
             Err(_) => return lines.stop().map(|()| End::ReadFailed),
         }
-        number += 1;
     }
 }
 

@@ -17,8 +17,7 @@ pub fn errors(record: &Record) -> Page {
         page[0] = if record.nq { 0x80 } else { record.tag };
         page[2] = 0x41;
         page[3] = record.error;
-        page[4..11].copy_from_slice(&record.echo.place);
-        page[12..14].copy_from_slice(&record.echo.count);
+        record.echo.lay(&mut page);
     } else {
         page[0] = 0x80;
     }

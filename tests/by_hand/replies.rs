@@ -1,6 +1,6 @@
 //! Reply frames, one behind the other in the reply buffer.
 
-use crate::state::Echo;
+use crate::echo::Echo;
 
 /// The longest data frame: 16 sectors behind four bytes.
 pub const DATA_LIMIT: usize = 8192;
@@ -55,15 +55,12 @@ impl Replies {
     fn repeat(&mut self, head: [u8; 4], tail: [u8; 6], echo: &Echo) {
         let frame = self.room(20);
         frame[..4].copy_from_slice(&head);
-        frame[4..11].copy_from_slice(&echo.place);
-        frame[11] = 0;
-        frame[12..14].copy_from_slice(&echo.count);
+        echo.lay(frame);
         frame[14..].copy_from_slice(&tail);
     }
 
     pub fn signature(&mut self) {
-        let echo = Echo { place: [1, 0, 0, 0, 0, 0, 0], count: [1, 0] };
-        self.repeat([0x34, 0, GOOD, 0x01], [0; 6], &echo);
+        self.repeat([0x34, 0, GOOD, 0x01], [0; 6], &Echo { place: 1, tail: 1 });
     }
 
     pub fn pio_setup(&mut self, echo: &Echo) {

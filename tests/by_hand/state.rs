@@ -1,5 +1,8 @@
 //! What the device knows between two calls, and when that contradicts itself.
 
+use crate::echo::Echo;
+use crate::table::Table;
+
 pub const TAGS: usize = 32;
 pub const ROWS: usize = 16;
 pub const SECTOR: u32 = 512;
@@ -32,80 +35,6 @@ impl Settings {
     }
 }
 
-/// The bytes of a command that replies and page 10h repeat.
-#[derive(Clone, Copy, Default, PartialEq, Eq)]
-pub struct Echo {
-    /// Bytes 4 to 10: the sector, and between its halves the device byte.
-    pub place: [u8; 7],
-    /// Bytes 12 and 13.
-    pub count: [u8; 2],
-}
-
-impl Echo {
-    pub fn of(frame: &[u8; 20]) -> Echo {
-        let [_, _, _, _, place @ .., _, _, _, _, _, _, _, _, _] = *frame;
-        Echo { place, count: [frame[12], frame[13]] }
-    }
-
-    pub fn tag(&self) -> u8 {
-        self.count[0] >> 3
-    }
-
-    pub fn sector(&self) -> u64 {
-        let [a, b, c, _, d, e, f] = self.place;
-        u64::from_le_bytes([a, b, c, d, e, f, 0, 0])
-    }
-
-    /// The same command, at another sector.
-    pub fn at(self, sector: u32) -> Echo {
-        let [a, b, c, d] = sector.to_le_bytes();
-        Echo { place: [a, b, c, self.place[3], d, 0, 0], ..self }
-    }
-}
-
-/// Sectors of a queued command, from its features bytes; 0 stands for the most.
-pub fn sectors(features: [u8; 2]) -> u32 {
-    match u16::from_le_bytes(features) {
-        0 => 65_536,
-        count => u32::from(count),
-    }
-}
-
-/// What is held of a tag; all zeros while it is idle.
-#[derive(Clone, Copy, Default, PartialEq, Eq)]
-pub struct Entry {
-    pub first: u32,
-    pub count: u32,
-    /// In bytes.
-    pub moved: u32,
-    pub write: bool,
-    pub features: [u8; 2],
-    pub echo: Echo,
-}
-
-impl Entry {
-    pub fn whole(&self) -> u32 {
-        self.count * SECTOR
-    }
-
-    pub fn left(&self) -> u32 {
-        self.whole() - self.moved
-    }
-
-    fn contradicts(&self, settings: &Settings, tag: u8, open: bool) -> bool {
-        tag >= settings.depth
-            || self.count == 0
-            || self.count > settings.capacity
-            || self.first > settings.capacity - self.count
-            || self.echo.tag() != tag
-            || self.echo.sector() != u64::from(self.first)
-            || sectors(self.features) != self.count
-            || self.moved % 4 != 0
-            || self.moved > self.whole()
-            || if open { self.left() == 0 } else { self.moved != 0 && self.left() != 0 }
-    }
-}
-
 /// The last error that halted the device; all zeros while it is blank.
 #[derive(Clone, Copy, Default)]
 pub struct Record {
@@ -132,7 +61,7 @@ pub struct State {
     pub held: bool,
     pub record: Record,
     pub counters: [u32; ROWS],
-    pub entries: [Entry; TAGS],
+    pub table: Table,
 }
 
 impl State {
@@ -144,7 +73,7 @@ impl State {
             held: false,
             record: Record::default(),
             counters: [0; ROWS],
-            entries: [Entry::default(); TAGS],
+            table: Table::empty(),
         }
     }
 
@@ -157,8 +86,17 @@ impl State {
         !settings.in_bounds()
             || self.standing_contradicts()
             || self.record.contradicts()
-            || self.counters.iter().enumerate().any(|(row, &n)| n != 0 && !settings.keeps(row))
-            || self.entries_contradict(settings)
+            || self.counters_contradict(settings.mask)
+            || self.table.contradicts(settings, self.outstanding, self.phase)
+    }
+
+    /// An unkept row is not zero; without a branch, as in the table.
+    fn counters_contradict(&self, mask: u16) -> bool {
+        let mut bad = 0;
+        for (row, &value) in self.counters.iter().enumerate() {
+            bad |= if mask >> row & 1 == 1 { 0 } else { value };
+        }
+        bad != 0
     }
 
     fn standing_contradicts(&self) -> bool {
@@ -168,21 +106,10 @@ impl State {
             || self.phase.is_some_and(|tag| !self.is_outstanding(tag))
     }
 
-    fn entries_contradict(&self, settings: &Settings) -> bool {
-        self.entries.iter().zip(0u8..).any(|(entry, tag)| match self.is_outstanding(tag) {
-            true => entry.contradicts(settings, tag, self.phase == Some(tag)),
-            false => *entry != Entry::default(),
-        })
-    }
-
     /// Gives up the tags of a set.
     pub fn clear(&mut self, set: u32) {
         self.outstanding &= !set;
-        let mut rest = set;
-        while rest != 0 {
-            self.entries[rest.trailing_zeros() as usize] = Entry::default();
-            rest &= rest - 1;
-        }
+        self.table.clear(set);
     }
 
     /// Everything outstanding is dropped, and the open phase closes.

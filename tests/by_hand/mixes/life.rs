@@ -99,7 +99,7 @@ impl Maker {
             2 => self.event(&frames::command(0xEC)),
             _ => {
                 let error = if self.once_in(4) { 0x84 } else { 0x40 };
-                let first = self.bench.device.state.entries[usize::from(tag)].first;
+                let first = self.bench.device.state.table.entry(tag).first;
                 self.event(&frames::media_error(tag, error, first))
             }
         }
