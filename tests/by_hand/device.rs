@@ -140,7 +140,7 @@ impl Device {
         let echo = Echo::of(frame);
         let tag = echo.tag();
         let features = u16::from_le_bytes([frame[3], frame[11]]);
-        let count = sectors(features);
+        let count = sectors(u32::from(features));
         if self.state.halted {
             return replies.register(Err(ABORTED), &echo);
         }
@@ -185,12 +185,12 @@ impl Device {
             self.state.halted = false;
         }
         replies.pio_setup(echo);
-        replies.data(&pages::errors(&self.state.record));
+        pages::errors(replies.page(), &self.state.record);
     }
 
     fn read_counters(&mut self, zeroing: bool, echo: &Echo, replies: &mut Replies) {
         replies.pio_setup(echo);
-        replies.data(&pages::counters(&self.settings, &self.state.counters));
+        pages::counters(replies.page(), &self.settings, &self.state.counters);
         if zeroing {
             self.state.counters.fill(0);
         }

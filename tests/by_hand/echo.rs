@@ -43,6 +43,6 @@ pub fn sector(place: u64) -> u64 {
 }
 
 /// Sectors of a queued command, from its features bytes; 0 stands for the most.
-pub fn sectors(features: u16) -> u32 {
-    u32::from(features.wrapping_sub(1)) + 1
+pub fn sectors(features: u32) -> u32 {
+    (features.wrapping_sub(1) & 0xFFFF) + 1
 }

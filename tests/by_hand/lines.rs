@@ -8,8 +8,10 @@ const ENOUGH: usize = 1 << 15;
 
 /// The longest line without the bytes of its replies: two numbers, the tags, and three replies.
 const LINE_LIMIT: usize = 64;
-const UPPER: &[u8; 16] = b"0123456789ABCDEF";
 const LOWER: &[u8; 16] = b"0123456789abcdef";
+
+/// 1 in each byte.
+const ONES: u64 = 0x0101_0101_0101_0101;
 
 const DIGITS: usize = 20;
 
@@ -58,27 +60,41 @@ impl Part<'_> {
     /// A number below 10,000: four digits are laid from the first on that counts, and their end is the number's.
     #[inline]
     fn decimal(&mut self, number: u16) {
+        if number < 10 {
+            return self.push([b'0' + number as u8]);
+        }
         let digit = |power: u16| b'0' + (number / power % 10) as u8;
         let digits = u32::from_le_bytes([digit(1000), digit(100), digit(10), digit(1)]);
-        let leading = usize::from(number < 1000) + usize::from(number < 100) + usize::from(number < 10);
+        let leading = usize::from(number < 1000) + usize::from(number < 100);
         self.push((digits >> (8 * leading)).to_le_bytes());
         self.length -= leading;
     }
 
+    /// All eight digits at once: a byte for each, and 7 more where a letter stands.
     #[inline]
     fn tags(&mut self, outstanding: u32) {
-        let mut digits = [0; 8];
-        for (digit, shift) in digits.iter_mut().zip((0..32).step_by(4).rev()) {
-            *digit = UPPER[(outstanding >> shift & 15) as usize];
-        }
-        self.push(digits);
+        let mut digits = u64::from(outstanding);
+        digits = (digits | digits << 16) & 0x0000_FFFF_0000_FFFF;
+        digits = (digits | digits << 8) & 0x00FF_00FF_00FF_00FF;
+        digits = (digits | digits << 4) & 0x0F0F_0F0F_0F0F_0F0F;
+        let letters = (digits + 6 * ONES) >> 4 & ONES;
+        self.push((digits + 0x30 * ONES + 7 * letters).to_be_bytes());
     }
 
+    /// Of each kind but data all frames have one length.
     #[inline]
     fn reply(&mut self, frame: &[u8]) {
-        let kind = usize::from(frame[0]);
-        self.push([b' ', UPPER[kind >> 4], UPPER[kind & 15], b':']);
-        self.decimal(frame.len() as u16);
+        match frame[0] {
+            0x34 => self.push(*b" 34:20"),
+            0x39 => self.push(*b" 39:4"),
+            0x41 => self.push(*b" 41:28"),
+            0x5F => self.push(*b" 5F:20"),
+            0xA1 => self.push(*b" A1:8"),
+            _ => {
+                self.push(*b" 46:");
+                self.decimal(frame.len() as u16);
+            }
+        }
     }
 }
 

@@ -2,7 +2,7 @@
 
 use crate::state::{Record, Settings, ROWS};
 
-type Page = [u8; 512];
+pub type Page = [u8; 512];
 
 /// The identifiers of the rows.
 const IDENTIFIERS: [u16; ROWS] =
@@ -11,33 +11,32 @@ const IDENTIFIERS: [u16; ROWS] =
 /// Identifier bits that say that the value has four bytes.
 const FOUR_BYTES: u16 = 0x2000;
 
-pub fn errors(record: &Record) -> Page {
-    let mut page = [0; 512];
+pub fn errors(page: &mut Page, record: &Record) {
+    page.fill(0);
     if record.set {
         page[0] = if record.nq { 0x80 } else { record.tag };
         page[2] = 0x41;
         page[3] = record.error;
-        record.echo.lay(&mut page);
+        record.echo.lay(page);
     } else {
         page[0] = 0x80;
     }
-    summed(page, 14)
+    sum(page, 14);
 }
 
-pub fn counters(settings: &Settings, values: &[u32; ROWS]) -> Page {
-    let mut page = [0; 512];
+pub fn counters(page: &mut Page, settings: &Settings, values: &[u32; ROWS]) {
+    page.fill(0);
     let mut at = 4;
     for row in (0..ROWS).filter(|&row| settings.keeps(row)) {
         page[at..at + 2].copy_from_slice(&(FOUR_BYTES | IDENTIFIERS[row]).to_le_bytes());
         page[at + 2..at + 6].copy_from_slice(&values[row].to_le_bytes());
         at += 6;
     }
-    summed(page, at)
+    sum(page, at);
 }
 
 /// The last byte makes all bytes sum to 0; behind `end` the page is blank.
-fn summed(mut page: Page, end: usize) -> Page {
+fn sum(page: &mut Page, end: usize) {
     let sum = page[..end].iter().fold(0u8, |sum, &byte| sum.wrapping_add(byte));
     page[511] = sum.wrapping_neg();
-    page
 }

@@ -2,7 +2,7 @@
 
 use crate::device::{Device, Refusal};
 use crate::input::kind;
-use crate::replies::{Replies, BUFFER};
+use crate::replies::{Replies, BUFFER, DATA};
 use crate::state::Settings;
 
 /// So many sectors a settings record may ask for.
@@ -29,7 +29,7 @@ impl Bench {
         let device = Device::power_on(settings, checked)?;
         let medium = vec![0; settings.medium_size()];
         let mut frame = [0; BUFFER];
-        frame[0] = 0x46;
+        frame[..4].copy_from_slice(&DATA);
         Ok(Bench { device, medium, replies: Replies::new(), frame })
     }
 

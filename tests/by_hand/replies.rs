@@ -1,6 +1,7 @@
 //! Reply frames, one behind the other in the reply buffer.
 
 use crate::echo::Echo;
+use crate::pages::Page;
 
 /// The longest data frame: 16 sectors behind four bytes.
 pub const DATA_LIMIT: usize = 8192;
@@ -8,6 +9,9 @@ pub const BUFFER: usize = 4 + DATA_LIMIT;
 
 /// A sweep, a PIO Setup and a page are the most that a call sends.
 const MOST: usize = 3;
+
+/// The head of a data frame.
+pub const DATA: [u8; 4] = [0x46, 0, 0, 0];
 
 const GOOD: u8 = 0x40;
 const BAD: u8 = 0x41;
@@ -36,8 +40,14 @@ impl Replies {
     }
 
     /// Room for one more frame, behind those that are there.
-    fn room(&mut self, length: usize) -> &mut [u8] {
-        let from = self.ends[..self.count].last().copied().unwrap_or(0);
+    #[inline]
+    fn room<const N: usize>(&mut self) -> &mut [u8; N] {
+        self.room_of(N).try_into().expect("as long as asked")
+    }
+
+    #[inline]
+    fn room_of(&mut self, length: usize) -> &mut [u8] {
+        let from = if self.count == 0 { 0 } else { self.ends[self.count - 1] };
         self.ends[self.count] = from + length;
         self.count += 1;
         &mut self.bytes[from..from + length]
@@ -53,7 +63,7 @@ impl Replies {
 
     /// A frame of 20 bytes that repeats a command's.
     fn repeat(&mut self, head: [u8; 4], tail: [u8; 6], echo: &Echo) {
-        let frame = self.room(20);
+        let frame: &mut [u8; 20] = self.room();
         frame[..4].copy_from_slice(&head);
         echo.lay(frame);
         frame[14..].copy_from_slice(&tail);
@@ -69,8 +79,8 @@ impl Replies {
     }
 
     pub fn dma_setup(&mut self, tag: u8, write: bool, bytes: u32) {
-        let frame = self.room(28);
-        frame.fill(0);
+        let frame: &mut [u8; 28] = self.room();
+        *frame = [0; 28];
         frame[0] = 0x41;
         frame[1] = if write { 0 } else { TO_HOST };
         frame[4] = tag;
@@ -78,17 +88,25 @@ impl Replies {
     }
 
     pub fn activate(&mut self) {
-        self.room(4).copy_from_slice(&[0x39, 0, 0, 0]);
+        *self.room() = [0x39, 0, 0, 0];
     }
 
     pub fn data(&mut self, payload: &[u8]) {
-        let frame = self.room(4 + payload.len());
-        frame[..4].copy_from_slice(&[0x46, 0, 0, 0]);
+        let frame = self.room_of(4 + payload.len());
+        frame[..4].copy_from_slice(&DATA);
         frame[4..].copy_from_slice(payload);
     }
 
+    /// Room for a log page, in a data frame.
+    pub fn page(&mut self) -> &mut Page {
+        let frame: &mut [u8; 4 + 512] = self.room();
+        let (head, page) = frame.split_first_chunk_mut().expect("a frame of data");
+        *head = DATA;
+        page.try_into().expect("a page")
+    }
+
     fn device_bits(&mut self, interrupt: u8, status: u8, error: u8, active: u32) {
-        let frame = self.room(8);
+        let frame: &mut [u8; 8] = self.room();
         frame[..4].copy_from_slice(&[0xA1, interrupt, status, error]);
         frame[4..].copy_from_slice(&active.to_le_bytes());
     }

@@ -31,23 +31,15 @@ pub struct Table {
     count: [u32; TAGS],
     moved: [u32; TAGS],
     place: [u64; TAGS],
-    features: [u16; TAGS],
-    tail: [u16; TAGS],
+    /// Bytes 12 and 13 of the command, and above them its features bytes.
+    tail: [u32; TAGS],
     /// Bit t: tag t is a write.
     writes: u32,
 }
 
 impl Table {
     pub fn empty() -> Table {
-        Table {
-            first: [0; TAGS],
-            count: [0; TAGS],
-            moved: [0; TAGS],
-            place: [0; TAGS],
-            features: [0; TAGS],
-            tail: [0; TAGS],
-            writes: 0,
-        }
+        Table { first: [0; TAGS], count: [0; TAGS], moved: [0; TAGS], place: [0; TAGS], tail: [0; TAGS], writes: 0 }
     }
 
     #[inline]
@@ -58,8 +50,8 @@ impl Table {
             count: self.count[at],
             moved: self.moved[at],
             write: self.writes >> at & 1 == 1,
-            features: self.features[at],
-            echo: Echo { place: self.place[at], tail: self.tail[at] },
+            features: (self.tail[at] >> 16) as u16,
+            echo: Echo { place: self.place[at], tail: self.tail[at] as u16 },
         }
     }
 
@@ -71,8 +63,8 @@ impl Table {
         self.count[at] = entry.count;
         self.moved[at] = entry.moved;
         self.writes |= u32::from(entry.write) << at;
-        self.features[at] = entry.features;
-        (self.place[at], self.tail[at]) = (entry.echo.place, entry.echo.tail);
+        self.place[at] = entry.echo.place;
+        self.tail[at] = u32::from(entry.echo.tail) | u32::from(entry.features) << 16;
     }
 
     #[inline]
@@ -86,7 +78,7 @@ impl Table {
         while rest != 0 {
             let at = rest.trailing_zeros() as usize;
             (self.first[at], self.count[at], self.moved[at]) = (0, 0, 0);
-            (self.place[at], self.features[at], self.tail[at]) = (0, 0, 0);
+            (self.place[at], self.tail[at]) = (0, 0);
             rest &= rest - 1;
         }
         self.writes &= !set;
@@ -98,7 +90,7 @@ impl Table {
         above_depth != 0
             || self.writes & !outstanding != 0
             || self.ranges_contradict(settings.capacity, outstanding, phase)
-            || self.bytes_contradict(outstanding)
+            || self.places_contradict(outstanding)
     }
 
     // The loops below have no branch, so that a compiler can take several tags at a time.
@@ -107,31 +99,26 @@ impl Table {
         let open = phase.map_or(u32::MAX, u32::from);
         let mut bad = false;
         for at in 0..TAGS {
-            let (first, count, moved) = (self.first[at], self.count[at], self.moved[at]);
+            let (first, count, moved, tail) = (self.first[at], self.count[at], self.moved[at], self.tail[at]);
             let whole = count.wrapping_mul(SECTOR);
             let range = (count == 0) | (count > capacity) | (first > capacity.wrapping_sub(count));
+            let named = (tail >> 3 & 31 != at as u32) | (sectors(tail >> 16) != count);
             let partly = (moved != 0) & (moved != whole);
             let odd = (moved % 4 != 0) | (moved > whole);
             let phase = if at as u32 == open { moved == whole } else { partly };
-            let idle = first | count | moved != 0;
-            bad |= if outstanding >> at & 1 == 1 { range | odd | phase } else { idle };
+            let idle = first | count | moved | tail != 0;
+            bad |= if outstanding >> at & 1 == 1 { range | named | odd | phase } else { idle };
         }
         bad
     }
 
-    /// The bytes of a command name its tag, its first sector and its count.
-    fn bytes_contradict(&self, outstanding: u32) -> bool {
+    /// The bytes of a command name its first sector, which is 0 for an idle tag.
+    fn places_contradict(&self, outstanding: u32) -> bool {
         let mut other = 0;
         for at in 0..TAGS {
             let busy = u64::from(outstanding >> at & 1).wrapping_neg();
             other |= sector(self.place[at]) ^ u64::from(self.first[at]) | self.place[at] & !busy;
         }
-        let mut bad = other != 0;
-        for at in 0..TAGS {
-            let (tail, features) = (self.tail[at], self.features[at]);
-            let named = (tail >> 3 & 31 != at as u16) | (sectors(features) != self.count[at]);
-            bad |= if outstanding >> at & 1 == 1 { named } else { tail | features != 0 };
-        }
-        bad
+        other != 0
     }
 }
