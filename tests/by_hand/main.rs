@@ -2,12 +2,14 @@
 //! standard library alone.
 //!
 //!     events [trace] [--no-check]       standard input to standard output
+//!     events count [--no-check]         no lines: how many events, how many are refused, bytes of replies
 //!     events --make KIND EVENTS [A]     an event file to measure on (mixes.rs)
 //!
 //! Each call tests first whether the state contradicts itself, as the device's public calls do; `--no-check` leaves that out.
 
 mod device;
 mod echo;
+mod host;
 mod input;
 mod lines;
 mod mixes;
@@ -60,8 +62,30 @@ fn play_on<R: Read, W: Write>(bench: &mut Bench, input: &mut Input<R>, lines: &m
     }
 }
 
+/// The calls alone, for what they cost; the settings record is not counted.
+fn count(input: impl Read, checked: bool) -> io::Result<()> {
+    let mut input = Input::new(input);
+    let (mut played, mut refused, mut sent) = (0, 0, 0);
+    let begun = match input.next()? {
+        Next::Event(record) if record[0] == kind::SETTINGS => Bench::start(record, checked).ok(),
+        _ => None,
+    };
+    if let Some(mut bench) = begun {
+        while let Next::Event(event) = input.next()? {
+            if event[0] == kind::SETTINGS {
+                break;
+            }
+            played += 1;
+            refused += usize::from(bench.play(event) != 0);
+            sent += bench.replies.length();
+        }
+    }
+    println!("{played} events, {refused} refused, {sent} bytes of replies");
+    Ok(())
+}
+
 fn usage() -> ExitCode {
-    eprintln!("usage: events [trace] [--no-check], or events --make KIND EVENTS [A]");
+    eprintln!("usage: events [trace | count] [--no-check], or events --make KIND EVENTS [A]");
     ExitCode::from(2)
 }
 
@@ -76,10 +100,16 @@ fn main() -> ExitCode {
             _ => usage(),
         };
     }
-    if words.iter().any(|word| !["trace", "--no-check"].contains(word)) {
+    if words.iter().any(|word| !["trace", "count", "--no-check"].contains(word)) {
         return usage();
     }
     let (traced, checked) = (words.contains(&"trace"), !words.contains(&"--no-check"));
+    if words.contains(&"count") {
+        return match count(io::stdin().lock(), checked) {
+            Ok(()) => ExitCode::SUCCESS,
+            Err(_) => ExitCode::from(3),
+        };
+    }
     match run(io::stdin().lock(), io::stdout().lock(), traced, checked) {
         Ok(End::Clean) => ExitCode::SUCCESS,
         Ok(End::ReadFailed) => ExitCode::from(3),

@@ -39,6 +39,15 @@ impl Replies {
         self.ends[..self.count].iter().map(move |&end| &self.bytes[std::mem::replace(&mut from, end)..end])
     }
 
+    /// Of all frames together.
+    pub fn length(&self) -> usize {
+        if self.count == 0 {
+            0
+        } else {
+            self.ends[self.count - 1]
+        }
+    }
+
     /// Room for one more frame, behind those that are there.
     #[inline]
     fn room<const N: usize>(&mut self) -> &mut [u8; N] {
@@ -47,7 +56,7 @@ impl Replies {
 
     #[inline]
     fn room_of(&mut self, length: usize) -> &mut [u8] {
-        let from = if self.count == 0 { 0 } else { self.ends[self.count - 1] };
+        let from = self.length();
         self.ends[self.count] = from + length;
         self.count += 1;
         &mut self.bytes[from..from + length]
