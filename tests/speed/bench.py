@@ -90,8 +90,8 @@ class Bench:
 
     def memory(self):
         """The most memory over a file of so many bytes, and how many it has."""
-        path, _ = self.files.make("mixed", 1000)
-        events = -(-MEMORY_BYTES * 1000 // os.path.getsize(path))
+        path, _ = self.files.make("mixed", self.events)
+        events = MEMORY_BYTES * self.events // os.path.getsize(path) * 101 // 100
         path, _ = self.files.make("mixed", events)
         size = os.path.getsize(path)
         peaks = {program.name: program.peak(path) for program in [self.tree, self.hand]}
@@ -120,7 +120,7 @@ def told_kinds(kinds):
 def main():
     words = argparse.ArgumentParser(prog="tests/bench")
     words.add_argument("--page", action="store_true")
-    for name in ["by-hand", "run-events", "by-value", "model", "folder", "said"]:
+    for name in ["by-hand", "run-events", "by-value", "model", "folder", "said", "machine"]:
         words.add_argument("--" + name, required=True)
     words.add_argument("--runs", type=int, required=True)
     words.add_argument("--events", type=int, required=True)
@@ -132,7 +132,7 @@ def main():
     told_kinds(kinds)
     if words.page:
         measured = {
-            "said": words.said, "runs": words.runs, "events": words.events,
+            "said": words.said, "machine": words.machine, "runs": words.runs, "events": words.events,
             "lines": lines, "calls": calls, "kinds": kinds,
             "tags": bench.series("tags", TAGS), "depth": bench.series("depth", DEPTHS),
             "capacity": bench.series("capacity", CAPACITIES), "totals": bench.totals(), "memory": bench.memory(),

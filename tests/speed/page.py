@@ -60,24 +60,22 @@ def flat(measured):
     rows = []
     for name, words in [("tags", "outstanding tags"), ("depth", "queue depth"), ("capacity", "sectors of capacity")]:
         points = measured[name]
-        row = [f"{words}, {points[0]['at']} to {points[-1]['at']}"]
         for program in (TREE, HAND):
             values = [point[program] for point in points]
-            row += times(values[0], values[-1], min(values), max(values))
-        rows.append(row)
-    heads = ["ns an event against"]
-    heads += [f"{program}, {which}" for program in (TREE, HAND) for which in ("first", "last", "least", "most")]
-    return table(heads, rows)
+            ends = times(values[0], values[-1], min(values), max(values))
+            rows.append([f"{words}, {points[0]['at']} to {points[-1]['at']}: {program}", *ends])
+    return table(["ns an event against", "at the first", "at the last", "least", "most"], rows)
 
 
 def memory(measured):
     taken = measured["memory"]
     rows = [[name, f"{peak / 1024:.1f}"] for name, peak in taken["KiB"].items()]
-    return table([f"MiB in use at most, {taken['events']:,} events ({taken['bytes'] / 1e6:.1f} MB)", "MiB"], rows)
+    return table([f"{taken['events']:,} events, {taken['bytes'] / 1e6:.0f} MB", "MiB at most"], rows)
 
 
 def said(measured):
-    return f"Measured {measured['said']}; {measured['events']:,} events a file, least of {measured['runs']} runs."
+    how = f"{measured['events']:,} events a file, least of {measured['runs']} runs"
+    return f"Measured {measured['said']}; {how}.\nMachine: {measured['machine']}."
 
 
 def write(measured, path):
@@ -87,7 +85,7 @@ def write(measured, path):
         name = part.__name__
         begin, end = f"<!-- measured: {name} -->", f"<!-- end: {name} -->"
         pattern = re.escape(begin) + ".*?" + re.escape(end)
-        text, found = re.subn(pattern, lambda _: f"{begin}\n{part(measured)}\n{end}", text, flags=re.S)
+        text, found = re.subn(pattern, lambda _: f"{begin}\n\n{part(measured)}\n\n{end}", text, flags=re.S)
         if found != 1:
             raise SystemExit(f"tests/bench: {path} has {found} places for {name}")
     with open(path, "w") as page:

@@ -101,6 +101,7 @@ def drawn(measured):
     out = [f'<svg xmlns="http://www.w3.org/2000/svg" viewBox="0 0 {WIDTH} {HEIGHT}" width="{WIDTH}" height="{HEIGHT}" '
            'font-family="Helvetica, Arial, sans-serif" fill="#222222">',
            "<title>Time of the event program against outstanding tags, capacity and number of events</title>",
+           f"<desc>{measured['said']}</desc>",
            f'<rect width="{WIDTH}" height="{HEIGHT}" fill="#ffffff"/>', *legend()]
     for place, panel in enumerate(PANELS):
         drawing = Panel(place, panel, measured)

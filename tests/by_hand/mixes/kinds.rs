@@ -6,6 +6,11 @@ use crate::input::kind;
 /// Sectors of one full data frame.
 const FULL: u32 = 16;
 
+/// Where the commands of a full frame stand: over the whole medium in turn.
+fn place(tag: u8) -> u32 {
+    FULL * (u32::from(tag) % (CAPACITY / FULL))
+}
+
 /// What a file of the kind repeats.
 pub(super) fn step(kind: &str) -> Option<fn(&mut Maker) -> Made> {
     Some(match kind {
@@ -24,7 +29,7 @@ pub(super) fn step(kind: &str) -> Option<fn(&mut Maker) -> Made> {
 
 fn commands(maker: &mut Maker) -> Made {
     for tag in 0..DEPTH {
-        maker.event(&frames::queued(false, tag, 0, FULL))?;
+        maker.event(&frames::queued(false, tag, place(tag), FULL))?;
     }
     maker.event(&[kind::COMRESET])
 }
@@ -46,7 +51,7 @@ fn moves(maker: &mut Maker, write: bool) -> Made {
 
 fn finish(maker: &mut Maker) -> Made {
     for tag in 0..DEPTH {
-        maker.event(&frames::queued(false, tag, 0, FULL))?;
+        maker.event(&frames::queued(false, tag, place(tag), FULL))?;
         maker.move_all(tag)?;
         maker.event(&frames::finish(1 << tag))?;
     }
@@ -56,7 +61,7 @@ fn finish(maker: &mut Maker) -> Made {
 fn media(maker: &mut Maker) -> Made {
     maker.event(&frames::queued(false, 0, 0, FULL))?;
     maker.event(&frames::media_error(0, 0x40, 0))?;
-    maker.event(&frames::read_log(0x10, false))
+    maker.event(&[kind::COMRESET])
 }
 
 fn log(maker: &mut Maker) -> Made {
