@@ -85,7 +85,7 @@ impl Device {
         let echo = Echo::of(frame);
         let tag = echo.tag();
         let features = u16::from_le_bytes([frame[3], frame[11]]);
-        let count = sectors(u32::from(features));
+        let count = sectors(features);
         if self.state.halted {
             return replies.register(Err(ABORTED), &echo);
         }

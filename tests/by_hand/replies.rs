@@ -79,7 +79,7 @@ impl Replies {
     }
 
     pub fn signature(&mut self) {
-        self.repeat([0x34, 0, GOOD, 0x01], [0; 6], &Echo { place: 1, tail: 1 });
+        self.repeat([0x34, 0, GOOD, 0x01], [0; 6], &Echo { low: 1, high: 0, tail: 1 });
     }
 
     pub fn pio_setup(&mut self, echo: &Echo) {

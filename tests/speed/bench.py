@@ -3,6 +3,7 @@
 import argparse
 import json
 import os
+import shutil
 import sys
 
 import page
@@ -27,6 +28,7 @@ class Bench:
         self.tree = Program(TREE, words.run_events.split())
         self.hand = Program(HAND, [words.by_hand])
         self.bare = Program(BARE, [words.by_hand, "--no-check"])
+        self.plain = [Program(HAND, [words.plain]), Program(BARE, [words.plain, "--no-check"])]
         self.model = Program(MODEL, [words.model, "--run"])
         self.value = Program(VALUE, [words.by_value, "--by-value"], named=True)
         self.calls = Program(CALLS, [words.by_hand, "count"])
@@ -88,6 +90,22 @@ class Bench:
             measured.append({"at": events, **{name: n * events / 1e6 for name, n in taken.items()}})
         return measured
 
+    def instructions(self):
+        """Instructions of an event over each mix, of the programs as built for one processor; none without valgrind."""
+        if shutil.which("valgrind") is None:
+            return None
+        events = max(self.events // 10, 1000)
+        empty, _ = self.files.make("link", 1)
+        counted = {}
+        for kind in MIXES:
+            path, _ = self.files.make(kind, events)
+            self.same(path, [self.tree, *self.plain])
+            counted[kind] = {
+                program.name: (program.instructions(path) - program.instructions(empty)) / events
+                for program in [self.tree, *self.plain]
+            }
+        return counted
+
     def memory(self):
         """The most memory over a file of so many bytes, and how many it has."""
         path, _ = self.files.make("mixed", self.events)
@@ -120,7 +138,7 @@ def told_kinds(kinds):
 def main():
     words = argparse.ArgumentParser(prog="tests/bench")
     words.add_argument("--page", action="store_true")
-    for name in ["by-hand", "run-events", "by-value", "model", "folder", "said", "machine"]:
+    for name in ["by-hand", "plain", "run-events", "by-value", "model", "folder", "said", "machine"]:
         words.add_argument("--" + name, required=True)
     words.add_argument("--runs", type=int, required=True)
     words.add_argument("--events", type=int, required=True)
@@ -135,7 +153,8 @@ def main():
             "said": words.said, "machine": words.machine, "runs": words.runs, "events": words.events,
             "lines": lines, "calls": calls, "kinds": kinds,
             "tags": bench.series("tags", TAGS), "depth": bench.series("depth", DEPTHS),
-            "capacity": bench.series("capacity", CAPACITIES), "totals": bench.totals(), "memory": bench.memory(),
+            "capacity": bench.series("capacity", CAPACITIES), "totals": bench.totals(),
+            "instructions": bench.instructions(), "memory": bench.memory(),
         }
         with open(os.path.join(words.folder, "measured.json"), "w") as out:
             json.dump(measured, out, indent=1)

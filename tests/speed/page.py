@@ -39,6 +39,17 @@ def mixes(measured):
     return table(heads, rows)
 
 
+def instructions(measured):
+    if measured["instructions"] is None:
+        return "Not counted: no valgrind."
+    rows = []
+    for kind, taken in measured["instructions"].items():
+        tree, hand, bare = (taken[name] for name in (TREE, HAND, BARE))
+        rows.append([kind, *[f"{n:.0f}" for n in (tree, hand, bare)], ratio(tree, hand), ratio(tree, bare)])
+    heads = ["instructions an event", TREE, HAND, "without test", "ratio to by hand", "to without test"]
+    return table(heads, rows)
+
+
 def calls(measured):
     rows = []
     for kind, taken in measured["calls"].items():
@@ -81,7 +92,7 @@ def said(measured):
 def write(measured, path):
     with open(path) as page:
         text = page.read()
-    for part in (said, mixes, calls, kinds, flat, memory):
+    for part in (said, mixes, instructions, calls, kinds, flat, memory):
         name = part.__name__
         begin, end = f"<!-- measured: {name} -->", f"<!-- end: {name} -->"
         pattern = re.escape(begin) + ".*?" + re.escape(end)

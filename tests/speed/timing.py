@@ -37,6 +37,17 @@ class Program:
             raise SystemExit(f"tests/bench: {' '.join(self.words)}: status {status}")
         return used.ru_utime + used.ru_stime
 
+    def instructions(self, path):
+        """How many instructions a run takes, as valgrind counts them: the same each time."""
+        words = ["valgrind", "--tool=callgrind", "--callgrind-out-file=/dev/null"]
+        with open(path, "rb") as events:
+            done = subprocess.run(words + self.command(path), stdin=events, stdout=subprocess.DEVNULL,
+                                  stderr=subprocess.PIPE, text=True)
+        counts = [line.split()[-1] for line in done.stderr.splitlines() if "Collected" in line]
+        if done.returncode != 0 or not counts:
+            raise SystemExit(f"tests/bench: valgrind {' '.join(self.words)}: status {done.returncode}")
+        return int(counts[0])
+
     def peak(self, path):
         """The most memory in use, in KiB, while it reads a file to its end.
 
