@@ -70,6 +70,16 @@ impl Part<'_> {
         self.length -= leading;
     }
 
+    #[inline]
+    fn refusal(&mut self, refusal: u8) {
+        if refusal == 0 {
+            return self.push(*b" 0 ");
+        }
+        self.push([b' ']);
+        self.decimal(u16::from(refusal));
+        self.push([b' ']);
+    }
+
     /// All eight digits at once: a byte for each, and 7 more where a letter stands.
     #[inline]
     fn tags(&mut self, outstanding: u32) {
@@ -116,9 +126,7 @@ impl<W: Write> Lines<W> {
     pub fn line(&mut self, refusal: u8, outstanding: u32, replies: &Replies) -> io::Result<()> {
         let mut part = part_of(&mut self.text, self.length);
         part.numeral(&self.number);
-        part.push([b' ']);
-        part.decimal(u16::from(refusal));
-        part.push([b' ']);
+        part.refusal(refusal);
         part.tags(outstanding);
         for frame in replies.frames() {
             part.reply(frame);

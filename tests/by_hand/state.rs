@@ -136,3 +136,6 @@ impl State {
         self.counters[row] = self.counters[row].saturating_add(1);
     }
 }
+
+#[cfg(test)]
+mod tests;

@@ -9,10 +9,8 @@ import sys
 import page
 import plot
 from files import KINDS, MIXES, Files, solved
+from names import BARE, CALLS, HAND, MODEL, TREE, VALUE
 from timing import Program, least
-
-TREE, HAND, BARE, MODEL = "run_events", "by hand", "by hand, no test", "model"
-VALUE, CALLS = "by value", "by hand, calls alone"
 
 TAGS = list(range(1, 33))
 DEPTHS = [1, 2, 4, 8, 12, 16, 20, 24, 28, 32]
@@ -30,7 +28,7 @@ class Bench:
         self.bare = Program(BARE, [words.by_hand, "--no-check"])
         self.plain = [Program(HAND, [words.plain]), Program(BARE, [words.plain, "--no-check"])]
         self.model = Program(MODEL, [words.model, "--run"])
-        self.value = Program(VALUE, [words.by_value, "--by-value"], named=True)
+        self.value = Program(VALUE, [*words.by_value.split(), "--by-value"], named=True)
         self.calls = Program(CALLS, [words.by_hand, "count"])
 
     def same(self, path, programs):

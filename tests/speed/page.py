@@ -2,7 +2,7 @@
 
 import re
 
-TREE, HAND, BARE, MODEL = "run_events", "by hand", "by hand, no test", "model"
+from names import BARE, CALLS, HAND, MODEL, TREE, VALUE
 
 KINDS = {
     "command": "queued command",
@@ -53,9 +53,9 @@ def instructions(measured):
 def calls(measured):
     rows = []
     for kind, taken in measured["calls"].items():
-        value, hand = taken["by value"], taken["by hand, calls alone"]
+        value, hand = taken[VALUE], taken[CALLS]
         rows.append([kind, *times(value, hand), ratio(value, hand)])
-    return table(["ns a call", "by value", HAND, "ratio"], rows)
+    return table(["ns a call", VALUE, HAND, "ratio"], rows)
 
 
 def kinds(measured):

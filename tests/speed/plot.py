@@ -2,13 +2,15 @@
 
 import math
 
+from names import BARE, HAND, TREE
+
 WIDTH, HEIGHT = 1080, 400
 PANEL, TALL = 270, 250
 LEFT, TOP, STEP = 70, 80, 350
 SERIES = [
-    ("run_events", "run_events", "#b3261e", "", "circle"),
-    ("by hand", "by hand, with its test of the state", "#1a5fb4", "7 3", "square"),
-    ("by hand, no test", "by hand, without that test", "#3a7d2c", "2 3", "triangle"),
+    (TREE, TREE, "#b3261e", "", "circle"),
+    (HAND, "by hand, with its test of the state", "#1a5fb4", "7 3", "square"),
+    (BARE, "by hand, without that test", "#3a7d2c", "2 3", "triangle"),
 ]
 PANELS = [
     ("tags", "Outstanding tags", "outstanding tags", "time per event (ns)", [1, 8, 16, 24, 32], 1),
