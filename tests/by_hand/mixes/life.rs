@@ -125,15 +125,19 @@ impl Maker {
         }
     }
 
-    /// So many tags outstanding; each in turn is moved, finished, and used again.
+    /// So many tags outstanding; each in turn is moved, finished, and used again. Reads and writes take turns, however many tags
+    /// there are.
     pub(super) fn steady(&mut self, tags: u8) -> Made {
+        let mut write = false;
         for tag in 0..tags {
-            self.event(&frames::queued(tag % 2 == 1, tag, 0, 1))?;
+            self.event(&frames::queued(write, tag, 0, 1))?;
+            write = !write;
         }
         for tag in (0..tags).cycle() {
             self.move_all(tag)?;
             self.event(&frames::finish(1 << tag))?;
-            self.event(&frames::queued(tag % 2 == 1, tag, 0, 1))?;
+            self.event(&frames::queued(write, tag, 0, 1))?;
+            write = !write;
         }
         Ok(())
     }
