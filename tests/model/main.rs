@@ -9,12 +9,10 @@
 //!   --random SEED              the random event file of a seed
 //!   --compare N FROM T R       random files through the programs T (trace) and
 //!                              R (run; empty: not compared) and the model
-//!   --bench N PROGRAM          N events through PROGRAM and through the model
 //!   --run, --trace             the event program: events in, lines out; a
 //!                              trace shows the bytes of each reply
 
 mod answer;
-mod bench;
 mod cases;
 mod compare;
 mod device;
@@ -49,7 +47,6 @@ fn main() {
             listed(cases.iter().map(|(case, line)| (&case.comment[..], line.clone())))
         }
         ["--examples"] => return run_examples(),
-        ["--bench", count, program] => return measure(number(count), program),
         ["--random", seed] => random::file(number(seed)).bytes,
         ["--compare", count, from, trace, run] => {
             return compare_with(number(count), number(from), trace, run)
@@ -65,13 +62,6 @@ fn main() {
 
 fn number(text: &str) -> u64 {
     text.parse().unwrap_or_else(|_| fail(USAGE))
-}
-
-/// The benchmark's file and its times, the program against the model.
-fn measure(count: u64, program: &str) {
-    if let Err(fault) = bench::timing::measure(count, program, Path::new("target/bench.events")) {
-        fail(&format!("model: {}", fault));
-    }
 }
 
 /// `run` may be empty: then only the trace is compared.

@@ -14,6 +14,14 @@ pub struct Compared {
     pub same: bool,
 }
 
+/// What the calls by value came to, the settings record left out: how many, how many of them were refused, and bytes of replies.
+#[derive(Clone, Copy, Default)]
+pub struct Counted {
+    pub played: usize,
+    pub refused: usize,
+    pub sent: usize,
+}
+
 // What a device is lent, and what it leaves there.
 #[derive(Drop)]
 struct Lent {
@@ -114,6 +122,53 @@ fn play_on(device: Device, sealed: Sealed, events: &[u8]) -> Compared {
         rest = behind;
     }
     compared
+}
+
+// The events behind power-on, each played by value alone.
+fn play_alone(device: Device, events: &[u8]) -> Counted {
+    let mut device = device;
+    let mut lent = Lent::new();
+    let size = device.settings.medium_size().min(MEDIUM_LIMIT);
+    let mut rest = events;
+    let mut counted = Counted::default();
+    for _ in 0..events.len() {
+        let Some((event, behind)) = next_event(rest, false) else {
+            break;
+        };
+        let Some(request) = events::request_of(event) else {
+            break;
+        };
+        let outcome = call(
+            device,
+            event,
+            request,
+            &mut lent.medium[..size],
+            &mut lent.reply,
+        );
+        counted.played = counted.played.saturating_add(1);
+        counted.refused = counted
+            .refused
+            .saturating_add(usize::from(outcome.refusal.is_some()));
+        counted.sent = counted.sent.saturating_add(outcome.len);
+        device = outcome.state;
+        rest = behind;
+    }
+    counted
+}
+
+/// Plays the events of a file by value alone, for what it costs: nothing is compared.
+pub fn play(input: &[u8]) -> Counted {
+    let Some((record, events)) = next_event(input, true) else {
+        return Counted::default();
+    };
+    let Some(settings) = events::settings_asked(record) else {
+        return Counted::default();
+    };
+    let outcome = Device::power_on(settings);
+    match outcome.refusal {
+        None => play_alone(outcome.state, events),
+        Some(_) => Counted::default(),
+    }
 }
 
 /// Plays the events of a file both ways, from the settings record on.

@@ -1,5 +1,6 @@
 // Runs each event file that an argument names under its name: by the run of run_events, by that of trace_events, by the first again
 // with its input in pieces that hardly hold an event; and last its events by the public calls of a device by value, beside a device that is kept.
+// Behind the word `--by-value` each file is played by these calls alone, and counted: `tests/bench` takes the time of that.
 #![tactic(auto)]
 
 mod by_value;
@@ -43,8 +44,26 @@ fn compare_file(rt: HostRuntime, path: &str) -> io::Result<()> {
     println!(rt; "by value: {}, {outcome}", compared.played)
 }
 
+// What the events of a file come to by value.
+fn count_file(rt: HostRuntime, path: &str) -> io::Result<()> {
+    let counted = by_value::play(&read_all(rt, path)?);
+    println!(rt;
+        "{} events, {} refused, {} bytes of replies",
+        counted.played, counted.refused, counted.sent
+    )
+}
+
 fn main(rt: HostRuntime) -> io::Result<()> {
+    let mut counting = false;
     for path in env::args(&rt)?.skip(1) {
+        if path.as_str() == "--by-value" {
+            counting = true;
+            continue;
+        }
+        if counting {
+            count_file(rt, &path)?;
+            continue;
+        }
         println!(rt; "{path}")?;
         run_file(rt, &path, false, PIECE)?;
         run_file(rt, &path, true, PIECE)?;

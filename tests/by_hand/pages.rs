@@ -1,0 +1,42 @@
+//! Log pages 10h and 11h.
+
+use crate::state::{Record, Settings, ROWS};
+
+pub type Page = [u8; 512];
+
+/// The identifiers of the rows.
+const IDENTIFIERS: [u16; ROWS] =
+    [0x001, 0x002, 0x003, 0x004, 0x005, 0x006, 0x007, 0x008, 0x009, 0x00A, 0x00B, 0x00D, 0x00F, 0x010, 0x012, 0x013];
+
+/// Identifier bits that say that the value has four bytes.
+const FOUR_BYTES: u16 = 0x2000;
+
+pub fn errors(page: &mut Page, record: &Record) {
+    page.fill(0);
+    if record.set {
+        page[0] = if record.nq { 0x80 } else { record.tag };
+        page[2] = 0x41;
+        page[3] = record.error;
+        record.echo.lay(page);
+    } else {
+        page[0] = 0x80;
+    }
+    sum(page, 14);
+}
+
+pub fn counters(page: &mut Page, settings: &Settings, values: &[u32; ROWS]) {
+    page.fill(0);
+    let mut at = 4;
+    for row in (0..ROWS).filter(|&row| settings.keeps(row)) {
+        page[at..at + 2].copy_from_slice(&(FOUR_BYTES | IDENTIFIERS[row]).to_le_bytes());
+        page[at + 2..at + 6].copy_from_slice(&values[row].to_le_bytes());
+        at += 6;
+    }
+    sum(page, at);
+}
+
+/// The last byte makes all bytes sum to 0; behind `end` the page is blank.
+fn sum(page: &mut Page, end: usize) {
+    let sum = page[..end].iter().fold(0u8, |sum, &byte| sum.wrapping_add(byte));
+    page[511] = sum.wrapping_neg();
+}
