@@ -14,7 +14,7 @@ use Rattle.bits.proofs.Tying.{same, say, by, named}
 use Rattle.device.proofs.state
 use Rattle.device.specs.contracts.state as state-said
 
-pub tied_after : Tied state-said.Device.after.ended state.Device.after.Reads.Asked state.Device.after.Reads.Post (λ κs a r ws. ws.0 ≡ after_of a.0.now a.1.0)
+pub tied_after : Tied state-said.Device.after.ended state.Device.after.Reads.Asked state.Device.after.Reads.Post (λ κs a r ws. ws.0 ≡ after_of a.0.now a.1.0.now)
 tied_after = by (say (λ κs a. tt) (λ κs a r ws p. p)) (λ κs a r r' ws ws' p q. (refl, λ i. (same p q i, (tt, tt))))
 
 pub tied_host_frame : Tied state-said.Device.host_frame.ended state.Device.host_frame.Reads.Asked state.Device.host_frame.Reads.Post (λ κs a r ws. Given a.0 (lent (host_frame a.1.0.now) a.1.1.0.now a.1.1.1.0.now) (gave r ws.1.1.0 ws.1.1.1.0))

@@ -103,10 +103,10 @@ impl Device {
     }
 
     // By the act: one function for each thing that changes.
-    pub(crate) fn after(&mut self, act: Act)
-        ensures { self.new ≡ after_of self.old act }
+    pub(crate) fn after(&mut self, act: &Act)
+        ensures { self.new ≡ after_of self.old act.now }
     {
-        match act {
+        match *act {
             Act::Nothing | Act::Bad(_) => {}
             Act::BadAndHalt(fault) => self.halt(fault),
             Act::Accept(queued) => self.accept(queued),

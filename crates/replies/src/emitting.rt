@@ -36,6 +36,7 @@ fn put(room: &mut [u8], reply: Reply<'_>) -> usize
     reply.write(room).unwrap_or(0)
 }
 
+#[inline(always)]
 #[tactic(auto, using(crate::proofs::Sending::sends_nothing))]
 fn put_if(room: &mut [u8], on: bool, reply: Reply<'_>) -> usize
     ensures { Sends (pick on (framed reply.entry ∷ []) []) room.old result room.new }
