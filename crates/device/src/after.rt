@@ -103,13 +103,13 @@ impl Device {
     }
 
     // By the act: one function for each thing that changes.
-    pub(crate) fn after(&mut self, act: Act)
-        ensures { self.new ≡ after_of self.old act }
+    pub(crate) fn after(&mut self, act: &Act)
+        ensures { self.new ≡ after_of self.old act.now }
     {
         match act {
             Act::Nothing | Act::Bad(_) => {}
-            Act::BadAndHalt(fault) => self.halt(fault),
-            Act::Accept(queued) => self.accept(queued),
+            Act::BadAndHalt(fault) => self.halt(*fault),
+            Act::Accept(queued) => self.accept(*queued),
             Act::Log10(_) => self.end_halt(),
             Act::Log11(read) => {
                 if read.zero {
@@ -119,11 +119,11 @@ impl Device {
             Act::Reset => self.hold_reset(),
             Act::Release => self.release(),
             Act::ZeroCounters => self.zero(),
-            Act::Store(moved) | Act::Send(moved) => self.move_on(moved),
+            Act::Store(moved) | Act::Send(moved) => self.move_on(*moved),
             Act::Open(queued) => self.open_for(queued.tag),
-            Act::Finish(set) => self.finish_tags(set),
-            Act::Media(fault) => self.fail(fault),
-            Act::Count(row) => self.count(row),
+            Act::Finish(set) => self.finish_tags(*set),
+            Act::Media(fault) => self.fail(*fault),
+            Act::Count(row) => self.count(*row),
             Act::Renew => self.renew(),
         }
     }

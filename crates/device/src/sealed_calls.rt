@@ -55,7 +55,7 @@ impl Device {
         ensures reply { RepliesGiven (pick (leb 8196 (length reply.old)) (replies_of (state_shown self.old) part.now act) []) reply.old result reply.new }
     {
         let len = replies::emit(reply, &act, &self.shown(), part);
-        self.after(act);
+        self.after(&act);
         len
     }
 }

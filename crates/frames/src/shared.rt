@@ -24,7 +24,7 @@ impl Task {
         Task {
             lba: lba_of(frame),
             device: byte_of(frame, 7),
-            count: bits::le16(frame, 12),
+            count: u16::from_le_bytes([byte_of(frame, 12), byte_of(frame, 13)]),
         }
     }
 

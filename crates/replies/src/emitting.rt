@@ -28,13 +28,15 @@ fn page_bytes(page: &Result<Page, Refusal>) -> &[u8]
 // Each function from here on writes its replies to the front of the room that it is lent, one behind the other, and answers
 // how many bytes they are.
 //
-// One reply, or nothing where it is turned down.
+// One reply, or nothing where it is turned down. It is inlined where the reply's kind is known, and its bytes have one size.
+#[inline(always)]
 fn put(room: &mut [u8], reply: Reply<'_>) -> usize
     ensures { Sends (framed reply.entry ∷ []) room.old result room.new }
 {
     reply.write(room).unwrap_or(0)
 }
 
+#[inline(always)]
 #[tactic(auto, using(crate::proofs::Sending::sends_nothing))]
 fn put_if(room: &mut [u8], on: bool, reply: Reply<'_>) -> usize
     ensures { Sends (pick on (framed reply.entry ∷ []) []) room.old result room.new }

@@ -111,6 +111,7 @@ impl<'a> Reply<'a> {
         })
     }
 
+    #[inline(always)]
     /// The reply in front of `room`, if its values fit their fields and it has the room.
     pub(crate) fn write(&self, room: &mut [u8]) -> Result<usize, Refusal>
         ensures { FrameWriteGiven (framed self.now) room.old result room.new }

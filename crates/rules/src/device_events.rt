@@ -18,11 +18,8 @@ pub fn some_unready(entries: &Entries, status: Status, set: u32) -> bool
 {
     entries.iter().enumerate().any(|(tag, entry)| {
         let tag = tag as u32;
-        crate::is_unready(
-            bits::bit(set, tag),
-            status.is_outstanding(tag),
-            entry.progress(),
-        )
+        let asked = bits::bit(set, tag);
+        asked && crate::is_unready(asked, status.is_outstanding(tag), entry.progress())
     })
 }
 
