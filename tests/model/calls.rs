@@ -16,7 +16,7 @@ pub const MEDIUM: usize = 0x4_0000;
 pub const REPLY: usize = 0x4000;
 
 /// A line may have so many bytes before its end.
-const LONGEST: usize = 0x1_0000;
+pub const LONGEST: usize = 0x1_0000;
 
 /// What stands at the next place of an input.
 enum Next {

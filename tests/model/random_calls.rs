@@ -56,12 +56,12 @@ impl Script {
             self.taken += u64::from(answers.iter().all(|answer| answer.starts_with("0 ")));
         }
         let dressed = texts::dressed(&mut self.random, line);
-        self.put(&dressed);
+        self.put(dressed.as_bytes());
     }
 
     /// A line that the model is not asked about.
-    fn put(&mut self, line: &str) {
-        self.text.extend(line.as_bytes());
+    fn put(&mut self, line: &[u8]) {
+        self.text.extend(line);
         self.text.push(b'\n');
     }
 

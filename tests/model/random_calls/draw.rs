@@ -124,8 +124,8 @@ fn short_data(s: &mut Script) {
     };
     let r = &mut s.random;
     let some = 4 * (1 + r.below(left.min(8_192) / 4));
-    let near = left.min(8_192) + r.below(3) * 4 - 4 * u32::from(left > 4);
-    let size = r.one_of(&[some, some, some, some, near, 4, 6, 0, 8_196]);
+    let near = left.min(8_192) - 4 + 4 * r.below(3);
+    let size = r.one_of(&[some, some, some, near, near, 8_192, 4, 6, 0, 8_196]);
     let first = r.byte();
     s.line(&format!("data {size:x} {first:x}"));
 }

@@ -1,6 +1,7 @@
 //! What a line looks like: blanks, digits in either case, comments; and lines that mean nothing.
 
 use super::Script;
+use calls::LONGEST;
 use random::Random;
 
 /// The same line, written otherwise at times.
@@ -37,12 +38,29 @@ fn other_digits(word: &str) -> String {
 
 /// Lines that ask for nothing, and lines that are none.
 pub fn nonsense(s: &mut Script) {
+    match s.random.below(100) {
+        0 => return s.put(&[b'#'; LONGEST]),
+        1 => return s.put(&[b'#'; LONGEST + 1]),
+        2 => return s.put(&[b' '; LONGEST + 1]),
+        3 => {
+            let length = 1 + s.random.below(40) as usize;
+            let mut bytes = s.random.bytes(length);
+            bytes.retain(|&c| c != b'\n');
+            bytes.insert(0, b'?');
+            return s.put(&bytes);
+        }
+        _ => {}
+    }
     let line = s.random.one_of(&[
         "",
         "   ",
         "# power 1 1 201",
         "-> 0 0",
         "Open 1",
+        "open\u{b}1",
+        "show\u{0}",
+        "count\u{c}",
+        "show\u{a0}",
         "open",
         "open 1 2",
         "open 100",
@@ -100,5 +118,5 @@ pub fn nonsense(s: &mut Script) {
         "write 11 200 201 0",
         "write 10 4001 nq=0 tag=0 status=0 error=0 lba=0 device=0 count=0",
     ]);
-    s.put(line);
+    s.put(line.as_bytes());
 }
