@@ -36,21 +36,26 @@ impl Bench {
             Command::Fill(first) => self.fill(*first),
             Command::Set(part) => set(&mut self.state, part),
             Command::Show => return shown::state(&self.state),
-            Command::Medium { at, size } => {
-                return vec![shown::hex(&self.medium[*at..*at + *size])]
-            }
-            Command::Counter(number) => {
-                return vec![shown::counter(
-                    events::counter(&self.state, *number).map(|v| v.map(u64::from)),
-                )]
-            }
-            Command::Count => return vec![self.count()],
-            Command::Judge(frame) => return vec![self.judge(frame)],
-            Command::Read(reading) => return vec![pages::read(reading)],
-            Command::Write { room, what } => return vec![pages::write(*room, what)],
-            _ => return vec![self.call(command)],
+            _ => return vec![self.line(command)],
         }
         vec![]
+    }
+
+    /// The line of a command that prints one.
+    fn line(&mut self, command: &Command) -> String {
+        match command {
+            Command::Medium { at, size } => shown::hex(&self.medium[*at..*at + *size]),
+            Command::Counter(number) => shown::counter(self.counter(*number)),
+            Command::Count => self.count(),
+            Command::Judge(frame) => self.judge(frame),
+            Command::Read(reading) => pages::read(reading),
+            Command::Write { room, what } => pages::write(*room, what),
+            _ => self.call(command),
+        }
+    }
+
+    fn counter(&self, number: u16) -> Result<Option<u64>, u8> {
+        events::counter(&self.state, number).map(|value| value.map(u64::from))
     }
 
     fn fill(&mut self, first: u8) {
