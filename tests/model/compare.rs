@@ -1,31 +1,49 @@
-//! Random event files through the program under test and through the model. A
-//! file of an odd seed comes by a pipe, in small pieces, which the pipe may join.
+//! Random event files and random scripts of calls through the program under
+//! test and through the model. A file of an odd seed comes by a pipe, in small
+//! pieces, which the pipe may join.
 
+use crate::calls;
 use crate::program::{self, line::Style};
-use crate::random;
+use crate::random::{self, File as Drawn};
+use crate::random_calls;
 use std::fs::{self, File};
 use std::io::{self, Write};
 use std::path::{Path, PathBuf};
 use std::process::{Command, Output, Stdio};
 use std::thread;
 
-/// A program under test: its command and the lines it should print.
+/// A program under test: its command, and what it should print for a file.
 pub struct Tested {
     words: Vec<String>,
-    style: Style,
+    expected: fn(&[u8]) -> Vec<u8>,
 }
 
 impl Tested {
     /// `command` is a path, with arguments behind blanks if it needs any.
-    pub fn new(command: &str, style: Style) -> Tested {
-        Tested { words: command.split_whitespace().map(str::to_string).collect(), style }
+    fn new(command: &str, expected: fn(&[u8]) -> Vec<u8>) -> Tested {
+        Tested { words: command.split_whitespace().map(str::to_string).collect(), expected }
     }
 
-    /// What it prints for the events of a file, or why nothing came of it.
-    fn lines(&self, seed: u64, events: &Path) -> Result<Vec<u8>, String> {
+    /// The program that traces events.
+    pub fn trace(command: &str) -> Tested {
+        Tested::new(command, |events| program::text(events, Style::Trace))
+    }
+
+    /// The event program.
+    pub fn run(command: &str) -> Tested {
+        Tested::new(command, |events| program::text(events, Style::Run))
+    }
+
+    /// The program that runs scripts of calls.
+    pub fn calls(command: &str) -> Tested {
+        Tested::new(command, calls::text)
+    }
+
+    /// What it prints for a file, or why nothing came of it.
+    fn lines(&self, seed: u64, file: &Path) -> Result<Vec<u8>, String> {
         let done = match seed % 2 {
-            0 => self.fed_by_file(events),
-            _ => self.fed_by_pipe(events, 1 + seed as usize % 61),
+            0 => self.fed_by_file(file),
+            _ => self.fed_by_pipe(file, 1 + seed as usize % 61),
         };
         let done = done.map_err(|e| format!("{}: {}", self.words[0], e))?;
         match done.status.code() {
@@ -40,13 +58,13 @@ impl Tested {
         command
     }
 
-    fn fed_by_file(&self, events: &Path) -> io::Result<Output> {
-        self.command().stdin(File::open(events)?).output()
+    fn fed_by_file(&self, file: &Path) -> io::Result<Output> {
+        self.command().stdin(File::open(file)?).output()
     }
 
-    /// In pieces of `size` bytes, so that many events come torn apart.
-    fn fed_by_pipe(&self, events: &Path, size: usize) -> io::Result<Output> {
-        let bytes = fs::read(events)?;
+    /// In pieces of `size` bytes, so that many events and lines come torn apart.
+    fn fed_by_pipe(&self, file: &Path, size: usize) -> io::Result<Output> {
+        let bytes = fs::read(file)?;
         let mut child = self.command().stdin(Stdio::piped()).stdout(Stdio::piped()).spawn()?;
         let mut pipe = child.stdin.take().expect("a pipe");
         // A program that has stopped reads no more: what is left then needs no reader.
@@ -58,25 +76,47 @@ impl Tested {
     }
 }
 
+/// What is drawn from a seed: its name, and that of what it holds.
+pub struct Kind {
+    draw: fn(u64) -> Drawn,
+    name: &'static str,
+    holds: &'static str,
+}
+
+pub const EVENTS: Kind =
+    Kind { draw: random::file, name: "events", holds: "events behind the settings" };
+
+pub const CALLS: Kind = Kind {
+    draw: |seed| random_calls::script(seed, random_calls::how_many(seed)),
+    name: "calls",
+    holds: "calls",
+};
+
 /// The seeds from `from` on, `count` of them. True if no file differs.
-pub fn run(count: u64, from: u64, tested: &[Tested], directory: &Path) -> Result<bool, String> {
+pub fn run(
+    kind: &Kind,
+    count: u64,
+    from: u64,
+    tested: &[Tested],
+    directory: &Path,
+) -> Result<bool, String> {
     fs::create_dir_all(directory).map_err(|e| e.to_string())?;
     let (mut events, mut taken, mut mismatches) = (0, 0, 0);
     for seed in from..from + count {
-        let file = random::file(seed);
+        let file = (kind.draw)(seed);
         events += file.events;
         taken += file.taken;
-        let path = directory.join(format!("{}.events", seed));
+        let path = directory.join(format!("{}.{}", seed, kind.name));
         if agrees(seed, &file.bytes, tested, &path)? {
             fs::remove_file(&path).map_err(|e| e.to_string())?;
         } else {
             mismatches += 1;
         }
     }
-    println!("{} events behind the settings, {} of them taken", events, taken);
+    println!("{} {}, {} of them taken", events, kind.holds, taken);
     match mismatches {
-        0 => println!("{} seeds, no mismatch", count),
-        _ => println!("{} seeds, {} with a mismatch", count, mismatches),
+        0 => println!("{} seeds of {}, no mismatch", count, kind.name),
+        _ => println!("{} seeds of {}, {} with a mismatch", count, kind.name, mismatches),
     }
     Ok(mismatches == 0)
 }
@@ -85,7 +125,7 @@ fn agrees(seed: u64, bytes: &[u8], tested: &[Tested], path: &PathBuf) -> Result<
     fs::write(path, bytes).map_err(|e| e.to_string())?;
     let mut good = true;
     for program in tested {
-        let expected = program::text(bytes, program.style);
+        let expected = (program.expected)(bytes);
         let fault = match program.lines(seed, path) {
             Ok(lines) => difference(&expected, &lines),
             Err(fault) => Some(fault),

@@ -9,10 +9,17 @@
 //!   --random SEED              the random event file of a seed
 //!   --compare N FROM T R       random files through the programs T (trace) and
 //!                              R (run; empty: not compared) and the model
+//!   --random-calls SEED LINES  the random script of calls of a seed
+//!   --compare-calls N FROM C   random scripts through the program C and the model
 //!   --run, --trace             the event program: events in, lines out; a
 //!                              trace shows the bytes of each reply
+//!   --calls FILE               what the script of calls prints (`-`: from the
+//!                              standard input)
+//!   --check-calls FILE..       the lines of scripts that print something else
+//!                              than what stands behind `->`
 
 mod answer;
+mod calls;
 mod cases;
 mod compare;
 mod device;
@@ -24,15 +31,19 @@ mod frames;
 mod pages;
 mod program;
 mod random;
+mod random_calls;
 
 use cases::Case;
+use compare::Tested;
 use program::line::Style;
-use std::io::{self, BufReader, BufWriter, Write};
+use std::fs::File;
+use std::io::{self, BufRead, BufReader, BufWriter, Write};
 use std::path::Path;
 use std::process::exit;
 
 const USAGE: &str = "usage: model --stdin | --stdout | --cases | --examples | \
-                     --device-stdin | --device-stdout | --device-cases | --run | --trace";
+                     --device-stdin | --device-stdout | --device-cases | --run | --trace | \
+                     --calls FILE | --check-calls FILE..";
 
 fn main() {
     let arguments: Vec<String> = std::env::args().skip(1).collect();
@@ -51,6 +62,15 @@ fn main() {
         ["--compare", count, from, trace, run] => {
             return compare_with(number(count), number(from), trace, run)
         }
+        ["--calls", script] => return run_calls(script),
+        ["--check-calls", ref scripts @ ..] => return check_calls(scripts),
+        ["--random-calls", seed, lines] => {
+            random_calls::script(number(seed), number(lines) as u32).bytes
+        }
+        ["--compare-calls", count, from, program] => {
+            let tested = [Tested::calls(program)];
+            return compare_drawn(&compare::CALLS, number(count), number(from), &tested);
+        }
         ["--run"] => return run_events(Style::Run),
         ["--trace"] => return run_events(Style::Trace),
         _ => fail(USAGE),
@@ -66,11 +86,16 @@ fn number(text: &str) -> u64 {
 
 /// `run` may be empty: then only the trace is compared.
 fn compare_with(count: u64, from: u64, trace: &str, run: &str) {
-    let mut tested = vec![compare::Tested::new(trace, Style::Trace)];
+    let mut tested = vec![Tested::trace(trace)];
     if !run.is_empty() {
-        tested.push(compare::Tested::new(run, Style::Run));
+        tested.push(Tested::run(run));
     }
-    match compare::run(count, from, &tested, Path::new("target/compare")) {
+    compare_drawn(&compare::EVENTS, count, from, &tested);
+}
+
+/// Status 1 if a file is told apart; it is kept.
+fn compare_drawn(kind: &compare::Kind, count: u64, from: u64, tested: &[Tested]) {
+    match compare::run(kind, count, from, tested, Path::new("target/compare")) {
         Ok(true) => {}
         Ok(false) => exit(1),
         Err(fault) => fail(&format!("model: {}", fault)),
@@ -85,6 +110,39 @@ fn run_events(style: Style) {
     let done = program::run(&mut input, &mut output, style).and_then(|_| output.flush());
     if let Err(error) = done {
         fail(&format!("model: cannot write: {}", error));
+    }
+}
+
+/// The script of a file, or of the standard input.
+fn run_calls(script: &str) {
+    let mut input: Box<dyn BufRead> = match script {
+        "-" => Box::new(io::stdin().lock()),
+        path => match File::open(path) {
+            Ok(file) => Box::new(BufReader::new(file)),
+            Err(error) => fail(&format!("model: {}: {}", path, error)),
+        },
+    };
+    let mut output = BufWriter::new(io::stdout().lock());
+    if let Err(error) = calls::run(&mut input, &mut output).and_then(|_| output.flush()) {
+        fail(&format!("model: cannot write: {}", error));
+    }
+}
+
+/// Each script by itself; status 1 if a line differs.
+fn check_calls(scripts: &[&str]) {
+    let (mut asked, mut differing) = (0, 0);
+    for script in scripts {
+        match calls::check::file(script) {
+            Ok(found) => {
+                asked += found.asked;
+                differing += found.differing;
+            }
+            Err(error) => fail(&format!("model: {}: {}", script, error)),
+        }
+    }
+    println!("{} lines asked for, {} differ", asked, differing);
+    if differing != 0 {
+        exit(1);
     }
 }
 

@@ -56,6 +56,11 @@ const TAG: usize = 1;
 /// The values of page 10h: NQ, tag, status, error, LBA, device, count.
 pub type ErrorPage = [u64; 7];
 
+/// The names of these values, in their order.
+pub fn error_names() -> impl Iterator<Item = &'static str> {
+    ERROR_FIELDS.iter().map(|field| field.name)
+}
+
 /// Reads page 10h: refusals 20, 21; each field as it stands, the tag as 0
 /// under NQ.
 pub fn read_10h(bytes: &[u8]) -> Result<ErrorPage, u8> {

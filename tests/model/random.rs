@@ -1,8 +1,8 @@
 //! Random event files by seed. The generator runs the model alongside, so that
 //! most events are taken; refused and cut-off ones are mixed in.
 
-mod frame;
-mod next;
+pub mod frame;
+pub mod next;
 
 use crate::program::event::{self, Event, LONGEST_BODY};
 use crate::program::machine::Machine;

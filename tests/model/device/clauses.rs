@@ -43,6 +43,12 @@ pub fn contradicts(s: &State) -> bool {
     CLAUSES.iter().any(|(_, holds)| holds(s)) || s.tags().any(entry_faulty)
 }
 
+/// The names of all clauses.
+pub fn all_names() -> Vec<&'static str> {
+    let of_state = CLAUSES.iter().map(|&(name, _)| name);
+    of_state.chain(ENTRY_CLAUSES.iter().map(|&(name, _)| name)).collect()
+}
+
 /// The names of all clauses that hold.
 pub fn names(s: &State) -> Vec<&'static str> {
     let of_state = CLAUSES.iter().filter(|(_, holds)| holds(s)).map(|&(name, _)| name);
