@@ -11,11 +11,10 @@ const USAGE: u8 = 2;
 // Whether the words ask for the bytes of each reply; `None` where they are others, or cannot be read.
 fn is_traced(rt: &HostRuntime) -> Option<bool> {
     let mut words = env::args(rt).ok()?.skip(1);
-    match (words.next(), words.next()) {
-        (None, _) => Some(false),
-        (Some(word), None) if word.as_str() == "trace" => Some(true),
-        _ => None,
-    }
+    let Some(word) = words.next() else {
+        return Some(false);
+    };
+    (word.as_str() == "trace" && words.next().is_none()).then_some(true)
 }
 
 fn main(rt: HostRuntime) -> ExitCode {
