@@ -121,19 +121,13 @@ fn play_alone(device: Device, events: &[u8]) -> Counted {
     let mut rest = events;
     let mut counted = Counted::default();
     for _ in 0..events.len() {
-        let Some((event, behind)) = next_event(rest, false) else {
+        let Some((bytes, behind)) = next_event(rest, false) else {
             break;
         };
-        let Some(request) = events::request_of(event) else {
+        let Some(event) = events::event_of(bytes) else {
             break;
         };
-        let outcome = call(
-            device,
-            event,
-            request,
-            &mut lent.medium[..size],
-            &mut lent.reply,
-        );
+        let outcome = call(device, event, &mut lent.medium[..size], &mut lent.reply);
         counted.played = counted.played.saturating_add(1);
         counted.refused = counted
             .refused
