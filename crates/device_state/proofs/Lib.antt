@@ -3,5 +3,7 @@ pub mod TiedMoves
 pub mod TiedClauses
 pub mod TableLaws
 pub mod Walk
+pub mod Sets
+pub mod Clearing
 pub mod EchoLaws
 pub mod Tied
