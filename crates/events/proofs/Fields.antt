@@ -1,9 +1,5 @@
 -- The turns of the loop that writes the fields of a line's replies. Assumes nothing.
-use Rattle.std.proofs.Common.{◌≡◌, ℕ, ◌<◌, ◌+◌, ◌/◌, ◌%◌, Bool, List, [], ◌∷◌, ◌++◌, length, get_or, Option, slice_index, take, drop, refl, arith, ap, ◌∙◌, append_assoc}
-use Rattle.std.proofs.lemmas.List.{take_more}
-use Rattle.std.proofs.KnownBytes.{Appends-trans}
-use Rattle.std.specs.Io.KnownBytes.{Appends}
-use Rattle.hex.specs.Hex.{encode_with, encode_upper, upper_digits}
+use Rattle.std.proofs.Common.{◌≡◌, ℕ, ◌<◌, Bool, List, ◌∷◌, ◌++◌, length, take, drop, arith, ◌∙◌, append_assoc}
 use Rattle.frames.specs.Cut.{first_length, cut}
 use Rattle.frames.proofs.CutLaws.{cut_next}
 use Rattle.events.specs.Lines.{field_of, fields_of}
