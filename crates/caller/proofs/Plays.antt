@@ -22,8 +22,8 @@ use Rattle.events.specs.declared.kinds.Kind.{Kind}
 use Rattle.events.specs.declared.kinds.Kind.TheVariants as kinds
 use Rattle.std.specs.Option.{option_and_then}
 use Rattle.events.specs.Settings.{asked_of}
-use Rattle.events.specs.Requests.{request_by_kind, request_of}
-use Rattle.events.specs.declared.asked.Request.{Request}
+use Rattle.events.specs.Asked.{event_by_kind, event_of}
+use Rattle.events.specs.declared.asked.Event.{Event}
 use Rattle.events.specs.HostData.{data_frame, host_data_frame}
 use Rattle.events.specs.Start.{start_by, start_of}
 use Rattle.events.specs.Calls.{call_of, call_for}
@@ -39,8 +39,8 @@ abbrev TypedCall : Option Call → Type 0
 TypedCall None = Unit
 TypedCall (Some c) = Typed c
 
-abbrev TypedFor : Device → List ℕ → Option Request → Type 0
-TypedFor d e o = TypedCall (option_map (call_of d e) o)
+abbrev TypedFor : Device → Option Event → Type 0
+TypedFor d o = TypedCall (option_map (call_of d) o)
 
 same_bytes : (n b i : ℕ) → b < 256 → get_or (replicate n b) i 0 < 256
 same_bytes zero b i h = omega arith
@@ -55,18 +55,19 @@ data_bytes n b h (suc (suc zero)) = omega arith
 data_bytes n b h (suc (suc (suc zero))) = omega arith
 data_bytes n b h (suc (suc (suc (suc i)))) = same_bytes n b i h
 
-typed_kind : (d : Device) (e : List ℕ) (kind : Option Kind) → Bytes e → TypedFor d e (option_and_then (request_by_kind e) kind)
-unfolding request_by_kind call_of
+typed_kind : (d : Device) (e : List ℕ) (kind : Option Kind) → Bytes e → TypedFor d (option_and_then (event_by_kind e) kind)
+unfolding event_by_kind call_of
 typed_kind d e None w = tt
 typed_kind d e (Some kinds.Settings) w = tt
 typed_kind d e (Some kinds.FinishTags) w = set_typed _ (le_lt e w 1 4)
 typed_kind d e (Some kinds.MediaError) w = error_typed _ (w 2)
 typed_kind d e (Some kinds.HostData) w = frame_typed (host_data_frame d (get_or e 1 0)) (data_bytes (unwrap_or (data_due d) 4) (get_or e 1 0) (w 1))
-typed_kind d e (Some (kinds.HostFrame kind)) w = frame_typed e w
+typed_kind d e (Some kinds.HostRegister) w = frame_typed e w
+typed_kind d e (Some kinds.Bist) w = frame_typed e w
 typed_kind d e (Some kind) w = none_typed
 
 typed_event : (d : Device) (e : List ℕ) → Bytes e → TypedCall (call_for d e)
-unfolding request_of
+unfolding event_of
 typed_event d e w = typed_kind d e (event_kind e) w
 
 -- ---- one event continues

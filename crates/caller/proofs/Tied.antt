@@ -12,6 +12,7 @@ use denote.RattleType.{RattleType}
 use denote.Param.Laws.{Laws}
 use mir.Syntax.{Dict}
 use Rattle.std.specs.declared.io.traits.Read as Reader
+use Rattle.std.specs.declared.io.traits.BufRead as Buffered
 use Rattle.std.specs.declared.io.traits.Write as Writer
 use Rattle.caller.specs.Continued.{Begins, Continues, ContinuesReplying, ContinuesAlone, FirstCall}
 use Rattle.caller.specs.Playing.{play as played, BeginsBy, PlayContinues, PlaysContinue, GivenPlaysHold, GivenPlaysTold}
@@ -55,10 +56,10 @@ pub tied_first_link : Says calling-said.first_link.ended calling.first_link.Read
 tied_first_link = say (λ κs a. tt) (λ κs a r ws p. p)
 
 -- the event program's run, by any reader to any writer
-pub tied_run : (R W : RattleType) (l : Laws R) (m : Laws W) (g : Reader.Ghosts R.Denot) (d : Dict) (h : Writer.Ghosts W.Denot) (e : Dict)
-    → SaysOver (running-said.run.ended R W g d h e) (running.run.Reads.Asked R W l m g d h e) (running.run.Reads.Post R W l m g d h e)
+pub tied_run : (R W : RattleType) (l : Laws R) (m : Laws W) (b : Buffered.Ghosts R.Denot) (c : Dict) (g : Reader.Ghosts R.Denot) (d : Dict) (h : Writer.Ghosts W.Denot) (e : Dict)
+    → SaysOver (running-said.run.ended R W b c g d h e) (running.run.Reads.Asked R W l m b c g d h e) (running.run.Reads.Post R W l m b c g d h e)
     (λ κs a r ws. IfSome (g.remaining a.1.0.now) (λ input. Bytes input → RunHistory a.0.traced input (h.contents a.1.1.0.now) (h.contents ws.1.1.0)))
-tied_run R W l m g d h e = record { same = λ κs a b h. h; some = (([], ([], (R.lives, (W.lives, tt)))), λ a. ((λ x h. h), (λ x h. h))); says = λ κs a r ws p. p }
+tied_run R W l m b c g d h e = record { same = λ κs a b h. h; some = (([], ([], (R.lives, (W.lives, tt)))), λ a. ((λ x h. h), (λ x h. h))); says = λ κs a r ws p. p }
 
 -- ---- of a kept device
 

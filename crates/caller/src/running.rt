@@ -4,10 +4,14 @@ ghost use Rattle.bits.specs.Little.{Bytes};
 ghost use Rattle.caller.specs.Program.{RunHistory};
 
 use events::{Format, RunError};
-use std::io::{Read, Write};
+use std::io::{BufRead, Write};
 
 /// The run of an event file. An input is of bytes, as what stands in a slice of them always is.
-pub fn run<R: Read, W: Write>(format: Format, reader: &mut R, out: &mut W) -> Result<(), RunError>
+pub fn run<R: BufRead, W: Write>(
+    format: Format,
+    reader: &mut R,
+    out: &mut W,
+) -> Result<(), RunError>
     ensures { IfSome (R.remaining reader.old) (λ input. Bytes input → RunHistory format.traced input (W.contents out.old) (W.contents out.new)) }
 {
     events::run(format, reader, out)

@@ -50,12 +50,12 @@ impl Device {
     }
 
     // The act is done: replies, whose length is answered, then the state.
-    fn done(&mut self, act: Act, part: &[u8], reply: &mut [u8]) -> usize
-        ensures state { self.new ≡ after_of self.old act }
-        ensures reply { RepliesGiven (pick (leb 8196 (length reply.old)) (replies_of (state_shown self.old) part.now act) []) reply.old result reply.new }
+    fn done(&mut self, act: &Act, part: &[u8], reply: &mut [u8]) -> usize
+        ensures state { self.new ≡ after_of self.old act.now }
+        ensures reply { RepliesGiven (pick (leb 8196 (length reply.old)) (replies_of (state_shown self.old) part.now act.now) []) reply.old result reply.new }
     {
-        let len = replies::emit(reply, &act, &self.shown(), part);
-        self.after(&act);
+        let len = replies::emit(reply, act, &self.shown(), part);
+        self.after(act);
         len
     }
 }
@@ -148,7 +148,7 @@ impl Sealed {
     {
         let act = self.frame_act(frame, medium, reply)?;
         act.store(medium, frame);
-        Ok(self.device.done(act, b"", reply))
+        Ok(self.device.done(&act, b"", reply))
     }
 
     /// A device event. Of what is lent, it looks at the medium for a send alone, and for a link event not at the reply
@@ -165,7 +165,7 @@ impl Sealed {
         ensures { Given self.old.device (lent (happens event) medium.now reply.old) (gave (answered self.new.device result) medium.now reply.new) }
     {
         let act = self.event_act(event, medium, reply)?;
-        Ok(self.device.done(act, act.part(medium), reply))
+        Ok(self.device.done(&act, act.part(medium), reply))
     }
 
     /// Open a phase for an outstanding tag: DMA Setup, and for a write an Activate.

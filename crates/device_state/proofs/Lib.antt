@@ -1,5 +1,7 @@
 pub mod Storing
 pub mod TableLaws
 pub mod Walk
+pub mod Sets
+pub mod Clearing
 pub mod EchoLaws
 pub mod Tied

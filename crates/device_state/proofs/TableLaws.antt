@@ -1,7 +1,7 @@
 -- Laws of tests over a table. Assumes nothing.
-use Rattle.std.proofs.Common.{◌≡◌, refl, sym, ap, ◌∙◌, Bool, true, false, ℕ, zero, suc, ◌+◌, ◌≤◌, ◌<◌, add-one, arith, List, [], ◌∷◌, ◌++◌, append-nil, ⊎_elim, eq-or-lt_of_le, le_of_eq, eqb, length, get_or, set, drop, length-append, length-set, drop_of_length-le, drop-cons, ext_get_or, get_or-set_same, get_or-set_other, eqb-true, ne_eqb}
+use Rattle.std.proofs.Common.{◌≡◌, refl, sym, ap, ◌∙◌, Bool, true, false, ℕ, zero, suc, ◌+◌, ◌≤◌, ◌<◌, add-one, arith, List, [], ◌∷◌, ⊎_elim, eq-or-lt_of_le, eqb, length, get_or, set, length-append, length-set, ext_get_or, get_or-set_same, get_or-set_other, eqb-true, ne_eqb}
 use lib.ListN.{get_or-append}
-use lib.Seq.{set_at, append_snoc, get_or_at}
+use lib.Seq.{get_or_at}
 use borrow.Author.Tests.{eqb-false}
 use Rattle.bits.specs.Pick.{pick}
 use Rattle.bits.specs.Bit.{bit_in}
@@ -46,30 +46,6 @@ module _ {A : Type 0} where
       (λ k. let l = length_tab n f in get_or-append (tabulation n f) (f n ∷ []) d i (omega arith) ∙ get_or_tab n f i d k)
       (eq-or-lt_of_le {n = i} {m = n} (omega arith))
 
-  -- a list whose first n elements a loop has replaced
-  abbrev pub partly : ℕ → (ℕ → A) → List A → List A
-  partly n f l = tabulation n f ++ drop n l
-
-  pub partly_none : (f : ℕ → A) (l : List A) → l ≡ partly 0 f l
-  unfolding tabulation
-  partly_none f l = refl
-
-  -- what comes next is still the old element
-  pub partly_next : (n : ℕ) (f : ℕ → A) (l : List A) (d : A) → n < length l → get_or (partly n f l) n d ≡ get_or l n d
-  partly_next n f l d h = rw (drop-cons l n d) (get_or_at (tabulation n f) _ _ d n (length_tab n f))
-
-  pub partly_turn : (n : ℕ) (f : ℕ → A) (l : List A) (d : A) → n < length l → set (partly n f l) n (f n) ≡ partly (n + 1) f l
-  unfolding tabulation
-  partly_turn n f l d h =
-      rw (drop-cons l n d, add-one) (set_at (tabulation n f) _ _ (f n) n (length_tab n f) ∙ sym (append_snoc (tabulation n f) (f n) (drop (suc n) l)))
-
-  -- an element that is as it should be is put there
-  pub partly_put : (n : ℕ) (f : ℕ → A) (l : List A) (d e : A) → n < length l → e ≡ f n → set (partly n f l) n e ≡ partly (n + 1) f l
-  partly_put n f l d e h q = ap (λ (x : A). set (partly n f l) n x) q ∙ partly_turn n f l d h
-
-  pub partly_end : (n : ℕ) (f : ℕ → A) (l : List A) → length l ≡ n → partly n f l ≡ tabulation n f
-  partly_end n f l h = rw (drop_of_length-le l (le_of_eq h)) (append-nil (tabulation n f))
-
 -- the table's element at i, anew or as it was
 abbrev pub fresher : List Entry → ℕ → Entry → ℕ → Entry
 fresher es t e i = pick (eqb i t) e (entry_of es i)
@@ -105,6 +81,3 @@ none_placed es t e h l =
     (λ i k.
     let j : i < 32 = rw h at k in
     rw (get_or_tab 32 (fresher es t e) i zero_entry j, ne_eqb i t (λ q. omega arith)))
-
--- what the check needs of a table that is cleared
-pub ruleset clearing = (partly_none, partly_put, partly_next, partly_end)

@@ -22,14 +22,14 @@ pub fn put_entry(entries: &mut Entries, tag: u32, entry: Entry)
     }
 }
 
-/// The table without the entries of a set of tags.
-#[tactic(auto, unfolding(crate::specs::Table::table_without), using(crate::proofs::TableLaws::clearing))]
+/// The table without the entries of a set of tags: one walk over the set, the lowest tag first.
 pub fn clear_entries(entries: &mut Entries, set: u32)
     ensures { entries.new ≡ table_without entries.old set }
 {
-    for (tag, entry) in entries.iter_mut().enumerate() {
-        if bits::bit(set, tag as u32) {
-            *entry = Entry::default();
-        }
+    let mut rest = set;
+    while rest != 0 {
+        let tag = rest.trailing_zeros();
+        entries[tag as usize] = Entry::default();
+        rest &= !(1 << tag);
     }
 }

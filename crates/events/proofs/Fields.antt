@@ -1,9 +1,5 @@
--- The turns of the loops that write the fields of a line's replies and the digits of bytes. Assumes nothing.
-use Rattle.std.proofs.Common.{◌≡◌, ℕ, ◌<◌, ◌+◌, ◌/◌, ◌%◌, Bool, List, [], ◌∷◌, ◌++◌, length, get_or, Option, slice_index, take, drop, refl, arith, ap, ◌∙◌, append_assoc}
-use Rattle.std.proofs.lemmas.List.{take_more}
-use Rattle.std.proofs.KnownBytes.{Appends-trans}
-use Rattle.std.specs.Io.KnownBytes.{Appends}
-use Rattle.hex.specs.Hex.{encode_with, encode_upper, upper_digits}
+-- The turns of the loop that writes the fields of a line's replies. Assumes nothing.
+use Rattle.std.proofs.Common.{◌≡◌, ℕ, ◌<◌, Bool, List, ◌∷◌, ◌++◌, length, take, drop, arith, ◌∙◌, append_assoc}
 use Rattle.frames.specs.Cut.{first_length, cut}
 use Rattle.frames.proofs.CutLaws.{cut_next}
 use Rattle.events.specs.Lines.{field_of, fields_of}
@@ -18,16 +14,3 @@ pub fields_turn : (traced : Bool) (l piece more : List ℕ) (n : ℕ) (done all 
     → done ++ fields_of traced (cut l) ≡ all → (done ++ field_of traced piece) ++ fields_of traced (cut more) ≡ all
 fields_turn traced l piece more n done all h e f g p =
     rw (f, g, e) (fields_more traced (take (first_length l) l) (cut (drop (first_length l) l)) (cut l) done all (cut_next l (λ z. omega (arith, z, h))) p)
-
-digits_append : (a b : List ℕ) → encode_upper (a ++ b) ≡ encode_upper a ++ encode_upper b
-unfolding encode_with
-digits_append [] b = refl
-digits_append (x ∷ a) b = ap (λ (t : List ℕ). slice_index upper_digits (x / 16) ∷ slice_index upper_digits (x % 16) ∷ t) (digits_append a b)
-
--- the digits of one byte more
-pub digits_turn : (l : List ℕ) (i : ℕ) → i < length l → encode_upper (take (i + 1) l) ≡ encode_upper (take i l) ++ encode_upper (get_or l i 0 ∷ [])
-digits_turn l i h = ap (λ (t : List ℕ). encode_upper t) (take_more l i 0 h) ∙ digits_append (take i l) (get_or l i 0 ∷ [])
-
--- and what is written by then
-pub digits_on : (a b c : Option (List ℕ)) (l digits : List ℕ) (i : ℕ) → i < length l → Appends a b (encode_upper (take i l)) → digits ≡ encode_upper (get_or l i 0 ∷ []) → Appends b c digits → Appends a c (encode_upper (take (i + 1) l))
-digits_on a b c l digits i h p e q = rw (digits_turn l i h) (Appends-trans a b c _ _ p (rw e at q))

@@ -47,7 +47,20 @@ fn told_in_two(told: u8, outstanding: u32) -> [u8; 12]
     ensures { result ≡ told_of told outstanding }
 {
     let [a, b, c, d, e, f, g, h] = upper8(outstanding);
-    [b' ', b'0' + told / 10, b'0' + told % 10, b' ', a, b, c, d, e, f, g, h]
+    [
+        b' ',
+        b'0' + told / 10,
+        b'0' + told % 10,
+        b' ',
+        a,
+        b,
+        c,
+        d,
+        e,
+        f,
+        g,
+        h,
+    ]
 }
 
 // A reply's type, and its length of one digit or two.
@@ -66,7 +79,14 @@ fn label_in_two(kind: u8, length: u8) -> [u8; 6]
     ensures { result ≡ typed kind length }
 {
     let [high, low] = upper(kind);
-    [b' ', high, low, b':', b'0' + length / 10, b'0' + length % 10]
+    [
+        b' ',
+        high,
+        low,
+        b':',
+        b'0' + length / 10,
+        b'0' + length % 10,
+    ]
 }
 
 /// What the line of an event tells.

@@ -5,3 +5,4 @@ pub mod Ruled
 pub mod Failing
 pub mod Numbers
 pub mod Tied
+pub mod Unready

@@ -12,15 +12,20 @@ use device_state::{Echo, Entries, Status};
 use frames::{PAYLOAD_LIMIT, Task};
 use refusals::{Refusal, check};
 
-/// True where a tag of the set is not outstanding, or not wholly moved: one walk over the thirty-two entries.
+/// True where a tag of the set is not outstanding, or not wholly moved: one walk over the set, the lowest tag first.
 pub fn some_unready(entries: &Entries, status: Status, set: u32) -> bool
     ensures { result ≡ some_unready entries.now status.outstanding set }
 {
-    entries.iter().enumerate().any(|(tag, entry)| {
-        let tag = tag as u32;
-        let asked = bits::bit(set, tag);
-        asked && crate::is_unready(asked, status.is_outstanding(tag), entry.progress())
-    })
+    let mut rest = set;
+    while rest != 0 {
+        let tag = rest.trailing_zeros();
+        let progress = entries[tag as usize].progress();
+        if crate::is_unready(true, status.is_outstanding(tag), progress) {
+            return true;
+        }
+        rest &= !(1 << tag);
+    }
+    false
 }
 
 // The command's bytes with the failing sector in those of the LBA.

@@ -1,7 +1,7 @@
 // The same events twice over: by the public calls of `Device`, which take the state and hand it back, and by those of the
 // device that is kept. State, refusal, length, reply buffer and medium must be the same behind each.
 use device::{Device, Outcome, Sealed};
-use events::{EVENT_LIMIT, Kind, RUN_CAPACITY_LIMIT, Request};
+use events::{Event, Kind, RUN_CAPACITY_LIMIT};
 use frames::{DATA_FRAME_LIMIT, DATA_HEAD, DATA_HEAD_SIZE};
 use rules::DeviceEvent;
 
@@ -51,24 +51,19 @@ fn host_data(device: Device, byte: u8, medium: &mut [u8], reply: &mut [u8]) -> O
 }
 
 // One event to a public call of the device.
-fn call(
-    device: Device,
-    event: &[u8],
-    request: Request,
-    medium: &mut [u8],
-    reply: &mut [u8],
-) -> Outcome {
-    match request {
-        Request::Event(DeviceEvent::OpenPhase(tag)) => device.open(tag, reply),
-        Request::Event(DeviceEvent::SendData) => device.send(medium, reply),
-        Request::Event(DeviceEvent::FinishTags(set)) => device.finish(set, reply),
-        Request::Event(DeviceEvent::MediaError { tag, error, sector }) => {
+fn call(device: Device, event: Event, medium: &mut [u8], reply: &mut [u8]) -> Outcome {
+    match event {
+        Event::OfDevice(DeviceEvent::OpenPhase(tag)) => device.open(tag, reply),
+        Event::OfDevice(DeviceEvent::SendData) => device.send(medium, reply),
+        Event::OfDevice(DeviceEvent::FinishTags(set)) => device.finish(set, reply),
+        Event::OfDevice(DeviceEvent::MediaError { tag, error, sector }) => {
             device.media_error(tag, error, sector, reply)
         }
-        Request::Event(DeviceEvent::LinkEvent(row)) => device.link_event(row),
-        Request::Event(DeviceEvent::Comreset) => device.comreset(reply),
-        Request::HostData(byte) => host_data(device, byte, medium, reply),
-        Request::HostFrame => device.host_frame(event, medium, reply),
+        Event::OfDevice(DeviceEvent::LinkEvent(row)) => device.link_event(row),
+        Event::OfDevice(DeviceEvent::Comreset) => device.comreset(reply),
+        Event::HostData(byte) => host_data(device, byte, medium, reply),
+        Event::HostRegister(frame) => device.host_frame(&frame, medium, reply),
+        Event::Bist(frame) => device.host_frame(&frame, medium, reply),
     }
 }
 
@@ -94,22 +89,16 @@ fn play_on(device: Device, sealed: Sealed, events: &[u8]) -> Compared {
         same: device == sealed.device,
     };
     for _ in 0..events.len() {
-        let Some((event, behind)) = next_event(rest, false) else {
+        let Some((bytes, behind)) = next_event(rest, false) else {
             break;
         };
-        let Some(request) = events::request_of(event) else {
+        let Some(event) = events::event_of(bytes) else {
             break;
         };
-        let outcome = call(
-            device,
-            event,
-            request,
-            &mut handed.medium[..size],
-            &mut handed.reply,
-        );
+        let outcome = call(device, event, &mut handed.medium[..size], &mut handed.reply);
         let answer = events::play(
             &mut sealed,
-            event,
+            bytes,
             &mut kept.medium[..size],
             &mut kept.reply,
         );
@@ -132,19 +121,13 @@ fn play_alone(device: Device, events: &[u8]) -> Counted {
     let mut rest = events;
     let mut counted = Counted::default();
     for _ in 0..events.len() {
-        let Some((event, behind)) = next_event(rest, false) else {
+        let Some((bytes, behind)) = next_event(rest, false) else {
             break;
         };
-        let Some(request) = events::request_of(event) else {
+        let Some(event) = events::event_of(bytes) else {
             break;
         };
-        let outcome = call(
-            device,
-            event,
-            request,
-            &mut lent.medium[..size],
-            &mut lent.reply,
-        );
+        let outcome = call(device, event, &mut lent.medium[..size], &mut lent.reply);
         counted.played = counted.played.saturating_add(1);
         counted.refused = counted
             .refused
