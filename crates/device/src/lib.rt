@@ -8,5 +8,7 @@ mod sealed;
 mod sealed_calls;
 mod state;
 
+pub use device_state::Settings;
+pub use refusals::Refusal;
 pub use sealed::Sealed;
 pub use state::{Device, Outcome};
