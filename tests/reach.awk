@@ -100,7 +100,7 @@ FILENAME ~ /\.antt$/ {
   next
 }
 
-/^\| / && !/^\| sentence/ {
+/^\| / && !/^\| rules/ {
   split($0, column, "|")
   split("", met); top = 0
   n = split(column[4], part, "`")

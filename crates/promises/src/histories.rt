@@ -35,7 +35,7 @@ pub fn carried_once()
     ensures contents { Always (λ s h. Contents h) }
 {}
 
-/// Where each call is lent the medium as the last one left it, the bytes of a finished write stand there until another command writes there, and a read carries what then stands there.
+/// Where each call is lent the medium as the last one left it, the bytes of a finished write stand until another data frame brings a byte there, and a read carries what then stands there.
 pub fn finished_writes_stand()
     ensures { Always (λ s h. (m : List ℕ) → HandedOn m h → Lasting m h) }
 {}

@@ -3,6 +3,7 @@ use clap::{Arg, ArgAction, ArgMatches, Command};
 use frames::LogPage;
 use page_text::{Notation, Query};
 use std::alloc::{AllocError, Global};
+use version::VERSION;
 
 /// The words that the program takes.
 pub(crate) fn command<'a>(alloc: Global) -> Result<Command<'a>, AllocError> {
@@ -26,6 +27,7 @@ pub(crate) fn command<'a>(alloc: Global) -> Result<Command<'a>, AllocError> {
         .help("Where pages lie; standard input if none is named")
         .num_args(0..);
     Command::new(alloc, "read_page")
+        .version(VERSION)
         .about("Tells a log page of 512 bytes in words")
         .after_help(
             "Exit status: 0 told in full, 1 refused, 2 usage, 3 unread, 4 lines are missing; of several files the greatest.",

@@ -1,0 +1,5 @@
+// The version of the repository: this one place. Every program prints it with `--version`; `docs/CHANGES.md` says what each brought.
+#![tactic(auto)]
+
+/// The version, as `docs/CHANGES.md` has it.
+pub const VERSION: &str = "0.1.0";
