@@ -1,0 +1,6 @@
+pub mod Numbers
+pub mod Names
+pub mod Words
+pub mod Verbs
+pub mod Steps
+pub mod Changes
