@@ -1,3 +1,4 @@
 pub mod NumberLaws
 pub mod WordLaws
 pub mod NameLaws
+pub mod BytesLaws

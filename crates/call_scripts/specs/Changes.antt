@@ -78,3 +78,33 @@ record_at words = do
 -- the open phase as its tag and one, 0 where none is open
 abbrev pub phase_of : ℕ → Option ℕ
 phase_of n = pick (eqb n 0) None (Some (n - 1))
+
+-- `set value ROW N`: of the sixteen rows
+abbrev pub value_at : List (List ℕ) → Option Change
+value_at words = do
+  row ← number_at words 2 15
+  value ← long_at words 3
+  Some (change.TheVariants.Value row value)
+
+-- what the words of a field's line change
+abbrev pub change_at : List (List ℕ) → Field → Option Change
+change_at words field.TheVariants.Depth = long_at words 2 >>= (λ n. Some (change.TheVariants.Depth n))
+change_at words field.TheVariants.Capacity = long_at words 2 >>= (λ n. Some (change.TheVariants.Capacity n))
+change_at words field.TheVariants.Mask = short_at words 2 >>= (λ n. Some (change.TheVariants.Mask n))
+change_at words field.TheVariants.Outstanding = long_at words 2 >>= (λ n. Some (change.TheVariants.Outstanding n))
+change_at words field.TheVariants.Phase = long_at words 2 >>= (λ n. Some (change.TheVariants.Phase (phase_of n)))
+change_at words field.TheVariants.Halted = flag_at words 2 >>= (λ b. Some (change.TheVariants.Halted b))
+change_at words field.TheVariants.Held = flag_at words 2 >>= (λ b. Some (change.TheVariants.Held b))
+change_at words field.TheVariants.Value = value_at words
+change_at words field.TheVariants.Entry = do
+  tag ← number_at words 2 31
+  entry ← entry_at words
+  Some (change.TheVariants.Entry tag entry)
+change_at words field.TheVariants.Record = record_at words >>= (λ e. Some (change.TheVariants.Record e))
+
+-- what the words of a line change, of which the second names the field
+abbrev pub change_of : List (List ℕ) → Option Change
+change_of words = do
+  word ← slice_get words 1
+  field ← field_of word
+  pick (eqb (length words) (field_words field)) (change_at words field) None

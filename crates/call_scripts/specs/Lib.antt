@@ -4,3 +4,5 @@ pub mod Words
 pub mod Verbs
 pub mod Steps
 pub mod Changes
+pub mod Bytes
+pub mod Commands

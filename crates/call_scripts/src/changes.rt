@@ -1,10 +1,16 @@
 // What `set` changes of the state that is handed in next.
 ghost use Rattle.std.specs.Prelude.{◌≡◌, ◌<◌};
-ghost use Rattle.call_scripts.specs.Changes.{field_of, field_words, echo_at, entry_at, record_at};
+ghost use Rattle.call_scripts.specs.Changes.{field_of, field_words, echo_at, entry_at, record_at, value_at, change_at, change_of};
 
 use crate::names::named;
 use crate::words::Words;
-use device_state::{Echo, Entry, ErrorRecord};
+use counters::ROWS;
+use device_state::{Echo, Entry, ErrorRecord, Settings};
+
+// The rows that a state holds, and the tags.
+const LAST_ROW: u8 = (ROWS - 1) as u8;
+
+const LAST_TAG: u8 = (Settings::ENTRIES - 1) as u8;
 
 /// A part of the state, by the word behind `set`.
 #[derive(Clone, Copy, Debug, PartialEq, Eq)]
@@ -138,5 +144,45 @@ impl<'a> Words<'a> {
             error: self.byte(5)?,
             echo: self.echo(6)?,
         })
+    }
+
+    fn value(&self) -> Option<Change>
+        ensures { result ≡ value_at self.now }
+    {
+        Some(Change::Value {
+            row: self.narrow(2, LAST_ROW)?,
+            value: self.long(3)?,
+        })
+    }
+
+    fn change(&self, field: Field) -> Option<Change>
+        ensures { result ≡ change_at self.now field }
+    {
+        match field {
+            Field::Depth => Some(Change::Depth(self.long(2)?)),
+            Field::Capacity => Some(Change::Capacity(self.long(2)?)),
+            Field::Mask => Some(Change::Mask(self.short(2)?)),
+            Field::Outstanding => Some(Change::Outstanding(self.long(2)?)),
+            Field::Phase => Some(Change::Phase(self.long(2)?.checked_sub(1))),
+            Field::Halted => Some(Change::Halted(self.flag(2)?)),
+            Field::Held => Some(Change::Held(self.flag(2)?)),
+            Field::Value => self.value(),
+            Field::Entry => Some(Change::Entry {
+                tag: self.narrow(2, LAST_TAG)?,
+                entry: self.entry()?,
+            }),
+            Field::Record => Some(Change::Record(self.record()?)),
+        }
+    }
+
+    /// What the words behind `set` change.
+    pub(crate) fn asked_change(&self) -> Option<Change>
+        ensures { result ≡ change_of self.now }
+    {
+        let field = Field::named(self.word(1)?)?;
+        if self.len() != field.words() {
+            return None;
+        }
+        self.change(field)
     }
 }

@@ -1,8 +1,26 @@
 // Scripts of calls: a line of text to a command, and what the device answers to it as text. Every public function is total and has no `requires`.
 #![tactic(auto)]
 
-mod numbers;
-mod names;
-mod words;
-mod verbs;
+mod bytes;
 mod changes;
+mod commands;
+mod names;
+mod numbers;
+mod verbs;
+mod words;
+
+pub use bytes::Bytes;
+pub use changes::Change;
+pub use commands::Command;
+
+/// The bytes of the medium of a bench; a call is lent a front of it.
+pub const MEDIUM_SIZE: u16 = 0x8000;
+
+/// The bytes of its reply buffer.
+pub const REPLY_SIZE: u16 = 0x4000;
+
+/// The most bytes of a frame that a line gives.
+pub const FRAME_MOST: usize = 0x2004;
+
+/// The most bytes of the payload that `data` counts up.
+pub const PAYLOAD_MOST: u16 = 0x2004;

@@ -1,8 +1,10 @@
 // The words of a line: the command's, and behind it those that it is given.
-ghost use Rattle.std.specs.Prelude.{◌≡◌, IfOk, length, slice_get};
+ghost use Rattle.std.specs.Prelude.{◌≡◌, IfOk, length, drop, slice_get};
 ghost use Rattle.std.specs.Option.{option_map};
 ghost use Rattle.call_scripts.specs.Words.{asked_text, words_of, number_at, long_at, short_at, byte_at, flag_at};
+ghost use Rattle.call_scripts.specs.Bytes.{bytes_of};
 
+use crate::bytes::{Bytes, bytes_of};
 use crate::numbers::number_within;
 use std::alloc::{AllocError, Global};
 use std::marker::Model;
@@ -81,16 +83,30 @@ impl<'a> Words<'a> {
     pub(crate) fn short(&self, place: usize) -> Option<u16>
         ensures { result ≡ short_at self.now place }
     {
-        let number = self.number(place, u32::from(u16::MAX))?;
+        self.small(place, u16::MAX)
+    }
+
+    /// A number of 16 bits, of at most so much.
+    pub(crate) fn small(&self, place: usize, most: u16) -> Option<u16>
+        ensures { result ≡ number_at self.now place most }
+    {
+        let number = self.number(place, u32::from(most))?;
         u16::try_from(number).ok()
+    }
+
+    /// A number of 8 bits, of at most so much.
+    pub(crate) fn narrow(&self, place: usize, most: u8) -> Option<u8>
+        ensures { result ≡ number_at self.now place most }
+    {
+        let number = self.number(place, u32::from(most))?;
+        u8::try_from(number).ok()
     }
 
     /// A byte.
     pub(crate) fn byte(&self, place: usize) -> Option<u8>
         ensures { result ≡ byte_at self.now place }
     {
-        let number = self.number(place, u32::from(u8::MAX))?;
-        u8::try_from(number).ok()
+        self.narrow(place, u8::MAX)
     }
 
     /// A flag, which is 0 or 1.
@@ -98,5 +114,16 @@ impl<'a> Words<'a> {
         ensures { result ≡ flag_at self.now place }
     {
         Some(self.number(place, 1)? == 1)
+    }
+
+    /// The bytes that the words behind the first tell, each in pairs of hex digits.
+    #[tactic(auto, unfolding(crate::specs::Bytes::bytes_of))]
+    pub(crate) fn bytes(&self, alloc: Global) -> Result<Option<Bytes>, AllocError>
+        ensures { IfOk result (λ bytes. bytes ≡ bytes_of (drop 1 self.now)) }
+    {
+        match self.words.split_first() {
+            Some((_, words)) => bytes_of(alloc, words),
+            None => Ok(Some(Bytes::new(alloc))),
+        }
     }
 }

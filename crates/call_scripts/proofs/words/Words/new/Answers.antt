@@ -9,6 +9,6 @@ pub returns : goal.returns
 unfolding words_of
 returns c =
     let all = YieldsList-end
-      (YieldsList-from_slice_split _ is_ascii_whitespace c.args.text.now (cc) (cc) (cc) (λ x r q k. (search rules, k.called.met.0 ∙ ap is_ascii_whitespace k.shows)))
-      c.loop-word.yielded _ c.loop-word.yielded_by _ _ c.in-None.is c.next.ensures.steps in
+    (YieldsList-from_slice_split _ is_ascii_whitespace c.args.text.now (cc) (cc) (cc) (λ x r q k. (search rules, k.called.met.0 ∙ ap is_ascii_whitespace k.shows)))
+    c.loop-word.yielded _ c.loop-word.yielded_by _ _ c.in-None.is c.next.ensures.steps in
     c.loop-word.invariant ∙ ap (λ (pieces : List (List ℕ)). filter is_word pieces) all.0
