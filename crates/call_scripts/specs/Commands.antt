@@ -1,5 +1,5 @@
 -- What a line of a script asks for. Assumes nothing.
-use Rattle.std.specs.Prelude.{ℕ, Bool, true, eqb, leb, List, length, drop, slice_get, Option, Some, None}
+use Rattle.std.specs.Prelude.{ℕ, Bool, true, eqb, List, length, drop, slice_get, Option, Some, None}
 use Rattle.bits.specs.Pick.{pick}
 use Rattle.device_state.specs.declared.shapes.Settings.{Settings}
 use Rattle.rules.specs.declared.event.DeviceEvent.{DeviceEvent}
@@ -47,25 +47,20 @@ command_at words verb.TheVariants.Comreset = Some (command.TheVariants.Event Com
 command_at words verb.TheVariants.Counter = short_at words 1 >>= (λ number. Some (command.TheVariants.Counter number))
 command_at words verb.TheVariants.Count = Some command.TheVariants.Count
 command_at words verb.TheVariants.Lend = do
-  medium ← number_at words 1 32768
+  medium ← number_at words 1 262144
   reply ← number_at words 2 16384
   Some (command.TheVariants.Lend medium reply)
 command_at words verb.TheVariants.Fill = byte_at words 1 >>= (λ byte. Some (command.TheVariants.Fill byte))
 command_at words verb.TheVariants.Set = change_of words >>= (λ change. Some (command.TheVariants.Set change))
 command_at words verb.TheVariants.Show = Some command.TheVariants.Show
 command_at words verb.TheVariants.Medium = do
-  at ← short_at words 1
-  size ← short_at words 2
+  at ← long_at words 1
+  size ← long_at words 2
   Some (command.TheVariants.Medium at size)
-
--- a frame of the bytes that are told, of which there is a most
-abbrev pub frame_of : Option (List ℕ) → Option Command
-frame_of (Some bytes) = pick (leb (length bytes) 8196) (Some (command.TheVariants.Frame bytes)) None
-frame_of None = None
 
 -- what a verb's words ask for
 abbrev pub asked_at : List (List ℕ) → Verb → Option Command
-asked_at words verb.TheVariants.Frame = frame_of (bytes_of (drop 1 words))
+asked_at words verb.TheVariants.Frame = bytes_of (drop 1 words) >>= (λ bytes. Some (command.TheVariants.Frame bytes))
 asked_at words v = command_at words v
 
 -- a line has so many words as its verb's has, if that is fixed

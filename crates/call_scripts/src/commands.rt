@@ -7,7 +7,7 @@ use crate::bytes::Bytes;
 use crate::changes::Change;
 use crate::verbs::Verb;
 use crate::words::{Words, asked_text};
-use crate::{FRAME_MOST, MEDIUM_SIZE, PAYLOAD_MOST, REPLY_SIZE};
+use crate::{MEDIUM_SIZE, PAYLOAD_MOST, REPLY_SIZE};
 use device_state::Settings;
 use rules::DeviceEvent;
 use std::alloc::{AllocError, Global};
@@ -37,7 +37,7 @@ pub enum Command {
     /// How much is lent from now on.
     Lend {
         /// Bytes of the medium.
-        medium: u16,
+        medium: u32,
         /// Bytes of the reply buffer.
         reply: u16,
     },
@@ -50,9 +50,9 @@ pub enum Command {
     /// Bytes of the medium.
     Medium {
         /// The first of them.
-        at: u16,
+        at: u32,
         /// How many.
-        size: u16,
+        size: u32,
     },
 }
 
@@ -97,15 +97,15 @@ impl<'a> Words<'a> {
             Verb::Counter => Command::Counter(self.short(1)?),
             Verb::Count => Command::Count,
             Verb::Lend => Command::Lend {
-                medium: self.small(1, MEDIUM_SIZE)?,
+                medium: self.number(1, MEDIUM_SIZE as u32)?,
                 reply: self.small(2, REPLY_SIZE)?,
             },
             Verb::Fill => Command::Fill(self.byte(1)?),
             Verb::Set => Command::Set(self.asked_change()?),
             Verb::Show => Command::Show,
             Verb::Medium => Command::Medium {
-                at: self.short(1)?,
-                size: self.short(2)?,
+                at: self.long(1)?,
+                size: self.long(2)?,
             },
         })
     }
@@ -116,12 +116,7 @@ impl<'a> Words<'a> {
         if verb != Verb::Frame {
             return Ok(self.command(verb));
         }
-        let bytes = self.bytes(alloc)?;
-        Ok(
-            bytes
-                .filter(|bytes| bytes.len() <= FRAME_MOST)
-                .map(Command::Frame),
-        )
+        Ok(self.bytes(alloc)?.map(Command::Frame))
     }
 
     // Whether there are as many words as a verb's line has.

@@ -14,13 +14,13 @@ pub use changes::Change;
 pub use commands::Command;
 
 /// The bytes of the medium of a bench; a call is lent a front of it.
-pub const MEDIUM_SIZE: u16 = 0x8000;
+pub const MEDIUM_SIZE: usize = 0x40000;
 
 /// The bytes of its reply buffer.
 pub const REPLY_SIZE: u16 = 0x4000;
 
-/// The most bytes of a frame that a line gives.
-pub const FRAME_MOST: usize = 0x2004;
+/// The most bytes that a line tells, as those of a frame.
+pub const BYTES_MOST: u32 = 0x4000;
 
 /// The most bytes of the payload that `data` counts up.
 pub const PAYLOAD_MOST: u16 = 0x2004;

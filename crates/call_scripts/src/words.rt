@@ -117,7 +117,7 @@ impl<'a> Words<'a> {
     }
 
     /// The bytes that the words behind the first tell, each in pairs of hex digits.
-    #[tactic(auto, unfolding(crate::specs::Bytes::bytes_of))]
+    #[tactic(auto, unfolding(crate::specs::Bytes::all_bytes))]
     pub(crate) fn bytes(&self, alloc: Global) -> Result<Option<Bytes>, AllocError>
         ensures { IfOk result (λ bytes. bytes ≡ bytes_of (drop 1 self.now)) }
     {
