@@ -2,3 +2,4 @@ pub mod NumberLaws
 pub mod WordLaws
 pub mod NameLaws
 pub mod BytesLaws
+pub mod CallLaws

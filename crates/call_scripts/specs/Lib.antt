@@ -6,3 +6,5 @@ pub mod Steps
 pub mod Changes
 pub mod Bytes
 pub mod Commands
+pub mod Bench
+pub mod Calls

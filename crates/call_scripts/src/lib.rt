@@ -1,14 +1,18 @@
 // Scripts of calls: a line of text to a command, and what the device answers to it as text. Every public function is total and has no `requires`.
 #![tactic(auto)]
 
+mod bench;
 mod bytes;
+mod calls;
 mod changes;
 mod commands;
+mod loans;
 mod names;
 mod numbers;
 mod verbs;
 mod words;
 
+pub use bench::Bench;
 pub use bytes::Bytes;
 pub use changes::Change;
 pub use commands::Command;

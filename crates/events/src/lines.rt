@@ -82,7 +82,11 @@ impl Format {
         Ok(())
     }
 
-    fn write_fields<W: Write>(self, out: &mut W, replies: &[u8]) -> io::Result<()>
+    /// Writes the replies of a call, each behind a blank: type:length and, where the run is traced, its bytes.
+    ///
+    /// # Errors
+    /// The writer's, or no memory for the digits of a reply.
+    pub fn write_fields<W: Write>(self, out: &mut W, replies: &[u8]) -> io::Result<()>
         ensures { OnOk result (Appends (W.contents out.old) (W.contents out.new) (fields_of self.traced (cut replies.now))) }
     {
         for reply in frames::frames_of(replies) {
