@@ -3,3 +3,4 @@ pub mod WordLaws
 pub mod NameLaws
 pub mod BytesLaws
 pub mod CallLaws
+pub mod RowLaws

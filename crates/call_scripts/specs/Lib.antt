@@ -8,3 +8,7 @@ pub mod Bytes
 pub mod Commands
 pub mod Bench
 pub mod Calls
+pub mod Counting
+pub mod Applying
+pub mod Rows
+pub mod Answers

@@ -1,14 +1,18 @@
 // Scripts of calls: a line of text to a command, and what the device answers to it as text. Every public function is total and has no `requires`.
 #![tactic(auto)]
 
+mod answers;
+mod applying;
 mod bench;
 mod bytes;
 mod calls;
 mod changes;
 mod commands;
+mod counting;
 mod loans;
 mod names;
 mod numbers;
+mod rows;
 mod verbs;
 mod words;
 
@@ -28,3 +32,6 @@ pub const BYTES_MOST: u32 = 0x4000;
 
 /// The most bytes of the payload that `data` counts up.
 pub const PAYLOAD_MOST: u16 = 0x2004;
+
+// What every byte of the reply buffer is before a call, so that one that a call changed shows.
+const UNTOUCHED: u8 = 0xEE;

@@ -1,0 +1,7 @@
+-- Bytes that count up. Assumes nothing.
+use Rattle.std.specs.Prelude.{ℕ, zero, suc, ◌+◌, ◌%◌, List, [], ◌∷◌, ◌++◌}
+
+-- so many bytes: the first, and on from it by one a byte, modulo m
+unfoldable pub counted : ℕ → ℕ → ℕ → List ℕ
+counted m first zero = []
+counted m first (suc n) = counted m first n ++ (first + n) % m ∷ []
