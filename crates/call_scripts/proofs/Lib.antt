@@ -4,3 +4,4 @@ pub mod NameLaws
 pub mod BytesLaws
 pub mod CallLaws
 pub mod RowLaws
+pub mod AnswerLaws

@@ -1,10 +1,11 @@
 -- What is printed of an answer. Assumes nothing.
-use Rattle.std.specs.Prelude.{ℕ, Bool, true, not, eqb, List, [], ◌∷◌, ◌++◌, length, take, drop, decimal, codes, Option, Some, None, Result, Ok, Err}
+use Rattle.std.specs.Prelude.{ℕ, ◌+◌, Bool, true, not, eqb, leb, List, [], ◌∷◌, ◌++◌, length, take, drop, decimal, codes, Option, Some, None, Result, Ok, Err}
 use Rattle.std.specs.List.{list_any}
 use Rattle.bits.specs.Pick.{pick}
 use Rattle.refusals.specs.Number.{number, number_told}
 use Rattle.refusals.specs.declared.reasons.Refusal.{Refusal}
 use Rattle.frames.specs.Cut.{cut}
+use Rattle.hex.specs.Hex.{encode_lower}
 use Rattle.events.specs.Lines.{fields_of}
 
 -- some byte is not what every byte of the reply buffer is before a call: EEh
@@ -33,3 +34,11 @@ counter_text (Err refusal) = refused_text refusal
 abbrev pub count_text : Result ℕ Refusal → List ℕ
 count_text (Ok count) = decimal count ++ codes "\n"
 count_text (Err refusal) = refused_text refusal
+
+-- what is printed of a line that asks for nothing that there is
+abbrev pub what_text : List ℕ
+what_text = codes "what?\n"
+
+-- so many bytes of the medium in lower-case hex, if it has them
+abbrev pub part_text : List ℕ → ℕ → ℕ → List ℕ
+part_text medium at size = pick (leb (at + size) (length medium)) (encode_lower (take size (drop at medium)) ++ codes "\n") what_text

@@ -12,3 +12,4 @@ pub mod Counting
 pub mod Applying
 pub mod Rows
 pub mod Answers
+pub mod Answering

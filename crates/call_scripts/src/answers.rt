@@ -1,7 +1,7 @@
 // What the device answers to a call, as a line of text.
 ghost use Rattle.std.specs.Prelude.{◌≡◌, OnOk};
 ghost use Rattle.std.specs.Io.KnownBytes.{Appends};
-ghost use Rattle.call_scripts.specs.Answers.{touched, outcome_text, counter_text, count_text};
+ghost use Rattle.call_scripts.specs.Answers.{touched, outcome_text, counter_text, count_text, part_text};
 
 use crate::UNTOUCHED;
 use device::Outcome;
@@ -63,4 +63,22 @@ pub(crate) fn write_count<W: Write>(out: &mut W, answer: Result<u32, Refusal>) -
         Ok(count) => writeln!(out, "{count}"),
         Err(refusal) => writeln!(out, "refused {refusal}"),
     }
+}
+
+/// So many bytes of the medium, in hex; `what?` where it has not so many there.
+pub(crate) fn write_part<W: Write>(
+    alloc: Global,
+    out: &mut W,
+    medium: &[u8],
+    at: u32,
+    size: u32,
+) -> io::Result<()>
+    ensures { OnOk result (Appends (W.contents out.old) (W.contents out.new) (part_text medium.now at size)) }
+{
+    let at = at as usize;
+    let Some(part) = medium.get(at..at + size as usize) else {
+        return out.write_all(b"what?\n");
+    };
+    out.write_all(hex::encode(alloc, part)?.as_bytes())?;
+    out.write_all(b"\n")
 }

@@ -1,6 +1,7 @@
 // Scripts of calls: a line of text to a command, and what the device answers to it as text. Every public function is total and has no `requires`.
 #![tactic(auto)]
 
+mod answering;
 mod answers;
 mod applying;
 mod bench;
@@ -9,6 +10,7 @@ mod calls;
 mod changes;
 mod commands;
 mod counting;
+mod frames;
 mod loans;
 mod names;
 mod numbers;
