@@ -1,5 +1,5 @@
 -- The reply buffer of a call, and its line. Assumes nothing.
-use Rattle.std.proofs.Common.{◌≡◌, ℕ, min, List, length, take, replicate, ◌∙◌, ap, sym}
+use Rattle.std.proofs.Common.{◌≡◌, ℕ, min, List, take, replicate, ◌∙◌, ap, sym}
 use Rattle.std.proofs.lemmas.List.{take_min}
 use Rattle.std.proofs.Math.ListN.{length-replicate}
 use Rattle.rules.specs.Call.{Call}

@@ -1,5 +1,5 @@
 -- The bytes of the words behind a place. Assumes nothing.
-use Rattle.std.proofs.Common.{◌≡◌, ℕ, ◌+◌, ◌<◌, ◌≤◌, Bool, false, ltb, leb, List, [], ◌∷◌, ◌++◌, drop, drop-cons, length, length-append, get_or, Option, Some, None, refl, sym, ◌∙◌, ap, arith, add-one, map, append_assoc, append-nil}
+use Rattle.std.proofs.Common.{◌≡◌, ℕ, ◌+◌, ◌<◌, ◌≤◌, List, ◌++◌, drop, drop-cons, length, length-append, get_or, Option, Some, None, refl, sym, ◌∙◌, ap, arith, add-one, map, append_assoc, append-nil}
 use Rattle.std.proofs.lemmas.List.{drop_all}
 use Rattle.call_scripts.specs.Bytes.{word_bytes, joined, all_bytes, few}
 

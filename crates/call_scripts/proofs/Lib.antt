@@ -5,3 +5,4 @@ pub mod BytesLaws
 pub mod CallLaws
 pub mod RowLaws
 pub mod AnswerLaws
+pub mod Came

@@ -1,5 +1,5 @@
 -- What a word names by the rows behind a place. Assumes nothing.
-use Rattle.std.proofs.Common.{◌≡◌, ℕ, ◌+◌, ◌<◌, ◌≤◌, List, [], ◌∷◌, drop, drop-cons, length, get_or, Option, Some, None, refl, sym, ◌∙◌, ap, add-one, map, true, false}
+use Rattle.std.proofs.Common.{◌≡◌, ℕ, ◌+◌, ◌<◌, ◌≤◌, List, drop, drop-cons, length, get_or, Some, None, refl, sym, ◌∙◌, ap, add-one, map, true, false}
 use Rattle.std.proofs.lemmas.List.{drop_all}
 use Rattle.std.specs.Str.{bytes_eq}
 use Rattle.bits.specs.Pick.{pick}

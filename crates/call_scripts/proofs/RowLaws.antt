@@ -1,5 +1,5 @@
 -- The entries behind a tag. Assumes nothing.
-use Rattle.std.proofs.Common.{◌≡◌, ℕ, ◌+◌, ◌<◌, ◌≤◌, List, [], ◌∷◌, ◌++◌, drop, drop-cons, length, get_or, refl, sym, ◌∙◌, ap, add-one, append_assoc, append-nil}
+use Rattle.std.proofs.Common.{◌≡◌, ℕ, ◌+◌, ◌<◌, ◌≤◌, List, ◌++◌, drop, drop-cons, length, get_or, sym, ◌∙◌, ap, add-one, append_assoc, append-nil}
 use Rattle.std.proofs.lemmas.List.{drop_all}
 use Rattle.device_state.specs.declared.shapes.Entry.{Entry}
 use Rattle.call_scripts.specs.Rows.{told_text, entries_text}

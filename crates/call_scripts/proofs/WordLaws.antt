@@ -1,5 +1,5 @@
 -- What a line asks for. Assumes nothing.
-use Rattle.std.proofs.Common.{◌≡◌, ℕ, ◌+◌, ◌<◌, List, [], ◌∷◌, ◌++◌, drop, drop-cons, take, length, get_or, refl, arith, add-one, true, false}
+use Rattle.std.proofs.Common.{◌≡◌, ℕ, ◌+◌, ◌<◌, List, [], ◌∷◌, drop, drop-cons, length, get_or, refl, add-one}
 use Rattle.bits.specs.Pick.{pick}
 use Rattle.call_scripts.specs.Words.{asked_text, ends_at}
 

@@ -1,12 +1,12 @@
 -- What a bench answers to a command, and what that leaves behind. Assumes nothing.
-use Rattle.std.specs.Prelude.{ℕ, List, [], ◌++◌, length, take, replicate, Option, Some, None}
+use Rattle.std.specs.Prelude.{ℕ, List, [], length, take, replicate, Some}
 use Rattle.bits.specs.Laid.{overlay}
 use Rattle.device_state.specs.declared.shapes.Settings.{Settings}
 use Rattle.rules.specs.Call.{Call, host_frame, happens}
 use Rattle.device.specs.Counter.{counter_of, count_of}
 use Rattle.device.specs.Device.{power_on}
 use Rattle.device.specs.Step.{Step, bytes_of}
-use Rattle.call_scripts.specs.Answers.{outcome_text, counter_text, count_text, part_text, what_text}
+use Rattle.call_scripts.specs.Answers.{outcome_text, counter_text, count_text, part_text}
 use Rattle.call_scripts.specs.Applying.{changed}
 use Rattle.call_scripts.specs.Bench.{Kept, loan_of, called, after_call}
 use Rattle.call_scripts.specs.Counting.{counted, data_frame}

@@ -1,6 +1,5 @@
 -- What `set` changes. Assumes nothing.
 use Rattle.std.specs.Prelude.{ℕ, ◌+◌, ◌-◌, eqb, List, length, [], ◌∷◌, codes, slice_get, Option, Some, None}
-use Rattle.std.specs.Option.{option_map}
 use Rattle.bits.specs.Pick.{pick}
 use Rattle.device_state.specs.declared.shapes.Echo.{Echo}
 use Rattle.device_state.specs.declared.shapes.Entry.{Entry}

@@ -13,3 +13,5 @@ pub mod Applying
 pub mod Rows
 pub mod Answers
 pub mod Answering
+pub mod Lines
+pub mod Scripts

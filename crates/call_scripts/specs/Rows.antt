@@ -1,5 +1,5 @@
 -- A state in lines of text. Assumes nothing.
-use Rattle.std.specs.Prelude.{ℕ, true, false, List, [], ◌∷◌, ◌++◌, ◌+◌, flat_map, codes, Option, Some, None}
+use Rattle.std.specs.Prelude.{ℕ, false, List, [], ◌∷◌, ◌++◌, ◌+◌, flat_map, codes, Option, Some, None}
 use Rattle.std.specs.Fmt.{radix_digits}
 use Rattle.bits.specs.Answer.{bit_number}
 use Rattle.bits.specs.Pick.{pick}

@@ -1,6 +1,5 @@
 -- What the first word of a line asks for. Assumes nothing.
 use Rattle.std.specs.Prelude.{ℕ, List, [], ◌∷◌, codes, Option, Some, None}
-use Rattle.bits.specs.Pick.{pick}
 use Rattle.call_scripts.specs.Names.{named_in}
 use Rattle.call_scripts.specs.declared.verbs.Verb.{Verb}
 use Rattle.call_scripts.specs.declared.verbs.Verb.TheVariants.{Power, Frame, Data, Open, Send, Finish, Media, Link, Comreset, Counter, Count, Lend, Fill, Set, Show, Medium}

@@ -11,10 +11,12 @@ mod changes;
 mod commands;
 mod counting;
 mod frames;
+mod lines;
 mod loans;
 mod names;
 mod numbers;
 mod rows;
+mod running;
 mod verbs;
 mod words;
 
@@ -22,6 +24,8 @@ pub use bench::Bench;
 pub use bytes::Bytes;
 pub use changes::Change;
 pub use commands::Command;
+pub use lines::{LINE_LIMIT, answer_line, asked_in};
+pub use running::run;
 
 /// The bytes of the medium of a bench; a call is lent a front of it.
 pub const MEDIUM_SIZE: usize = 0x40000;

@@ -37,7 +37,11 @@ fn write_settings<W: Write>(out: &mut W, settings: Settings) -> io::Result<()>
         capacity,
         mask,
     } = settings;
-    write_row(out, b"settings", &[depth.into(), capacity.into(), mask.into()])
+    write_row(
+        out,
+        b"settings",
+        &[depth.into(), capacity.into(), mask.into()],
+    )
 }
 
 // The open phase as its tag and one, 0 where none is open.

@@ -1,4 +1,4 @@
-use Rattle.std.proofs.Common.{◌≡◌, IfOk, ap, sym, ◌∙◌, true, eqb, get_or, take, drop, ℕ, List, Bool, arith, rules, tests, length, ◌-◌, length-drop}
+use Rattle.std.proofs.Common.{◌≡◌, ap, true, eqb, get_or, take, drop, arith, rules, tests, length, ◌-◌, length-drop}
 use Rattle.std.proofs.lemmas.List.{take_all}
 use Rattle.bits.specs.Pick.{pick}
 use Rattle.call_scripts.specs.Bytes.{decoded, repeated, word_bytes}

@@ -1,8 +1,6 @@
-use Rattle.std.proofs.Common.{◌++◌, arith, subst, Option, List, ℕ}
-use Rattle.std.specs.Io.KnownBytes.{Appends}
+use Rattle.std.proofs.Common.{arith}
 use Rattle.std.proofs.KnownBytes.{Appends-trans}
 use Rattle.device_state.specs.State.{zero_entry}
-use Rattle.call_scripts.specs.Rows.{told_text}
 use Rattle.call_scripts.proofs.RowLaws.{entries_more, entries_done}
 use Rattle.call_scripts.proofs.rows.write_entries.Goals as goal
 

@@ -1,4 +1,4 @@
-use Rattle.std.proofs.Common.{rules, tests, ap, ◌∙◌, map, filter, List, ℕ}
+use Rattle.std.proofs.Common.{rules, ap, ◌∙◌, filter, List, ℕ}
 use Rattle.std.specs.Char.{is_ascii_whitespace}
 use Rattle.std.proofs.lemmas.Iterator.Consumers.{YieldsList-end}
 use Rattle.std.proofs.lemmas.Iterator.Splits.{YieldsList-from_slice_split}
