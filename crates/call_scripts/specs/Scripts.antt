@@ -1,11 +1,14 @@
 -- What a run of a script writes for what it reads, for each way in which it may end. Assumes nothing.
-use Rattle.std.specs.Prelude.{◌≡◌, ℕ, eqb, List, [], ◌∷◌, ◌++◌, ◌⊎◌, length, codes, Option, Some, None, Result, Ok, Err, IfSome}
+use Rattle.std.specs.Prelude.{◌≡◌, ℕ, eqb, List, [], ◌∷◌, ◌++◌, ◌⊎◌, length, replicate, codes, Option, Some, None, Result, Ok, Err, IfSome}
 use Rattle.std.specs.Io.KnownBytes.{Appends, Consumes, IsAtEnd}
 use Rattle.bits.specs.Pick.{pick}
 use Rattle.streams.specs.Fronts.{AppendsFront}
+use Rattle.device.specs.Device.{zero_device}
+use Rattle.events.specs.declared.ended.Ended.{Ended}
+use Rattle.events.specs.Runs.{Said, said_of}
 use Rattle.events.specs.declared.errors.RunError.{RunError}
 use Rattle.events.specs.declared.errors.RunError.TheVariants.{Input, Output, Memory, TooMany}
-use Rattle.call_scripts.specs.Bench.{Kept}
+use Rattle.call_scripts.specs.Bench.{Kept, kept}
 use Rattle.call_scripts.specs.Lines.{line_text, after_line, line_with, IsLost}
 
 -- one byte was read, or the input is at its end
@@ -75,3 +78,11 @@ abbrev pub Stops : RunError → (old new : Option (List ℕ)) → Result Unit Ru
 Stops end old new (Ok u) = ⊥
 Stops end old new (Err (Output e)) = AppendsFront old new stop_text
 Stops end old new (Err e) = (e ≡ end) × Appends old new stop_text
+
+-- what a script begins with: a state of zeros, a medium of so many zeros, and nothing said of what is lent
+unfoldable pub fresh : ℕ → Kept
+fresh size = kept zero_device (replicate size 0) None
+
+-- a run of this input from there, whatever was left of it, and what was said of it
+abbrev pub HasRun : (known old new errors errors' : Option (List ℕ)) → Ended → Type 0
+HasRun known old new errors errors' ended = (left : Option (List ℕ)) × Ran (fresh 262144) known left old new ended.run × Said (said_of ended.run) errors errors' ended.said

@@ -8,6 +8,7 @@ mod bench;
 mod bytes;
 mod calls;
 mod changes;
+mod checking;
 mod commands;
 mod counting;
 mod frames;
@@ -15,6 +16,7 @@ mod lines;
 mod loans;
 mod names;
 mod numbers;
+mod pieces;
 mod rows;
 mod running;
 mod verbs;
@@ -23,8 +25,10 @@ mod words;
 pub use bench::Bench;
 pub use bytes::Bytes;
 pub use changes::Change;
+pub use checking::{Found, check_script, wanted};
 pub use commands::Command;
 pub use lines::{LINE_LIMIT, answer_line, asked_in};
+pub use pieces::run_script;
 pub use running::run;
 
 /// The bytes of the medium of a bench; a call is lent a front of it.

@@ -13,8 +13,8 @@ use std::io;
 use std::io::{Read, Write};
 use streams::{fill, put};
 
-// The next byte; none at the input's end.
-fn read_byte<R: Read>(reader: &mut R) -> io::Result<Option<u8>>
+/// The next byte; none at the input's end.
+pub(crate) fn read_byte<R: Read>(reader: &mut R) -> io::Result<Option<u8>>
     ensures ok { IfOk result (λ byte. ReadByte (R.remaining reader.old) byte (R.remaining reader.new)) }
     ensures err { OnErr result (Consumes (R.remaining reader.old) (R.remaining reader.new) []) }
 {
