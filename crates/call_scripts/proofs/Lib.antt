@@ -6,3 +6,4 @@ pub mod CallLaws
 pub mod RowLaws
 pub mod AnswerLaws
 pub mod Came
+pub mod Tied

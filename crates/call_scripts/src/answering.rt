@@ -14,7 +14,7 @@ use crate::bench::Bench;
 use crate::calls::Call;
 use crate::commands::Command;
 use crate::counting::count_up;
-use crate::frames::data_frame;
+use crate::data_frames::data_frame;
 use crate::loans::Loan;
 use crate::rows::write_state;
 use crate::{REPLY_SIZE, UNTOUCHED};
@@ -75,7 +75,7 @@ impl<'a> Bench<'a> {
     /// # Errors
     /// The writer's, or no memory for a frame or for the digits of bytes; the bench is then as the command leaves it, or as it was.
     #[tactic(auto, unfolding(crate::specs::Answering::after, crate::specs::Answering::answer_of))]
-    pub fn answer<W: Write>(
+    pub(crate) fn answer<W: Write>(
         &mut self,
         alloc: Global,
         out: &mut W,

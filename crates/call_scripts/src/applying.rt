@@ -17,7 +17,7 @@ fn put_value(values: &mut Counters, row: u8, value: u32)
 
 impl Change {
     /// Makes the change; of a row or a tag that the state does not hold, none.
-    pub fn apply(self, device: &mut Device)
+    pub(crate) fn apply(self, device: &mut Device)
         ensures { device.new ≡ changed device.old self }
     {
         match self {

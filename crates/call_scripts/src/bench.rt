@@ -11,7 +11,7 @@ use std::marker::Model;
 
 /// A device whose state goes in by value, and what it is lent. A contract sees what is kept between two calls.
 #[derive(Drop)]
-pub struct Bench<'a> {
+pub(crate) struct Bench<'a> {
     pub(crate) device: Device,
     pub(crate) medium: &'a mut [u8],
     pub(crate) loan: Option<Loan>,
@@ -28,7 +28,7 @@ impl<'a> Model for Bench<'a> {
 impl<'a> Bench<'a> {
     /// A state of all zeros, this medium, and nothing said of what is lent.
     #[tactic(auto, using(device::proofs::Defaults::default_zeros))]
-    pub fn new(medium: &'a mut [u8]) -> Bench<'a>
+    pub(crate) fn new(medium: &'a mut [u8]) -> Bench<'a>
         ensures { result ≡ kept zero_device medium.old None }
     {
         Bench {

@@ -33,7 +33,7 @@ impl Bytes {
     }
 
     /// All of them.
-    pub fn as_slice(&self) -> &[u8]
+    pub(crate) fn as_slice(&self) -> &[u8]
         ensures { result.now ≡ self.now }
     {
         self.bytes.as_slice()

@@ -1,8 +1,8 @@
 // A script held against what its lines are to print. Nothing is promised of this: it only tells.
+use crate::MEDIUM_SIZE;
 use crate::bench::Bench;
-use crate::lines::{answer_line, grow};
+use crate::lines::{LINE_LIMIT, answer_line, grow};
 use crate::running::read_byte;
-use crate::{LINE_LIMIT, MEDIUM_SIZE};
 use events::{PIECE, RunError};
 use std::alloc::{AllocError, Global};
 use std::io;
@@ -17,8 +17,16 @@ pub struct Found {
     pub differing: u64,
 }
 
+impl Found {
+    /// What was found in another script too.
+    pub fn add(&mut self, other: Found) {
+        self.asked = self.asked.saturating_add(other.asked);
+        self.differing = self.differing.saturating_add(other.differing);
+    }
+}
+
 /// What a line is to print: what stands behind `->` and before a comment, without the blanks about it.
-pub fn wanted(line: &[u8]) -> Option<&[u8]> {
+fn wanted(line: &[u8]) -> Option<&[u8]> {
     if LINE_LIMIT < line.len() {
         return None;
     }

@@ -11,7 +11,7 @@ mod changes;
 mod checking;
 mod commands;
 mod counting;
-mod frames;
+mod data_frames;
 mod lines;
 mod loans;
 mod names;
@@ -22,26 +22,23 @@ mod running;
 mod verbs;
 mod words;
 
-pub use bench::Bench;
 pub use bytes::Bytes;
 pub use changes::Change;
-pub use checking::{Found, check_script, wanted};
+pub use checking::{Found, check_script};
 pub use commands::Command;
-pub use lines::{LINE_LIMIT, answer_line, asked_in};
 pub use pieces::run_script;
-pub use running::run;
 
-/// The bytes of the medium of a bench; a call is lent a front of it.
-pub const MEDIUM_SIZE: usize = 0x40000;
+// The bytes of the medium of a bench; a call is lent a front of it.
+const MEDIUM_SIZE: usize = 0x40000;
 
-/// The bytes of its reply buffer.
-pub const REPLY_SIZE: u16 = 0x4000;
+// The bytes of its reply buffer.
+const REPLY_SIZE: u16 = 0x4000;
 
-/// The most bytes that a line tells, as those of a frame.
-pub const BYTES_MOST: u32 = 0x4000;
+// The most bytes that a line tells, as those of a frame.
+const BYTES_MOST: u32 = 0x4000;
 
-/// The most bytes of the payload that `data` counts up.
-pub const PAYLOAD_MOST: u16 = 0x2004;
+// The most bytes of the payload that `data` counts up.
+const PAYLOAD_MOST: u16 = 0x2004;
 
 // What every byte of the reply buffer is before a call, so that one that a call changed shows.
 const UNTOUCHED: u8 = 0xEE;

@@ -13,10 +13,10 @@ use std::io::Write;
 use streams::put;
 
 /// The most bytes of a line: one that is longer asks for nothing that there is.
-pub const LINE_LIMIT: usize = 65536;
+pub(crate) const LINE_LIMIT: usize = 65536;
 
 /// What a line asks for, whatever its length.
-pub fn asked_in(alloc: Global, line: &[u8]) -> Result<Option<Command>, AllocError>
+pub(crate) fn asked_in(alloc: Global, line: &[u8]) -> Result<Option<Command>, AllocError>
     ensures { IfOk result (λ asked. asked ≡ asked_in line.now) }
 {
     if LINE_LIMIT < line.len() {
@@ -27,7 +27,7 @@ pub fn asked_in(alloc: Global, line: &[u8]) -> Result<Option<Command>, AllocErro
 
 /// What a line asks for is done, and what that prints stands behind the text.
 #[tactic(auto, unfolding(crate::specs::Lines::line_text, crate::specs::Lines::after_line))]
-pub fn answer_line(
+pub(crate) fn answer_line(
     alloc: Global,
     bench: &mut Bench,
     line: &[u8],

@@ -2,9 +2,9 @@
 
 /// How much a call is lent.
 #[derive(Clone, Copy, Debug, PartialEq, Eq)]
-pub struct Loan {
+pub(crate) struct Loan {
     /// bytes of the medium
-    pub medium: usize,
+    pub(crate) medium: usize,
     /// bytes of the reply buffer
-    pub reply: usize,
+    pub(crate) reply: usize,
 }

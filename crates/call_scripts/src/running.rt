@@ -75,7 +75,7 @@ fn stop<W: Write>(out: &mut W, end: RunError) -> Result<(), RunError>
 ///
 /// # Errors
 /// How it ended before the input did.
-pub fn run<R: Read, W: Write>(
+pub(crate) fn run<R: Read, W: Write>(
     alloc: Global,
     bench: &mut Bench,
     reader: &mut R,

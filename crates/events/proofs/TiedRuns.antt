@@ -1,5 +1,6 @@
 -- What each contract says, by any reader and any writer: a read or a write may go more than one way. That a run has one text is a law of its own. Assumes nothing.
-use Rattle.std.proofs.Common.{[], refl, ◌≡◌}
+use Rattle.std.proofs.Common.{[], refl, ◌≡◌, OnOk}
+use Rattle.std.specs.Io.KnownBytes.{Appends}
 use denote.RattleType.{RattleType}
 use denote.Param.Laws.{Laws}
 use mir.Syntax.{Dict}
@@ -7,7 +8,11 @@ use Rattle.std.specs.declared.io.traits.Read as Reader
 use Rattle.std.specs.declared.io.traits.Write as Writer
 use Rattle.bits.specs.Contract.{SaysOver, Tied}
 use Rattle.bits.proofs.Tying.{say, by, named}
-use Rattle.events.specs.Runs.{Ran, HasRun, OneText, OneBroken, exit_status_of}
+use Rattle.events.specs.Runs.{Ran, HasRun, OneText, OneBroken, Said, said_of, exit_status_of}
+use Rattle.frames.specs.Cut.{cut}
+use Rattle.events.specs.Lines.{fields_of}
+use Rattle.events.proofs.lines
+use Rattle.events.specs.contracts.lines as lines-said
 use Rattle.events.proofs.ended
 use Rattle.events.specs.contracts.ended as ended-said
 use Rattle.events.proofs.running
@@ -30,3 +35,13 @@ tied_run_in_pieces R W E l m n g d f h e i j = record { same = λ κs a b h. h; 
 
 pub tied_exit_status : Tied ended-said.Ended.exit_status.ended ended.Ended.exit_status.Reads.Asked ended.Ended.exit_status.Reads.Post (λ κs a r ws. r ≡ exit_status_of a.0.now.run)
 tied_exit_status = named (say (λ κs a. tt) (λ κs a r ws p. p)) (λ κs a ws ws'. refl)
+
+pub tied_say : (E : RattleType) (l : Laws E) (h : Writer.Ghosts E.Denot) (e : Dict)
+    → SaysOver (ended-said.say.ended E h e) (ended.say.Reads.Asked E l h e) (ended.say.Reads.Post E l h e)
+    (λ κs a r ws. Said (said_of a.0.now) (h.contents a.1.0.now) (h.contents ws.1.0) r)
+tied_say E l h e = record { same = λ κs a b h. h; some = (([], ([], (E.lives, tt))), λ a. (λ x h. h)); says = λ κs a r ws p. p }
+
+pub tied_write_fields : (W : RattleType) (l : Laws W) (h : Writer.Ghosts W.Denot) (e : Dict)
+    → SaysOver (lines-said.Format.write_fields.ended W h e) (lines.Format.write_fields.Reads.Asked W l h e) (lines.Format.write_fields.Reads.Post W l h e)
+    (λ κs a r ws. OnOk r (Appends (h.contents a.1.0.now) (h.contents ws.1.0) (fields_of a.0.traced (cut a.1.1.0.now))))
+tied_write_fields W l h e = record { same = λ κs a b h. h; some = (([], ([], (W.lives, tt))), λ a. (λ x h. h)); says = λ κs a r ws p. p }
