@@ -30,8 +30,11 @@ impl Ended {
     }
 }
 
-// Where lines are missing, that is said.
-pub(crate) fn say<E: Write>(run: &Result<(), RunError>, errors: &mut E) -> io::Result<()>
+/// Where lines are missing, that is said.
+///
+/// # Errors
+/// Those of [`complain`]: a front of the sentence is written then.
+pub fn say<E: Write>(run: &Result<(), RunError>, errors: &mut E) -> io::Result<()>
     ensures { Said (said_of run.now) (E.contents errors.old) (E.contents errors.new) result }
 {
     match run {

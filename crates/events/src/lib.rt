@@ -19,7 +19,7 @@ mod starts;
 
 pub use asked::{Event, event_of};
 pub use by_value::play_by_value;
-pub use ended::Ended;
+pub use ended::{Ended, say};
 pub use errors::RunError;
 pub use kinds::{EVENT_LIMIT, InputEnd, Kind};
 pub use lines::Format;

@@ -156,7 +156,11 @@ impl Format {
         Ok(())
     }
 
-    fn push_fields(self, lines: &mut Vec<u8>, replies: &[u8]) -> Result<(), AllocError>
+    /// The replies of a call, behind the lines that are gathered, each behind a blank: type:length and, where the run is traced, its bytes.
+    ///
+    /// # Errors
+    /// No memory for them.
+    pub fn push_fields(self, lines: &mut Vec<u8>, replies: &[u8]) -> Result<(), AllocError>
         ensures { OnOk result (lines.new.items ≡ lines.old.items ++ fields_of self.traced (cut replies.now)) }
     {
         for reply in frames::frames_of(replies) {

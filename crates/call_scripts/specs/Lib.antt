@@ -1,0 +1,17 @@
+pub mod Numbers
+pub mod Names
+pub mod Words
+pub mod Verbs
+pub mod Steps
+pub mod Changes
+pub mod Bytes
+pub mod Commands
+pub mod Bench
+pub mod Calls
+pub mod Counting
+pub mod Applying
+pub mod Rows
+pub mod Answers
+pub mod Answering
+pub mod Lines
+pub mod Scripts

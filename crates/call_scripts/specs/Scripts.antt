@@ -1,0 +1,88 @@
+-- What a run of a script writes for what it reads, for each way in which it may end. Assumes nothing.
+use Rattle.std.specs.Prelude.{◌≡◌, ℕ, eqb, List, [], ◌∷◌, ◌++◌, ◌⊎◌, length, replicate, codes, Option, Some, None, Result, Ok, Err, IfSome}
+use Rattle.std.specs.Io.KnownBytes.{Appends, Consumes, IsAtEnd}
+use Rattle.bits.specs.Pick.{pick}
+use Rattle.streams.specs.Fronts.{AppendsFront}
+use Rattle.device.specs.Device.{zero_device}
+use Rattle.events.specs.declared.ended.Ended.{Ended}
+use Rattle.events.specs.Runs.{Said, said_of}
+use Rattle.events.specs.declared.errors.RunError.{RunError}
+use Rattle.events.specs.declared.errors.RunError.TheVariants.{Input, Output, Memory, TooMany}
+use Rattle.call_scripts.specs.Bench.{Kept, kept}
+use Rattle.call_scripts.specs.Lines.{line_text, after_line, line_with, IsLost}
+
+-- one byte was read, or the input is at its end
+abbrev pub ReadByte : Option (List ℕ) → Option ℕ → Option (List ℕ) → Type 0
+ReadByte old (Some byte) new = Consumes old new (byte ∷ [])
+ReadByte old None new = Consumes old new [] × IsAtEnd new
+
+-- a byte behind a line so far: LF ends it, and then it is printed what it asks for
+abbrev pub byte_text : Kept → List ℕ → ℕ → List ℕ
+byte_text k line b = pick (eqb b 10) (line_text k line) []
+
+-- and done
+abbrev pub byte_bench : Kept → List ℕ → ℕ → Kept
+byte_bench k line b = pick (eqb b 10) (after_line k line) k
+
+-- and the next line begins; any other byte is one more of the line
+abbrev pub byte_line : List ℕ → ℕ → List ℕ
+byte_line line b = pick (eqb b 10) [] (line_with line b)
+
+-- what is printed of what is read: each line's text, in what the lines before it left; and of a line that does not end, what `last` says
+unfoldable pub text_from : (Kept → List ℕ → List ℕ) → Kept → List ℕ → List ℕ → List ℕ
+text_from last k line [] = last k line
+text_from last k line (b ∷ bs) = byte_text k line b ++ text_from last (byte_bench k line b) (byte_line line b) bs
+
+-- a last line without LF is a line, if it has a byte
+unfoldable pub ended : Kept → List ℕ → List ℕ
+ended k line = pick (eqb (length line) 0) [] (line_text k line)
+
+-- or it is none yet
+unfoldable pub unended : Kept → List ℕ → List ℕ
+unended k line = []
+
+-- the text of a script that is read to its end, and that of its whole lines alone
+abbrev pub script_text : Kept → List ℕ → List ℕ
+script_text k input = text_from ended k [] input
+
+abbrev pub whole_text : Kept → List ℕ → List ℕ
+whole_text k input = text_from unended k [] input
+
+-- the line of a run that ends before its input
+abbrev pub stop_text : List ℕ
+stop_text = codes "stop\n"
+
+-- the run is over before the input: what was read is known, and its whole lines' text and `stop` are written
+abbrev pub Broken : Kept → (known known' old new : Option (List ℕ)) → Type 0
+Broken k known known' old new = (part : List ℕ) × Consumes known known' part × Appends old new (whole_text k part ++ stop_text)
+
+-- text is lost: of what was read, a front of its text is written, or of its whole lines' text and `stop`
+abbrev pub Lost : Kept → (known old new : Option (List ℕ)) → Type 0
+Lost k known old new = (part : List ℕ) × IfSome known (λ input. (rest : List ℕ) × (input ≡ part ++ rest)) × (AppendsFront old new (script_text k part) ⊎ AppendsFront old new (whole_text k part ++ stop_text))
+
+-- what is told of a run by its result: it ran to the input's end; a read failed; a write failed, or there is no memory for a line; the last number of bytes is used up
+abbrev pub Ran : Kept → (known known' old new : Option (List ℕ)) → Result Unit RunError → Type 0
+Ran k known known' old new (Ok u) = IfSome known (λ input. Appends old new (script_text k input))
+Ran k known known' old new (Err (Input e)) = Broken k known known' old new
+Ran k known known' old new (Err (Output e)) = Lost k known old new
+Ran k known known' old new (Err Memory) = Lost k known old new
+Ran k known known' old new (Err TooMany) = Broken k known known' old new
+
+-- a last line's text is written, or a front of it
+abbrev pub Finishes : Kept → List ℕ → (old new : Option (List ℕ)) → Result Unit RunError → Type 0
+Finishes k line old new (Ok u) = Appends old new (ended k line)
+Finishes k line old new (Err e) = IsLost e × AppendsFront old new (ended k line)
+
+-- `stop` is written, or a front of it
+abbrev pub Stops : RunError → (old new : Option (List ℕ)) → Result Unit RunError → Type 0
+Stops end old new (Ok u) = ⊥
+Stops end old new (Err (Output e)) = AppendsFront old new stop_text
+Stops end old new (Err e) = (e ≡ end) × Appends old new stop_text
+
+-- what a script begins with: a state of zeros, a medium of so many zeros, and nothing said of what is lent
+unfoldable pub fresh : ℕ → Kept
+fresh size = kept zero_device (replicate size 0) None
+
+-- a run of this input from there, whatever was left of it, and what was said of it
+abbrev pub HasRun : (known old new errors errors' : Option (List ℕ)) → Ended → Type 0
+HasRun known old new errors errors' ended = (left : Option (List ℕ)) × Ran (fresh 262144) known left old new ended.run × Said (said_of ended.run) errors errors' ended.said

@@ -1,0 +1,41 @@
+-- The words of a line. Assumes nothing.
+use Rattle.std.specs.Prelude.{ℕ, ◌^◌, ◌-◌, Bool, not, ◌&&◌, ◌||◌, eqb, List, [], ◌∷◌, length, get_or, filter, slice_get, Option}
+use Rattle.std.specs.Char.{is_ascii_whitespace}
+use Rattle.std.specs.List.{slice_split}
+use Rattle.std.specs.Option.{option_and_then, option_map}
+use Rattle.bits.specs.Pick.{pick}
+use Rattle.call_scripts.specs.Numbers.{number_within}
+
+-- here a comment begins, or what a line is to print: `#`, or `->`
+abbrev pub ends_at : ℕ → List ℕ → Bool
+ends_at c cs = eqb c 35 || (eqb c 45 && eqb (get_or cs 0 0) 62)
+
+-- what a line asks for stands before these
+unfoldable pub asked_text : List ℕ → List ℕ
+asked_text [] = []
+asked_text (c ∷ cs) = pick (ends_at c cs) [] (c ∷ asked_text cs)
+
+-- between two blanks that follow one another is no word
+abbrev pub is_word : List ℕ → Bool
+is_word piece = not (eqb (length piece) 0)
+
+-- the words of a text, which blanks separate
+unfoldable pub words_of : List ℕ → List (List ℕ)
+words_of text = filter is_word (slice_split is_ascii_whitespace text)
+
+-- the number that the word in a place tells, if it is at most so large
+abbrev pub number_at : List (List ℕ) → ℕ → ℕ → Option ℕ
+number_at words place most = option_and_then (number_within most) (slice_get words place)
+
+-- places of 32 bits, of 16, of a byte, and of a flag, which is 0 or 1
+abbrev pub long_at : List (List ℕ) → ℕ → Option ℕ
+long_at words place = number_at words place (2 ^ 32 - 1)
+
+abbrev pub short_at : List (List ℕ) → ℕ → Option ℕ
+short_at words place = number_at words place (2 ^ 16 - 1)
+
+abbrev pub byte_at : List (List ℕ) → ℕ → Option ℕ
+byte_at words place = number_at words place (2 ^ 8 - 1)
+
+abbrev pub flag_at : List (List ℕ) → ℕ → Option Bool
+flag_at words place = option_map (λ n. eqb n 1) (number_at words place 1)

@@ -1,0 +1,44 @@
+// Scripts of calls: a line of text to a command, and what the device answers to it as text. Every public function is total and has no `requires`.
+#![tactic(auto)]
+
+mod answering;
+mod answers;
+mod applying;
+mod bench;
+mod bytes;
+mod calls;
+mod changes;
+mod checking;
+mod commands;
+mod counting;
+mod data_frames;
+mod lines;
+mod loans;
+mod names;
+mod numbers;
+mod pieces;
+mod rows;
+mod running;
+mod verbs;
+mod words;
+
+pub use bytes::Bytes;
+pub use changes::Change;
+pub use checking::{Found, check_script};
+pub use commands::Command;
+pub use pieces::run_script;
+
+// The bytes of the medium of a bench; a call is lent a front of it.
+const MEDIUM_SIZE: usize = 0x40000;
+
+// The bytes of its reply buffer.
+const REPLY_SIZE: u16 = 0x4000;
+
+// The most bytes that a line tells, as those of a frame.
+const BYTES_MOST: u32 = 0x4000;
+
+// The most bytes of the payload that `data` counts up.
+const PAYLOAD_MOST: u16 = 0x2004;
+
+// What every byte of the reply buffer is before a call, so that one that a call changed shows.
+const UNTOUCHED: u8 = 0xEE;

@@ -1,0 +1,27 @@
+// Numbers as a line tells them: in hex, with any number of zeros in front.
+ghost use Rattle.std.specs.Prelude.{◌≡◌};
+ghost use Rattle.call_scripts.specs.Numbers.{digit_of, number_within};
+
+fn digit(byte: u8) -> Option<u32>
+    ensures { result ≡ digit_of byte }
+{
+    char::from(byte).to_digit(16)
+}
+
+/// The number that a word tells in hex; `None` for more than `most`, for no digits, and for what is no digit.
+#[tactic(auto, unfolding(crate::specs::Numbers::number_from), using(crate::proofs::NumberLaws::above_stays, crate::proofs::NumberLaws::digits_next))]
+pub(crate) fn number_within(word: &[u8], most: u32) -> Option<u32>
+    ensures { result ≡ number_within most word.now }
+{
+    if word.is_empty() {
+        return None;
+    }
+    let mut number: u64 = 0;
+    for &byte in word {
+        number = 16 * number + u64::from(digit(byte)?);
+        if number > u64::from(most) {
+            return None;
+        }
+    }
+    Some(number as u32)
+}
