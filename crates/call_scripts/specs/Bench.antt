@@ -24,6 +24,7 @@ abbrev pub loan_by : ℕ → Option Loan → Loan
 loan_by capacity (Some loan) = loan
 loan_by capacity None = record { medium = medium_size capacity; reply = 8196 }
 
+-- what is lent by what is kept
 abbrev pub loan_of : Kept → Loan
 loan_of k = loan_by k.device.settings.capacity k.loan
 

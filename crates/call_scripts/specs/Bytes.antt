@@ -37,5 +37,6 @@ abbrev pub few : Option (List ℕ) → Option (List ℕ)
 few (Some bytes) = pick (leb (length bytes) 16384) (Some bytes) None
 few None = None
 
+-- the bytes that words tell, if they all tell some and these are not too many
 abbrev pub bytes_of : List (List ℕ) → Option (List ℕ)
 bytes_of words = few (all_bytes words)

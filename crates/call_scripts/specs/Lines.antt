@@ -23,10 +23,11 @@ abbrev pub after_by : Kept → Option Command → Kept
 after_by k (Some command) = after k command
 after_by k None = k
 
--- those of a line
+-- what a line prints
 unfoldable pub line_text : Kept → List ℕ → List ℕ
 line_text k line = text_by k (asked_in line)
 
+-- what it leaves behind
 unfoldable pub after_line : Kept → List ℕ → Kept
 after_line k line = after_by k (asked_in line)
 

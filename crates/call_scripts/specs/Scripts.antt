@@ -41,10 +41,11 @@ ended k line = pick (eqb (length line) 0) [] (line_text k line)
 unfoldable pub unended : Kept → List ℕ → List ℕ
 unended k line = []
 
--- the text of a script that is read to its end, and that of its whole lines alone
+-- the text of a script that is read to its end
 abbrev pub script_text : Kept → List ℕ → List ℕ
 script_text k input = text_from ended k [] input
 
+-- and that of its whole lines alone
 abbrev pub whole_text : Kept → List ℕ → List ℕ
 whole_text k input = text_from unended k [] input
 

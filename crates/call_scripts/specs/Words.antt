@@ -27,15 +27,18 @@ words_of text = filter is_word (slice_split is_ascii_whitespace text)
 abbrev pub number_at : List (List ℕ) → ℕ → ℕ → Option ℕ
 number_at words place most = option_and_then (number_within most) (slice_get words place)
 
--- places of 32 bits, of 16, of a byte, and of a flag, which is 0 or 1
+-- a place of 32 bits
 abbrev pub long_at : List (List ℕ) → ℕ → Option ℕ
 long_at words place = number_at words place (2 ^ 32 - 1)
 
+-- a place of 16 bits
 abbrev pub short_at : List (List ℕ) → ℕ → Option ℕ
 short_at words place = number_at words place (2 ^ 16 - 1)
 
+-- a byte's
 abbrev pub byte_at : List (List ℕ) → ℕ → Option ℕ
 byte_at words place = number_at words place (2 ^ 8 - 1)
 
+-- a flag's, which is 0 or 1
 abbrev pub flag_at : List (List ℕ) → ℕ → Option Bool
 flag_at words place = option_map (λ n. eqb n 1) (number_at words place 1)
