@@ -1,4 +1,4 @@
-//! The examples P1 to P11, over the model.
+//! The examples, over the model.
 
 use crate::device::command::Command;
 use crate::device::events;
@@ -9,17 +9,17 @@ use crate::pages;
 /// Each example with whether it holds.
 pub fn all() -> Vec<(&'static str, bool)> {
     vec![
-        ("P1 blank page 10h: sum byte 80h", p1()),
-        ("P2 media error, tag 5, error 40h, sector 64h: sum byte AEh", p2()),
-        ("P3 finish tags 0 and 5: A1 40 40 00 21 00 00 00", p3()),
-        ("P4 sweep: A1 00 40 00 FF FF FF FF", p4()),
-        ("P5 that error: A1 40 41 40 00 00 00 00", p5()),
-        ("P6 read setup, tag 5, 8 sectors", p6()),
-        ("P7 mask 0201h, values 0 and 3: sum byte B2h, 0, 3, absent", p7()),
-        ("P8 capacity 65,536, sector 0, count field 0: good", p8()),
-        ("P9 capacity 65,536, sector 1, count field 0: 10h", p9()),
-        ("P10 capacity 64, sector 63, count 1: good", p10()),
-        ("P11 capacity 64, sector 64, count 1: 10h", p11()),
+        ("blank page 10h: sum byte 80h", blank_page()),
+        ("media error, tag 5, error 40h, sector 64h: sum byte AEh", media_error_page()),
+        ("finish tags 0 and 5: A1 40 40 00 21 00 00 00", finished_tags()),
+        ("sweep: A1 00 40 00 FF FF FF FF", sweep()),
+        ("that error: A1 40 41 40 00 00 00 00", media_error()),
+        ("read setup, tag 5, 8 sectors", read_setup()),
+        ("mask 0201h, values 0 and 3: sum byte B2h, 0, 3, absent", two_counters()),
+        ("capacity 65,536, sector 0, count field 0: good", whole_medium()),
+        ("capacity 65,536, sector 1, count field 0: 10h", whole_from_one()),
+        ("capacity 64, sector 63, count 1: good", last_sector()),
+        ("capacity 64, sector 64, count 1: 10h", past_the_last()),
     ]
 }
 
@@ -39,38 +39,38 @@ fn page_10h(values: pages::ErrorPage) -> [u8; pages::PAGE] {
     page
 }
 
-fn p1() -> bool {
+fn blank_page() -> bool {
     let page = page_10h([1, 0, 0, 0, 0, 0, 0]);
     page[0] == 0x80 && page[1..511].iter().all(|&b| b == 0) && page[511] == 0x80
 }
 
-fn p2() -> bool {
+fn media_error_page() -> bool {
     let page = page_10h([0, 5, 0x41, 0x40, 0x64, 0x40, 0x28]);
     page[..13] == [5, 0, 0x41, 0x40, 0x64, 0, 0, 0x40, 0, 0, 0, 0, 0x28] && page[511] == 0xAE
 }
 
-fn p3() -> bool {
+fn finished_tags() -> bool {
     let bytes = frame(0xA1, &[("I", 1), ("status", 0x40), ("sactive", 1 | 1 << 5)]);
     bytes == [0xA1, 0x40, 0x40, 0, 0x21, 0, 0, 0]
 }
 
-fn p4() -> bool {
+fn sweep() -> bool {
     let bytes = frame(0xA1, &[("status", 0x40), ("sactive", 0xFFFF_FFFF)]);
     bytes == [0xA1, 0, 0x40, 0, 0xFF, 0xFF, 0xFF, 0xFF]
 }
 
-fn p5() -> bool {
+fn media_error() -> bool {
     let bytes = frame(0xA1, &[("I", 1), ("status", 0x41), ("error", 0x40)]);
     bytes == [0xA1, 0x40, 0x41, 0x40, 0, 0, 0, 0]
 }
 
-fn p6() -> bool {
+fn read_setup() -> bool {
     let bytes = frame(0x41, &[("D", 1), ("tag", 5), ("byte_count", 8 * 512)]);
     let back = frames::read(&bytes).map(|f| f.get("byte_count"));
     bytes[1] == 0x20 && bytes[4] == 5 && bytes[20..24] == [0, 0x10, 0, 0] && back == Ok(4096)
 }
 
-fn p7() -> bool {
+fn two_counters() -> bool {
     let mut values = [0; 16];
     values[9] = 3;
     let mut page = [0; pages::PAGE];
@@ -90,18 +90,18 @@ fn judged(capacity: u32, sector: u64, count_field: u8) -> Verdict {
     host::judge_queued(&state, &command)
 }
 
-fn p8() -> bool {
+fn whole_medium() -> bool {
     judged(65_536, 0, 0) == Verdict::Good
 }
 
-fn p9() -> bool {
+fn whole_from_one() -> bool {
     judged(65_536, 1, 0) == Verdict::Halting(OUT_OF_RANGE)
 }
 
-fn p10() -> bool {
+fn last_sector() -> bool {
     judged(64, 63, 1) == Verdict::Good
 }
 
-fn p11() -> bool {
+fn past_the_last() -> bool {
     judged(64, 64, 1) == Verdict::Halting(OUT_OF_RANGE)
 }

@@ -5,7 +5,7 @@
 //!   --stdin, --device-stdin    the binary cases
 //!   --stdout, --device-stdout  the expected lines
 //!   --cases, --device-cases    one line a case: number, comment, expected line
-//!   --examples                 checks P1 to P11 and prints them
+//!   --examples                 checks the eleven examples and prints them
 //!   --random SEED              the random event file of a seed
 //!   --compare N FROM T R       random files through the programs T (trace) and
 //!                              R (run; empty: not compared) and the model

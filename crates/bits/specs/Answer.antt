@@ -1,7 +1,7 @@
 -- What an answer tells in the words of the rules: its number, and its values. Assumes nothing.
 use Rattle.std.specs.Prelude.{Bool, true, false, List, ℕ}
 
--- number 0 is an answer that was given, any other a refusal; what has no value tells none, which is not a value of 0
+-- number 0 is an answer that was given, any other a refusal; what has no value tells none, which is not a value of 0 [answer-values]
 pub record Answer : Type 0 where
   pub number : ℕ
   pub values : List ℕ

@@ -3,7 +3,7 @@ use Rattle.std.specs.Prelude.{Bool, true, false, ◌&&◌, ℕ, ◌-◌, ◌/◌
 use Rattle.std.specs.Int.Bits.{bit_and, bit_or}
 use Rattle.bits.specs.Pick.{pick}
 
--- bit t of m is on; an index of w or more gives false
+-- bit t of m is on; an index of w or more gives false [ends]
 abbrev pub bit_in : ℕ → ℕ → ℕ → Bool
 bit_in w m t = ltb t w && eqb (m / 2 ^ t % 2) 1
 

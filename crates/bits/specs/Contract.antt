@@ -30,7 +30,7 @@ pub record Says (T : Ended) (Asked : Premise T) (Post : Contract T) (C : Claim T
   pub free : (κs : Lfts T.signature.lifetimes) (a : Args T.signature κs) → Asked κs a
   pub says : (κs : Lfts T.signature.lifetimes) (a : Args T.signature κs) (r : Res T.signature κs) (ws : Lasts T κs a) → Allows T Post κs a r ws → C κs a r ws
 
--- a function asks nothing of its caller, and its contract allows one answer only
+-- a function asks nothing of its caller, and its contract allows one answer only [one-function]
 pub record Sole (T : Ended) (Asked : Premise T) (Post : Contract T) : Type 0 where
   pub free : (κs : Lfts T.signature.lifetimes) (a : Args T.signature κs) → Asked κs a
   pub single : Single T (Allows T Post)

@@ -1,7 +1,7 @@
 -- Little-endian numbers in a list of bytes. Assumes nothing.
 use Rattle.std.specs.Prelude.{◌≡◌, ℕ, zero, suc, ◌+◌, ◌*◌, ◌/◌, ◌%◌, ◌^◌, ◌<◌, List, [], ◌∷◌, get_or}
 
--- the number of the n bytes of l from `at` on, the lowest first; past the end of l stand zeros
+-- the number of the n bytes of l from `at` on, the lowest first; past the end of l stand zeros [ends] [numbers]
 abbrev pub le_at : List ℕ → ℕ → ℕ → ℕ
 le_at l at zero = 0
 le_at l at (suc n) = le_at l (suc at) n * 256 + get_or l at 0
@@ -15,7 +15,7 @@ abbrev pub bytes_from : ℕ → ℕ → ℕ → List ℕ
 bytes_from k zero x = []
 bytes_from k (suc n) x = byte_of x k ∷ bytes_from (suc k) n x
 
--- x in n bytes
+-- x in n bytes [numbers]
 abbrev pub le_bytes : ℕ → ℕ → List ℕ
 le_bytes n x = bytes_from 0 n x
 

@@ -14,7 +14,7 @@ use Rattle.call_scripts.specs.Rows.{state_text}
 use Rattle.call_scripts.specs.declared.commands.Command.{Command}
 use Rattle.call_scripts.specs.declared.commands.Command.TheVariants.{Nothing, Power, Frame, Data, Event, Counter, Count, Lend, Fill, Set, Show, Medium}
 
--- the reply buffer that a call is lent: of 4000h bytes EEh so many as are lent
+-- the reply buffer that a call is lent: of 4000h bytes EEh so many as are lent [script-call]
 abbrev pub buffer_of : Kept → List ℕ
 buffer_of k = take (loan_of k).reply (replicate 16384 0xEE)
 
@@ -30,7 +30,7 @@ call_text k c = step_text (called k c (buffer_of k)) (buffer_of k)
 abbrev pub power_text : Settings → List ℕ
 power_text s = outcome_text (power_on s).refusal 0 []
 
--- what a command leaves behind
+-- what a command leaves behind [script-run]
 unfoldable pub after : Kept → Command → Kept
 after k Nothing = k
 after k (Power s) = record k { device = (power_on s).state }

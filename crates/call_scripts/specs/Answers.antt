@@ -16,7 +16,7 @@ touched behind = list_any (λ byte. not (eqb byte 0xEE)) behind
 abbrev pub tail_of : List ℕ → List ℕ
 tail_of behind = pick (touched behind) (codes " tail") []
 
--- the refusal and the length of the replies in decimal, each reply as type:length=bytes, and whether a byte behind them has changed
+-- the refusal and the length of the replies in decimal, each reply as type:length=bytes, and whether a byte behind them has changed [script-call]
 abbrev pub outcome_text : Option Refusal → ℕ → List ℕ → List ℕ
 outcome_text refusal len reply = decimal (number_told refusal) ++ 32 ∷ decimal len ++ fields_of true (cut (take len reply)) ++ tail_of (drop len reply) ++ 10 ∷ []
 

@@ -28,11 +28,11 @@ loan_by capacity None = record { medium = medium_size capacity; reply = 8196 }
 abbrev pub loan_of : Kept → Loan
 loan_of k = loan_by k.device.settings.capacity k.loan
 
--- a call's step, which is lent a front of the medium and a reply buffer b
+-- a call's step, which is lent a front of the medium and a reply buffer b [script-call]
 abbrev pub called : Kept → Call → List ℕ → Step
 called k c b = step k.device (lent c (take (loan_of k).medium k.medium) b)
 
--- what it leaves behind
+-- what it leaves behind [script-call]
 abbrev pub after_call : Kept → Call → List ℕ → Kept
 after_call k c b = record k { device = (called k c b).state; medium = (called k c b).medium ++ drop (loan_of k).medium k.medium }
 

@@ -17,7 +17,7 @@ repeated pair count = do
   n ← number_within 16384 count
   Some (replicate n byte)
 
--- the bytes of a word; `*` stands behind a pair, and before how often it is there
+-- the bytes of a word; `*` stands behind a pair, and before how often it is there [script-bytes]
 abbrev pub word_bytes : List ℕ → Option (List ℕ)
 word_bytes word = pick (eqb (get_or word 2 0) 42) (repeated (take 2 word) (drop 3 word)) (decoded word)
 
@@ -27,7 +27,7 @@ joined (Some front) (Some back) = Some (front ++ back)
 joined (Some front) None = None
 joined None back = None
 
--- the bytes of all words
+-- the bytes of all words [script-bytes]
 unfoldable pub all_bytes : List (List ℕ) → Option (List ℕ)
 all_bytes [] = Some []
 all_bytes (word ∷ words) = joined (word_bytes word) (all_bytes words)
@@ -37,6 +37,6 @@ abbrev pub few : Option (List ℕ) → Option (List ℕ)
 few (Some bytes) = pick (leb (length bytes) 16384) (Some bytes) None
 few None = None
 
--- the bytes that words tell, if they all tell some and these are not too many
+-- the bytes that words tell, if they all tell some and these are not too many [script-bytes]
 abbrev pub bytes_of : List (List ℕ) → Option (List ℕ)
 bytes_of words = few (all_bytes words)

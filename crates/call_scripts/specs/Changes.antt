@@ -101,7 +101,7 @@ change_at words field.TheVariants.Entry = do
   Some (change.TheVariants.Entry tag entry)
 change_at words field.TheVariants.Record = record_at words >>= (λ e. Some (change.TheVariants.Record e))
 
--- what the words of a line change, of which the second names the field
+-- what the words of a line change, of which the second names the field [script-line]
 abbrev pub change_of : List (List ℕ) → Option Change
 change_of words = do
   word ← slice_get words 1

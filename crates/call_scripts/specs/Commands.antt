@@ -79,6 +79,6 @@ asked_by words (Some word) = do
 abbrev pub command_in : List (List ℕ) → Option Command
 command_in words = asked_by words (slice_get words 0)
 
--- what a line asks for
+-- what a line asks for [script-line]
 abbrev pub command_of : List ℕ → Option Command
 command_of line = command_in (words_of (asked_text line))

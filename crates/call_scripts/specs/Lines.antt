@@ -23,7 +23,7 @@ abbrev pub after_by : Kept → Option Command → Kept
 after_by k (Some command) = after k command
 after_by k None = k
 
--- what a line prints
+-- what a line prints [script-run]
 unfoldable pub line_text : Kept → List ℕ → List ℕ
 line_text k line = text_by k (asked_in line)
 

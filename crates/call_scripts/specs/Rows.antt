@@ -48,7 +48,7 @@ entry_text tag e = codes "entry" ++ numbers_text (tag ∷ bit_number e.write ∷
 abbrev pub told_text : ℕ → Entry → List ℕ
 told_text tag e = pick (idle_bad e) (entry_text tag e) []
 
--- the entries from a tag on
+-- the entries from a tag on [script-show]
 unfoldable pub entries_text : ℕ → List Entry → List ℕ
 entries_text tag [] = []
 entries_text tag (e ∷ es) = told_text tag e ++ entries_text (tag + 1) es
@@ -61,6 +61,6 @@ record_text r = codes "record" ++ numbers_text (bit_number r.set ∷ bit_number 
 unfoldable pub values_text : List ℕ → List ℕ
 values_text values = row_text (codes "values") values
 
--- the whole state, a line a part
+-- the whole state, a line a part [script-show]
 abbrev pub state_text : Device → List ℕ
 state_text d = settings_text d.settings ++ status_text d.status ++ entries_text 0 d.entries ++ record_text d.errors ++ values_text d.values

@@ -28,7 +28,7 @@ byte_bench k line b = pick (eqb b 10) (after_line k line) k
 abbrev pub byte_line : List ℕ → ℕ → List ℕ
 byte_line line b = pick (eqb b 10) [] (line_with line b)
 
--- what is printed of what is read: each line's text, in what the lines before it left; and of a line that does not end, what `last` says
+-- what is printed of what is read: each line's text, in what the lines before it left; and of a line that does not end, what `last` says [script-run]
 unfoldable pub text_from : (Kept → List ℕ → List ℕ) → Kept → List ℕ → List ℕ → List ℕ
 text_from last k line [] = last k line
 text_from last k line (b ∷ bs) = byte_text k line b ++ text_from last (byte_bench k line b) (byte_line line b) bs
@@ -53,15 +53,15 @@ whole_text k input = text_from unended k [] input
 abbrev pub stop_text : List ℕ
 stop_text = codes "stop\n"
 
--- the run is over before the input: what was read is known, and its whole lines' text and `stop` are written
+-- the run is over before the input: what was read is known, and its whole lines' text and `stop` are written [script-broken]
 abbrev pub Broken : Kept → (known known' old new : Option (List ℕ)) → Type 0
 Broken k known known' old new = (part : List ℕ) × Consumes known known' part × Appends old new (whole_text k part ++ stop_text)
 
--- text is lost: of what was read, a front of its text is written, or of its whole lines' text and `stop`
+-- text is lost: of what was read, a front of its text is written, or of its whole lines' text and `stop` [script-broken]
 abbrev pub Lost : Kept → (known old new : Option (List ℕ)) → Type 0
 Lost k known old new = (part : List ℕ) × IfSome known (λ input. (rest : List ℕ) × (input ≡ part ++ rest)) × (AppendsFront old new (script_text k part) ⊎ AppendsFront old new (whole_text k part ++ stop_text))
 
--- what is told of a run by its result: it ran to the input's end; a read failed; a write failed, or there is no memory for a line; the last number of bytes is used up
+-- what is told of a run by its result: it ran to the input's end; a read failed; a write failed, or there is no memory for a line; the last number of bytes is used up [script-run]
 abbrev pub Ran : Kept → (known known' old new : Option (List ℕ)) → Result Unit RunError → Type 0
 Ran k known known' old new (Ok u) = IfSome known (λ input. Appends old new (script_text k input))
 Ran k known known' old new (Err (Input e)) = Broken k known known' old new
@@ -84,6 +84,6 @@ Stops end old new (Err e) = (e ≡ end) × Appends old new stop_text
 unfoldable pub fresh : ℕ → Kept
 fresh size = kept zero_device (replicate size 0) None
 
--- a run of this input from there, whatever was left of it, and what was said of it
+-- a run of this input from there, whatever was left of it, and what was said of it [script-broken]
 abbrev pub HasRun : (known old new errors errors' : Option (List ℕ)) → Ended → Type 0
 HasRun known old new errors errors' ended = (left : Option (List ℕ)) × Ran (fresh 262144) known left old new ended.run × Said (said_of ended.run) errors errors' ended.said

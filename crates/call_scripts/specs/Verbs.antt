@@ -25,7 +25,7 @@ verbs =
     (codes "medium", Medium) ∷
     []
 
--- what a word names
+-- what a word names [script-line]
 abbrev pub verb_of : List ℕ → Option Verb
 verb_of word = named_in verbs word
 

@@ -10,7 +10,7 @@ use Rattle.call_scripts.specs.Numbers.{number_within}
 abbrev pub ends_at : ℕ → List ℕ → Bool
 ends_at c cs = eqb c 35 || (eqb c 45 && eqb (get_or cs 0 0) 62)
 
--- what a line asks for stands before these
+-- what a line asks for stands before these [script-words]
 unfoldable pub asked_text : List ℕ → List ℕ
 asked_text [] = []
 asked_text (c ∷ cs) = pick (ends_at c cs) [] (c ∷ asked_text cs)
@@ -19,7 +19,7 @@ asked_text (c ∷ cs) = pick (ends_at c cs) [] (c ∷ asked_text cs)
 abbrev pub is_word : List ℕ → Bool
 is_word piece = not (eqb (length piece) 0)
 
--- the words of a text, which blanks separate
+-- the words of a text, which blanks separate [script-words]
 unfoldable pub words_of : List ℕ → List (List ℕ)
 words_of text = filter is_word (slice_split is_ascii_whitespace text)
 

@@ -13,7 +13,7 @@ use Rattle.device.specs.Step.{Given}
 use Rattle.history.specs.Follows.{FollowsBy, final, lents, history_of}
 use Rattle.history.proofs.Allowed.{Allowed}
 use Rattle.history.proofs.Contracts.{allowed_given}
-use Rattle.history.proofs.Demand3.{promised_given}
+use Rattle.history.proofs.Faithful.{promised_given}
 use Rattle.caller.specs.Continued.{Reached, Holds, Continues, ContinuesReplying, ContinuesAlone, Begins}
 use Rattle.history.specs.Promised.{Promised}
 

@@ -1,4 +1,4 @@
--- Events played one after the other are a history in the sense of demand 3, whatever they are and whatever is lent to them. Assumes nothing.
+-- Events played one after the other are a faithful history, whatever they are and whatever is lent to them. Assumes nothing.
 use Rattle.std.proofs.Common.{append-nil, append_assoc, ◌≡◌, refl, sym, ap, subst, List, [], ◌∷◌, ◌++◌, ℕ, zero, suc, ◌+◌, ◌<◌, arith, get_or, replicate, Option, Some, None, unwrap_or, option_map, option_to_list, Result, Err}
 use Rattle.bits.specs.Little.{Bytes}
 use Rattle.bits.proofs.Littles.{le_lt}
@@ -130,7 +130,7 @@ unfolding start_by
 held_by (Some asked) r ps b h = (plays_given r.state ps h).1 asked r [] (begins asked r b).reached
 held_by None r ps b h = b
 
--- whatever is played behind a settings record: each event continues, and demand 3 holds of them all
+-- whatever is played behind a settings record: each event continues, and all that is promised holds of them all
 pub plays_history : (e : List ℕ) (ps : List Play) → EachPlay PlayGiven (start_of e).state ps → EachPlay PlayContinues (start_of e).state ps × HeldBy (asked_of e) (start_of e) ps
 unfolding start_of
 plays_history e ps h = ((plays_given (start_of e).state ps h).0, held_by (asked_of e) (start_of e) ps refl h)

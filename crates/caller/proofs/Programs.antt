@@ -1,4 +1,4 @@
--- What the event program plays is a history in the sense of demand 3. Assumes nothing.
+-- What the event program plays is a faithful history. Assumes nothing.
 use Rattle.std.proofs.Common.{◌≡◌, refl, sym, ap, subst, ◌∙◌, Bool, true, false, true≢false, List, [], ◌∷◌, ◌++◌, map, option_to_list, ℕ, ◌+◌, length, drop, Option, Some, None, is_none, option_map}
 use lib.Seq.{take-append_seam, take-length}
 use Rattle.bits.specs.Laid.{overlay}

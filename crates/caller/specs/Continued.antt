@@ -1,4 +1,4 @@
--- What a caller of the device is told: all that is promised (docs/DEMAND3.md) of the history that its call continues. Assumes nothing.
+-- What a caller of the device is told: all that is promised (docs/HISTORIES.md) of the history that its call continues. Assumes nothing.
 use Rattle.std.specs.Prelude.{◌≡◌, List, [], ◌∷◌, ◌++◌, ℕ}
 use Rattle.device_state.specs.declared.shapes.Settings.{Settings}
 use Rattle.device.specs.declared.state.Device.{Device}
@@ -9,18 +9,18 @@ use Rattle.history.specs.Run.{Done, done, AllTyped}
 use Rattle.history.specs.Follows.{final, lents, history_of, Began}
 use Rattle.history.specs.Promised.{Promised}
 
--- d is the state that the last call of xs returned: calls from power-on with the settings s, which gave r
+-- d is the state that the last call of xs returned: calls from power-on with the settings s, which gave r [callers-told]
 pub record Reached (s : Settings) (r : Outcome) (xs : List Done) (d : Device) : Type 0 where
   pub began : Began s r xs
   pub typed : AllTyped (lents xs)
   pub last : final r.state xs ≡ d
 
--- then all that is promised holds of their history, and of d behind it
+-- then all that is promised holds of their history, and of d behind it [callers-told] [program-told]
 pub record Holds (s : Settings) (r : Outcome) (xs : List Done) (d : Device) : Type 0 where
   pub reached : Reached s r xs d
   pub promised : Promised s r d (history_of xs)
 
--- whatever the calls were that led to the state d: with this one more, all that holds
+-- whatever the calls were that led to the state d: with this one more, all that holds [callers-told]
 abbrev pub Continues : Device → Lent → Gave → Type 0
 Continues d a g = (s : Settings) (r : Outcome) (xs : List Done) → Reached s r xs d → Holds s r (xs ++ done a g ∷ []) g.outcome.state
 

@@ -29,7 +29,7 @@ unfoldable pub plays_in : Kept → List (List ℕ) → List Play
 plays_in k [] = []
 plays_in k (e ∷ es) = play_in k e ∷ plays_in (after k e) es
 
--- the call that an event makes, if it makes one, as the device takes it: lent what the run keeps, and what the device then gives
+-- the call that an event makes, if it makes one, as the device takes it: lent what the run keeps, and what the device then gives [program-told]
 abbrev pub call_in : Kept → List ℕ → Option Done
 call_in k e = option_map (λ c. done (lent c k.medium k.reply) (result k.device (lent c k.medium k.reply))) (call_for k.device e)
 
@@ -38,7 +38,7 @@ pub record Shows (traced : Bool) (number : ℕ) (k : Kept) (e : List ℕ) (x : D
   pub kept : after k e ≡ kept x.gave.outcome.state x.gave.medium x.gave.buffer
   pub line : told traced number k e ≡ line_of traced number (event x).refusal x.gave.outcome.state.status.outstanding (replied (event x))
 
--- it made a call, and shows that
+-- it made a call, and shows that [program-told]
 unfoldable pub ShowsCall : Bool → ℕ → Kept → List ℕ → Option Done → Type 0
 ShowsCall traced number k e None = ⊥
 ShowsCall traced number k e (Some x) = Shows traced number k e x
@@ -53,14 +53,14 @@ pub record StartShown (traced : Bool) (s : List ℕ) (asked : Settings) : Type 0
   pub state : (started s).device ≡ (power_on asked).state
   pub line : start_line traced s ≡ line_of traced 0 (power_on asked).refusal (power_on asked).state.status.outstanding []
 
--- what is played behind the settings record s is a history in the sense of demand 3: from power-on its calls are as the device answers them, each event shows its own of them, demand 3 holds of their history, and of the one medium that they share it tells every byte
+-- what is played behind the settings record s is a faithful history: from power-on its calls are as the device answers them, each event shows its own of them, all that is promised holds of their history, and of the one medium that they share it tells every byte [program-told] [finished-writes-stand]
 pub record IsHistory (traced : Bool) (s : List ℕ) (asked : Settings) (es : List (List ℕ)) : Type 0 where
   pub begins : StartShown traced s asked
   pub shown : EachShown traced 1 (started s) es
   pub holds : Holds asked (power_on asked) (dones_all (started s).device (plays_in (started s) es)) (kept_after (started s) es).device
   pub media : Lasting (started s).medium (history_of (dones_all (started s).device (plays_in (started s) es)))
 
--- there is no device, and nothing is played: the one line is that of refusal 1
+-- there is no device, and nothing is played: the one line is that of refusal 1 [program-told]
 pub record NoneStarts (traced : Bool) (s : List ℕ) (es : List (List ℕ)) : Type 0 where
   pub state : (started s).device ≡ zero_device
   pub line : start_line traced s ≡ line_of traced 0 (Some Contradiction) 0 []
@@ -76,7 +76,7 @@ unfoldable pub OfHistory : Bool → List (List ℕ) → Type 0
 OfHistory traced [] = Unit
 OfHistory traced (s ∷ es) = ByAsked traced s es (asked_of s)
 
--- of the lines of a history, and `stop`, a run has written a front: how much of it, its end says
+-- of the lines of a history, and `stop`, a run has written a front: how much of it, its end says [program-told]
 pub record RunHistory (traced : Bool) (input : List ℕ) (old new : Option (List ℕ)) : Type 0 where
   pub es : List (List ℕ)
   pub rest : List ℕ

@@ -1,5 +1,5 @@
 // Callers of the device: a function for each call, whose contract says of every history that the call continues what
-// docs/DEMAND3.md promises of one: each command has one fate, its data moved each byte once, and SActive, replies,
+// docs/HISTORIES.md promises of one: each command has one fate, its data moved each byte once, and SActive, replies,
 // counters and refusals are what the calls before them make them. The same for an event, with the law over all that are
 // played; and the event program's run, whose contract is that what it wrote is the lines of such a history.
 #![tactic(auto)]

@@ -34,7 +34,7 @@ pub fn play_by_value(device: Device, event: &[u8], medium: &mut [u8], reply: &mu
     events::play_by_value(device, event, medium, reply)
 }
 
-/// Events played one after the other are a history of which all that docs/DEMAND3.md promises holds: fates, data, SActive, replies, counters and refusals. Their lines tell what each came to.
+/// Events played one after the other are a history of which all that docs/HISTORIES.md promises holds: fates, data, SActive, replies, counters and refusals. Their lines tell what each came to.
 pub fn events_are_a_history()
     ensures together { PlaysContinue }
     ensures given { GivenPlaysHold }

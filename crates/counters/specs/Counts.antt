@@ -6,7 +6,7 @@ use Rattle.bits.specs.Pick.{pick}
 abbrev pub top : ℕ
 top = 4294967295
 
--- as many more, held at the top
+-- as many more, held at the top [counter-width]
 abbrev pub next_count : ℕ → ℕ → ℕ
 next_count value amount = min (value + amount) top
 

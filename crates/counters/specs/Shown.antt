@@ -8,6 +8,6 @@ unfoldable pub on_row : ℕ → List ℕ → Option ℕ → Option ℕ
 on_row mask values (Some row) = pick (kept mask row) (Some (get_or values row 0)) None
 on_row mask values None = None
 
--- what the page shows of a counter's number: a value, or that it is absent
+-- what the page shows of a counter's number: a value, or that it is absent [absent]
 unfoldable pub shown_for : ℕ → List ℕ → ℕ → Option ℕ
 shown_for mask values number = on_row mask values (row_of number)

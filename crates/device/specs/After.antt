@@ -21,15 +21,15 @@ use Rattle.device.specs.declared.state.Device.{Device}
 abbrev pub with_values : Device → List ℕ → Device
 with_values d values = record d { values = values }
 
--- one event more at a row
+-- one event more at a row [link-event]
 unfoldable pub with_value : Device → ℕ → Device
 with_value d row = with_values d (counted_at d.values row)
 
--- the same settings and counters, an empty table
+-- the same settings and counters, an empty table [halt]
 abbrev pub emptied_device : Device → Status → ErrorRecord → Device
 emptied_device d status record' = record d { status = status; entries = replicate 32 zero_entry; errors = record' }
 
--- halt: every outstanding command is given up, an open phase closes, the error record is set: with the tag, or NQ and tag 0
+-- halt: every outstanding command is given up, an open phase closes, the error record is set: with the tag, or NQ and tag 0 [other-halted] [other-between]
 unfoldable pub halt_with : Device → Fault → Device
 halt_with d f = emptied_device d (none_under_way true false) (record_of f)
 
@@ -41,44 +41,44 @@ with_status d f es = record d { status = f; entries = es }
 unfoldable pub accepted_by : Device → Queued → Device
 accepted_by d q = with_status d (with_tag d.status q.tag) (table_with d.entries q.tag q.entry)
 
--- the halt ends
+-- the halt ends [log-replies] [sweep]
 unfoldable pub unhalted_device : Device → Device
 unhalted_device d = record d { status = record d.status { halted = false } }
 
--- the counters are zeroed
+-- the counters are zeroed [log-zeroes] [other-halted]
 unfoldable pub zeroed_if : Device → Bool → Device
 zeroed_if d on = with_values d (pick on (replicate 16 0) d.values)
 
--- SRST: everything outstanding is dropped, halt and record cleared, reset held
+-- SRST: everything outstanding is dropped, halt and record cleared, reset held [srst]
 unfoldable pub reset_held : Device → Device
 reset_held d = emptied_device d (none_under_way false true) blank_record
 
--- release
+-- release [release] [signature]
 unfoldable pub released_device : Device → Device
 released_device d = record d { status = record d.status { held = false } }
 
--- what has moved; at nothing left the phase closes
+-- what has moved; at nothing left the phase closes [host-data]
 unfoldable pub moved_by : Device → Move → Device
 moved_by d m =
     record d { status = record d.status { phase = pick m.last None d.status.phase }; entries = table_with d.entries m.tag m.entry }
 
--- the phase of a tag is open
+-- the phase of a tag is open [open] [dma-setup]
 unfoldable pub opened_for : Device → ℕ → Device
 opened_for d tag = record d { status = record d.status { phase = Some tag } }
 
--- the commands of a set are finished
+-- the commands of a set are finished [finish] [finished]
 unfoldable pub finished_by : Device → ℕ → Device
 finished_by d set = with_status d (without_tags d.status set) (table_without d.entries set)
 
--- media error: halt; error bit 7 adds one to counter 001h
+-- media error: halt; error bit 7 adds one to counter 001h [media-error] [failed]
 unfoldable pub failed_by : Device → Fault → Device
 failed_by d f = halt_with (pick (bit_in 8 f.error 7) (with_value d 0) d) f
 
--- COMRESET: as SRST and release together, counter 00Ah + 1 (row 9), counters kept
+-- COMRESET: as SRST and release together, counter 00Ah + 1 (row 9), counters kept [comreset]
 unfoldable pub renewed_device : Device → Device
 renewed_device d = with_value (released_device (reset_held d)) 9
 
--- by the act; a link event adds one to its row's counter
+-- by the act; a link event adds one to its row's counter [all-done]
 unfoldable pub after_of : Device → Act → Device
 after_of d Nothing = d
 after_of d (Bad b) = d

@@ -10,11 +10,11 @@ use Rattle.device_state.specs.declared.shapes.Settings.{Settings}
 use Rattle.device.specs.declared.state.Device.{Device}
 use Rattle.device.specs.declared.state.Outcome.{Outcome}
 
--- the state handed in contradicts itself
+-- the state handed in contradicts itself [state] [never-contradicts]
 unfoldable pub contradictory_device : Device → Bool
 contradictory_device d = contradictory d.settings d.status d.entries d.errors d.values
 
--- power-on: idle, record blank, counters 0
+-- power-on: idle, record blank, counters 0 [power-on]
 unfoldable pub fresh_device : Settings → Device
 fresh_device s = record {
   settings = s;
@@ -24,7 +24,7 @@ fresh_device s = record {
   values = replicate 16 0;
 }
 
--- all zeros
+-- all zeros [power-refused]
 abbrev pub zero_device : Device
 zero_device = fresh_device (record { depth = 0; capacity = 0; mask = 0 })
 
@@ -37,6 +37,6 @@ abbrev pub powered : Option Refusal → Settings → Device
 powered None s = fresh_device s
 powered (Some r) s = zero_device
 
--- no reply
+-- no reply [power-on] [on-the-type]
 unfoldable pub power_on : Settings → Outcome
 power_on s = record { state = powered (power_refusal s) s; refusal = power_refusal s; len = 0 }

@@ -16,11 +16,11 @@ abbrev pub entry_meant : List Entry → Option ℕ → Entry
 entry_meant es None = zero_entry
 entry_meant es (Some t) = entry_of es t
 
--- 2: medium length wrong; it is 512 × capacity (`medium_size`). Read of a host frame and of a send alone: of a call that is lent no medium it says nothing
+-- 2: medium length wrong; it is 512 × capacity (`medium_size`). Read of a host frame and of a send alone: of a call that is lent no medium it says nothing [medium] [refused-2]
 abbrev pub medium_wrong : ℕ → ℕ → Bool
 medium_wrong capacity n = not (eqb n (medium_size capacity))
 
--- the tests of 1, 2 (the call says) and 3 (reply buffer under 8,196), the entry of a tag if one is meant, and whether a set has an unready tag
+-- the tests of 1, 2 (the call says) and 3 (reply buffer under 8,196), the entry of a tag if one is meant, and whether a set has an unready tag [reply-room] [refused-3]
 abbrev pub facts_with : Device → Option ℕ → Bool → Bool → ℕ → Facts
 facts_with d tag wrong some room = record {
   contradicts = contradictory_device d;
@@ -36,11 +36,11 @@ facts_with d tag wrong some room = record {
 abbrev pub tag_meant : Option ℕ → Call → Option ℕ
 tag_meant phase c = (handed c).tag phase
 
--- a call names a set with an unready tag
+-- a call names a set with an unready tag [refused-11]
 abbrev pub unready_in : Device → Call → Bool
 unready_in d c = some_unready d.entries d.status.outstanding (handed c).set
 
--- what a call's decision looks at
+-- what a call's decision looks at [reply-room] [refused-3]
 abbrev pub facts_of : Device → Lent → Facts
 facts_of d l =
     facts_with d (tag_meant d.status.phase l.call) (medium_wrong d.settings.capacity (length l.medium))

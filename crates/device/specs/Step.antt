@@ -15,7 +15,7 @@ use Rattle.device.specs.After.{after_of}
 use Rattle.device.specs.declared.state.Device.{Device}
 use Rattle.device.specs.declared.state.Outcome.{Outcome}
 
--- the state, the refusal, the replies as frames, and the medium
+-- the state, the refusal, the replies as frames, and the medium [by-value]
 pub record Step : Type 0 where
   pub state : Device
   pub refusal : Option Refusal
@@ -26,7 +26,7 @@ pub record Step : Type 0 where
 abbrev pub state_shown : Device → Shown
 state_shown d = record { halted = d.status.halted; mask = d.settings.mask; errors = d.errors; values = d.values }
 
--- what is left behind, with what was lent: refused, all as it was and no reply; else by the act
+-- what is left behind, with what was lent: refused, all as it was and no reply; else by the act [unchanged]
 abbrev pub step_by : Device → Lent → Result Act Refusal → Step
 step_by d l (Err r) = record { state = d; refusal = Some r; frames = []; medium = l.medium }
 step_by d l (Ok a) = record {
@@ -40,7 +40,7 @@ step_by d l (Ok a) = record {
 unfoldable pub act_of : Device → Lent → Result Act Refusal
 act_of d l = act (facts_of d l) l.call
 
--- what a call leaves behind
+-- what a call leaves behind [one-function] [send]
 abbrev pub step : Device → Lent → Step
 step d l = step_by d l (act_of d l)
 
@@ -56,7 +56,7 @@ pub record Gives (s : Step) (b : List ℕ) (g : Gave) : Type 0 where
   pub reply : g.buffer ≡ overlay (bytes_of s) b
   pub medium : g.medium ≡ s.medium
 
--- the one contract of the calls
+-- the one contract of the calls [one-function] [unchanged]
 abbrev pub Given : Device → Lent → Gave → Type 0
 Given d l g = Gives (step d l) l.buffer g
 

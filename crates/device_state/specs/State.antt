@@ -13,7 +13,7 @@ use Rattle.device_state.specs.declared.shapes.ErrorRecord.{ErrorRecord}
 abbrev pub placed_bytes : Echo → List ℕ
 placed_bytes e = 0 ∷ 0 ∷ 0 ∷ 0 ∷ e.b4 ∷ e.b5 ∷ e.b6 ∷ e.b7 ∷ e.b8 ∷ e.b9 ∷ e.b10 ∷ 0 ∷ e.b12 ∷ e.b13 ∷ []
 
--- what they name
+-- what they name [repeats]
 unfoldable pub task_in : Echo → Task
 task_in e = task_of (placed_bytes e)
 
@@ -21,7 +21,7 @@ task_in e = task_of (placed_bytes e)
 abbrev pub tag_in : Echo → ℕ
 tag_in e = tag_of (task_in e).count
 
--- the bytes of what a frame named
+-- the bytes of what a frame named [repeats]
 unfoldable pub echo_of : Task → Echo
 echo_of t = record {
   b4 = byte_of t.lba 0;
@@ -35,11 +35,11 @@ echo_of t = record {
   b13 = byte_of t.count 1;
 }
 
--- the bytes of a medium of so many sectors
+-- the bytes of a medium of so many sectors [medium]
 abbrev pub medium_size : ℕ → ℕ
 medium_size capacity = 512 * capacity
 
--- the bytes of a command of so many sectors; more than 65,536 no command has (`settings_out`, `past_capacity`), and then as many count, so that 32 bits hold them
+-- the bytes of a command of so many sectors; more than 65,536 no command has (`settings_out`, `past_capacity`), and then as many count, so that 32 bits hold them [open] [dma-setup]
 abbrev pub whole_of : ℕ → ℕ
 whole_of count = 512 * min count 65536
 
@@ -55,10 +55,10 @@ sectors_of e = record { first = e.first; count = e.count }
 abbrev pub zero_echo : Echo
 zero_echo = record { b4 = 0; b5 = 0; b6 = 0; b7 = 0; b8 = 0; b9 = 0; b10 = 0; b12 = 0; b13 = 0 }
 
--- an idle tag's entry is zero
+-- an idle tag's entry is zero [state]
 abbrev pub zero_entry : Entry
 zero_entry = record { write = false; first = 0; count = 0; moved = 0; features = 0; features_high = 0; echo = zero_echo }
 
--- a blank record
+-- a blank record [record-set] [record-stays]
 abbrev pub blank_record : ErrorRecord
 blank_record = record { set = false; nq = false; tag = 0; error = 0; echo = zero_echo }

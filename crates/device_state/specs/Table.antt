@@ -15,11 +15,11 @@ unfoldable pub tabulation : {A : Type 0} → ℕ → (ℕ → A) → List A
 tabulation zero f = []
 tabulation (suc n) f = tabulation n f ++ (f n ∷ [])
 
--- the entry of a tag; of a tag that has none, an idle one
+-- the entry of a tag; of a tag that has none, an idle one [own-entry]
 abbrev pub entry_of : List Entry → ℕ → Entry
 entry_of es t = get_or es t zero_entry
 
--- the table with the entry of tag t anew; place by place, so that no law about it asks for the table's length
+-- the table with the entry of tag t anew; place by place, so that no law about it asks for the table's length [own-entry]
 unfoldable pub table_with : List Entry → ℕ → Entry → List Entry
 table_with es t e = tabulation 32 (λ i. pick (eqb i t) e (entry_of es i))
 

@@ -8,7 +8,7 @@ use Rattle.device_state.specs.declared.shapes.Status.{Status}
 abbrev pub none_under_way : Bool → Bool → Status
 none_under_way halted held = record { outstanding = 0; phase = None; halted = halted; held = held }
 
--- a phase is open on the link: what 5 for commands and BIST and 8 read, and nothing else
+-- a phase is open on the link: what 5 for commands and BIST and 8 read, and nothing else [refused-5] [refused-8]
 abbrev pub link_busy : Status → Bool
 link_busy s = is_some s.phase
 

@@ -14,6 +14,6 @@ call_of d (HostData b) = host_frame (host_data_frame d b)
 call_of d (HostRegister frame) = host_frame frame
 call_of d (Bist frame) = host_frame frame
 
--- the call that the bytes e of an event make in the state d, if they ask for one
+-- the call that the bytes e of an event make in the state d, if they ask for one [event-call] [event-24]
 abbrev pub call_for : Device → List ℕ → Option Call
 call_for d e = option_map (call_of d) (event_of e)

@@ -7,6 +7,6 @@ use Rattle.device.specs.declared.state.Device.{Device}
 unfoldable pub data_frame : ℕ → ℕ → List ℕ
 data_frame n b = 0x46 ∷ 0 ∷ 0 ∷ 0 ∷ replicate n b
 
--- 07h host data of the length due; 4 payload bytes if no write phase is open
+-- 07h host data of the length due; 4 payload bytes if no write phase is open [event-data]
 abbrev pub host_data_frame : Device → ℕ → List ℕ
 host_data_frame d b = data_frame (unwrap_or (data_due d) 4) b

@@ -6,7 +6,7 @@ use Rattle.events.specs.declared.kinds.Kind.TheVariants.{Settings, OpenPhase, Se
 use Rattle.events.specs.declared.kinds.InputEnd.{InputEnd}
 use Rattle.events.specs.declared.kinds.InputEnd.TheVariants.{Clean, NoEvent}
 
--- the kind that a byte names: 00h settings, 01h open, 02h send, 03h finish, 04h media error, 05h link event, 06h COMRESET, 07h host data, 27h and 58h a frame of that type
+-- the kind that a byte names: 00h settings, 01h open, 02h send, 03h finish, 04h media error, 05h link event, 06h COMRESET, 07h host data, 27h and 58h a frame of that type [event-kinds]
 unfoldable pub kind_named : ℕ → Option Kind
 kind_named k =
     pick (eqb k 0x00) (Some Settings)
@@ -20,7 +20,7 @@ kind_named k =
     (pick (eqb k 0x27) (Some HostRegister)
     (pick (eqb k 0x58) (Some Bist) None)))))))))
 
--- the length of a kind's body: settings 7, tag 1, none 0, mask 4, tag, error and sector 6, row 1, byte 1, and of a frame of 20 or 12 bytes what is behind its type
+-- the length of a kind's body: settings 7, tag 1, none 0, mask 4, tag, error and sector 6, row 1, byte 1, and of a frame of 20 or 12 bytes what is behind its type [event-kinds]
 unfoldable pub body_of : Kind → ℕ
 body_of Settings = 7
 body_of OpenPhase = 1
@@ -33,11 +33,11 @@ body_of HostData = 1
 body_of HostRegister = 19
 body_of Bist = 11
 
--- a body whose length the kind fixes
+-- a body whose length the kind fixes [event-kinds]
 unfoldable pub body_length : ℕ → Option ℕ
 body_length k = option_map body_of (kind_named k)
 
--- settings first, and once
+-- settings first, and once [event-stop]
 unfoldable pub misplaced : Bool → Kind → Bool
 misplaced first Settings = not first
 misplaced first kind = first
@@ -51,7 +51,7 @@ unfoldable pub next_by : Bool → Option Kind → ℕ → Result ℕ InputEnd
 next_by first (Some kind) have = pick (misplaced first kind) (Err NoEvent) (next_whole (body_of kind) have)
 next_by first None have = Err NoEvent
 
--- what the rest l of the input begins with, and how long it is; `first` says that nothing was before it: empty input stops, a clean end does not
+-- what the rest l of the input begins with, and how long it is; `first` says that nothing was before it: empty input stops, a clean end does not [event-stop]
 unfoldable pub next_of : Bool → List ℕ → Result ℕ InputEnd
 next_of first l = pick (eqb (length l) 0) (pick first (Err NoEvent) (Err Clean)) (next_by first (kind_named (get_or l 0 0)) (length l))
 
@@ -60,7 +60,7 @@ unfoldable pub fits_length : Option ℕ → ℕ → Bool
 fits_length (Some n) have = eqb have (n + 1)
 fits_length None have = false
 
--- an event is its kind and a body of the kind's length
+-- an event is its kind and a body of the kind's length [event-kinds]
 unfoldable pub is_event : List ℕ → Bool
 is_event e = fits_length (body_length (get_or e 0 0)) (length e)
 

@@ -6,7 +6,7 @@ use Rattle.refusals.specs.declared.reasons.Refusal.{Refusal}
 use Rattle.hex.specs.Hex.{encode_lower, encode_upper}
 use Rattle.frames.specs.Cut.{cut}
 
--- 32 bits in eight upper-case hex digits
+-- 32 bits in eight upper-case hex digits [event-lines]
 abbrev pub upper8 : ℕ → List ℕ
 upper8 n = encode_upper (byte_of n 3 ∷ byte_of n 2 ∷ byte_of n 1 ∷ byte_of n 0 ∷ [])
 
@@ -43,6 +43,6 @@ told_of told outstanding = 32 ∷ decimal told ++ 32 ∷ upper8 outstanding
 abbrev pub head_of : ℕ → Option Refusal → ℕ → List ℕ
 head_of number refusal outstanding = decimal number ++ told_of (number_told refusal) outstanding
 
--- one line an event: one blank between fields, none at the end, LF
+-- one line an event: one blank between fields, none at the end, LF [event-lines]
 abbrev pub line_of : Bool → ℕ → Option Refusal → ℕ → List ℕ → List ℕ
 line_of traced number refusal outstanding replies = head_of number refusal outstanding ++ fields_of traced (cut replies) ++ 10 ∷ []

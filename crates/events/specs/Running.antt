@@ -41,15 +41,15 @@ after_step k s = kept s.state s.medium (overlay (bytes_of s) k.reply)
 abbrev pub step_told : Bool → ℕ → Step → List ℕ
 step_told traced number s = line_of traced number s.refusal s.state.status.outstanding (bytes_of s)
 
--- what an event leaves behind
+-- what an event leaves behind [event-run]
 unfoldable pub after : Kept → List ℕ → Kept
 after k e = after_step k (step_in k e)
 
--- its line
+-- its line [event-lines]
 unfoldable pub told : Bool → ℕ → Kept → List ℕ → List ℕ
 told traced number k e = step_told traced number (step_in k e)
 
--- the lines of events, numbered on, each played in what the last one left
+-- the lines of events, numbered on, each played in what the last one left [event-lines]
 unfoldable pub lines_from : Bool → ℕ → Kept → List (List ℕ) → List ℕ
 lines_from traced n k [] = []
 lines_from traced n k (e ∷ es) = told traced n k e ++ lines_from traced (n + 1) (after k e) es
@@ -82,12 +82,12 @@ started s = kept (start_of s).state (replicate (medium_size (start_of s).state.s
 abbrev pub start_line : Bool → List ℕ → List ℕ
 start_line traced s = line_of traced 0 (start_of s).refusal (start_of s).state.status.outstanding []
 
--- the lines of a run, of which the first event is the settings
+-- the lines of a run, of which the first event is the settings [event-refused]
 unfoldable pub run_lines : Bool → List (List ℕ) → List ℕ
 run_lines traced [] = []
 run_lines traced (s ∷ es) = start_line traced s ++ lines_from traced 1 (started s) es
 
--- the events that a run plays: behind refused settings none
+-- the events that a run plays: behind refused settings none [event-refused]
 unfoldable pub Plays : List (List ℕ) → Type 0
 Plays [] = Unit
 Plays (s ∷ es) = IsEvent true s × AllEvents es × (refused s ≡ true → es ≡ [])

@@ -19,14 +19,14 @@ pub record IsCut (P : List (List ℕ) → Type 0) (N : List (List ℕ) → List 
   pub events : P es
   pub ends : Ends (N es rest)
 
--- the input ended: the lines (T) of its events are written, and `stop` where the rest is no clean end
+-- the input ended: the lines (T) of its events are written, and `stop` where the rest is no clean end [event-run]
 pub record RunsOut (P : List (List ℕ) → Type 0) (N : List (List ℕ) → List ℕ → Result ℕ InputEnd) (T : List (List ℕ) → List ℕ) (old new : Option (List ℕ)) (input : List ℕ) : Type 0 where
   pub es : List (List ℕ)
   pub rest : List ℕ
   pub cut : IsCut P N input es rest
   pub written : Appends old new (T es ++ ending (N es rest))
 
--- a read failed: what was read is whole events, behind which a run reads on (Q), and a part that is none; their lines are written, and `stop`
+-- a read failed: what was read is whole events, behind which a run reads on (Q), and a part that is none; their lines are written, and `stop` [event-broken] [event-lost]
 pub record BreaksOff (P Q : List (List ℕ) → Type 0) (N : List (List ℕ) → List ℕ → Result ℕ InputEnd) (T : List (List ℕ) → List ℕ) (known known' old new : Option (List ℕ)) : Type 0 where
   pub es : List (List ℕ)
   pub looked : Q es
@@ -35,7 +35,7 @@ pub record BreaksOff (P Q : List (List ℕ) → Type 0) (N : List (List ℕ) →
   pub cut : IsCut P N (joined_bytes es ++ part) es part
   pub written : Appends old new (T es ++ ending (Err NoEvent))
 
--- lines are lost: the input begins with events, and of their lines, and of `stop`, a front is written
+-- lines are lost: the input begins with events, and of their lines, and of `stop`, a front is written [event-broken] [event-lost]
 pub record Loses (P : List (List ℕ) → Type 0) (T : List (List ℕ) → List ℕ) (known old new : Option (List ℕ)) : Type 0 where
   pub es : List (List ℕ)
   pub begins : IfSome known (λ input. (rest : List ℕ) × (input ≡ joined_bytes es ++ rest))
@@ -58,11 +58,11 @@ Told P Q N T n known known' old new (Err (Output e)) = Loses P T known old new
 Told P Q N T n known known' old new (Err Memory) = Loses P T known old new
 Told P Q N T n known known' old new (Err TooMany) = Tires P T n known known' old new
 
--- the whole run
+-- the whole run [event-run]
 abbrev pub Ran : Bool → (known known' old new : Option (List ℕ)) → Result Unit RunError → Type 0
 Ran traced known known' old new result = Told Plays ReadsOn next_behind (run_lines traced) (2 ^ 64 - 1) known known' old new result
 
--- what is said aloud of a run by its result: that lines are missing
+-- what is said aloud of a run by its result: that lines are missing [event-lost]
 abbrev pub said_of : Result Unit RunError → List ℕ
 said_of (Ok u) = []
 said_of (Err (Input e)) = []
@@ -70,17 +70,17 @@ said_of (Err (Output e)) = complaint
 said_of (Err Memory) = complaint
 said_of (Err TooMany) = []
 
--- a text was said, or a front of it where that failed
+-- a text was said, or a front of it where that failed [event-lost]
 abbrev pub Said : List ℕ → (errors errors' : Option (List ℕ)) → {E : Type 0} → Result Unit E → Type 0
 Said text errors errors' (Ok u) = Appends errors errors' text
 Said text errors errors' (Err e) = AppendsFront errors errors' text
 
--- a run of this input, whatever was left of it, and what was said of it
+-- a run of this input, whatever was left of it, and what was said of it [event-lost]
 abbrev pub HasRun : Bool → (known old new errors errors' : Option (List ℕ)) → Ended → Type 0
 HasRun traced known old new errors errors' ended =
     (left : Option (List ℕ)) × Ran traced known left old new ended.run × Said (said_of ended.run) errors errors' ended.said
 
--- the exit status of a program by its run: 0 where the input ended, 3 where a read failed or the numbers are used up, 4 where lines are missing
+-- the exit status of a program by its run: 0 where the input ended, 3 where a read failed or the numbers are used up, 4 where lines are missing [event-status]
 abbrev pub exit_status_of : Result Unit RunError → ℕ
 exit_status_of (Ok u) = 0
 exit_status_of (Err (Input e)) = 3
@@ -108,7 +108,7 @@ PlayedOn traced k lines known known' old new result = Told AllEvents always late
 abbrev pub StartedWith : Bool → List ℕ → (known known' old new : Option (List ℕ)) → Result Unit RunError → Type 0
 StartedWith traced s known known' old new result = (before : Option (List ℕ)) → IsEvent true s → Consumes before known s → Ran traced before known' old new result
 
--- one input has one text: outputs that an end of the input allows for the same bytes read are equal
+-- one input has one text: outputs that an end of the input allows for the same bytes read are equal [event-run]
 abbrev pub OneText : Type 0
 OneText = (traced : Bool) (input old : List ℕ) (new new' : Option (List ℕ)) → RunsOut Plays next_behind (run_lines traced) (Some old) new input → RunsOut Plays next_behind (run_lines traced) (Some old) new' input → new ≡ new'
 

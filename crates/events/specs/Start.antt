@@ -12,6 +12,6 @@ unfoldable pub start_by : Option Settings → Outcome
 start_by (Some s) = power_on s
 start_by None = powered_of (Err Contradiction)
 
--- power-on with what the record says
+-- power-on with what the record says [event-settings]
 unfoldable pub start_of : List ℕ → Outcome
 start_of e = start_by (asked_of e)

@@ -18,14 +18,14 @@ unfoldable pub not_whole : Option ℕ → ℕ → Bool
 not_whole (Some n) have = not (leb (n + 1) have)
 not_whole None have = true
 
--- empty input; or a first kind other than 00h, a repeated 00h, an unknown kind, a short body
+-- empty input; or a first kind other than 00h, a repeated 00h, an unknown kind, a short body [event-stop]
 abbrev pub stops_at : Bool → List ℕ → Bool
 stops_at first l =
     (first && eqb (length l) 0)
     || (not (eqb (length l) 0)
     && ((first && not (eqb (get_or l 0 0) 0x00)) || (not first && eqb (get_or l 0 0) 0x00) || not_whole (body_length (get_or l 0 0)) (length l)))
 
--- refusal 1: no settings record, capacity above 64 here, or settings that power-on refuses
+-- refusal 1: no settings record, capacity above 64 here, or settings that power-on refuses [event-refused]
 abbrev pub start_out : List ℕ → Bool
 start_out e = not (in_limit e) || settings_out (settings_of e)
 

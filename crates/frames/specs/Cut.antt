@@ -3,7 +3,7 @@ use Rattle.std.specs.Prelude.{List, [], ◌∷◌, ◌++◌, ℕ, zero, suc, len
 use Rattle.bits.specs.Pick.{pick}
 use Rattle.frames.specs.Size.{fixed_size}
 
--- the length of the first frame: its kind's, and no more than is there; 46h and an unknown kind take what is left
+-- the length of the first frame: its kind's, and no more than is there; 46h and an unknown kind take what is left [cut]
 unfoldable pub first_length : List ℕ → ℕ
 first_length l = min (unwrap_or (fixed_size (get_or l 0 0)) (length l)) (length l)
 
@@ -12,7 +12,7 @@ unfoldable pub cut_to : ℕ → List ℕ → List (List ℕ)
 cut_to zero l = []
 cut_to (suc n) l = pick (eqb (length l) 0) [] (take (first_length l) l ∷ cut_to n (drop (first_length l) l))
 
--- all the frames of l, each as its bytes
+-- all the frames of l, each as its bytes [cut] [all-sent]
 unfoldable pub cut : List ℕ → List (List ℕ)
 cut l = cut_to (length l) l
 

@@ -26,7 +26,7 @@ use Rattle.frames.specs.declared.shapes.Frame.TheVariants.{Host, Device, Bits, S
 abbrev pub flag_at : List ℕ → ℕ → Bool
 flag_at l k = bit_in 8 (get_or l 1 0) k
 
--- 27h: byte 1 bit 7 command (C); 2 command, 3 features, 11 features high, 15 control
+-- 27h: byte 1 bit 7 command (C); 2 command, 3 features, 11 features high, 15 control [frame-27] [srst-bit]
 abbrev pub host_of : List ℕ → HostReg
 host_of l = record {
   command_bit = flag_at l 7;
@@ -37,15 +37,15 @@ host_of l = record {
   control = get_or l 15 0;
 }
 
--- 34h: byte 1 bit 6 is I; 2 status, 3 error
+-- 34h: byte 1 bit 6 is I; 2 status, 3 error [frame-34]
 abbrev pub device_of : List ℕ → DevReg
 device_of l = record { interrupt = flag_at l 6; status = get_or l 2 0; error = get_or l 3 0; task = task_of l }
 
--- A1h: byte 1 bit 6 I; byte 2 the status halves; 3 error; 4-7 SActive
+-- A1h: byte 1 bit 6 I; byte 2 the status halves; 3 error; 4-7 SActive [frame-A1]
 abbrev pub bits_of : List ℕ → SetBits
 bits_of l = record { interrupt = flag_at l 6; status = halves_of (get_or l 2 0); error = get_or l 3 0; active = le_at l 4 4 }
 
--- 41h: byte 1 bit 7 A, bit 6 I, bit 5 D; 4-7 tag, 16-19 offset, 20-23 byte count
+-- 41h: byte 1 bit 7 A, bit 6 I, bit 5 D; 4-7 tag, 16-19 offset, 20-23 byte count [frame-41]
 abbrev pub setup_of : List ℕ → DmaSetup
 setup_of l = record {
   auto = flag_at l 7;
@@ -56,7 +56,7 @@ setup_of l = record {
   count = le_at l 20 4;
 }
 
--- 5Fh: as 34h, with D at byte 1 bit 5, ending status at 15, byte count at 16-17
+-- 5Fh: as 34h, with D at byte 1 bit 5, ending status at 15, byte count at 16-17 [frame-5F]
 abbrev pub pio_of : List ℕ → PioSetup
 pio_of l = record {
   interrupt = flag_at l 6;
@@ -83,11 +83,11 @@ frame_of kinds.Data l = Data (length l - 4)
 unfoldable pub frame_by_kind : ℕ → List ℕ → Result Frame Refusal
 frame_by_kind byte l = option_map_or (λ kind. Ok (frame_of kind l)) (kind_named byte) (Err NoFrame)
 
--- 24: kind unknown or length wrong
+-- 24: kind unknown or length wrong [refused-24]
 abbrev pub ladder24 : List ℕ → List Rung
 ladder24 l = rung NoFrame (not (readable (get_or l 0 0) (length l))) ∷ []
 
--- the frame that the bytes are, or refused
+-- the frame that the bytes are, or refused [read-back] [frame-read]
 unfoldable pub read_frame : List ℕ → Result Frame Refusal
 read_frame l = pick (readable (get_or l 0 0) (length l)) (frame_by_kind (get_or l 0 0) l) (Err NoFrame)
 
@@ -106,12 +106,12 @@ frame_values (Data n) = 0x46 ∷ n ∷ []
 frame_values Bist = 0x58 ∷ []
 frame_values (Pio f) = 0x5F ∷ bit_number f.interrupt ∷ bit_number f.to_host ∷ f.status ∷ f.error ∷ task_values f.task ++ f.ending ∷ f.bytes ∷ []
 
--- what each answer of the reader tells: 0 and the frame's values, or the refusal's number
+-- what each answer of the reader tells: 0 and the frame's values, or the refusal's number [answer-values]
 unfoldable pub frame_answer : Result Frame Refusal → Answer
 frame_answer (Ok f) = record { number = 0; values = frame_values f }
 frame_answer (Err r) = record { number = number r; values = [] }
 
--- what the reader promises: the frame that the bytes are, and the refusal exactly by its list
+-- what the reader promises: the frame that the bytes are, and the refusal exactly by its list [answer-values] [frame-read]
 pub record FrameGiven (l : List ℕ) (r : Result Frame Refusal) : Type 0 where
   pub answer : r ≡ read_frame l
   pub refusal : refusal_in r ≡ first_of (ladder24 l)

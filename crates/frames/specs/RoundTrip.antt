@@ -28,7 +28,7 @@ again l (Data n) = payload (drop 4 l)
 again l Bist = bist
 again l (Pio f) = pio f
 
--- the named bits of each kind, byte by byte; every other bit is written 0 and dropped on reading
+-- the named bits of each kind, byte by byte; every other bit is written 0 and dropped on reading [dropped]
 unfoldable pub named_bits : ℕ → List ℕ
 named_bits k =
     pick (eqb k 0x27) (0xFF ∷ 0x80 ∷ 0xFF ∷ 0xFF ∷ 0xFF ∷ 0xFF ∷ 0xFF ∷ 0xFF ∷ 0xFF ∷ 0xFF ∷ 0xFF ∷ 0xFF ∷ 0xFF ∷ 0xFF ∷ 0 ∷ 0xFF ∷ 0 ∷ 0 ∷ 0 ∷ 0 ∷ [])
@@ -44,6 +44,6 @@ abbrev pub masked_from : ℕ → List ℕ → List ℕ → List ℕ
 masked_from i [] l = drop i l
 masked_from i (m ∷ ms) l = bit_and (get_or l i 0) m ∷ masked_from (suc i) ms l
 
--- a frame with its dropped bits zeroed
+-- a frame with its dropped bits zeroed [dropped]
 abbrev pub zeroed : List ℕ → List ℕ
 zeroed l = masked_from 0 (named_bits (get_or l 0 0)) l

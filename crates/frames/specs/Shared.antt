@@ -6,11 +6,11 @@ use Rattle.bits.specs.Little.{le_at, le_bytes, bytes_from}
 use Rattle.frames.specs.declared.shared.Task.{Task}
 use Rattle.frames.specs.declared.shared.Registers.{Registers}
 
--- byte 1, bits 7, 6 and 5: A or C, I, D
+-- byte 1, bits 7, 6 and 5: A or C, I, D [frame-41]
 abbrev pub flags_of : Bool → Bool → Bool → ℕ
 flags_of seven six five = bit_byte seven 7 + bit_byte six 6 + bit_byte five 5
 
--- A1h, byte 2: bits 6:4 and 2:0 are those bits of status
+-- A1h, byte 2: bits 6:4 and 2:0 are those bits of status [frame-A1]
 abbrev pub halves_of : ℕ → ℕ
 halves_of b = b / 16 % 8 * 16 + b % 8
 
@@ -18,23 +18,23 @@ halves_of b = b / 16 % 8 * 16 + b % 8
 abbrev pub lba_of : List ℕ → ℕ
 lba_of l = le_at l 8 3 * 2 ^ 24 + le_at l 4 3
 
--- 4-10 and 12-13: LBA, device, count
+-- 4-10 and 12-13: LBA, device, count [frame-27]
 abbrev pub task_of : List ℕ → Task
 task_of l = record { lba = lba_of l; device = get_or l 7 0; count = le_at l 12 2 }
 
--- 27h: 15 control (bit 2 SRST)
+-- 27h: 15 control (bit 2 SRST) [srst-bit]
 abbrev pub srst_of : ℕ → Bool
 srst_of control = bit_in 8 control 2
 
--- bits 7:3 of byte 12 hold the tag
+-- bits 7:3 of byte 12 hold the tag [tag-bits]
 abbrev pub tag_of : ℕ → ℕ
 tag_of count = count / 8 % 32
 
--- features and features high are the sector count (0 = 65,536)
+-- features and features high are the sector count (0 = 65,536) [sector-count]
 abbrev pub sectors_of : ℕ → ℕ → ℕ
 sectors_of features high = pick (eqb (high * 256 + features) 0) 65536 (high * 256 + features)
 
--- the twenty bytes of 27h, 34h and 5Fh; unnamed bytes are written 0
+-- the twenty bytes of 27h, 34h and 5Fh; unnamed bytes are written 0 [frame-27]
 unfoldable pub register_bytes : Registers → List ℕ
 register_bytes r =
     r.kind ∷ r.flags ∷ r.second ∷ r.third
@@ -45,7 +45,7 @@ register_bytes r =
 abbrev pub is_below : ℕ → ℕ → Bool
 is_below k x = ltb x (2 ^ k)
 
--- no value of the command's bytes is too large for its bits
+-- no value of the command's bytes is too large for its bits [unfit-value]
 abbrev pub task_fits : Task → Bool
 task_fits t = is_below 8 t.device && is_below 16 t.count && is_below 48 t.lba
 

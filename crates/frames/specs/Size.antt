@@ -5,7 +5,7 @@ use Rattle.bits.specs.Pick.{pick}
 use Rattle.frames.specs.declared.kinds.FrameKind.{FrameKind}
 use Rattle.frames.specs.declared.kinds.FrameKind.TheVariants.{HostRegister, DeviceRegister, DmaActivate, DmaSetup, Data, BistActivate, PioSetup, SetDeviceBits}
 
--- the kind that a byte names, if it names one
+-- the kind that a byte names, if it names one [frame-39] [frame-46]
 abbrev pub kind_named : ℕ → Option FrameKind
 kind_named byte =
     pick (eqb byte 0x27) (Some HostRegister)
@@ -28,11 +28,11 @@ size_of BistActivate = Some 12
 size_of PioSetup = Some 20
 size_of SetDeviceBits = Some 8
 
--- the length that a byte's kind fixes; 46h and an unknown kind fix none
+-- the length that a byte's kind fixes; 46h and an unknown kind fix none [frame-39] [frame-46]
 unfoldable pub fixed_size : ℕ → Option ℕ
 fixed_size byte = option_and_then size_of (kind_named byte)
 
--- a payload is 4 to 8,192 bytes in steps of 4
+-- a payload is 4 to 8,192 bytes in steps of 4 [frame-39] [frame-46]
 abbrev pub payload_size : ℕ → Bool
 payload_size n = leb 4 n && leb n 8192 && eqb (n % 4) 0
 
@@ -41,6 +41,6 @@ abbrev pub allows : FrameKind → ℕ → Bool
 allows Data n = payload_size (n - 4)
 allows kind n = option_eq eqb (size_of kind) (Some n)
 
--- the byte names a kind, and a frame of it may be n bytes long
+-- the byte names a kind, and a frame of it may be n bytes long [refused-24]
 unfoldable pub readable : ℕ → ℕ → Bool
 readable byte n = option_map_or (λ kind. allows kind n) (kind_named byte) false

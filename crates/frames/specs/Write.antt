@@ -24,11 +24,11 @@ pub data FrameValue : Type 0 where
   bist : FrameValue
   pio : PioSetup → FrameValue
 
--- A1h, 8 bytes
+-- A1h, 8 bytes [frame-A1]
 unfoldable pub bits_bytes : SetBits → List ℕ
 bits_bytes f = 0xA1 ∷ flags_of false f.interrupt false ∷ halves_of f.status ∷ f.error ∷ le_bytes 4 f.active
 
--- 41h, 28 bytes
+-- 41h, 28 bytes [frame-41]
 unfoldable pub setup_bytes : DmaSetup → List ℕ
 setup_bytes f =
     0x41 ∷ flags_of f.auto f.interrupt f.to_host ∷ 0 ∷ 0
@@ -73,7 +73,7 @@ pio_registers f = record {
   bytes = f.bytes;
 }
 
--- the bytes of a frame
+-- the bytes of a frame [read-back] [frame-34]
 unfoldable pub encode : FrameValue → List ℕ
 encode (host f) = register_bytes (host_registers f)
 encode (device f) = register_bytes (device_registers f)
@@ -84,7 +84,7 @@ encode (payload p) = 0x46 ∷ 0 ∷ 0 ∷ 0 ∷ p
 encode bist = 0x58 ∷ 0 ∷ 0 ∷ 0 ∷ 0 ∷ 0 ∷ 0 ∷ 0 ∷ 0 ∷ 0 ∷ 0 ∷ 0 ∷ []
 encode (pio f) = register_bytes (pio_registers f)
 
--- no value is too large for its bits, status bits 7 and 3 of A1h are not set, the payload is 4 to 8,192 bytes in steps of 4
+-- no value is too large for its bits, status bits 7 and 3 of A1h are not set, the payload is 4 to 8,192 bytes in steps of 4 [refused-25] [unfit-value]
 unfoldable pub fits : FrameValue → Bool
 fits (host f) = is_below 8 f.command && is_below 8 f.features && is_below 8 f.features_high && is_below 8 f.control && task_fits f.task
 fits (device f) = is_below 8 f.status && is_below 8 f.error && task_fits f.task
@@ -95,6 +95,6 @@ fits (payload p) = payload_size (length p)
 fits bist = true
 fits (pio f) = is_below 8 f.status && is_below 8 f.error && is_below 8 f.ending && is_below 16 f.bytes && task_fits f.task
 
--- what a writer promises of its frame
+-- what a writer promises of its frame [frames-below]
 abbrev pub FrameWriteGiven : FrameValue → List ℕ → Result ℕ Refusal → List ℕ → Type 0
 FrameWriteGiven f d r d' = WriteGiven (fits f) (encode f) d r d'

@@ -1,4 +1,4 @@
--- What a call can do, as demand 3 reads it: eleven kinds of effect. A new call or command comes to one of them. Assumes nothing.
+-- What a call can do, as a history is read: eleven kinds of effect. A new call or command comes to one of them. Assumes nothing.
 use Rattle.std.proofs.Common.{Some, None, ◌≡◌, Bool, true, false, not, ◌&&◌, ◌||◌, ℕ, ◌+◌, ◌*◌, ◌^◌, ◌≤◌, ◌<◌, eqb, leb}
 use Rattle.bits.specs.Pick.{pick}
 use Rattle.bits.specs.Bit.{bit_in, with_bit_in, clear_in}
@@ -102,7 +102,7 @@ pub record Ended (set : ℕ) (d d' : Device) : Type 0 where
 
 -- the eleven kinds
 pub data Class (d : Device) (e : Seen) (d' : Device) : Type 0 where
-  -- nothing that demand 3 reads: a refused call, a signature after release, BIST, a link event
+  -- nothing that is read in a history: a refused call, a signature after release, BIST, a link event
   plain : Is e false false false false false false false none none 0 0 → Unbegun e → Same d d' → Class d e d'
   -- a page, of the two logs, while not halted
   pages : (de : Bool) → Is e false false false false false false de none none 0 0 → Unbegun e → d.status.halted ≡ false → Same d d' → Class d e d'

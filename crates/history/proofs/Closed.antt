@@ -6,7 +6,7 @@ use Rattle.history.specs.Event.{Event}
 use Rattle.history.specs.ReplyRules.{AllReplyRules}
 use Rattle.history.specs.NoChoice.{lent_in, Tabled}
 use Rattle.history.specs.Run.{AllTyped, history}
-use Rattle.history.proofs.Runs.{held, demand3_reply_rules}
+use Rattle.history.proofs.Runs.{held, run_reply_rules}
 use Rattle.history.proofs.NoChoice.{no_choice}
 
 module _ (s : Settings) (as' : List Lent) (t : AllTyped as') where
@@ -21,4 +21,4 @@ module _ (s : Settings) (as' : List Lent) (t : AllTyped as') where
 
     -- so what each reply may say follows from the tables
     pub reply_rules_follow : AllReplyRules h
-    reply_rules_follow = subst AllReplyRules (sym only_run) (demand3_reply_rules s as' t)
+    reply_rules_follow = subst AllReplyRules (sym only_run) (run_reply_rules s as' t)

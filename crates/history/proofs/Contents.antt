@@ -14,7 +14,7 @@ use Rattle.history.specs.Asked.{brought}
 use Rattle.history.specs.Seen.{Seen, seen}
 use Rattle.history.specs.Fates.{Command, commands, own_tag, outstanding, one, total_with}
 use Rattle.history.specs.Carried.{transfer, base}
-use Rattle.history.specs.Demand3.{Moved, MovedOf, Reaches, Moves}
+use Rattle.history.specs.Faithful.{Moved, MovedOf, Reaches, Moves}
 use Rattle.device.specs.Lent.{Lent, Typed}
 use Rattle.history.specs.Run.{done, event, result}
 use Rattle.history.proofs.Frames.{read_step, read_sent}

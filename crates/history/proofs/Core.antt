@@ -12,7 +12,7 @@ use Rattle.device.specs.declared.state.Device.{Device}
 use Rattle.history.specs.Seen.{Seen, accepts}
 use Rattle.history.specs.Fates.{one, total, total_with}
 use Rattle.history.specs.Waits.{sactive, waits, given_up_there, bad_since}
-use Rattle.history.specs.Demand3.{Sactive, Waiting}
+use Rattle.history.specs.Faithful.{Sactive, Waiting}
 use Rattle.history.proofs.Class as kinds
 use Rattle.history.proofs.Class.{Class, Is, none}
 use Rattle.history.proofs.Commands.{TagsBelow, tags_step, tags_none, with_none}

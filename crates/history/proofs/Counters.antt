@@ -3,7 +3,7 @@ use Rattle.std.proofs.Common.{List, []}
 use Rattle.device_state.specs.declared.shapes.Settings.{Settings}
 use Rattle.device.specs.Device.{power_on}
 use Rattle.device.specs.Lent.{Lent}
-use Rattle.history.specs.Demand3.{Counters}
+use Rattle.history.specs.Faithful.{Counters}
 use Rattle.history.specs.Run.{AllTyped, run_from, history}
 use Rattle.history.proofs.Tally.{Counting}
 use Rattle.history.proofs.Shown.{masked_start, masked_run}

@@ -3,7 +3,7 @@ use Rattle.std.proofs.Common.{◌≡◌, refl, false, ◌&&◌, ◌||◌, List, 
 use Rattle.device.specs.declared.state.Device.{Device}
 use Rattle.history.specs.Seen.{Seen, errs}
 use Rattle.history.specs.Fates.{Command, later, commands, own_tag, outstanding_at, finished_at, given_up_at, dropped_at, outstanding, All}
-use Rattle.history.specs.Demand3.{OneFate, Settled, Fates}
+use Rattle.history.specs.Faithful.{OneFate, Settled, Fates}
 use Rattle.history.proofs.Class.{Class}
 use Rattle.history.proofs.Alls.{all_step}
 

@@ -40,7 +40,7 @@ module _ (x : Event) (fs : List FrameValue) (r : Read x fs) where
   pub read_page : page x ≡ page_in fs
   read_page = ap₂ (λ (l : List FrameRead) (p : List ℕ). pick (some is_pio l) p []) read_frames read_payloads
 
-  -- all that demand 3 reads
+  -- all that is read in a history
   pub read_seen : (a : Asked) → asks x ≡ a → seen x ≡ view a fs
   unfolding seen view
   read_seen a e =

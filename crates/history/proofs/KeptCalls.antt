@@ -20,7 +20,7 @@ use Rattle.device.specs.Lent.{Lent, lent, Gave, gave, answered}
 use Rattle.history.specs.Run.{Done, done, AllTyped}
 use Rattle.history.specs.Follows.{FollowsBy, final, lents, history_of, Began}
 use Rattle.history.specs.Promised.{Promised}
-use Rattle.history.proofs.Demand3.{promised_given}
+use Rattle.history.proofs.Faithful.{promised_given}
 
 -- one call of a kept device, as it may go, and what is kept then: each case is a public function of `Sealed`, and what it holds is that function's own contract
 pub data Keeps : Sealed → Lent → Gave → Sealed → Type 0 where

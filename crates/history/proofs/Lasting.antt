@@ -8,7 +8,7 @@ use Rattle.history.specs.Replied.{sent}
 use Rattle.history.specs.Seen.{seen}
 use Rattle.history.specs.Fates.{Command, commands}
 use Rattle.history.specs.Carried.{base, size}
-use Rattle.history.specs.Demand3.{Ranges, Contents}
+use Rattle.history.specs.Faithful.{Ranges, Contents}
 use Rattle.history.specs.Placed.{due_place}
 use Rattle.history.specs.Lasting.{medium_by, HandedOn, moved_byte, newest, Stands, ReadsBack, OwnByte, ByteStands, FinishedBytes, Lasting}
 use Rattle.history.proofs.Alls.{all_imp, all_both}

@@ -59,7 +59,7 @@ pub mod Refusing
 -- what each call is answered, byte for byte
 pub mod Otherwise
 pub mod Answering
--- demand 3: over every run from power-on, against the state, and of the code
+-- what is promised: over every run from power-on, against the state, and of the code
 pub mod Runs
 pub mod Counters
 pub mod Asked11
@@ -72,7 +72,7 @@ pub mod NoChoice
 pub mod Closed
 -- refused calls struck out
 pub mod Striking
-pub mod Demand3
+pub mod Faithful
 pub mod KeptCalls
 -- whatever state is handed in
 pub mod Outstanding

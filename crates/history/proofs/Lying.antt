@@ -17,7 +17,7 @@ use Rattle.history.specs.Replied.{FrameRead, data_in, sent}
 use Rattle.history.specs.Seen.{seen, Transfer, no_transfer, under_way}
 use Rattle.history.specs.Fates.{Command, commands, outstanding, one, how_many, All}
 use Rattle.history.specs.Carried.{transfer, Within}
-use Rattle.history.specs.Demand3.{Moved, MovedOf, Owned, Moves}
+use Rattle.history.specs.Faithful.{Moved, MovedOf, Owned, Moves}
 use Rattle.history.specs.Placed.{owns, place_in_transfer, due_place, written}
 use Rattle.history.proofs.Placed.{SentFrom, EndsIn, sent_none, nowhere_lies}
 

@@ -12,7 +12,7 @@ use Rattle.rules.specs.declared.event.DeviceEvent.TheVariants.{SendData}
 use Rattle.device.specs.Lent.{Lent}
 use Rattle.history.specs.Event.{Event}
 use Rattle.history.specs.Reading.{call_brings}
-use Rattle.history.specs.Demand3.{Contents}
+use Rattle.history.specs.Faithful.{Contents}
 use Rattle.history.specs.Refused.{out_of_bounds, own_tests, Refusals}
 use Rattle.history.specs.Placed.{due_place, written}
 use Rattle.history.specs.Answered.{replies_by, AnsweredBy, Answers}

@@ -9,7 +9,7 @@ use Rattle.history.specs.Event.{Event}
 use Rattle.history.specs.Seen.{Seen, seen, Transfer, no_transfer, under_way}
 use Rattle.history.specs.Fates.{Command, later, commands, own_tag, outstanding, one, how_many, All}
 use Rattle.history.specs.Carried.{load, transfer, span, base, belongs, positions, carried_at, carried}
-use Rattle.history.specs.Demand3.{Owned, Moves, Contents}
+use Rattle.history.specs.Faithful.{Owned, Moves, Contents}
 use Rattle.history.specs.Placed.{owns, owner_in_transfer, place_in_transfer, due_place, byte_at}
 use Rattle.history.specs.Lasting.{data_moved, OwnByte}
 use Rattle.history.proofs.Alls.{all_imp, all_both, all_any, all_step, all_start}

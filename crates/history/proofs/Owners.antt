@@ -7,7 +7,7 @@ use Rattle.device.proofs.Tags.{busy_below}
 use Rattle.history.specs.Seen.{Seen, Transfer}
 use Rattle.history.specs.Fates.{Command, commands, own_tag, outstanding, one, how_many, All, total_with}
 use Rattle.history.specs.Carried.{transfer, belongs}
-use Rattle.history.specs.Demand3.{Owned}
+use Rattle.history.specs.Faithful.{Owned}
 use Rattle.history.proofs.Alls.{all_imp}
 use Rattle.history.proofs.Transfers.{transfer_for, transfer_shut, transfer_open}
 use Rattle.history.proofs.Moving.{device_entry}

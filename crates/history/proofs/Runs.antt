@@ -1,4 +1,4 @@
--- Demand 3 over every run from power-on. Assumes nothing.
+-- What is promised, over every run from power-on. Assumes nothing.
 use Rattle.std.proofs.Common.{None, ◌≡◌, refl, ap, subst, ◌∙◌, List, [], ◌∷◌, map, ◌≤◌, le_trans, le_of_eq, arith, ltb}
 use lib.Count.{ones}
 use Rattle.device_state.specs.declared.shapes.Settings.{Settings}
@@ -8,7 +8,7 @@ use Rattle.device.proofs.Opens.{ones_most}
 use Rattle.history.specs.Event.{Event}
 use Rattle.history.specs.Seen.{seen}
 use Rattle.history.specs.Fates.{total}
-use Rattle.history.specs.Demand3.{Fates, Ranges, Moves, Contents, Sactive, Waiting, Depth, OnePerTag, Counters}
+use Rattle.history.specs.Faithful.{Fates, Ranges, Moves, Contents, Sactive, Waiting, Depth, OnePerTag, Counters}
 use Rattle.history.specs.ReplyRules.{AllReplyRules}
 use Rattle.history.specs.Refused.{Refusals}
 use Rattle.history.specs.Logged.{log_by, LogTold}
@@ -153,29 +153,29 @@ within_depth s d h i =
 
 module _ (s : Settings) (as' : List Lent) (t : AllTyped as') where
   -- each accepted queued command is exactly one of the four, and once not outstanding it never changes
-  pub demand3_fates : Fates (map seen (history s as'))
-  demand3_fates = fates (map seen (history s as')) (held s as' t).lone
+  pub run_fates : Fates (map seen (history s as'))
+  run_fates = fates (map seen (history s as')) (held s as' t).lone
 
   -- a finished command's data frames carried each byte of its range once, in rising order, none outside, any other's a beginning of it; and each byte is the medium's
-  pub demand3_data : Ranges (map seen (history s as')) × Contents (history s as')
-  demand3_data = (ranges (run_from s as').state (map seen (history s as')) (held s as' t).tracked.commands, (held s as' t).contents)
+  pub run_data : Ranges (map seen (history s as')) × Contents (history s as')
+  run_data = (ranges (run_from s as').state (map seen (history s as')) (held s as' t).tracked.commands, (held s as' t).contents)
 
   -- while no error waits to be read, SActive names exactly the outstanding tags
-  pub demand3_sactive : Sactive (map seen (history s as'))
-  demand3_sactive = inv_sactive (held s as' t).inv
+  pub run_sactive : Sactive (map seen (history s as'))
+  run_sactive = inv_sactive (held s as' t).inv
 
   -- while one waits, nothing is outstanding, and SActive names the tags given up at that error and those of queued commands answered with an error since
-  pub demand3_waiting : Waiting (map seen (history s as'))
-  demand3_waiting = inv_waiting (held s as' t).inv
+  pub run_waiting : Waiting (map seen (history s as'))
+  run_waiting = inv_waiting (held s as' t).inv
 
   -- at most the queue depth is ever outstanding
-  pub demand3_depth : Depth s.depth (map seen (history s as'))
-  demand3_depth = within_depth s (run_from s as').state (history s as') (held s as' t)
+  pub run_depth : Depth s.depth (map seen (history s as'))
+  run_depth = within_depth s (run_from s as').state (history s as') (held s as' t)
 
   -- no two commands of one tag are outstanding
-  pub demand3_single : OnePerTag (map seen (history s as'))
-  demand3_single u l = let n = (held s as' t).inv.number u l in grind arith
+  pub run_single : OnePerTag (map seen (history s as'))
+  run_single u l = let n = (held s as' t).inv.number u l in grind arith
 
   -- every event says no more than it may after those before it, and what it must
-  pub demand3_reply_rules : AllReplyRules (history s as')
-  demand3_reply_rules = (held s as' t).reply_rules
+  pub run_reply_rules : AllReplyRules (history s as')
+  run_reply_rules = (held s as' t).reply_rules

@@ -25,7 +25,7 @@ use Rattle.history.proofs.Counters.{counting_true}
 use Rattle.history.proofs.Asked11.{counter_true}
 use Rattle.history.proofs.Soundness.{by_power}
 use Rattle.history.proofs.RefusedTests.{power_taken, power_refused}
-use Rattle.history.proofs.Runs.{held, demand3_depth}
+use Rattle.history.proofs.Runs.{held, run_depth}
 
 -- the same answer of rows that agree, and values that do where 1 does not hold
 asked_same : {A : Type 0} {c o n m : Bool} {x y : A} → c ≡ o → n ≡ m → (o ≡ false → x ≡ y) → unless (first_of (counter_ladder c n)) x ≡ unless (first_of (counter_ladder o m)) y
@@ -60,7 +60,7 @@ module _ (s : Settings) (as' : List Lent) (t : AllTyped as') where
   pub told_depth : AgreesDepth s.depth (run_from s as').state (history s as')
   told_depth =
       let e = inv_total (held s as' t).inv in
-      record { counted = sym e; most = subst (λ (n : ℕ). n ≤ s.depth) e (demand3_depth s as' t) }
+      record { counted = sym e; most = subst (λ (n : ℕ). n ≤ s.depth) e (run_depth s as' t) }
 
   -- and so is the answer of `Device::outstanding_count`
   pub told_count : AgreesCount s (run_from s as').state (history s as')

@@ -7,7 +7,7 @@ use Rattle.device.specs.declared.state.Device.{Device}
 use Rattle.history.specs.Seen.{Seen, Transfer}
 use Rattle.history.specs.Fates.{Command, later, commands, own_tag, ends, outstanding_at, finished_at, outstanding, finished, All}
 use Rattle.history.specs.Carried.{transfer, span, base, size, positions, carried_at, carried}
-use Rattle.history.specs.Demand3.{Beginning, Ranges}
+use Rattle.history.specs.Faithful.{Beginning, Ranges}
 use Rattle.history.proofs.Class.{Class}
 use Rattle.history.proofs.Alls.{fresh_command, all_imp, all_start, all_step}
 use Rattle.history.proofs.Spans.{span_none, carried_after, carried_while, carried_none, finished_over}

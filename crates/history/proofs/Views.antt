@@ -1,4 +1,4 @@
--- What the host sees of replies that were sent: the reader's view of the frames, and what demand 3 reads of them. Assumes nothing.
+-- What the host sees of replies that were sent: the reader's view of the frames, and what is read of them. Assumes nothing.
 use Rattle.std.proofs.Common.{Ok, ◌≡◌, refl, ap, ap₂, ◌∙◌, Bool, true, false, ◌||◌, List, [], ◌∷◌, ◌++◌, map, append-nil, ℕ, ◌+◌, length, arith}
 use Rattle.bits.specs.Pick.{pick}
 use Rattle.bits.specs.Bit.{bit_in}
@@ -43,7 +43,7 @@ sent_in fs = pick (some is_pio (read_in fs)) [] (payloads_of fs)
 abbrev pub page_in : List FrameValue → List ℕ
 page_in fs = pick (some is_pio (read_in fs)) (payloads_of fs) []
 
--- what demand 3 reads of frames that were sent
+-- what is read of frames that were sent
 unfoldable pub view : Asked → List FrameValue → Seen
 view a fs = seen_in a (read_in fs) (length (sent_in fs))
 

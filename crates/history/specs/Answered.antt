@@ -55,7 +55,7 @@ page_replies task bytes = pio (record { interrupt = true; to_host = true; status
 
 -- ---- host frames
 
--- queued command, first rule that holds. 1: an error waits; 2: tag at or above the depth, or already outstanding; 3: first sector + count above capacity; 4: otherwise good
+-- queued command, first rule that holds. 1: an error waits; 2: tag at or above the depth, or already outstanding; 3: first sector + count above capacity; 4: otherwise good [answered-exactly]
 abbrev pub queued_reply : ℕ → ℕ → List Event → HostReg → FrameValue
 queued_reply deep capacity h f =
     pick (waits (map seen h)) (answered_bad 0x04 f.task)
@@ -68,7 +68,7 @@ well_formed page f =
     eqb f.command 0x2F && (eqb (f.task.lba % 256) page && (eqb (f.task.lba / 2 ^ 8 % 256) 0 && (eqb (f.task.lba / 2 ^ 32 % 256) 0 && eqb f.task.count 1)))
 
 -- any other command: an error waits and it is no well-formed READ LOG EXT of page 10h; something is outstanding; no well-formed READ LOG EXT at all: bad, 04h.
--- A good one: PIO Setup, then page 10h of the last error, while one waits with the sweep before them; or page 11h of what was counted
+-- A good one: PIO Setup, then page 10h of the last error, while one waits with the sweep before them; or page 11h of what was counted [answered-exactly]
 abbrev pub other_replies : ℕ → List Event → HostReg → List FrameValue
 other_replies mask h f =
     pick (waits (map seen h) && not (well_formed 0x10 f)) (answered_bad 0x04 f.task ∷ [])
@@ -76,7 +76,7 @@ other_replies mask h f =
     (pick (well_formed 0x10 f) (pick (waits (map seen h)) (sweep_reply ∷ []) [] ++ page_replies f.task (page10 (log_by h)))
     (pick (well_formed 0x11 f) (page_replies f.task (page11 mask (counts h))) (answered_bad 0x04 f.task ∷ []))))
 
--- control frame: SRST no reply; with SRST 0, if reset is held, the signature, otherwise nothing
+-- control frame: SRST no reply; with SRST 0, if reset is held, the signature, otherwise nothing [answered-exactly]
 abbrev pub control_answer : List Event → HostReg → List FrameValue
 control_answer h f = pick (srst_of f.control) [] (pick (holding h) (signature_reply ∷ []) [])
 
@@ -97,7 +97,7 @@ host_replies deep capacity mask h _ = []
 
 -- ---- device events
 
--- open a phase: DMA Setup (A 0, I 0, offset 0, whole byte count; D 1 to the host); for a write an Activate follows. Of the outstanding command with the tag, of which there is at most one (OnePerTag of demand 3)
+-- open a phase: DMA Setup (A 0, I 0, offset 0, whole byte count; D 1 to the host); for a write an Activate follows. Of the outstanding command with the tag, of which there is at most one [one-per-tag]
 abbrev pub opened_by : ℕ → Command → List FrameValue
 opened_by t c =
     setup (record { auto = false; interrupt = false; to_host = not c.accepted.asks.write; tag = t; offset = 0; count = size c }) ∷ pick c.accepted.asks.write (activate ∷ []) []
@@ -129,7 +129,7 @@ pub record AnsweredBy (bytes : List ℕ) (e : Event) : Type 0 where
   pub len : e.len ≡ length bytes
   pub filled : e.filled ≡ overlay bytes e.buffer
 
--- of every event
+-- of every event [answered-exactly]
 unfoldable pub Answers : ℕ → ℕ → ℕ → List Event → Type 0
 Answers deep capacity mask [] = Unit
 Answers deep capacity mask (e ∷ h) = AnsweredBy (answer deep capacity mask h e) e × Answers deep capacity mask h

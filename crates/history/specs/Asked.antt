@@ -5,7 +5,7 @@ use Rattle.history.specs.Event.{Event, taken}
 use Rattle.history.specs.FrameAsks.{Asked, quiet}
 use Rattle.history.specs.Reading.{call_asks, call_brings}
 
--- a refused call counts as never delivered
+-- a refused call counts as never delivered [not-delivered]
 abbrev pub asks : Event → Asked
 asks e = pick (taken e) (call_asks e.call) quiet
 

@@ -13,7 +13,7 @@ use Rattle.history.specs.Seen.{seen, Transfer, no_transfer, under_way}
 use Rattle.history.specs.Fates.{Command, commands, own_tag, outstanding}
 use Rattle.history.specs.Carried.{transfer, carried, size}
 
--- some command of tag t is outstanding, and is so; there is at most one (OnePerTag of demand 3)
+-- some command of tag t is outstanding, and is so; there is at most one [one-per-tag]
 abbrev pub outstanding_with : ℕ → (Command → Bool) → List Event → Bool
 outstanding_with t is h = some (λ c. eqb (own_tag c) t && (outstanding c && is c)) (commands (map seen h))
 
@@ -54,7 +54,7 @@ frees (host_frame f) = frame_frees (read_frame f)
 frees (happens Comreset) = true
 frees _ = false
 
--- reset is held: SRST was taken, and since then neither its release nor COMRESET
+-- reset is held: SRST was taken, and since then neither its release nor COMRESET [refused-exactly]
 unfoldable pub holding : List Event → Bool
 holding [] = false
 holding (e ∷ h) = pick (taken e && frees e.call) false ((asks e).resets || holding h)

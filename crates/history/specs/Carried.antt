@@ -19,7 +19,7 @@ abbrev pub advanced : Seen → Transfer → Transfer
 advanced e no_transfer = no_transfer
 advanced e (under_way d t a z) = onward (load d e) (under_way d t a z)
 
--- what is under way after a history: an error and a reset close it
+-- what is under way after a history: an error and a reset close it [carried-once]
 unfoldable pub transfer : List Seen → Transfer
 transfer [] = no_transfer
 transfer (e ∷ h) = pick (errs e || e.asks.resets) no_transfer (e.begins (advanced e (transfer h)))
@@ -46,7 +46,7 @@ abbrev pub positions : ℕ → Bool → ℕ → Seen → Transfer → List ℕ
 positions start write tag e no_transfer = []
 positions start write tag e (under_way d t a z) = pick (belongs write tag d t) (span (start + a) (load d e)) []
 
--- the positions carried while the command was outstanding, in order
+-- the positions carried while the command was outstanding, in order [carried-once]
 unfoldable pub carried_at : ℕ → Bool → ℕ → List Seen → List ℕ
 carried_at start write tag [] = []
 carried_at start write tag (e ∷ n) = carried_at start write tag n ++ pick (outstanding_at tag n) (positions start write tag e (transfer n)) []
@@ -60,7 +60,7 @@ abbrev pub Within : Bool → ℕ → Transfer → Type 0
 Within d n no_transfer = ⊥
 Within d n (under_way x t a z) = (x ≡ d) × (a + n ≤ z)
 
--- no stray data: data sent are of a Setup under way with D 1, data brought of one with D 0
+-- no stray data: data sent are of a Setup under way with D 1, data brought of one with D 0 [data-owned]
 pub record NoStray (e : Seen) (x : Transfer) : Type 0 where
   pub sends : 0 < e.sends → Within true e.sends x
   pub brings : 0 < e.asks.brings → Within false e.asks.brings x

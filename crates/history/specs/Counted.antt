@@ -15,7 +15,7 @@ zeroes e = taken e && call_zeroes (paged e) e.call
 abbrev pub raises_row : ℕ → Event → Bool
 raises_row r e = taken e && eqb (row_raised e.call) r
 
--- the events of a row since the last zeroing; the newest event stands first
+-- the events of a row since the last zeroing; the newest event stands first [counters-told]
 unfoldable pub counted_in : ℕ → List Event → ℕ
 counted_in r [] = 0
 counted_in r (e ∷ h) = pick (zeroes e) 0 (pick (raises_row r e) 1 0 + counted_in r h)
@@ -33,6 +33,6 @@ abbrev pub told_at : ℕ → List Event → Option ℕ → Option ℕ
 told_at mask h (Some k) = pick (kept mask k) (Some (row_count k h)) None
 told_at mask h None = None
 
--- of a counter's number
+-- of a counter's number [counters-told]
 abbrev pub told_for : ℕ → List Event → ℕ → Option ℕ
 told_for mask h number = told_at mask h (row_of number)

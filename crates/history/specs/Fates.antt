@@ -12,7 +12,7 @@ pub record Command : Type 0 where
 abbrev pub later : Seen → Command → Command
 later e c = record { accepted = c.accepted; after = e ∷ c.after }
 
--- all queued commands accepted in a history
+-- all queued commands accepted in a history [one-fate]
 unfoldable pub commands : List Seen → List Command
 commands [] = []
 commands (e ∷ h) = pick (accepts e) (record { accepted = e; after = [] } ∷ map (later e) (commands h)) (map (later e) (commands h))
@@ -25,22 +25,22 @@ own_tag c = c.accepted.asks.tag
 abbrev pub ends : ℕ → Seen → Bool
 ends t e = e.finishes t || (errs e || e.asks.resets)
 
--- outstanding: nothing since has ended it
+-- outstanding: nothing since has ended it [one-fate]
 unfoldable pub outstanding_at : ℕ → List Seen → Bool
 outstanding_at t [] = true
 outstanding_at t (e ∷ n) = outstanding_at t n && not (ends t e)
 
--- finished: while it was outstanding an A1h without ERR, not the sweep, named its tag
+-- finished: while it was outstanding an A1h without ERR, not the sweep, named its tag [one-fate] [sweep-known]
 unfoldable pub finished_at : ℕ → List Seen → Bool
 finished_at t [] = false
 finished_at t (e ∷ n) = finished_at t n || (outstanding_at t n && e.finishes t)
 
--- given up: while it was outstanding an error was answered
+-- given up: while it was outstanding an error was answered [one-fate]
 unfoldable pub given_up_at : ℕ → List Seen → Bool
 given_up_at t [] = false
 given_up_at t (e ∷ n) = given_up_at t n || (outstanding_at t n && errs e)
 
--- dropped: while it was outstanding SRST or COMRESET was taken
+-- dropped: while it was outstanding SRST or COMRESET was taken [one-fate]
 unfoldable pub dropped_at : ℕ → List Seen → Bool
 dropped_at t [] = false
 dropped_at t (e ∷ n) = dropped_at t n || (outstanding_at t n && e.asks.resets)
@@ -76,7 +76,7 @@ unfoldable pub All : (Command → Type 0) → List Command → Type 0
 All P [] = Unit
 All P (c ∷ cs) = P c × All P cs
 
--- how many commands are outstanding
+-- how many commands are outstanding [within-depth] [one-per-tag]
 unfoldable pub total : List Seen → ℕ
 total h = how_many outstanding (commands h)
 

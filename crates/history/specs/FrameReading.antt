@@ -35,7 +35,7 @@ bist_reading = record { asks = quiet; zeroes = λ on. true; replies = [] ∷ [] 
 abbrev pub never_taken : FrameReading
 never_taken = record { asks = quiet; zeroes = λ on. false; replies = [] }
 
--- by its kind
+-- by its kind [shapes]
 abbrev pub frame_reading : FrameRead → FrameReading
 frame_reading (Ok (Host h)) = register_reading h
 frame_reading (Ok (Data n)) = data_reading n

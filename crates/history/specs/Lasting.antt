@@ -15,7 +15,7 @@ abbrev pub medium_by : List ℕ → List Event → List ℕ
 medium_by m [] = m
 medium_by m (e ∷ h) = e.left
 
--- handed on: each call is lent the medium as the last one left it, and the first one m
+-- handed on: each call is lent the medium as the last one left it, and the first one m [finished-writes-stand]
 unfoldable pub HandedOn : List ℕ → List Event → Type 0
 HandedOn m [] = Unit
 HandedOn m (e ∷ h) = (e.medium ≡ medium_by m h) × HandedOn m h
@@ -37,11 +37,11 @@ newest p (e ∷ x) h = option_or (moved_byte true p e (x ++ h)) (newest p x h)
 abbrev pub last_written : List ℕ → ℕ → List Event → Option ℕ
 last_written m p h = option_or (newest p h []) (slice_get m p)
 
--- and at every position of the medium it stands
+-- and at every position of the medium it stands [finished-writes-stand]
 abbrev pub Stands : List ℕ → List Event → Type 0
 Stands m h = (p : ℕ) → slice_get (medium_by m h) p ≡ last_written m p h
 
--- and what a data frame reads of a position is the byte last written there before it
+-- and what a data frame reads of a position is the byte last written there before it [finished-writes-stand]
 unfoldable pub ReadsBack : List ℕ → List Event → Type 0
 ReadsBack m [] = Unit
 ReadsBack m (e ∷ h) = ((p byte : ℕ) → moved_byte false p e h ≡ Some byte → last_written m p h ≡ Some byte) × ReadsBack m h
@@ -67,11 +67,11 @@ pub record ByteStands (m : List ℕ) (p : ℕ) (c : Command) (h : List Event) : 
   pub written : c.accepted.asks.write ≡ true → slice_get (medium_by m h) p ≡ option_or (newest p own.since (own.frame ∷ own.before)) (Some own.byte)
   pub read : c.accepted.asks.write ≡ false → last_written m p own.before ≡ Some own.byte
 
--- of a finished command every byte
+-- of a finished command every byte [finished-writes-stand]
 abbrev pub FinishedBytes : List ℕ → List Event → Type 0
 FinishedBytes m h = All (λ c. finished c ≡ true → (p : ℕ) → base c ≤ p → p < base c + size c → ByteStands m p c h) (commands (map seen h))
 
--- the medium over a whole history
+-- the medium over a whole history [finished-writes-stand]
 pub record Lasting (m : List ℕ) (h : List Event) : Type 0 where
   pub stands : Stands m h
   pub reads : ReadsBack m h

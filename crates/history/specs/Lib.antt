@@ -13,7 +13,7 @@ pub mod Carried
 pub mod ReplyRules
 pub mod Counted
 pub mod Placed
-pub mod Demand3
+pub mod Faithful
 pub mod Lasting
 pub mod Run
 pub mod Follows

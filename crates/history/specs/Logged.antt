@@ -32,7 +32,7 @@ abbrev pub call_task : Call → Task
 call_task (host_frame f) = frame_task (read_frame f)
 call_task _ = no_task
 
--- those of the newest command accepted with tag t; while one of this tag is outstanding, it is that one (OnePerTag of demand 3)
+-- those of the newest command accepted with tag t; while one of this tag is outstanding, it is that one [one-per-tag]
 unfoldable pub named_by : ℕ → List Event → Task
 named_by t [] = no_task
 named_by t (e ∷ h) = pick (accepts (seen e) && eqb (seen e).asks.tag t) (call_task e.call) (named_by t h)
@@ -81,7 +81,7 @@ halts_at e h = raises e h && not (waits h)
 abbrev pub log_next : Seen → List Seen → ErrorLog → ErrorLog → ErrorLog
 log_next e h raised log = pick (halts_at e h) raised (pick e.asks.resets blank_log log)
 
--- what it is after a history, blank at power-on
+-- what it is after a history, blank at power-on [errors-told]
 unfoldable pub log_by : List Event → ErrorLog
 log_by [] = blank_log
 log_by (e ∷ h) = log_next (seen e) (map seen h) (call_log (error_in e) h e.call) (log_by h)
@@ -91,7 +91,7 @@ pub record TellsHalt (e : Event) (h : List Event) : Type 0 where
   pub bytes : page e ≡ page10 (log_by h)
   pub fields : read_log (page e) ≡ Ok (log_by h)
 
--- of every page 10h delivered, however often it is read
+-- of every page 10h delivered, however often it is read [errors-told]
 unfoldable pub LogTold : List Event → Type 0
 LogTold [] = Unit
 LogTold (e ∷ h) = ((seen e).delivers 0x10 ≡ true → TellsHalt e h) × LogTold h

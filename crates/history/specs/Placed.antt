@@ -28,7 +28,7 @@ due_owner h = owner_in_transfer (commands (map seen h)) (transfer (map seen h))
 abbrev pub due_place : List Event → ℕ
 due_place h = place_in_transfer (commands (map seen h)) (transfer (map seen h))
 
--- a medium with these bytes at that place, otherwise as it was
+-- a medium with these bytes at that place, otherwise as it was [data-place]
 abbrev pub written : ℕ → List ℕ → List ℕ → List ℕ
 written at bytes medium = take at medium ++ (bytes ++ drop (at + length bytes) medium)
 

@@ -4,7 +4,7 @@ use Rattle.device_state.specs.declared.shapes.Settings.{Settings}
 use Rattle.device.specs.declared.state.Device.{Device}
 use Rattle.device.specs.declared.state.Outcome.{Outcome}
 use Rattle.history.specs.Event.{Event}
-use Rattle.history.specs.Demand3.{Demand3}
+use Rattle.history.specs.Faithful.{Faithful}
 use Rattle.history.specs.Lasting.{HandedOn, Lasting}
 use Rattle.history.specs.Powered.{Powered}
 use Rattle.history.specs.Refused.{Refusals}
@@ -14,7 +14,7 @@ use Rattle.history.specs.StateAgrees.{StateAgrees}
 use Rattle.history.specs.Run.{Done, AllTyped}
 use Rattle.history.specs.Follows.{final, lents, history_of, Began}
 
--- power-on by the settings s gave r, the calls since are the history h, and the last of them left the state d
+-- power-on by the settings s gave r, the calls since are the history h, and the last of them left the state d [all-promised]
 pub record Promised (s : Settings) (r : Outcome) (d : Device) (h : List Event) : Type 0 where
   -- power-on is turned down exactly where its settings are out of bounds, and replies nothing
   pub power : Powered s.depth s.capacity s.mask r.refusal r.len
@@ -25,7 +25,7 @@ pub record Promised (s : Settings) (r : Outcome) (d : Device) (h : List Event) :
   -- every page 10h tells the error that halted last
   pub errors : LogTold h
   -- every page 11h tells what was counted; every command has one fate; its bytes are carried once, and are the medium's; SActive names what is outstanding
-  pub demand3 : Demand3 s.depth s.mask h
+  pub faithful : Faithful s.depth s.mask h
   -- where each call is lent the medium as the last one left it, what the host wrote last stands there, and a read sends that
   pub lasting : (m : List ℕ) → HandedOn m h → Lasting m h
   -- what the device keeps, and every answer of the calls that only ask, is what the history tells

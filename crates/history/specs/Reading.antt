@@ -35,7 +35,7 @@ device_event k r s rs = record { asks = k; host_data_frame = []; row = r; zeroes
 
 -- open: DMA Setup, and for a write an Activate; send: one data frame; finish and media error: one A1h; link event: none; COMRESET: the signature.
 -- A media error whose byte has bit 7 raises row 0 (001h), COMRESET row 9 (00Ah), a link event its row.
--- Finish says just its set and no ERR, a media error says ERR, and no other call finishes anything
+-- Finish says just its set and no ERR, a media error says ERR, and no other call finishes anything [shapes]
 abbrev pub reading_of : Call → Reading
 reading_of (host_frame f) = host_reading f (read_frame f)
 reading_of (happens (OpenPhase t)) = device_event quiet 16 none_finished ((0x41 ∷ []) ∷ (0x41 ∷ 0x39 ∷ []) ∷ [])

@@ -13,7 +13,7 @@ use Rattle.history.specs.Replied.{FrameRead}
 use Rattle.history.specs.Seen.{Transfer, no_transfer, under_way}
 use Rattle.history.specs.ByHistory.{outstanding_with, is_out, whole, covers, under_way_after, is_open, left_in_transfer, holding}
 
--- 1: settings out of bounds: depth 1 to 32, capacity 1 to 65,536 sectors, rows 0 and 9 always kept
+-- 1: settings out of bounds: depth 1 to 32, capacity 1 to 65,536 sectors, rows 0 and 9 always kept [powered-exactly]
 abbrev pub out_of_bounds : ℕ → ℕ → ℕ → Bool
 out_of_bounds deep capacity mask = not (leb 1 deep && leb deep 32) || (not (leb 1 capacity && leb capacity 65536) || not (bit_in 16 mask 0 && bit_in 16 mask 9))
 
@@ -25,7 +25,7 @@ wrong_medium capacity e = not (eqb (length e.medium) (512 * capacity))
 abbrev pub short_buffer : Event → Bool
 short_buffer e = ltb (length e.buffer) 8196
 
--- a frame that a host sends has its kind's length: 27h 20 bytes, 58h 12, and 46h 8 to 8,196 in steps of 4
+-- a frame that a host sends has its kind's length: 27h 20 bytes, 58h 12, and 46h 8 to 8,196 in steps of 4 [refused-exactly]
 abbrev pub host_length : ℕ → ℕ → Bool
 host_length kind n = pick (eqb kind 0x27) (eqb 20 n) (pick (eqb kind 0x58) (eqb 12 n) (eqb kind 0x46 && (leb 8 n && leb n 8196 && eqb (n % 4) 0)))
 
@@ -45,7 +45,7 @@ untimely (Ok (Data n)) h = not (write_open (under_way_after h))
 untimely (Ok Bist) h = is_open (under_way_after h)
 untimely _ h = false
 
--- 6, as request 1 has it: the payload is longer than what is left
+-- 6: the payload is longer than what is left
 abbrev pub too_long : FrameRead → List Event → Bool
 too_long (Ok (Data n)) h = ltb (left_in_transfer false (under_way_after h)) n
 too_long _ h = false
@@ -79,7 +79,7 @@ own_tests capacity mask e h (happens (MediaError t error sector)) = rung ReplySh
 own_tests capacity mask e h (happens (LinkEvent r)) = rung NoRow (no_row mask r) ∷ []
 own_tests capacity mask e h (happens Comreset) = rung ReplyShort (short_buffer e) ∷ []
 
--- every event is refused with the first that holds, and taken where none does: so no event that should be heard is turned down
+-- every event is refused with the first that holds, and taken where none does: so no event that should be heard is turned down [refused-exactly]
 unfoldable pub Refusals : ℕ → ℕ → ℕ → List Event → Type 0
 Refusals deep capacity mask [] = Unit
 Refusals deep capacity mask (e ∷ h) = (e.refusal ≡ first_of (rung Contradiction (out_of_bounds deep capacity mask) ∷ own_tests capacity mask e h e.call)) × Refusals deep capacity mask h

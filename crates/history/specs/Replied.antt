@@ -63,7 +63,7 @@ unfoldable pub collect : {A : Type 0} → (FrameRead → List A) → List FrameR
 collect f [] = []
 collect f (x ∷ xs) = f x ++ collect f xs
 
--- some 5Fh has ERR, in its status or in its ending status
+-- some 5Fh has ERR, in its status or in its ending status [no-err]
 abbrev pub faulty_in : List FrameRead → Bool
 faulty_in fs = some (λ p. err_in p.status || err_in p.ending) (collect pio_setup_in fs)
 
@@ -85,6 +85,6 @@ paged e = some is_pio (frames e)
 abbrev pub page : Event → List ℕ
 page e = pick (paged e) (payloads (replies_in e)) []
 
--- and belongs to no command; what is sent without a 5Fh is a command's data
+-- and belongs to no command; what is sent without a 5Fh is a command's data [data-owned]
 abbrev pub sent : Event → List ℕ
 sent e = pick (paged e) [] (payloads (replies_in e))

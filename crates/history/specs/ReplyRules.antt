@@ -18,25 +18,25 @@ use Rattle.history.specs.Waits.{waits}
 abbrev pub FinishesNone : Event → Type 0
 FinishesNone e = (t : ℕ) → (seen e).finishes t ≡ false
 
--- by what its call may say: just a set finished, and no ERR; ERR, and nothing finished; nothing finished
+-- by what its call may say: just a set finished, and no ERR; ERR, and nothing finished; nothing finished [said] [no-err]
 abbrev pub Spoken : Event → Speech → Type 0
 Spoken e none_finished = FinishesNone e
 Spoken e (set_finished s) = taken e ≡ true → ((seen e).fails ≡ false) × ((t : ℕ) → (seen e).finishes t ≡ bit_in 32 s t)
 Spoken e error_told = (taken e ≡ true → (seen e).fails ≡ true) × FinishesNone e
 
--- page 10h as its reader answers: it is not refused, and its status has ERR
+-- page 10h as its reader answers: it is not refused, and its status has ERR [sweep-clean]
 abbrev pub TellsError : Result ErrorLog Refusal → Type 0
 TellsError (Ok f) = err_in f.status ≡ true
 TellsError (Err r) = ⊥
 
--- the sweep in an event e after a history h: sent only while an error waits, with page 10h, to a host that asked for it; it has no ERR itself, and the page behind it has
+-- the sweep in an event e after a history h: sent only while an error waits, with page 10h, to a host that asked for it; it has no ERR itself, and the page behind it has [sweep-clean]
 pub record Swept (e : Event) (h : List Seen) : Type 0 where
   pub waiting : waits h ≡ true
   pub answers : (seen e).delivers 0x10 ≡ true
   pub clean : (seen e).fails ≡ false
   pub tells : TellsError (read_log (page e))
 
--- an event e after a history h
+-- an event e after a history h [waiting] [said]
 pub record ReplyRules (e : Event) (h : List Seen) : Type 0 where
   -- a refused call replies nothing; a taken one has one of the replies that it may have, so that each can be read
   pub silent : taken e ≡ false → replied e ≡ []

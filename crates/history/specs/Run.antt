@@ -44,7 +44,7 @@ pub record Run : Type 0 where
   pub state : Device
   pub calls : List Done
 
--- the run of the definitions: each call is given the state that the last one returned
+-- the run of the definitions: each call is given the state that the last one returned [any-sequence]
 unfoldable pub run : Device → List Done → List Lent → Run
 run d h [] = record { state = d; calls = h }
 run d h (a ∷ as') = run (result d a).outcome.state (done a (result d a) ∷ h) as'

@@ -1,4 +1,4 @@
--- All that demand 3 reads of an event: what a taken call asks for, and what its replies say. Assumes nothing.
+-- All that is read of an event in a history: what a taken call asks for, and what its replies say. Assumes nothing.
 use Rattle.std.specs.Prelude.{Bool, true, not, ◌&&◌, ◌||◌, List, [], ◌∷◌, ℕ, ◌+◌, eqb, length}
 use Rattle.bits.specs.Bit.{bit_in}
 use Rattle.frames.specs.declared.shapes.SetBits.{SetBits}
@@ -42,7 +42,7 @@ pub record Seen : Type 0 where
 abbrev pub names : ℕ → SetBits → Bool
 names t f = bit_in 32 f.active t
 
--- what was asked for, the replies, and the bytes of data in them
+-- what was asked for, the replies, and the bytes of data in them [waiting] [sweep-known]
 abbrev pub seen_in : Asked → List FrameRead → ℕ → Seen
 seen_in a fs n = record {
   asks = a;
@@ -57,7 +57,7 @@ seen_in a fs n = record {
   begins = begun (collect setup_in fs);
 }
 
--- an event as demand 3 reads it
+-- an event as a history is read
 unfoldable pub seen : Event → Seen
 seen e = seen_in (asks e) (frames e) (length (sent e))
 
@@ -69,6 +69,6 @@ errs e = e.bad || e.fails
 abbrev pub accepts : Seen → Bool
 accepts e = e.asks.queued && e.good
 
--- a taken queued command of tag t, whatever its answer
+-- a taken queued command of tag t, whatever its answer [sactive]
 abbrev pub asks_for : ℕ → Seen → Bool
 asks_for t e = e.asks.queued && eqb e.asks.tag t

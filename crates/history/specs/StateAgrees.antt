@@ -49,7 +49,7 @@ pub record AgreesConsistent (s : Settings) (d : Device) : Type 0 where
   pub good : (power_on s).refusal ≡ None → contradictory_device d ≡ false
   pub zeros : ((power_on s).refusal ≡ None → ⊥) → d ≡ zero_device
 
--- all of it
+-- all of it [state-told]
 pub record StateAgrees (s : Settings) (d : Device) (h : List Event) : Type 0 where
   pub outstanding : AgreesOutstanding d h
   pub waits : AgreesWaits d h

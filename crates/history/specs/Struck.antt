@@ -7,12 +7,12 @@ use Rattle.device.specs.Lent.{Lent}
 use Rattle.device.specs.declared.state.Device.{Device}
 use Rattle.history.specs.Run.{Done, result, run_from}
 
--- of calls as they went, those that were taken
+-- of calls as they went, those that were taken [no-refusal-matters]
 unfoldable pub taken_of : List Done → List Done
 taken_of [] = []
 taken_of (x ∷ xs) = pick (is_none x.gave.outcome.refusal) (x ∷ taken_of xs) (taken_of xs)
 
--- of what is lent call by call, from the state d on, what is lent to those that are taken
+-- of what is lent call by call, from the state d on, what is lent to those that are taken [no-refusal-matters]
 unfoldable pub lent_taken : Device → List Lent → List Lent
 lent_taken d [] = []
 lent_taken d (a ∷ as') = pick (is_none (result d a).outcome.refusal) (a ∷ lent_taken (result d a).outcome.state as') (lent_taken (result d a).outcome.state as')

@@ -9,22 +9,22 @@ use Rattle.page_text.specs.Counters.{counters_told, counters_text}
 use Rattle.page_text.specs.declared.answers.Answer.{Answer}
 use Rattle.page_text.specs.declared.answers.Answer.TheVariants.{Told, Refused, NotAPage, Stopped, Unopened}
 
--- what is printed of either page
+-- what is printed of either page [text-10h] [text-11h]
 unfoldable pub text_of : LogPage → List ℕ → List ℕ
 text_of Errors page = fields_text page
 text_of Counters page = counters_text page
 
--- why either page is refused, if it is
+-- why either page is refused, if it is [text-10h] [text-11h]
 unfoldable pub refusal_of : LogPage → List ℕ → Option Refusal
 refusal_of Errors page = refusal_in (log_told page)
 refusal_of Counters page = refusal_in (counters_told page)
 
--- a page that is not refused is told
+-- a page that is not refused is told [text-input]
 abbrev pub answer_by : Option Refusal → Answer
 answer_by None = Told
 answer_by (Some refusal) = Refused
 
--- the exit status: 0 a page told in full, 1 a page refused, 3 a page unread
+-- the exit status: 0 a page told in full, 1 a page refused, 3 a page unread [text-status]
 abbrev pub status_of : Answer → ℕ
 status_of Told = 0
 status_of Refused = 1

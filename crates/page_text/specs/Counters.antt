@@ -37,7 +37,7 @@ line_text counter = upper 3 counter.0 ++ codes "h " ++ shown_text counter.1 ++ c
 abbrev pub lines_text : List Counter → List ℕ
 lines_text counters = flat_map line_text counters
 
--- how many entries of the page are none of these counters
+-- how many entries of the page are none of these counters [others-11h]
 abbrev pub others_text : ℕ → List ℕ
 others_text others = codes "others " ++ decimal others ++ codes "\n"
 
@@ -50,6 +50,6 @@ told_text (Err refusal) = refusal_text refusal
 abbrev pub counters_told : List ℕ → Result (List Counter × ℕ) Refusal
 counters_told page = both (counters_in page ids) (count_others page)
 
--- page 11h: the sixteen counters and the count of other entries, or the refusal alone
+-- page 11h: the sixteen counters and the count of other entries, or the refusal alone [text-10h] [text-11h]
 abbrev pub counters_text : List ℕ → List ℕ
 counters_text page = told_text (counters_told page)

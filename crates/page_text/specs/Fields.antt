@@ -31,7 +31,7 @@ task_text task =
 unfoldable pub log_text : ErrorLog → List ℕ
 log_text log = tag_text log ++ status_text log ++ task_text log.task
 
--- how many bytes of the page have a bit set that is neither these fields' nor the sum's
+-- how many bytes of the page have a bit set that is neither these fields' nor the sum's [others-10h]
 abbrev pub other_bytes_text : ℕ → List ℕ
 other_bytes_text others = codes "other bytes " ++ decimal others ++ codes "\n"
 
@@ -44,6 +44,6 @@ read_text (Err refusal) = refusal_text refusal
 abbrev pub log_told : List ℕ → Result (ErrorLog × ℕ) Refusal
 log_told page = both (read_log page) (count_other_bytes page)
 
--- page 10h
+-- page 10h [text-10h] [text-11h]
 abbrev pub fields_text : List ℕ → List ℕ
 fields_text page = read_text (log_told page)

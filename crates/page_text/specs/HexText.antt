@@ -16,11 +16,11 @@ abbrev pub digits_each : Notation → ℕ
 digits_each Bytes = 2
 digits_each Words = 4
 
--- what stands between white space are whole bytes, or whole words
+-- what stands between white space are whole bytes, or whole words [text-hex]
 unfoldable pub in_units : Notation → List ℕ → Bool
 in_units notation text = list_all (λ group. length group % digits_each notation == 0) (slice_split is_ascii_whitespace text)
 
--- the text without its white space
+-- the text without its white space [text-hex]
 unfoldable pub digits_in : List ℕ → List ℕ
 digits_in text = filter (λ c. not (is_ascii_whitespace c)) text
 
@@ -29,6 +29,6 @@ abbrev pub in_order : Notation → List ℕ → List ℕ
 in_order Bytes told = told
 in_order Words told = swapped_bytes told
 
--- the page that a text tells: whole bytes or words between white space, and without it the digits of just 512 bytes
+-- the page that a text tells: whole bytes or words between white space, and without it the digits of just 512 bytes [text-hex]
 unfoldable pub page_of : Notation → List ℕ → Option (List ℕ)
 page_of notation text = if in_units notation text then option_map (in_order notation) (result_ok (decode_sized (digits_in text) 512)) else None

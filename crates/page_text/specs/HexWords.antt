@@ -1,7 +1,7 @@
 -- Words of two bytes. Assumes nothing.
 use Rattle.std.specs.Prelude.{ℕ, List, [], ◌∷◌}
 
--- the two bytes of each word, the other first
+-- the two bytes of each word, the other first [text-hex]
 unfoldable pub swapped_bytes : List ℕ → List ℕ
 swapped_bytes [] = []
 swapped_bytes (last ∷ []) = last ∷ []

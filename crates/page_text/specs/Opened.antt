@@ -7,6 +7,6 @@ abbrev pub opened : {P E : Type 0} → (P → Option (List ℕ)) → Result P E 
 opened remaining (Ok page) = Some (remaining page)
 opened remaining (Err e) = None
 
--- what was opened is what is known of the name, if anything is
+-- what was opened is what is known of the name, if anything is [text-files]
 abbrev pub Agrees : Option (Option (List ℕ)) → Option (Option (List ℕ)) → Type 0
 Agrees held opened = IfSome held (λ bytes. opened ≡ option_map Some bytes)

@@ -12,7 +12,7 @@ abbrev pub owed_page : LogPage → Option (List ℕ) → Answer × List ℕ
 owed_page which (Some page) = (answer_by (refusal_of which page), text_of which page)
 owed_page which None = (NotAPage, unread_text)
 
--- the answer to what was read, and its text
+-- the answer to what was read, and its text [text-input]
 unfoldable pub owed : Query → List ℕ → Answer × List ℕ
 owed query read = owed_page query.page (page_in query.notation read)
 
@@ -20,7 +20,7 @@ owed query read = owed_page query.page (page_in query.notation read)
 abbrev pub told : Query → List ℕ → List ℕ
 told query read = (owed query read).1
 
--- an answer and its text are those that an input is owed, where it is known; or a read failed
+-- an answer and its text are those that an input is owed, where it is known; or a read failed [text-input]
 abbrev pub Owes : Query → Option (List ℕ) → Answer → List ℕ → Type 0
 Owes query known Stopped text = text ≡ stop_text
 Owes query known answer text = IfSome known (λ input. owed query (take (read_limit query.notation) input) ≡ (answer, text))

@@ -22,23 +22,23 @@ LosesFiles query holds names old new =
     (first : List (List ℕ)) × (others : List (List ℕ)) × (names ≡ first ++ others)
     × ((status : ℕ) × (text : List ℕ) × OwesFiles query (ltb 1 (length names)) holds first status text × AppendsFront old new text)
 
--- all is written: the page that was read (known) where no file is named, else the files' sections
+-- all is written: the page that was read (known) where no file is named, else the files' sections [text-lost]
 abbrev pub Writes : Query → (List ℕ → Option (Option (List ℕ))) → List (List ℕ) → (known old new : Option (List ℕ)) → ℕ → Type 0
 Writes query holds [] known old new status = (answer : Answer) × (status ≡ status_of answer) × Tells (Owes query known) old new answer
 Writes query holds names known old new status = WritesFiles query holds names old new status
 
--- a front of it is written
+-- a front of it is written [text-lost]
 abbrev pub Loses : Query → (List ℕ → Option (Option (List ℕ))) → List (List ℕ) → (known old new : Option (List ℕ)) → Type 0
 Loses query holds [] known old new = TellsFront (Owes query known) old new
 Loses query holds names known old new = LosesFiles query holds names old new
 
--- all is written and nothing said; or lines are missing, and that is said; or a front of that
+-- all is written and nothing said; or lines are missing, and that is said; or a front of that [text-lost]
 abbrev pub Ran : Query → (List ℕ → Option (Option (List ℕ))) → List (List ℕ) → (known old new errors errors' : Option (List ℕ)) → Result ℕ Lost → Type 0
 Ran query holds names known old new errors errors' (Ok status) = Writes query holds names known old new status × Keeps errors errors'
 Ran query holds names known old new errors errors' (Err Aloud) = Loses query holds names known old new × Appends errors errors' complaint
 Ran query holds names known old new errors errors' (Err Unsaid) = Loses query holds names known old new × AppendsFront errors errors' complaint
 
--- the exit status of a run: the greatest of its answers' statuses, and 4 where lines are missing
+-- the exit status of a run: the greatest of its answers' statuses, and 4 where lines are missing [text-status]
 abbrev pub exit_status_of : Result ℕ Lost → ℕ
 exit_status_of (Ok status) = status
 exit_status_of (Err lost) = 4

@@ -11,7 +11,7 @@ use Rattle.page_text.specs.Owed.{Owes}
 abbrev pub heading : Bool → List ℕ → List ℕ
 heading many name = if many then name ++ codes ":\n" else []
 
--- by what opening it gave: one line that says that it is unread, or its page's text
+-- by what opening it gave: one line that says that it is unread, or its page's text [text-files]
 abbrev pub OwesOpened : Query → Bool → List ℕ → Option (Option (List ℕ)) → Answer → List ℕ → Type 0
 OwesOpened query many name None answer text = (answer ≡ Unopened) × (text ≡ name ++ codes ": unread\n")
 OwesOpened query many name (Some known) answer text = (told : List ℕ) × Owes query known answer told × (text ≡ heading many name ++ told)
@@ -20,7 +20,7 @@ OwesOpened query many name (Some known) answer text = (told : List ℕ) × Owes 
 abbrev pub OwesFile : Query → Bool → (List ℕ → Option (Option (List ℕ))) → List ℕ → Answer → List ℕ → Type 0
 OwesFile query many holds name answer text = (opened : Option (Option (List ℕ))) × Agrees (holds name) opened × OwesOpened query many name opened answer text
 
--- the sections of files in their order, and the greatest of their statuses
+-- the sections of files in their order, and the greatest of their statuses [text-files]
 unfoldable pub OwesFiles : Query → Bool → (List ℕ → Option (Option (List ℕ))) → List (List ℕ) → ℕ → List ℕ → Type 0
 OwesFiles query many holds [] status text = (status ≡ 0) × (text ≡ [])
 OwesFiles query many holds (name ∷ names) status text =

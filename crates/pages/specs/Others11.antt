@@ -23,7 +23,7 @@ ladder_others page =
     ∷ rung PageSum (not (eqb (sum256 page) 0))
     ∷ rung PageDamaged (any_fault (entries page)) ∷ []
 
--- how many entries are none of the sixteen, each as often as it stands there, unless the page is refused
+-- how many entries are none of the sixteen, each as often as it stands there, unless the page is refused [others-11h]
 unfoldable pub count_others : List ℕ → Result ℕ Refusal
 count_others page = unless (first_of (ladder_others page)) (count_by entry_other (entries page))
 

@@ -16,7 +16,7 @@ use Rattle.pages.specs.declared.value.CounterValue.{CounterValue}
 abbrev pub any_fault : List CounterEntry → Bool
 any_fault es = (list_any wrong_width es || list_any past_end es) || list_any nameless es
 
--- 22: such an entry, or the asked number found twice
+-- 22: such an entry, or the asked number found twice [refused-22] [damaged-width]
 unfoldable pub damaged : ℕ → List CounterEntry → Bool
 damaged asked es = any_fault es || leb 2 (count_by (entry_asked asked) es)
 
@@ -28,15 +28,15 @@ value_of page e = record { value = le_at page (e.place + 2) (bytes_in e.id); byt
 abbrev pub row_value : ℕ → CounterValue
 row_value v = record { value = v; bytes = 4 }
 
--- the value of the entry that is asked for, or absent
+-- the value of the entry that is asked for, or absent [absent] [page-11h-read]
 unfoldable pub value_in : List ℕ → ℕ → List CounterEntry → Option CounterValue
 value_in page asked es = option_map (value_of page) (find (entry_asked asked) es)
 
--- 23: number asked not 1 to FFFh
+-- 23: number asked not 1 to FFFh [refused-23]
 abbrev pub no_number : ℕ → Bool
 no_number asked = ltb asked 1 || ltb 4095 asked
 
--- reader order: 20, 23, 21, 22
+-- reader order: 20, 23, 21, 22 [refused-20] [refused-21]
 abbrev pub ladder11 : List ℕ → ℕ → List Rung
 ladder11 page asked =
     rung PageLength (not (eqb (length page) 512))
@@ -44,17 +44,17 @@ ladder11 page asked =
     ∷ rung PageSum (not (eqb (sum256 page) 0))
     ∷ rung PageDamaged (damaged asked (entries page)) ∷ []
 
--- the answer: value or absent, unless the page is refused
+-- the answer: value or absent, unless the page is refused [page-11h-read]
 unfoldable pub read_counter : List ℕ → ℕ → Result (Option CounterValue) Refusal
 read_counter page asked = unless (first_of (ladder11 page asked)) (value_in page asked (entries page))
 
--- what each answer tells: a value; absent, which tells no value at all; or the refusal's number
+-- what each answer tells: a value; absent, which tells no value at all; or the refusal's number [answer-values] [absent]
 unfoldable pub counter_answer : Result (Option CounterValue) Refusal → Answer
 counter_answer (Ok (Some v)) = record { number = 0; values = v.value ∷ [] }
 counter_answer (Ok None) = record { number = 0; values = [] }
 counter_answer (Err r) = record { number = number r; values = [] }
 
--- what the reader promises: value, absent or the refusal, and the refusal exactly by its list
+-- what the reader promises: value, absent or the refusal, and the refusal exactly by its list [answer-values]
 pub record PageCounterGiven (page : List ℕ) (asked : ℕ) (r : Result (Option CounterValue) Refusal) : Type 0 where
   pub answer : r ≡ read_counter page asked
   pub refusal : refusal_in r ≡ first_of (ladder11 page asked)

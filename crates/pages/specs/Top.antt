@@ -6,6 +6,6 @@ use Rattle.pages.specs.declared.value.CounterValue.{CounterValue}
 unfoldable pub top_of : ℕ → ℕ
 top_of n = 2 ^ (8 * min n 8) - 1
 
--- a value is the largest of its width
+-- a value is the largest of its width [top]
 unfoldable pub at_top : CounterValue → Bool
 at_top v = eqb v.value (top_of v.bytes)

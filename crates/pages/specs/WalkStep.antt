@@ -15,7 +15,7 @@ faulty e = (wrong_width e || past_end e) || nameless e
 abbrev pub walk_entry : ℕ → ℕ → ℕ → WalkEntry
 walk_entry id start bytes = record { id = record { 0 = id }; start = start; bytes = bytes }
 
--- what stands at a place: nothing more at 508 or at 0000h, a fault, or an entry
+-- what stands at a place: nothing more at 508 or at 0000h, a fault, or an entry [walk-kept]
 unfoldable pub step_at : List ℕ → ℕ → Option (Result WalkEntry Refusal)
 step_at page at =
     pick (ends_at page at) None
@@ -27,7 +27,7 @@ place_after at (Some (Ok e)) = e.start + e.bytes
 place_after at (Some (Err r)) = 508
 place_after at None = at
 
--- what a step answers, and the walk that it leaves
+-- what a step answers, and the walk that it leaves [walk-kept]
 pub record Stepped (w : Walk) (r : Option (Result WalkEntry Refusal)) (w' : Walk) : Type 0 where
   pub answer : r ≡ step_at w.page.now w.at
   pub page : w'.page ≡ w.page

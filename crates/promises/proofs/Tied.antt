@@ -11,7 +11,7 @@ use Rattle.history.specs.Powered.{Powered}
 use Rattle.history.specs.Refused.{Refusals}
 use Rattle.history.specs.Answered.{Answers}
 use Rattle.history.specs.Logged.{LogTold}
-use Rattle.history.specs.Demand3.{Fates, Ranges, Contents, Sactive, Waiting, Depth, OnePerTag, Counters}
+use Rattle.history.specs.Faithful.{Fates, Ranges, Contents, Sactive, Waiting, Depth, OnePerTag, Counters}
 use Rattle.history.specs.Lasting.{HandedOn, Lasting}
 use Rattle.history.specs.StateAgrees.{AgreesAsked, AgreesCount, AgreesDue, StateAgrees}
 use Rattle.history.specs.Promised.{Always, AtTheEnd}
@@ -112,8 +112,8 @@ tied_counters_read_back = say (λ κs a. tt) (λ κs a r ws p. (p.0, p.1))
 
 -- ---- examples
 
-pub tied_points : Says examples-said.points.ended examples.points.Reads.Asked examples.points.Reads.Post (λ κs a r ws. Hold all)
-tied_points = say (λ κs a. tt) (λ κs a r ws p. p)
+pub tied_eleven_examples : Says examples-said.eleven_examples.ended examples.eleven_examples.Reads.Asked examples.eleven_examples.Reads.Post (λ κs a r ws. Hold all)
+tied_eleven_examples = say (λ κs a. tt) (λ κs a r ws p. p)
 
 pub tied_bytes_in_full : Says examples-said.bytes_in_full.ended examples.bytes_in_full.Reads.Asked examples.bytes_in_full.Reads.Post (λ κs a r ws. (Placed whole_frames) × (WholeShows))
 tied_bytes_in_full = say (λ κs a. tt) (λ κs a r ws p. (p.0, p.1))

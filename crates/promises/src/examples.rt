@@ -6,8 +6,8 @@ ghost use Rattle.worked_examples.specs.Whole.{Placed, whole_frames, WholeShows};
 ghost use Rattle.worked_examples.specs.Story.{ExampleShows};
 ghost use Rattle.worked_examples.specs.Second.{SecondShows, LongShows};
 
-/// Eleven of the bytes of pages and replies, P1 to P11.
-pub fn points()
+/// Eleven of the bytes of pages and replies [examples].
+pub fn eleven_examples()
     ensures { Hold all }
 {}
 

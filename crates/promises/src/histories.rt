@@ -16,7 +16,7 @@ ghost use Rattle.history.specs.Powered.{Powered};
 ghost use Rattle.history.specs.Refused.{Refusals};
 ghost use Rattle.history.specs.Answered.{Answers};
 ghost use Rattle.history.specs.Logged.{LogTold};
-ghost use Rattle.history.specs.Demand3.{Fates, Ranges, Contents, Sactive, Waiting, Depth, OnePerTag, Counters};
+ghost use Rattle.history.specs.Faithful.{Fates, Ranges, Contents, Sactive, Waiting, Depth, OnePerTag, Counters};
 ghost use Rattle.history.specs.Lasting.{HandedOn, Lasting};
 ghost use Rattle.history.specs.StateAgrees.{AgreesAsked, AgreesCount, AgreesDue, StateAgrees};
 ghost use Rattle.history.specs.Promised.{Always, AtTheEnd};

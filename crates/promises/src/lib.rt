@@ -1,4 +1,4 @@
-// What is promised, a function each, in the order in which docs/DEMAND3.md tells it: no code, and the contract is the sentence.
+// What is promised, a function each, in the order in which docs/HISTORIES.md tells it: no code, and the contract is the sentence.
 // A promise that is dropped, or no longer holds, is refused here by the toolchain.
 #![tactic(auto)]
 
@@ -7,7 +7,7 @@ mod histories;
 mod written;
 
 pub use examples::{
-    bytes_in_full, errors_and_resets_occur, every_fate_occurs, long_moves_occur, points,
+    bytes_in_full, eleven_examples, errors_and_resets_occur, every_fate_occurs, long_moves_occur,
 };
 pub use histories::{
     answered_exactly, any_state_serves, carried_once, counters_told, errors_told, exists_always,

@@ -13,12 +13,12 @@ Rung = Bool × Refusal
 abbrev pub rung : Refusal → Bool → Rung
 rung r t = (t, r)
 
--- the refusal of the first rung that holds, or none where none does
+-- the refusal of the first rung that holds, or none where none does [exactly]
 unfoldable pub first_of : List Rung → Option Refusal
 first_of [] = None
 first_of (r ∷ rs) = pick r.0 (Some r.1) (first_of rs)
 
--- what is answered, unless it is refused
+-- what is answered, unless it is refused [exactly]
 abbrev pub unless : {A : Type 0} → Option Refusal → A → Result A Refusal
 unless None a = Ok a
 unless (Some r) a = Err r
@@ -40,7 +40,7 @@ Iff A B = (A → B) × (B → A)
 abbrev pub NoneBefore : List Rung → ℕ → Type 0
 NoneBefore rs k = (j : ℕ) → j < k → (get_or rs j no_rung).0 ≡ false
 
--- `given` is each rung's refusal exactly when that rung holds and none in front of it does, none exactly when none holds, and never another
+-- `given` is each rung's refusal exactly when that rung holds and none in front of it does, none exactly when none holds, and never another [exactly]
 pub record FirstExactly (rs : List Rung) (given : Option Refusal) : Type 0 where
   pub each : (k : ℕ) → k < length rs → Iff (given ≡ Some (get_or rs k no_rung).1) (((get_or rs k no_rung).0 ≡ true) × NoneBefore rs k)
   pub none : Iff (given ≡ None) (NoneBefore rs (length rs))

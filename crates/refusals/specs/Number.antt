@@ -3,7 +3,7 @@ use Rattle.std.specs.Prelude.{ℕ, Option, Some, None}
 use Rattle.refusals.specs.declared.reasons.Refusal.{Refusal}
 use Rattle.refusals.specs.declared.reasons.Refusal.TheVariants.{Contradiction, MediumLength, ReplyShort, NoHostFrame, WrongTime, TooLong, TagIdle, PhaseOpen, AllMoved, NoReadPhase, SetUnready, OutsideCommand, NoRow, PageLength, PageSum, PageDamaged, NoCounter, NoFrame, Unfit, BufferShort}
 
--- as the refusal table numbers them
+-- as the refusal table numbers them [exactly]
 abbrev pub number : Refusal → ℕ
 number Contradiction = 1
 number MediumLength = 2

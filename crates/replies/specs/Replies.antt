@@ -20,36 +20,36 @@ use Rattle.rules.specs.declared.acts.Act.TheVariants.{Nothing, Bad, BadAndHalt, 
 abbrev pub register : Bool → ℕ → ℕ → Task → FrameValue
 register i status error task = device (record { interrupt = i; status = status; error = error; task = task })
 
--- good: status 40h, error 0, I 0
+-- good: status 40h, error 0, I 0 [good] [bad]
 abbrev pub good : Task → FrameValue
 good task = register false 0x40 0 task
 
--- bad: status 41h, I 1, error as named
+-- bad: status 41h, I 1, error as named [good] [bad]
 abbrev pub bad_reply : ℕ → Task → FrameValue
 bad_reply error task = register true 0x41 error task
 
--- signature: 34h, I 0, status 40h, error 01h, bytes 4 and 12 01h, rest 0
+-- signature: 34h, I 0, status 40h, error 01h, bytes 4 and 12 01h, rest 0 [release] [signature]
 abbrev pub signature : FrameValue
 signature = register false 0x40 0x01 (record { lba = 1; device = 0; count = 1 })
 
--- the sweep: A1h, I 0, status 40h, error 0, SActive FFFFFFFFh
+-- the sweep: A1h, I 0, status 40h, error 0, SActive FFFFFFFFh [log-replies] [sweep]
 abbrev pub sweep : FrameValue
 sweep = set_bits (record { interrupt = false; status = 0x40; error = 0; active = 0xFFFF_FFFF })
 
--- PIO Setup: I 1, D 1, status 48h, error 0, ending status 40h, 512 bytes, the command's bytes
+-- PIO Setup: I 1, D 1, status 48h, error 0, ending status 40h, 512 bytes, the command's bytes [log-replies] [sweep]
 abbrev pub pio_reply : Task → FrameValue
 pio_reply task = pio (record { interrupt = true; to_host = true; status = 0x48; error = 0; task = task; ending = 0x40; bytes = 512 })
 
--- DMA Setup: A 0, I 0, offset 0, whole byte count; D 1 to the host
+-- DMA Setup: A 0, I 0, offset 0, whole byte count; D 1 to the host [open] [dma-setup]
 abbrev pub setup_reply : Queued → FrameValue
 setup_reply q =
     setup (record { auto = false; interrupt = false; to_host = not q.entry.write; tag = q.tag; offset = 0; count = whole_of q.entry.count })
 
--- finish: A1h, I 1, status 40h, error 0, SActive the set
+-- finish: A1h, I 1, status 40h, error 0, SActive the set [finish] [finished]
 abbrev pub finish_reply : ℕ → FrameValue
 finish_reply set = set_bits (record { interrupt = true; status = 0x40; error = 0; active = set })
 
--- media error: A1h, I 1, status 41h, that error, SActive 0
+-- media error: A1h, I 1, status 41h, that error, SActive 0 [media-error] [failed]
 abbrev pub media_reply : ℕ → FrameValue
 media_reply error = set_bits (record { interrupt = true; status = 0x41; error = error; active = 0 })
 
@@ -57,17 +57,17 @@ media_reply error = set_bits (record { interrupt = true; status = 0x41; error = 
 abbrev pub sweep_if : Bool → List FrameValue
 sweep_if on = pick on (sweep ∷ []) []
 
--- an Activate if more is left, or a write was opened
+-- an Activate if more is left, or a write was opened [host-data]
 abbrev pub activate_if : Bool → List FrameValue
 activate_if on = pick on (activate ∷ []) []
 
--- the record as page 10h shows it: status 41h; a blank one is 80h and zeros
+-- the record as page 10h shows it: status 41h; a blank one is 80h and zeros [blank] [record-set]
 abbrev pub log_of : ErrorRecord → ErrorLog
 log_of r =
     pick r.set (record { nq = r.nq; tag = r.tag; status = 0x41; error = r.error; task = task_in r.echo })
     (record { nq = true; tag = 0; status = 0; error = 0; task = record { lba = 0; device = 0; count = 0 } })
 
--- the bytes of a page, none where it cannot be written
+-- the bytes of a page, none where it cannot be written [blank]
 abbrev pub page10_of : ErrorRecord → List ℕ
 page10_of r = pick (fits10 (log_of r)) (page10 (log_of r)) []
 
@@ -75,15 +75,15 @@ page10_of r = pick (fits10 (log_of r)) (page10 (log_of r)) []
 abbrev pub page11_of : ℕ → List ℕ → List ℕ
 page11_of mask values = pick (keeps_both mask) (page11 mask values) []
 
--- if halted, first the sweep; then PIO Setup; then the page as a data frame
+-- if halted, first the sweep; then PIO Setup; then the page as a data frame [log-replies] [sweep]
 abbrev pub log_replies : Bool → Task → List ℕ → List FrameValue
 log_replies on task page = sweep_if on ++ pio_reply task ∷ payload page ∷ []
 
--- open: DMA Setup; for a write, an Activate follows
+-- open: DMA Setup; for a write, an Activate follows [open] [dma-setup]
 abbrev pub open_replies : Queued → List FrameValue
 open_replies q = (setup_reply q ∷ []) ++ activate_if q.entry.write
 
--- the replies of an act; `part` is what of the medium it sends, and the rest is looked up in what the state shows
+-- the replies of an act; `part` is what of the medium it sends, and the rest is looked up in what the state shows [all-sent] [comreset]
 unfoldable pub replies_of : Shown → List ℕ → Act → List FrameValue
 replies_of s part Nothing = []
 replies_of s part (Bad b) = bad_reply b.error b.task ∷ []
@@ -106,11 +106,11 @@ replies_of s part Renew = signature ∷ []
 unfoldable pub sent_bytes : FrameValue → List ℕ
 sent_bytes f = pick (fits f) (encode f) []
 
--- the replies follow one another
+-- the replies follow one another [all-sent]
 unfoldable pub sent_all : List FrameValue → List ℕ
 sent_all fs = joined_bytes (map sent_bytes fs)
 
--- what the code that sends frames answers, and what the buffer then holds: the frames in front, and the rest as it was
+-- what the code that sends frames answers, and what the buffer then holds: the frames in front, and the rest as it was [in-turn]
 pub record RepliesGiven (fs : List FrameValue) (d : List ℕ) (r : ℕ) (d' : List ℕ) : Type 0 where
   pub len : r ≡ length (sent_all fs)
   pub bytes : d' ≡ overlay (sent_all fs) d

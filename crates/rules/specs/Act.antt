@@ -15,7 +15,7 @@ use Rattle.rules.specs.declared.facts.Facts.{Facts}
 use Rattle.rules.specs.declared.acts.Act.{Act}
 use Rattle.rules.specs.declared.acts.Act.TheVariants.{Open, Send, Finish, Media, Count, Renew}
 
--- after a media error 4-6 and 8-10 hold the failing sector
+-- after a media error 4-6 and 8-10 hold the failing sector [media-error] [failed]
 unfoldable pub failing : Echo → ℕ → Echo
 failing e sector = record e {
   b4 = byte_of sector 0;
@@ -26,7 +26,7 @@ failing e sector = record e {
   b10 = byte_of sector 5;
 }
 
--- a call that is not turned down: a host frame by its rules; open a phase for a tag; send min(8,192, what is left) bytes; finish a set; media error; link event; COMRESET
+-- a call that is not turned down: a host frame by its rules; open a phase for a tag; send min(8,192, what is left) bytes; finish a set; media error; link event; COMRESET [data-size] [send]
 unfoldable pub does : Facts → Call → Act
 does v (host_frame f) = frame_act v (read_frame f)
 does v (happens (OpenPhase t)) = Open (record { tag = t; entry = v.entry })
@@ -36,7 +36,7 @@ does v (happens (MediaError t e s)) = Media (record { tag = Some t; error = e; e
 does v (happens (LinkEvent r)) = Count r
 does v (happens Comreset) = Renew
 
--- a refusal, lowest number first; otherwise the call is done
+-- a refusal, lowest number first; otherwise the call is done [exactly]
 unfoldable pub act : Facts → Call → Result Act Refusal
 act v c = unless (first_of (tests v c)) (does v c)
 

@@ -41,11 +41,11 @@ bad_does h t (Halts e) = fault h t (error_byte e)
 abbrev pub tag_asked : HostReg → ℕ
 tag_asked h = tag_of h.task.count
 
--- the sector count that it names (0 = 65,536)
+-- the sector count that it names (0 = 65,536) [sector-count]
 abbrev pub count_asked : HostReg → ℕ
 count_asked h = sectors_of h.features h.features_high
 
--- the entry of an accepted command: nothing has moved
+-- the entry of an accepted command: nothing has moved [queued]
 abbrev pub entry_for : HostReg → Entry
 entry_for h = record {
   write = eqb h.command 0x61;
@@ -62,14 +62,14 @@ abbrev pub queued_does : HostReg → Result Unit verdict.Bad → Act
 queued_does h (Ok _) = Accept (record { tag = tag_asked h; entry = entry_for h })
 queued_does h (Err b) = bad_does h (Some (tag_asked h)) b
 
--- queued command: what the first rule that holds says
+-- queued command: what the first rule that holds says [queued-halted] [queued-tag]
 unfoldable pub queued_act : Facts → HostReg → Act
 queued_act v h =
     queued_does h
     (queued_rule v.status.halted (tag_refused v.settings.depth (tag_asked h) (bit_in 32 v.status.outstanding (tag_asked h)))
     (too_far v.settings.capacity h.task.lba (count_asked h)))
 
--- READ LOG EXT (2Fh) is well-formed if byte 4 is 10h or 11h, bytes 5 and 9 are 0, byte 12 is 1 and 13 is 0: the page that it asks for, if it does
+-- READ LOG EXT (2Fh) is well-formed if byte 4 is 10h or 11h, bytes 5 and 9 are 0, byte 12 is 1 and 13 is 0: the page that it asks for, if it does [log-form] [other-bad]
 unfoldable pub log_page : ℕ → Echo → Option LogPage
 log_page command e = pick (eqb command 0x2F && (eqb e.b5 0 && eqb e.b9 0) && (eqb e.b12 1 && eqb e.b13 0)) (page_named e.b4) None
 
@@ -77,29 +77,29 @@ log_page command e = pick (eqb command 0x2F && (eqb e.b5 0 && eqb e.b9 0) && (eq
 abbrev pub page_asked : HostReg → Option LogPage
 page_asked h = log_page h.command (echo_of h.task)
 
--- what a rule of any other command makes the device do; a halt is for no tag
+-- what a rule of any other command makes the device do; a halt is for no tag [other-halted] [other-between]
 abbrev pub other_does : HostReg → Result LogPage verdict.Bad → Act
 other_does h (Ok Errors) = Log10 h.task
 other_does h (Ok Counters) = Log11 (record { zero = log_zeroes h.features; task = h.task })
 other_does h (Err b) = bad_does h None b
 
--- any other command: what the first rule that holds says
+-- any other command: what the first rule that holds says [other-halted] [other-between]
 unfoldable pub other_act : Facts → HostReg → Act
 other_act v h = other_does h (other_rule v.status.halted (page_asked h) (not (eqb v.status.outstanding 0)))
 
--- control frame with SRST: reset; with SRST 0: if held, release; otherwise nothing
+-- control frame with SRST: reset; with SRST 0: if held, release; otherwise nothing [srst] [release]
 unfoldable pub control_act : Facts → HostReg → Act
 control_act v h = pick (srst_of h.control) Reset (pick v.status.held Release Nothing)
 
--- 60h and 61h are queued
+-- 60h and 61h are queued [queued]
 abbrev pub is_queued : HostReg → Bool
 is_queued h = eqb h.command 0x60 || eqb h.command 0x61
 
--- C 0 is a control frame; C 1 a command, queued or any other
+-- C 0 is a control frame; C 1 a command, queued or any other [command-or-control]
 unfoldable pub register_act : Facts → HostReg → Act
 register_act v h = pick (not h.command_bit) (control_act v h) (pick (is_queued h) (queued_act v h) (other_act v h))
 
--- by its kind: host data goes to the medium; BIST Activate zeroes the counters; a frame of any other kind is always turned down
+-- by its kind: host data goes to the medium; BIST Activate zeroes the counters; a frame of any other kind is always turned down [bist] [host-data]
 unfoldable pub frame_act : Facts → Result Frame Refusal → Act
 frame_act v (Ok (Host h)) = register_act v h
 frame_act v (Ok (Data n)) = Store (move_of v.status v.entry n)

@@ -23,7 +23,7 @@ sent_by leaves m = []
 sent_by (sends k) m = take k.size (drop k.at m)
 sent_by (stores k) m = []
 
--- what of the medium m an act sends
+-- what of the medium m an act sends [send]
 abbrev pub part_of : Act → List ℕ → List ℕ
 part_of a m = sent_by (touch_of a) m
 
@@ -33,6 +33,6 @@ kept_by leaves f m = m
 kept_by (sends k) f m = m
 kept_by (stores k) f m = stored_medium k.at f m
 
--- the medium m after an act of frame f
+-- the medium m after an act of frame f [all-done]
 abbrev pub medium_after : Act → List ℕ → List ℕ → List ℕ
 medium_after a f m = kept_by (touch_of a) f m

@@ -8,7 +8,7 @@ use Rattle.device_state.specs.declared.shapes.Entry.{Entry}
 use Rattle.device_state.specs.declared.shapes.Status.{Status}
 use Rattle.rules.specs.declared.acts.Move.{Move}
 
--- what is left of a command, in bytes
+-- what is left of a command, in bytes [refused-6]
 abbrev pub left_of : Entry → ℕ
 left_of e = left_in (whole_of e.count) e.moved
 
@@ -16,7 +16,7 @@ left_of e = left_in (whole_of e.count) e.moved
 abbrev pub size_of : Entry → ℕ → ℕ
 size_of e n = part_in (whole_of e.count) e.moved n
 
--- where the next byte of a command stands in the medium
+-- where the next byte of a command stands in the medium [host-data]
 abbrev pub place_of : Entry → ℕ
 place_of e = place_in e.first e.moved
 
@@ -39,6 +39,6 @@ abbrev pub phase_to : Status → Entry → Bool → Option ℕ
 phase_to f e true = pick e.write f.phase None
 phase_to f e false = pick e.write None f.phase
 
--- in the open phase; where none is open no call moves bytes, and any tag would do
+-- in the open phase; where none is open no call moves bytes, and any tag would do [send] [host-data]
 unfoldable pub move_of : Status → Entry → ℕ → Move
 move_of f e n = move_for (unwrap_or f.phase 0) e n

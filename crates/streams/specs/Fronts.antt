@@ -2,17 +2,17 @@
 use Rattle.std.specs.Prelude.{ℕ, ◌<◌, ◌≤◌, List, length, take, Option}
 use Rattle.std.specs.Io.KnownBytes.{Appends, Consumes, IsAtEnd}
 
--- a front of the text was written
+-- a front of the text was written [event-broken] [event-lost]
 abbrev pub AppendsFront : Option (List ℕ) → Option (List ℕ) → List ℕ → Type 0
 AppendsFront old new text = (k : ℕ) × Appends old new (take k text)
 
--- the buffer holds n bytes that were read, and fewer than there is room for only at the reader's end
+-- the buffer holds n bytes that were read, and fewer than there is room for only at the reader's end [event-reads] [fill-once]
 pub record Filled (old new : Option (List ℕ)) (n : ℕ) (buffer : List ℕ) : Type 0 where
   pub most : n ≤ length buffer
   pub bytes : Consumes old new (take n buffer)
   pub end : n < length buffer → IsAtEnd new
 
--- a read failed before the buffer was full: it holds n bytes that were read
+-- a read failed before the buffer was full: it holds n bytes that were read [fill-once]
 pub record StuckBefore (old new : Option (List ℕ)) (buffer : List ℕ) : Type 0 where
   pub n : ℕ
   pub short : n < length buffer

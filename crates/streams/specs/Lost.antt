@@ -1,6 +1,6 @@
 -- What is said of output that is lost. Assumes nothing.
 use Rattle.std.specs.Prelude.{ℕ, List, codes}
 
--- a write failed
+-- a write failed [event-lost]
 abbrev pub complaint : List ℕ
 complaint = codes "output failed: lines are missing\n"

@@ -1,4 +1,4 @@
--- The proved examples P1 to P11: pages and replies of the machine's own calls. Assumes nothing.
+-- The eleven proved examples: pages and replies of the machine's own calls. Assumes nothing.
 use Rattle.std.specs.Prelude.{◌≡◌, false, List, [], ◌∷◌, map, ℕ, ◌*◌, get_or, take, drop, replicate, Option, Result}
 use Rattle.bits.specs.Little.{le_bytes}
 use Rattle.refusals.specs.declared.reasons.Refusal.{Refusal}
@@ -17,13 +17,27 @@ use Rattle.device.specs.Lent.{lent}
 use Rattle.device.specs.FactsOf.{facts_with}
 use Rattle.device.specs.declared.state.Device.{Device}
 
--- one example: its number in 01, what the definitions give, and what 01 says
+-- what each of the eleven is of
+pub data ExampleName : Type 0 where
+  blank_page : ExampleName
+  media_error_page : ExampleName
+  finished_tags : ExampleName
+  sweep_sent : ExampleName
+  error_sent : ExampleName
+  read_setup : ExampleName
+  two_counters : ExampleName
+  whole_medium : ExampleName
+  whole_from_one : ExampleName
+  last_sector : ExampleName
+  past_the_last : ExampleName
+
+-- one example: its name, what the definitions give, and what the rules say
 pub record Example : Type 0 where
-  pub number : ℕ
+  pub name : ExampleName
   pub given : List ℕ
   pub wanted : List ℕ
 
--- every example of a list holds
+-- every example of a list holds [examples]
 unfoldable pub Hold : List Example → Type 0
 Hold [] = Unit
 Hold (e ∷ es) = (e.given ≡ e.wanted) × Hold es
@@ -78,7 +92,7 @@ sent_with d tag = (step (step d (lent (happens (OpenPhase tag)) [] room)).state 
 abbrev pub both_sent : Device
 both_sent = sent_with (sent_with (reply_to (reply_to (fresh_with 1) (queued_read 1 0 0)).state (queued_read 1 0 5)).state 0) 5
 
--- P7's page: mask 0201h, values 0 and 3
+-- the page of two counters: mask 0201h, values 0 and 3
 abbrev pub two_rows : List ℕ
 two_rows = page11_of 0x0201 (0 ∷ 0 ∷ 0 ∷ 0 ∷ 0 ∷ 0 ∷ 0 ∷ 0 ∷ 0 ∷ 3 ∷ 0 ∷ 0 ∷ 0 ∷ 0 ∷ 0 ∷ 0 ∷ [])
 
@@ -86,21 +100,21 @@ two_rows = page11_of 0x0201 (0 ∷ 0 ∷ 0 ∷ 0 ∷ 0 ∷ 0 ∷ 0 ∷ 0 ∷ 0 �
 abbrev pub answer : ℕ → ℕ → ℕ → List ℕ
 answer capacity count sector = take 4 (reply_bytes (reply_to (fresh_with capacity) (queued_read count sector 0)))
 
--- P1 to P11, in one list
+-- the eleven, in one list [examples]
 unfoldable pub examples : List Example
 examples =
-    record { number = 1; given = last_byte (page10_of blank_record); wanted = 0x80 ∷ [] }
-    ∷ record { number = 2; given = last_byte (page10_of failed.state.errors); wanted = 0xAE ∷ [] }
-    ∷ record { number = 3; given = reply_bytes (step both_sent (lent (happens (FinishTags 0x21)) [] room)); wanted = 0xA1 ∷ 0x40 ∷ 0x40 ∷ 0x00 ∷ 0x21 ∷ 0x00 ∷ 0x00 ∷ 0x00 ∷ [] }
-    ∷ record { number = 4; given = take 8 (reply_bytes (reply_to failed.state read_log10)); wanted = 0xA1 ∷ 0x00 ∷ 0x40 ∷ 0x00 ∷ 0xFF ∷ 0xFF ∷ 0xFF ∷ 0xFF ∷ [] }
-    ∷ record { number = 5; given = reply_bytes failed; wanted = 0xA1 ∷ 0x40 ∷ 0x41 ∷ 0x40 ∷ 0x00 ∷ 0x00 ∷ 0x00 ∷ 0x00 ∷ [] }
-    ∷ record { number = 6; given = take 1 (drop 1 (reply_bytes (step reading (lent (happens (OpenPhase 5)) [] room)))); wanted = 0x20 ∷ [] }
-    ∷ record { number = 6; given = take 4 (drop 20 (reply_bytes (step reading (lent (happens (OpenPhase 5)) [] room)))); wanted = 0x00 ∷ 0x10 ∷ 0x00 ∷ 0x00 ∷ [] }
-    ∷ record { number = 7; given = last_byte two_rows; wanted = 0xB2 ∷ [] }
-    ∷ record { number = 7; given = said (read_counter two_rows 0x001); wanted = 0 ∷ 0 ∷ [] }
-    ∷ record { number = 7; given = said (read_counter two_rows 0x00A); wanted = 0 ∷ 3 ∷ [] }
-    ∷ record { number = 7; given = said (read_counter two_rows 0x002); wanted = 0 ∷ [] }
-    ∷ record { number = 8; given = answer 65536 0 0; wanted = 0x34 ∷ 0x00 ∷ 0x40 ∷ 0x00 ∷ [] }
-    ∷ record { number = 9; given = answer 65536 0 1; wanted = 0x34 ∷ 0x40 ∷ 0x41 ∷ 0x10 ∷ [] }
-    ∷ record { number = 10; given = answer 64 1 63; wanted = 0x34 ∷ 0x00 ∷ 0x40 ∷ 0x00 ∷ [] }
-    ∷ record { number = 11; given = answer 64 1 64; wanted = 0x34 ∷ 0x40 ∷ 0x41 ∷ 0x10 ∷ [] } ∷ []
+    record { name = blank_page; given = last_byte (page10_of blank_record); wanted = 0x80 ∷ [] }
+    ∷ record { name = media_error_page; given = last_byte (page10_of failed.state.errors); wanted = 0xAE ∷ [] }
+    ∷ record { name = finished_tags; given = reply_bytes (step both_sent (lent (happens (FinishTags 0x21)) [] room)); wanted = 0xA1 ∷ 0x40 ∷ 0x40 ∷ 0x00 ∷ 0x21 ∷ 0x00 ∷ 0x00 ∷ 0x00 ∷ [] }
+    ∷ record { name = sweep_sent; given = take 8 (reply_bytes (reply_to failed.state read_log10)); wanted = 0xA1 ∷ 0x00 ∷ 0x40 ∷ 0x00 ∷ 0xFF ∷ 0xFF ∷ 0xFF ∷ 0xFF ∷ [] }
+    ∷ record { name = error_sent; given = reply_bytes failed; wanted = 0xA1 ∷ 0x40 ∷ 0x41 ∷ 0x40 ∷ 0x00 ∷ 0x00 ∷ 0x00 ∷ 0x00 ∷ [] }
+    ∷ record { name = read_setup; given = take 1 (drop 1 (reply_bytes (step reading (lent (happens (OpenPhase 5)) [] room)))); wanted = 0x20 ∷ [] }
+    ∷ record { name = read_setup; given = take 4 (drop 20 (reply_bytes (step reading (lent (happens (OpenPhase 5)) [] room)))); wanted = 0x00 ∷ 0x10 ∷ 0x00 ∷ 0x00 ∷ [] }
+    ∷ record { name = two_counters; given = last_byte two_rows; wanted = 0xB2 ∷ [] }
+    ∷ record { name = two_counters; given = said (read_counter two_rows 0x001); wanted = 0 ∷ 0 ∷ [] }
+    ∷ record { name = two_counters; given = said (read_counter two_rows 0x00A); wanted = 0 ∷ 3 ∷ [] }
+    ∷ record { name = two_counters; given = said (read_counter two_rows 0x002); wanted = 0 ∷ [] }
+    ∷ record { name = whole_medium; given = answer 65536 0 0; wanted = 0x34 ∷ 0x00 ∷ 0x40 ∷ 0x00 ∷ [] }
+    ∷ record { name = whole_from_one; given = answer 65536 0 1; wanted = 0x34 ∷ 0x40 ∷ 0x41 ∷ 0x10 ∷ [] }
+    ∷ record { name = last_sector; given = answer 64 1 63; wanted = 0x34 ∷ 0x00 ∷ 0x40 ∷ 0x00 ∷ [] }
+    ∷ record { name = past_the_last; given = answer 64 1 64; wanted = 0x34 ∷ 0x40 ∷ 0x41 ∷ 0x10 ∷ [] } ∷ []

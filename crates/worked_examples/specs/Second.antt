@@ -43,7 +43,7 @@ host_data_of n byte = host_frame (0x46 ∷ 0 ∷ 0 ∷ 0 ∷ replicate n byte)
 abbrev pub up_to : ℕ → List Event → List Event
 up_to n h = drop (length h - n) h
 
--- the same, as demand 3 reads it
+-- the same, as a history is read
 abbrev pub seen_to : ℕ → List Event → List Seen
 seen_to n h = map seen (up_to n h)
 
@@ -111,7 +111,7 @@ given_up_after n = tags_so (λ t. given_up_there t (seen_to n second))
 abbrev pub bad_after : ℕ → List ℕ
 bad_after n = tags_so (λ t. bad_since t (seen_to n second))
 
--- what the run of resets and errors shows
+-- what the run of resets and errors shows [examples-of-runs]
 pub record SecondShows : Type 0 where
   -- the theorems' premise holds; that power-on is taken with these settings stands in Story
   pub typed : AllTyped second_calls
@@ -172,7 +172,7 @@ long_table =
 abbrev pub due_after : ℕ → Transfer
 due_after n = transfer (seen_to n long)
 
--- what the run of long commands shows
+-- what the run of long commands shows [examples-of-runs]
 pub record LongShows : Type 0 where
   -- power-on is taken, and the theorems' premise holds
   pub powered : (power_on long_settings).refusal ≡ None

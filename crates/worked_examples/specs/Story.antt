@@ -71,7 +71,7 @@ story = history settings calls
 abbrev pub after : ℕ → List Event
 after n = drop (17 - n) story
 
--- the same, as demand 3 reads it
+-- the same, as a history is read
 abbrev pub seen_after : ℕ → List Seen
 seen_after n = map seen (after n)
 
@@ -184,7 +184,7 @@ table =
 abbrev pub three_of : {A : Type 0} → (ℕ → A) → List A
 three_of f = f 0x001 ∷ f 0x00A ∷ f 0x002 ∷ []
 
--- what the run shows: the theorems over every run say something of this one
+-- what the run shows: the theorems over every run say something of this one [examples-of-runs]
 pub record ExampleShows : Type 0 where
   -- power-on is taken, and the arguments of every call are of their types: the theorems' premise holds
   pub powered : (power_on settings).refusal ≡ None

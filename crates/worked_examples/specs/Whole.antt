@@ -23,7 +23,7 @@ pub record WholeFrame : Type 0 where
   pub bytes : List ℕ
   pub noisy : List ℕ
 
--- each of a list is written as its bytes, and is what the reader sees in them, whatever the unnamed bits
+-- each of a list is written as its bytes, and is what the reader sees in them, whatever the unnamed bits [bytes-in-full]
 unfoldable pub Placed : List WholeFrame → Type 0
 Placed [] = Unit
 Placed (w ∷ ws) = (encode w.frame ≡ w.bytes) × ((read_frame w.bytes ≡ Ok (read_back w.frame)) × ((read_frame w.noisy ≡ Ok (read_back w.frame)) × Placed ws))
@@ -32,7 +32,7 @@ Placed (w ∷ ws) = (encode w.frame ≡ w.bytes) × ((read_frame w.bytes ≡ Ok 
 abbrev pub whole_task : Task
 whole_task = record { lba = 0x1A1918161514; device = 0x17; count = 0x1D1C }
 
--- one of each kind; of A1h, 41h and 5Fh two, in which I, A and D, and the bits of status, differ
+-- one of each kind; of A1h, 41h and 5Fh two, in which I, A and D, and the bits of status, differ [bytes-in-full]
 unfoldable pub whole_frames : List WholeFrame
 whole_frames =
     record {
@@ -158,7 +158,7 @@ three =
     ∷ (0x39 ∷ 0x46 ∷ 0x46 ∷ 0x46 ∷ [])
     ∷ (0x46 ∷ 0x00 ∷ 0x00 ∷ 0x00 ∷ 0x39 ∷ 0x00 ∷ 0x00 ∷ 0x00 ∷ 0x39 ∷ 0x00 ∷ 0x00 ∷ 0x00 ∷ []) ∷ []
 
--- what stands in the bytes of pages, of frames one behind the other, and of a command
+-- what stands in the bytes of pages, of frames one behind the other, and of a command [bytes-in-full]
 pub record WholeShows : Type 0 where
   -- page 10h as it is written and read
   pub log : page10 whole_log ≡ log_bytes

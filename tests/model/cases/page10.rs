@@ -17,7 +17,7 @@ fn starting(first_bytes: &str) -> Vec<u8> {
     page(&[(0, &hex(first_bytes))])
 }
 
-/// The page of P2.
+/// The page of an example.
 fn media_error() -> Vec<u8> {
     starting("05 00 41 40 64 00 00 40 00 00 00 00 28 00")
 }
@@ -28,8 +28,8 @@ fn good_reads() -> Vec<Case> {
     let reserved: &[(usize, &[u8])] =
         &[(0, &hex("73 FF 41 84 24 35 46 57 68 79 8A FF AC BD")), (14, &[0xFF; 497])];
     vec![
-        read("blank (P1)", &page(&[(0, &[0x80])]), "0 1 0 0 0 0 0 0"),
-        read("media error (P2)", &media_error(), "0 0 5 65 64 100 64 40"),
+        read("blank", &page(&[(0, &[0x80])]), "0 1 0 0 0 0 0 0"),
+        read("media error", &media_error(), "0 0 5 65 64 100 64 40"),
         read("named fields all distinct", &starting(distinct), &distinct_reads),
         read("the same with all reserved bits and bytes set", &page(reserved), &distinct_reads),
         read("all zeros is a clean page, not blank", &[0; 512], "0 0 0 0 0 0 0 0"),
@@ -56,22 +56,26 @@ fn good_reads() -> Vec<Case> {
 }
 
 fn bad_reads() -> Vec<Case> {
-    let p2 = media_error();
-    let long = longer(p2.clone());
+    let failed = media_error();
+    let long = longer(failed.clone());
     vec![
         read("no bytes at all", &[], "20"),
-        read("511 bytes", &p2[..511], "20"),
+        read("511 bytes", &failed[..511], "20"),
         read("511 bytes whose sum is right", &[0; 511], "20"),
         read("513 bytes whose sum is right", &long, "20"),
         read("516 bytes, as the data frame", &[0; 516], "20"),
         read("1024 bytes", &[0; 1024], "20"),
-        read("sum byte one too large", &changed(p2.clone(), 511, 1), "21"),
-        read("sum byte one too small", &changed(p2.clone(), 511, -1), "21"),
-        read("first byte one too large", &changed(p2.clone(), 0, 1), "21"),
-        read("a reserved byte in the middle counts in the sum", &changed(p2.clone(), 300, 1), "21"),
-        read("byte 510 counts in the sum", &changed(p2.clone(), 510, 1), "21"),
+        read("sum byte one too large", &changed(failed.clone(), 511, 1), "21"),
+        read("sum byte one too small", &changed(failed.clone(), 511, -1), "21"),
+        read("first byte one too large", &changed(failed.clone(), 0, 1), "21"),
+        read(
+            "a reserved byte in the middle counts in the sum",
+            &changed(failed.clone(), 300, 1),
+            "21",
+        ),
+        read("byte 510 counts in the sum", &changed(failed.clone(), 510, 1), "21"),
         read("513 bytes and a wrong sum: the length first", &changed(long, 9, 1), "20"),
-        read("511 bytes and a wrong sum: the length first", &changed(p2, 9, 1)[..511], "20"),
+        read("511 bytes and a wrong sum: the length first", &changed(failed, 9, 1)[..511], "20"),
     ]
 }
 
@@ -96,9 +100,9 @@ fn good_writes() -> Vec<Case> {
     let top_start = "1f 00 ff ff ff ff ff ff ff ff ff 00 ff ff";
     let distinct = (0, 19, 0x41, 0x84, 0x8A79_6846_3524, 0x57, 0xBDAC);
     vec![
-        written("blank (P1)", (1, 0, 0, 0, 0, 0, 0), 512, "80"),
+        written("blank", (1, 0, 0, 0, 0, 0, 0), 512, "80"),
         written(
-            "media error (P2)",
+            "media error",
             (0, 5, 0x41, 0x40, 0x64, 0x40, 0x28),
             512,
             "05 00 41 40 64 00 00 40 00 00 00 00 28",

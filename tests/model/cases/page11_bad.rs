@@ -1,7 +1,7 @@
 //! Page 11h, turned down: 20, 23, 21, 22 in this order, and each clause of 22
 //! alone on a page whose sum is right.
 
-use super::page11_read::{counters, entry, p7, read, up_to_and};
+use super::page11_read::{counters, entry, read, two_counters, up_to_and};
 use super::{changed, longer, page, together, Case};
 
 pub fn all() -> Vec<Case> {
@@ -19,26 +19,31 @@ pub fn all() -> Vec<Case> {
 fn lengths_and_sums() -> Vec<Case> {
     vec![
         read("no bytes at all", &[], 0x001, "20"),
-        read("511 bytes", &p7()[..511], 0x001, "20"),
+        read("511 bytes", &two_counters()[..511], 0x001, "20"),
         read("511 bytes whose sum is right", &[0; 511], 0x001, "20"),
-        read("513 bytes whose sum is right", &longer(p7()), 0x001, "20"),
+        read("513 bytes whose sum is right", &longer(two_counters()), 0x001, "20"),
         read("516 bytes", &[0; 516], 0x001, "20"),
         read("8300 bytes", &[0; 8300], 0x001, "20"),
-        read("sum byte one too large", &changed(p7(), 511, 1), 0x001, "21"),
-        read("byte 0 counts in the sum", &changed(p7(), 0, 1), 0x001, "21"),
-        read("byte 510 counts in the sum", &changed(p7(), 510, 1), 0x001, "21"),
-        read("a value one too large: the sum is wrong", &changed(p7(), 12, 1), 0x00A, "21"),
+        read("sum byte one too large", &changed(two_counters(), 511, 1), 0x001, "21"),
+        read("byte 0 counts in the sum", &changed(two_counters(), 0, 1), 0x001, "21"),
+        read("byte 510 counts in the sum", &changed(two_counters(), 510, 1), 0x001, "21"),
+        read(
+            "a value one too large: the sum is wrong",
+            &changed(two_counters(), 12, 1),
+            0x00A,
+            "21",
+        ),
     ]
 }
 
 fn numbers() -> Vec<Case> {
     vec![
-        read("asked for number 0", &p7(), 0x0000, "23"),
-        read("asked for number 1000h", &p7(), 0x1000, "23"),
-        read("asked for number 1001h", &p7(), 0x1001, "23"),
-        read("asked for number 2001h, as it stands in the page", &p7(), 0x2001, "23"),
-        read("asked for number 8001h", &p7(), 0x8001, "23"),
-        read("asked for number FFFFh", &p7(), 0xFFFF, "23"),
+        read("asked for number 0", &two_counters(), 0x0000, "23"),
+        read("asked for number 1000h", &two_counters(), 0x1000, "23"),
+        read("asked for number 1001h", &two_counters(), 0x1001, "23"),
+        read("asked for number 2001h, as it stands in the page", &two_counters(), 0x2001, "23"),
+        read("asked for number 8001h", &two_counters(), 0x8001, "23"),
+        read("asked for number FFFFh", &two_counters(), 0xFFFF, "23"),
     ]
 }
 
@@ -167,10 +172,10 @@ fn found_twice() -> Vec<Case> {
 /// Two faults on one input: 20, then 23, then 21, then 22.
 fn order() -> Vec<Case> {
     let bad_walk = counters(&[entry(0x0002, &[])]);
-    let bad_sum = changed(p7(), 511, 1);
+    let bad_sum = changed(two_counters(), 511, 1);
     let all_but_length = page(&[(4, &[0x02, 0x00]), (300, &[1])]);
     vec![
-        read("513 bytes and number 0: 20 before 23", &longer(p7()), 0x000, "20"),
+        read("513 bytes and number 0: 20 before 23", &longer(two_counters()), 0x000, "20"),
         read("0 bytes and number 1000h: 20 before 23", &[], 0x1000, "20"),
         read("513 bytes and a wrong sum: 20 before 21", &longer(bad_sum.clone()), 0x001, "20"),
         read("511 bytes and width 0: 20 before 22", &bad_walk[..511], 0x001, "20"),

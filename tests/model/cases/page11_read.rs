@@ -17,8 +17,8 @@ pub fn read(comment: &str, bytes: &[u8], number: u16, wants: &str) -> Case {
     reading(b'L', &format!("read page 11h: {}", comment), bytes, wants).m(number)
 }
 
-/// The page of P7.
-pub fn p7() -> Vec<u8> {
+/// The page of an example.
+pub fn two_counters() -> Vec<u8> {
     counters(&[entry(0x2001, &[0; 4]), entry(0x200A, &[3, 0, 0, 0])])
 }
 
@@ -55,10 +55,10 @@ pub fn all() -> Vec<Case> {
 
 fn proved() -> Vec<Case> {
     vec![
-        read("P7, 001h reads 0", &p7(), 0x001, "0 value 0"),
-        read("P7, 00Ah reads 3", &p7(), 0x00A, "0 value 3"),
-        read("P7, 002h is absent", &p7(), 0x002, "0 absent"),
-        read("P7, FFFh is absent", &p7(), 0xFFF, "0 absent"),
+        read("two counters, 001h reads 0", &two_counters(), 0x001, "0 value 0"),
+        read("two counters, 00Ah reads 3", &two_counters(), 0x00A, "0 value 3"),
+        read("two counters, 002h is absent", &two_counters(), 0x002, "0 absent"),
+        read("two counters, FFFh is absent", &two_counters(), 0xFFF, "0 absent"),
         read("no entry at all: absent", &[0; 512], 0x001, "0 absent"),
         read(
             "FFFh is there",
@@ -218,7 +218,7 @@ fn vendors() -> Vec<Case> {
 fn stepped_over() -> Vec<Case> {
     let twice =
         counters(&[entry(0x1002, &[1, 0]), entry(0x1001, &[5, 0]), entry(0x2002, &[2, 0, 0, 0])]);
-    let mut framed = p7();
+    let mut framed = two_counters();
     framed[..4].copy_from_slice(&[0xDE, 0xAD, 0x01, 0x10]);
     framed[508..511].copy_from_slice(&[0x0A, 0x20, 0xFF]);
     let framed = sealed(framed);

@@ -29,8 +29,8 @@ fn distinct() -> [u32; 16] {
     values
 }
 
-/// The values of P7.
-fn p7() -> [u32; 16] {
+/// The values of an example.
+fn two_counters() -> [u32; 16] {
     let mut values = [0; 16];
     values[9] = 3;
     values
@@ -42,10 +42,14 @@ pub fn all() -> Vec<Case> {
 
 fn good() -> Vec<Case> {
     let tops = "01 20 ffffffff 02 20 ffffffff 03 20 ffffffff 04 20 ffffffff 05 20 ffffffff";
-    let p7_start = "01 20 00000000 0a 20 03000000";
+    let two_start = "01 20 00000000 0a 20 03000000";
     vec![
-        written(write("mask 0201h, values 0 and 3 (P7)", LEAST, &p7()), 512, p7_start),
-        written(write("P7 in a buffer one longer: the tail stays", LEAST, &p7()), 513, p7_start),
+        written(write("mask 0201h, values 0 and 3", LEAST, &two_counters()), 512, two_start),
+        written(
+            write("two counters in a buffer one longer: the tail stays", LEAST, &two_counters()),
+            513,
+            two_start,
+        ),
         written(
             write("only rows 0 and 9, top values", LEAST, &TOPS),
             512,
@@ -103,12 +107,12 @@ fn bad() -> Vec<Case> {
         refused(write("a mask without row 9", 0xFDFF, &TOPS), 512, 25),
         refused(write("a mask without both", 0xFDFE, &TOPS), 512, 25),
         refused(write("an empty mask", 0, &[0; 16]), 512, 25),
-        refused(write("row 0 alone", 0x0001, &p7()), 512, 25),
-        refused(write("row 9 alone", 0x0200, &p7()), 512, 25),
-        refused(write("rows 1 and 8, the neighbours", 0x0102, &p7()), 512, 25),
-        refused(write("rows 0 and 10", 0x0401, &p7()), 512, 25),
-        refused(write("no room at all", LEAST, &p7()), 0, 26),
-        refused(write("room one byte short", LEAST, &p7()), 511, 26),
+        refused(write("row 0 alone", 0x0001, &two_counters()), 512, 25),
+        refused(write("row 9 alone", 0x0200, &two_counters()), 512, 25),
+        refused(write("rows 1 and 8, the neighbours", 0x0102, &two_counters()), 512, 25),
+        refused(write("rows 0 and 10", 0x0401, &two_counters()), 512, 25),
+        refused(write("no room at all", LEAST, &two_counters()), 0, 26),
+        refused(write("room one byte short", LEAST, &two_counters()), 511, 26),
         refused(write("all rows, room one byte short", ALL, &TOPS), 511, 26),
         refused(write("room for the entries only", ALL, &TOPS), 100, 26),
         refused(write("no row 0 and no room: the mask first", 0xFFFE, &TOPS), 0, 25),

@@ -142,8 +142,8 @@ fn single_bits() -> Vec<Case> {
         case("A1h: bit 7 (the N bit) is dropped", "A1 80", 8, "0 161 0 0 0 0"),
         case("A1h: status C9h reads 41h", "A1 00 C9", 8, "0 161 0 65 0 0"),
         case("A1h: status 88h reads 0", "A1 00 88", 8, "0 161 0 0 0 0"),
-        case("A1h: the sweep (P4)", "A1 00 40 00 FF FF FF FF", 8, "0 161 0 64 0 4294967295"),
-        case("A1h: finish of tags 0 and 5 (P3)", "A1 40 40 00 21", 8, "0 161 1 64 0 33"),
+        case("A1h: the sweep", "A1 00 40 00 FF FF FF FF", 8, "0 161 0 64 0 4294967295"),
+        case("A1h: finish of tags 0 and 5", "A1 40 40 00 21", 8, "0 161 1 64 0 33"),
         case("27h: bit 6 alone is no C", "27 40", 20, "0 39 0 0 0 0 0 0 0 0"),
         case("27h: control frame with SRST", SRST, 20, "0 39 0 0 0 0 0 0 0 4"),
         case(

@@ -6,7 +6,7 @@ pub fn all() -> Vec<Case> {
     together(vec![rows(), queued()])
 }
 
-/// Figure 24 of document 001, row by row, and all that has no row.
+/// Figure 24 of Serial ATA II Extensions 1.2, row by row, and all that has no row.
 fn rows() -> Vec<Case> {
     let rows: [(u16, &str); 29] = [
         (0x000, "none"),

@@ -1,6 +1,6 @@
 //! States that contradict themselves, by one clause each.
 
-use super::states::{entry, idle, p2_record};
+use super::states::{entry, failed_record, idle};
 use crate::device::{Entry, Record, State};
 
 /// The bytes of a command that entries and the record repeat.
@@ -181,11 +181,11 @@ fn flow() -> Vec<Contradiction> {
         (
             "halted with something outstanding",
             "one read, with a record",
-            busy().recording(p2_record()).halted(),
+            busy().recording(failed_record()).halted(),
         ),
         ("held with something outstanding", "one read", busy().held()),
         ("halted and held", "nothing else", idle(8, 64).halted().held()),
-        ("held with a record", "a media error's", idle(8, 64).recording(p2_record()).held()),
+        ("held with a record", "a media error's", idle(8, 64).recording(failed_record()).held()),
         (
             "held with a record",
             "set, all else 0",
@@ -196,7 +196,7 @@ fn flow() -> Vec<Contradiction> {
 }
 
 fn records() -> Vec<Contradiction> {
-    let tagged = |nq, tag| idle(8, 64).recording(Record { nq, tag, ..p2_record() });
+    let tagged = |nq, tag| idle(8, 64).recording(Record { nq, tag, ..failed_record() });
     let mut all = named(
         "record tag above 31",
         vec![
@@ -223,7 +223,7 @@ fn blank() -> Vec<Contradiction> {
             ("tag 32", blank(Record { tag: 32, ..Record::default() })),
             ("error 04h", blank(Record { error: 4, ..Record::default() })),
             ("error 04h, halted", blank(Record { error: 4, ..Record::default() }).halted()),
-            ("all but set of a media error", blank(Record { set: false, ..p2_record() })),
+            ("all but set of a media error", blank(Record { set: false, ..failed_record() })),
         ],
     );
     all.extend(ECHO_BYTES.iter().enumerate().map(|(place, byte)| {

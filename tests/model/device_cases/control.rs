@@ -1,8 +1,8 @@
 //! Control frames and BIST Activate.
 
 use super::calls::{bist, but, control, counter, frame, log_bytes, queued_bytes, release, srst};
-use super::hex::{bad, BLANK, P2, SIGNATURE};
-use super::states::{flow_words, flows, idle, p2_record};
+use super::hex::{bad, BLANK, FAILED_RECORD, SIGNATURE};
+use super::states::{failed_record, flow_words, flows, idle};
 use super::{scripted, Case, Script};
 use crate::device::State;
 
@@ -52,7 +52,7 @@ fn control_bytes(script: &mut Script) {
 /// C decides what is a command.
 fn commands(script: &mut Script) {
     let queued = queued_bytes(0x60, 5, 8, 4);
-    let halted = idle(8, 64).recording(p2_record()).halted();
+    let halted = idle(8, 64).recording(failed_record()).halted();
     let other = [0x27, 0x80, 0xEC, 0, 0, 0, 0, 0, 0, 0, 0, 0, 0, 0, 0, 0x04, 0, 0, 0, 0];
     script
         .given(&idle(8, 64))
@@ -73,7 +73,7 @@ fn commands(script: &mut Script) {
         .call(
             but(log_bytes(0x10), &[(1, 0)]),
             "C 0 with READ LOG EXT, halted: nothing",
-            &format!("0 0 00000000 0 1 0 {}", P2),
+            &format!("0 0 00000000 0 1 0 {}", FAILED_RECORD),
             "",
         )
         .given(&idle(8, 64))

@@ -2,11 +2,11 @@
 
 use super::calls::{comreset, counter, link, media_error};
 use super::hex::{BLANK, SIGNATURE};
-use super::states::{flow_words, flows, idle, p2_record};
+use super::states::{failed_record, flow_words, flows, idle};
 use super::{scripted, Case, Script};
 use crate::device::State;
 
-/// The number of each row (document 001, figure 24).
+/// The number of each row (figure 24 of Serial ATA II Extensions 1.2).
 const NUMBERS: [u16; 16] = [
     0x001, 0x002, 0x003, 0x004, 0x005, 0x006, 0x007, 0x008, 0x009, 0x00A, 0x00B, 0x00D, 0x00F,
     0x010, 0x012, 0x013,
@@ -119,7 +119,7 @@ fn asked(script: &mut Script) {
         script.call(counter(number), &format!("{:03X}h under mask 0201h", number), wants, "");
     }
     script
-        .given(&idle(8, 64).recording(p2_record()).halted().counting(2, 6))
+        .given(&idle(8, 64).recording(failed_record()).halted().counting(2, 6))
         .call(counter(0x003), "003h while halted", "0 value 6", "")
         .given(&idle(8, 64).held().counting(2, 6))
         .call(counter(0x003), "003h while held", "0 value 6", "");

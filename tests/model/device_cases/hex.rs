@@ -29,9 +29,9 @@ pub fn bad(command: &[u8; 20], error: u8) -> String {
     format!("344041{:02x}{}000000000000", error, repeated(command))
 }
 
-/// The record of a line: blank, and as the media error of P2 leaves it.
+/// The record of a line: blank, and as a media error leaves it.
 pub const BLANK: &str = "00000000000000000000000000";
-pub const P2: &str = "01000540640000400000002800";
+pub const FAILED_RECORD: &str = "01000540640000400000002800";
 
 pub const SIGNATURE: &str = "34004001 01000000 00000000 01000000 00000000";
 pub const ACTIVATE: &str = "39000000";

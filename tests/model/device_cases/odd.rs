@@ -6,7 +6,7 @@ use super::calls::{
     send, srst, write,
 };
 use super::hex::{bad, good, log, swept_log, ACTIVATE, BLANK, SIGNATURE};
-use super::states::{idle, p2_record, sector_hex};
+use super::states::{failed_record, idle, sector_hex};
 use super::{scripted, Case, Script};
 use crate::device::{Record, State};
 
@@ -47,10 +47,10 @@ fn records(script: &mut Script) {
     let log_10 = log_bytes(0x10);
     let record = |record| idle(8, 64).recording(record);
     let flow = "0 536 00000000 0 0 0";
-    let nq = Record { nq: true, tag: 0, ..p2_record() };
+    let nq = Record { nq: true, tag: 0, ..failed_record() };
     let read_5 = queued_bytes(0x60, 5, 0, 1);
     script
-        .given(&record(p2_record()))
+        .given(&record(failed_record()))
         .call(
             frame(&read_5),
             "a record while not halted: a queued command is taken, the record stays",
@@ -63,14 +63,14 @@ fn records(script: &mut Script) {
             "0 28 00000020 6 0 0 01000540640000400000002800",
             "41200000 05000000 00000000 00000000 00000000 00020000 00000000",
         )
-        .given(&record(Record { error: 0, ..p2_record() }))
+        .given(&record(Record { error: 0, ..failed_record() }))
         .call(
             frame(&log_10),
             "a record with error 0",
             flow,
             &log(&log_10, "05004100 64000040 00000000 2800"),
         )
-        .given(&record(Record { tag: 31, ..p2_record() }))
+        .given(&record(Record { tag: 31, ..failed_record() }))
         .call(
             frame(&log_10),
             "a record with a tag above the depth",

@@ -1,8 +1,8 @@
 //! Commands other than 60h and 61h, and the log pages.
 
 use super::calls::{but, changed, counter, frame, log_bytes, read_log};
-use super::hex::{bad, log, record, swept_log, BLANK, P2};
-use super::states::{idle, p2_record};
+use super::hex::{bad, log, record, swept_log, BLANK, FAILED_RECORD};
+use super::states::{failed_record, idle};
 use super::{scripted, Case, Script};
 use crate::device::{Record, State};
 
@@ -31,8 +31,8 @@ fn coded(code: u8) -> [u8; 20] {
     ]
 }
 
-fn p2_halted() -> State {
-    idle(8, 64).recording(p2_record()).halted()
+fn failed_halted() -> State {
+    idle(8, 64).recording(failed_record()).halted()
 }
 
 /// READ LOG EXT with one byte wrong, or several.
@@ -62,7 +62,7 @@ fn wrong_logs() -> Vec<(&'static str, [u8; 20])> {
 fn other_codes(script: &mut Script) {
     let states = [
         ("idle", idle(8, 64).counting(3, 7), "0 20 00000000 0 0 0"),
-        ("halted", p2_halted().counting(3, 7), "0 20 00000000 0 1 0"),
+        ("halted", failed_halted().counting(3, 7), "0 20 00000000 0 1 0"),
     ];
     for (name, state, flow) in states.iter() {
         for &(code, page) in &[(0x2E, 0x10), (0x3F, 0x10), (0x47, 0x10), (0x2D, 0x11)] {
@@ -82,19 +82,19 @@ fn idle_ones(script: &mut Script) {
         script.given(&idle(8, 64)).call(frame(&command), &comment, &flow, &bad(&command, 0x04));
     }
     let command = coded(0xEC);
-    script.given(&idle(8, 64).recording(p2_record())).call(
+    script.given(&idle(8, 64).recording(failed_record())).call(
         frame(&command),
         "ECh on an idle device with a record: the record stays",
-        &format!("0 20 00000000 0 0 0 {}", P2),
+        &format!("0 20 00000000 0 0 0 {}", FAILED_RECORD),
         "34404104 24354657 68798a00 acbd0000 00000000",
     );
 }
 
 fn malformed(script: &mut Script) {
-    let state = idle(8, 64).recording(p2_record()).counting(3, 7);
+    let state = idle(8, 64).recording(failed_record()).counting(3, 7);
     for (what, command) in wrong_logs() {
         let comment = format!("READ LOG EXT, idle, {}: bad, no halt", what);
-        let flow = format!("0 20 00000000 0 0 0 {}", P2);
+        let flow = format!("0 20 00000000 0 0 0 {}", FAILED_RECORD);
         script.given(&state).call(frame(&command), &comment, &flow, &bad(&command, 0x04));
     }
     let zeroing = but(log_bytes(0x11), &[(3, 1), (13, 1)]);
@@ -130,7 +130,7 @@ fn outstanding(script: &mut Script) {
             &swept_log(&log_10, "80004104 12000000 00000000 0100"),
         )
         .call(counter(0x004), "an NQ halt zeroes no counter", "0 value 7", "")
-        .given(&busy.recording(p2_record()))
+        .given(&busy.recording(failed_record()))
         .call(
             frame(&coded(0xEC)),
             "an NQ halt replaces an older record",
@@ -141,8 +141,8 @@ fn outstanding(script: &mut Script) {
 
 /// Halted: all is bad but a well-formed READ LOG EXT of 10h; nothing changes.
 fn halted(script: &mut Script) {
-    let state = p2_halted().counting(3, 7);
-    let flow = format!("0 20 00000000 0 1 0 {}", P2);
+    let state = failed_halted().counting(3, 7);
+    let flow = format!("0 20 00000000 0 1 0 {}", FAILED_RECORD);
     let with_bit = changed(log_bytes(0x11), &[(3, 1)]);
     let mut commands = vec![
         ("ECh", coded(0xEC)),
@@ -163,7 +163,7 @@ fn error_page(script: &mut Script) {
     let log_10 = log_bytes(0x10);
     let free = [(3, 0xFF), (6, 0x46), (7, 0x57), (8, 0x68), (10, 0x8A), (11, 0xFF)];
     let all_free = changed(log_10, &free);
-    let duplicate = Record { tag: 9, error: 0x10, ..p2_record() };
+    let duplicate = Record { tag: 9, error: 0x10, ..failed_record() };
     script
         .given(&idle(8, 64))
         .call(
@@ -173,18 +173,18 @@ fn error_page(script: &mut Script) {
             "5f604800 10000000 00000000 01000040 00020000 46000000 80000000 00000000 \
              00000000 00000000 00000000 00000000 00000000 00000000 00000000 00000000",
         )
-        .given(&p2_halted())
+        .given(&failed_halted())
         .call(
             read_log(0x10).room(8_300),
             "page 10h, halted: sweep, PIO Setup, the page; the halt ends, the record stays",
-            &format!("0 544 00000000 0 0 0 {}", P2),
+            &format!("0 544 00000000 0 0 0 {}", FAILED_RECORD),
             "a1004000 ffffffff 5f604800 10000000 00000000 01000040 00020000 46000000 \
              05004140 64000040 00000000 28000000 00000000 00000000 00000000 00000000",
         )
         .call(
             read_log(0x10),
             "page 10h, a second time: no sweep, the same page",
-            &format!("0 536 00000000 0 0 0 {}", P2),
+            &format!("0 536 00000000 0 0 0 {}", FAILED_RECORD),
             &log(&log_10, "05004140 64000040 00000000 2800"),
         )
         .given(&idle(8, 64).recording(duplicate).halted())
@@ -194,11 +194,11 @@ fn error_page(script: &mut Script) {
             "0 544 00000000 0 0 0 01000910640000400000002800",
             &swept_log(&log_10, "09004110 64000040 00000000 2800"),
         )
-        .given(&p2_halted().counting(3, 7))
+        .given(&failed_halted().counting(3, 7))
         .call(
             frame(&all_free),
             "page 10h with bytes 3, 6, 7, 8, 10 and 11 not 0: well-formed",
-            &format!("0 544 00000000 0 0 0 {}", P2),
+            &format!("0 544 00000000 0 0 0 {}", FAILED_RECORD),
             &swept_log(&all_free, "05004140 64000040 00000000 2800"),
         )
         .call(counter(0x004), "page 10h with bit 0 zeroes no counter", "0 value 7", "");
@@ -207,12 +207,12 @@ fn error_page(script: &mut Script) {
 fn counter_page(script: &mut Script) {
     let log_11 = log_bytes(0x11);
     let rows = (0..16).fold(idle(8, 64), |s, row| s.counting(row, 0x0A0B_0C00 + row as u32));
-    let p7 = idle(8, 64).keeping(0x0201).counting(9, 3);
+    let two = idle(8, 64).keeping(0x0201).counting(9, 3);
     script
-        .given(&p7)
+        .given(&two)
         .call(
             read_log(0x11),
-            "page 11h of P7, mask 0201h",
+            "page 11h of two counters, mask 0201h",
             &format!("0 536 00000000 0 0 0 {}", BLANK),
             "5f604800 11000000 00000000 01000040 00020000 46000000 00000000 01200000 \
              00000a20 03000000 00000000 00000000 00000000 00000000 00000000 00000000",
@@ -228,11 +228,11 @@ fn counter_page(script: &mut Script) {
                  0620 050c0b0a",
             ),
         )
-        .given(&rows.clone().recording(p2_record()))
+        .given(&rows.clone().recording(failed_record()))
         .call(
             read_log(0x11),
             "page 11h on an idle device with a record: no sweep, the record stays",
-            &format!("0 536 00000000 0 0 0 {}", P2),
+            &format!("0 536 00000000 0 0 0 {}", FAILED_RECORD),
             "",
         )
         .given(&State { mask: 0x8601, ..idle(8, 64).counting(15, 5).counting(10, u32::MAX) })

@@ -2,7 +2,7 @@
 
 use super::calls::{comreset, counter, log_bytes, power_on, read_log};
 use super::hex::{log, SIGNATURE};
-use super::states::{idle, p2_record};
+use super::states::{failed_record, idle};
 use super::{scripted, Case, Script};
 
 const ZEROS: &str = "0 0 00000000 0 0 0 00000000000000000000000000";
@@ -64,7 +64,7 @@ fn refused(script: &mut Script) {
 
 /// Nothing of an earlier state is left, whether taken or refused.
 fn afresh(script: &mut Script) {
-    let used = idle(8, 64).reading(2, 8, 4).recording(p2_record()).counting(3, 7);
+    let used = idle(8, 64).reading(2, 8, 4).recording(failed_record()).counting(3, 7);
     script
         .given(&used)
         .call(power_on(8, 64, 0xFFFF), "over a used state", ZEROS, "-")

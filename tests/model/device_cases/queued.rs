@@ -2,7 +2,7 @@
 
 use super::calls::{but, changed, frame, judged, queued_bytes};
 use super::hex::{bad, good, record, BLANK};
-use super::states::{idle, p2_record};
+use super::states::{failed_record, idle};
 use super::{scripted, Case, Script};
 use crate::device::State;
 
@@ -17,8 +17,8 @@ pub fn all() -> Vec<Case> {
 fn no_medium(script: &mut Script) {
     let read = |tag, first, count| queued_bytes(0x60, tag, first, count);
     let cases: Vec<(&str, [u8; 20], &str)> = vec![
-        ("P8: sector 0, count field 0", read(0, 0, 0), "0 good"),
-        ("P9: sector 1, count field 0", read(0, 1, 0), "0 halt 16"),
+        ("whole medium: sector 0, count field 0", read(0, 0, 0), "0 good"),
+        ("whole from one: sector 1, count field 0", read(0, 1, 0), "0 halt 16"),
         ("sector 65,535, count 1", read(0, 65_535, 1), "0 good"),
         ("sector 65,536, count 1", read(0, 65_536, 1), "0 halt 16"),
         ("sector 32,768, half of it", read(31, 32_768, 32_768), "0 good"),
@@ -82,7 +82,7 @@ fn literal(script: &mut Script) {
 
 /// Rule 1: halted. Nothing changes.
 fn rule_1(script: &mut Script) {
-    let halted = idle(8, 64).recording(p2_record()).halted().counting(3, 7);
+    let halted = idle(8, 64).recording(failed_record()).halted().counting(3, 7);
     let flow = "0 20 00000000 0 1 0 01000540640000400000002800";
     let commands = [
         ("a read that would be good", queued_bytes(0x60, 0, 0, 1)),
@@ -113,7 +113,7 @@ fn rule_2(script: &mut Script) {
         ("before rule 3: a duplicate out of range", busy(), queued_bytes(0x60, 2, 64, 0)),
         (
             "an older record is replaced",
-            idle(8, 64).recording(p2_record()),
+            idle(8, 64).recording(failed_record()),
             queued_bytes(0x60, 9, 1, 2),
         ),
     ];
@@ -140,7 +140,7 @@ fn rule_3(script: &mut Script) {
     let busy = idle(8, 64).reading(2, 8, 4).counting(3, 7);
     let read = |first, count| queued_bytes(0x60, 1, first, count);
     let fits: Vec<(&str, u32, [u8; 20])> = vec![
-        ("P10: capacity 64, sector 63, count 1", 64, read(63, 1)),
+        ("last sector: capacity 64, sector 63, count 1", 64, read(63, 1)),
         ("capacity 64, all of it", 64, read(0, 64)),
         ("capacity 64, sector 0, count 1", 64, read(0, 1)),
         ("capacity 512, sector 511, count 1", 512, read(511, 1)),
@@ -156,7 +156,7 @@ fn rule_3(script: &mut Script) {
     }
     accepted(script, "rule 4: beside another", &busy, &read(8, 4));
     let passes: Vec<(&str, u32, [u8; 20])> = vec![
-        ("P11: capacity 64, sector 64, count 1", 64, read(64, 1)),
+        ("past the last: capacity 64, sector 64, count 1", 64, read(64, 1)),
         ("capacity 64, sector 63, count 2", 64, read(63, 2)),
         ("capacity 64, sector 0, count 65", 64, read(0, 65)),
         ("capacity 64, count field 0 is 65,536 sectors", 64, read(0, 0)),

@@ -3,7 +3,7 @@
 
 use super::calls::{comreset, counter, finish, link, media_error, open, send};
 use super::hex::{setup, SIGNATURE};
-use super::states::{idle, p2_record};
+use super::states::{failed_record, idle};
 use super::{scripted, Case, Script};
 use crate::device::State;
 
@@ -39,7 +39,7 @@ fn opening(script: &mut Script) {
     }
     script
         .refused(open(2).room(8_195), "open 3: one byte short", 3)
-        .given(&idle(8, 64).recording(p2_record()).halted())
+        .given(&idle(8, 64).recording(failed_record()).halted())
         .refused(open(5), "open 7: halted", 7)
         .given(&idle(8, 64).held())
         .refused(open(5), "open 7: held", 7)
@@ -66,7 +66,7 @@ fn sending(script: &mut Script) {
         .refused(send(), "send 10: idle", 10)
         .given(&idle(8, 64).writing(2, 8, 20).opened(2))
         .refused(send(), "send 10: a write phase", 10)
-        .given(&idle(8, 64).recording(p2_record()).halted())
+        .given(&idle(8, 64).recording(failed_record()).halted())
         .refused(send(), "send 10: halted", 10)
         .given(&idle(8, 64).held())
         .refused(send(), "send 10: held", 10)
@@ -113,7 +113,7 @@ fn finishing(script: &mut Script) {
     script
         .call(finish(0x08), "finish: the moved one alone", "0 8 00000004 0 0 0", "a140400008000000")
         .refused(finish(0x08), "finish 11: finished before", 11)
-        .given(&idle(8, 64).recording(p2_record()).halted())
+        .given(&idle(8, 64).recording(failed_record()).halted())
         .refused(finish(0x20), "finish 11: halted", 11)
         .refused(finish(0), "finish 11: halted, empty set", 11)
         .given(&idle(8, 64).held())
@@ -136,7 +136,7 @@ fn media(script: &mut Script) {
         script.refused(media_error(tag, 0x40, 8), &format!("media error 7: tag {}", tag), 7);
     }
     script
-        .given(&idle(8, 64).recording(p2_record()).halted())
+        .given(&idle(8, 64).recording(failed_record()).halted())
         .refused(media_error(5, 0x40, 0), "media error 7: halted", 7)
         .given(&idle(8, 64).held())
         .refused(media_error(5, 0x40, 0), "media error 7: held", 7);
@@ -205,7 +205,7 @@ fn resets(script: &mut Script) {
         script.refused(link(row), &format!("link event 13: row {}, mask 0201h", row), 13);
     }
     let states = [
-        ("halted", idle(8, 64).recording(p2_record()).halted()),
+        ("halted", idle(8, 64).recording(failed_record()).halted()),
         ("held", idle(8, 64).held()),
         ("in a phase", busy().opened(2)),
     ];

@@ -7,7 +7,7 @@ use super::calls::{
     read, read_log, release, srst, write,
 };
 use super::hex::{good, ACTIVATE, SIGNATURE};
-use super::states::{idle, p2_record};
+use super::states::{failed_record, idle};
 use super::{scripted, Case, Script};
 use crate::device::State;
 
@@ -147,7 +147,7 @@ fn lengths(script: &mut Script) {
 /// 5: not now.
 fn time(script: &mut Script) {
     let held = idle(8, 64).held();
-    let halted = idle(8, 64).recording(p2_record()).halted();
+    let halted = idle(8, 64).recording(failed_record()).halted();
     script
         .given(&held)
         .refused(read(0, 0, 1), "queued command while held", 5)

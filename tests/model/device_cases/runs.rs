@@ -4,14 +4,16 @@ use super::calls::{
     comreset, counter, data, finish, frame, log_bytes, media_error, open, power_on, queued_bytes,
     read, read_log, release, send, srst, write,
 };
-use super::hex::{bad, good, log, setup, swept_log, written, ACTIVATE, BLANK, P2, SIGNATURE};
+use super::hex::{
+    bad, good, log, setup, swept_log, written, ACTIVATE, BLANK, FAILED_RECORD, SIGNATURE,
+};
 use super::states::sector_hex;
 use super::{scripted, Case, Script};
 
 pub fn all() -> Vec<Case> {
     let runs = vec![
-        scripted("run A, the paper's own", &[paper]),
-        scripted("run B, a media error (P2)", &[media]),
+        scripted("run A, the first event file", &[first_file]),
+        scripted("run B, a media error", &[media]),
         scripted("run C, 32 tags", &[full_queue]),
         scripted("run D, tags used again", &[reuse]),
         scripted("run E, halts and resets", &[halts]),
@@ -22,7 +24,7 @@ pub fn all() -> Vec<Case> {
 const ON: &str = "0 0 00000000 0 0 0";
 
 /// The event program's example.
-fn paper(s: &mut Script) {
+fn first_file(s: &mut Script) {
     let command = queued_bytes(0x60, 5, 8, 1);
     s.medium(0x05)
         .call(power_on(32, 64, 0x0201), "power-on", ON, "-")
@@ -35,26 +37,26 @@ fn paper(s: &mut Script) {
         .refused(open(5), "open again", 7);
 }
 
-/// Error 40h at sector 64h of tag 5: P5, then P4 and P2 on reading page 10h.
+/// Error 40h at sector 64h of tag 5: the error, then the sweep and its page on reading page 10h.
 fn media(s: &mut Script) {
     let (first, other) = (queued_bytes(0x60, 5, 0x60, 8), queued_bytes(0x61, 0, 0, 1));
     let late = queued_bytes(0x60, 7, 0, 1);
     let log_10 = log_bytes(0x10);
-    let halted = format!("0 20 00000000 0 1 0 {}", P2);
+    let halted = format!("0 20 00000000 0 1 0 {}", FAILED_RECORD);
     s.medium(0x64)
         .call(power_on(32, 512, 0xFFFF), "power-on", ON, "-")
         .call(frame(&first), "8 sectors from 60h, tag 5", "0 20 00000020 0 0 0", &good(&first))
         .call(frame(&other), "a write, tag 0", "0 20 00000021 0 0 0", &good(&other))
         .call(
             open(5),
-            "open tag 5 (P6)",
+            "open tag 5",
             "0 28 00000021 6 0 0",
             "41200000 05000000 00000000 00000000 00000000 00100000 00000000",
         )
         .call(
             media_error(5, 0x40, 0x64),
-            "media error at 64h (P5): tag 0 is given up too",
-            &format!("0 8 00000000 0 1 0 {}", P2),
+            "media error at 64h: tag 0 is given up too",
+            &format!("0 8 00000000 0 1 0 {}", FAILED_RECORD),
             "a1404140 00000000",
         )
         .refused(send(), "send after the halt", 10)
@@ -65,8 +67,8 @@ fn media(s: &mut Script) {
         .call(frame(&late), "queued after it: still halted", &halted, &bad(&late, 0x04))
         .call(
             read_log(0x10),
-            "page 10h: sweep (P4) and the page (P2)",
-            &format!("0 544 00000000 0 0 0 {}", P2),
+            "page 10h: sweep and the page",
+            &format!("0 544 00000000 0 0 0 {}", FAILED_RECORD),
             &swept_log(&log_10, "05004140 64000040 00000000 2800"),
         )
         .call(read_log(0x11), "page 11h after it", "0 536 00000000 0 0 0", "")
@@ -81,7 +83,7 @@ fn media(s: &mut Script) {
         .call(
             read_log(0x10),
             "page 10h once more: no sweep, the record stays",
-            &format!("0 536 00000000 0 0 0 {}", P2),
+            &format!("0 536 00000000 0 0 0 {}", FAILED_RECORD),
             &log(&log_10, "05004140 64000040 00000000 2800"),
         );
 }

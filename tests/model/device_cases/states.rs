@@ -1,7 +1,7 @@
 //! States that the cases start from, and the bytes that their replies hold.
 
 use super::calls::queued_bytes;
-use super::hex::{BLANK, P2};
+use super::hex::{BLANK, FAILED_RECORD};
 use crate::device::{Echo, Entry, Record, State};
 
 /// Idle, mask FFFFh.
@@ -79,8 +79,8 @@ impl State {
     }
 }
 
-/// A record as a media error of P2 leaves it: tag 5, error 40h, sector 64h.
-pub fn p2_record() -> Record {
+/// A record as a media error leaves it: tag 5, error 40h, sector 64h.
+pub fn failed_record() -> Record {
     Record {
         set: true,
         nq: false,
@@ -102,21 +102,21 @@ pub fn flows() -> Vec<(&'static str, State)> {
     let busy = || idle(8, 64).reading(2, 8, 20).writing(3, 30, 20);
     vec![
         ("idle", idle(8, 64)),
-        ("idle with a record", idle(8, 64).recording(p2_record())),
+        ("idle with a record", idle(8, 64).recording(failed_record())),
         ("with something outstanding", busy()),
-        ("with a record and something outstanding", busy().recording(p2_record())),
+        ("with a record and something outstanding", busy().recording(failed_record())),
         ("in a read phase", busy().opened(2)),
         ("in a read phase, 16 of 20 moved", busy().moved_sectors(2, 16).opened(2)),
         ("in a write phase", busy().opened(3)),
         ("in a write phase, 16 of 20 moved", busy().moved_sectors(3, 16).opened(3)),
-        ("halted", idle(8, 64).recording(p2_record()).halted()),
+        ("halted", idle(8, 64).recording(failed_record()).halted()),
         ("held", idle(8, 64).held()),
     ]
 }
 
 /// The words of a line that tell the flow of one of these states.
 pub fn flow_words(s: &State) -> String {
-    let record = if s.record.set { P2 } else { BLANK };
+    let record = if s.record.set { FAILED_RECORD } else { BLANK };
     let flags = (s.halted as u8, s.held as u8);
     format!("{:08X} {} {} {} {}", s.outstanding, s.phase, flags.0, flags.1, record)
 }

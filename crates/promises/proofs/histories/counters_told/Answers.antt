@@ -1,5 +1,5 @@
-use Rattle.history.proofs.Demand3.{promised_given}
+use Rattle.history.proofs.Faithful.{promised_given}
 use Rattle.promises.proofs.histories.counters_told.Goals as goal
 
 pub returns : goal.returns
-returns c = λ s r xs b t. (promised_given s r xs b t).demand3.counters
+returns c = λ s r xs b t. (promised_given s r xs b t).faithful.counters

@@ -1,4 +1,4 @@
-use Rattle.history.proofs.Demand3.{promised_given}
+use Rattle.history.proofs.Faithful.{promised_given}
 use Rattle.promises.proofs.histories.state_told.Goals as goal
 
 pub returns : goal.returns

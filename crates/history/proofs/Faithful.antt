@@ -4,7 +4,7 @@ use Rattle.device_state.specs.declared.shapes.Settings.{Settings}
 use Rattle.device.specs.declared.state.Device.{Device}
 use Rattle.device.specs.declared.state.Outcome.{Outcome}
 use Rattle.history.specs.Event.{Event}
-use Rattle.history.specs.Demand3.{Demand3}
+use Rattle.history.specs.Faithful.{Faithful}
 use Rattle.history.specs.StateAgrees.{StateAgrees}
 use Rattle.history.specs.Refused.{Refusals}
 use Rattle.history.specs.Answered.{Answers}
@@ -22,21 +22,21 @@ use Rattle.history.specs.Follows.{final, lents, history_of, Began}
 use Rattle.history.proofs.Allowed.{BeganCode, CounterCode, CountCode}
 use Rattle.history.proofs.Counters.{counters_tell}
 use Rattle.history.proofs.RefusedTests.{powered}
-use Rattle.history.proofs.Runs.{demand3_fates, demand3_data, demand3_sactive, demand3_waiting, demand3_depth, demand3_single, demand3_reply_rules, refused_exactly, log_agrees, held}
+use Rattle.history.proofs.Runs.{run_fates, run_data, run_sactive, run_waiting, run_depth, run_single, run_reply_rules, refused_exactly, log_agrees, held}
 use Rattle.history.proofs.StateAgrees.{told_outstanding, told_waits, told_counters, told_asked, told_depth, told_count, told_due, told_consistent}
 use Rattle.history.proofs.Lasting.{lasting}
 use Rattle.history.proofs.Contracts.{for_all, began_code, counter_code, count_code}
 
 -- any settings, any calls with anything lent to them, refused ones included
-pub demand3 : (s : Settings) (as' : List Lent) → AllTyped as' → Demand3 s.depth s.mask (history s as')
-demand3 s as' t = record {
-  fates = demand3_fates s as' t;
-  ranges = (demand3_data s as' t).0;
-  contents = (demand3_data s as' t).1;
-  sactive = demand3_sactive s as' t;
-  waiting = demand3_waiting s as' t;
-  depth = demand3_depth s as' t;
-  single = demand3_single s as' t;
+pub faithful : (s : Settings) (as' : List Lent) → AllTyped as' → Faithful s.depth s.mask (history s as')
+faithful s as' t = record {
+  fates = run_fates s as' t;
+  ranges = (run_data s as' t).0;
+  contents = (run_data s as' t).1;
+  sactive = run_sactive s as' t;
+  waiting = run_waiting s as' t;
+  depth = run_depth s as' t;
+  single = run_single s as' t;
   counters = counters_tell s as' t;
 }
 
@@ -60,8 +60,8 @@ promised s as' t = record {
   refusals = refused_exactly s as' t;
   answers = (held s as' t).answers;
   errors = log_agrees s as' t;
-  demand3 = demand3 s as' t;
-  lasting = λ m. lasting m (history s as') (demand3_data s as' t).1 (demand3_data s as' t).0;
+  faithful = faithful s as' t;
+  lasting = λ m. lasting m (history s as') (run_data s as' t).1 (run_data s as' t).0;
   state = state_agrees s as' t;
 }
 
@@ -90,9 +90,9 @@ module _ (s : Settings) (r : Outcome) (xs : List Done) (b : BeganCode s r xs) wh
   powered_code = subst (λ (o : Outcome). Powered s.depth s.capacity s.mask o.refusal o.len) (sym b.power) (powered s)
 
   module _ (t : AllTyped (lents xs)) where
-    -- demand 3 and the truth of the counters
-    pub demand3_code : Demand3 s.depth s.mask (history_of xs)
-    demand3_code = (promised_code s r xs b t).all.demand3
+    -- a history of the code is faithful
+    pub faithful_code : Faithful s.depth s.mask (history_of xs)
+    faithful_code = (promised_code s r xs b t).all.faithful
 
     -- every event is turned down for just what the table of refusals says, by the history before it
     pub refused_code : Refusals s.depth s.capacity s.mask (history_of xs)
@@ -116,4 +116,4 @@ module _ (s : Settings) (r : Outcome) (xs : List Done) (b : BeganCode s r xs) wh
 
     -- what each reply may say follows
     pub reply_rules_code : AllReplyRules (history_of xs)
-    reply_rules_code = for_all s r xs (began_code s r xs b) (λ (d : Device) (h : List Event). AllReplyRules h) (demand3_reply_rules s (lents xs) t)
+    reply_rules_code = for_all s r xs (began_code s r xs b) (λ (d : Device) (h : List Event). AllReplyRules h) (run_reply_rules s (lents xs) t)
