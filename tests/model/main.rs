@@ -1,10 +1,6 @@
-//! An independent model of the frame and log-page layer and of the device, and
-//! the cases of the two vector programs. Standard library only:
-//! rustc -O tests/model/main.rs -o X
+//! An independent model of the frame and log-page layer and of the device.
+//! Standard library only: rustc -O tests/model/main.rs -o X
 //!
-//!   --stdin, --device-stdin    the binary cases
-//!   --stdout, --device-stdout  the expected lines
-//!   --cases, --device-cases    one line a case: number, comment, expected line
 //!   --examples                 checks the eleven examples and prints them
 //!   --random SEED              the random event file of a seed
 //!   --compare N FROM T R       random files through the programs T (trace) and
@@ -18,13 +14,9 @@
 //!   --check-calls FILE..       the lines of scripts that print something else
 //!                              than what stands behind `->`
 
-mod answer;
 mod calls;
-mod cases;
 mod compare;
 mod device;
-mod device_answer;
-mod device_cases;
 mod examples;
 mod fields;
 mod frames;
@@ -33,7 +25,6 @@ mod program;
 mod random;
 mod random_calls;
 
-use cases::Case;
 use compare::Tested;
 use program::line::Style;
 use std::fs::File;
@@ -41,22 +32,12 @@ use std::io::{self, BufRead, BufReader, BufWriter, Write};
 use std::path::Path;
 use std::process::exit;
 
-const USAGE: &str = "usage: model --stdin | --stdout | --cases | --examples | \
-                     --device-stdin | --device-stdout | --device-cases | --run | --trace | \
-                     --calls FILE | --check-calls FILE..";
+const USAGE: &str = "usage: model --examples | --run | --trace | --calls FILE | --check-calls FILE.. | \
+                     --random SEED | --random-calls SEED LINES";
 
 fn main() {
     let arguments: Vec<String> = std::env::args().skip(1).collect();
     let output = match arguments.iter().map(|a| a.as_str()).collect::<Vec<_>>()[..] {
-        ["--stdin"] => checked_cases().iter().flat_map(|c| c.bytes.to_vec()).collect(),
-        ["--stdout"] => text(checked_cases().iter().map(|c| c.line())),
-        ["--cases"] => listed(checked_cases().iter().map(|c| (&c.comment[..], c.line()))),
-        ["--device-stdin"] => checked_device_cases().iter().flat_map(|c| c.0.records()).collect(),
-        ["--device-stdout"] => text(checked_device_cases().into_iter().map(|c| c.1)),
-        ["--device-cases"] => {
-            let cases = checked_device_cases();
-            listed(cases.iter().map(|(case, line)| (&case.comment[..], line.clone())))
-        }
         ["--examples"] => return run_examples(),
         ["--random", seed] => random::file(number(seed)).bytes,
         ["--compare", count, from, trace, run] => {
@@ -149,47 +130,6 @@ fn check_calls(scripts: &[&str]) {
 fn fail(message: &str) -> ! {
     eprintln!("{}", message);
     exit(2)
-}
-
-/// All cases, each held against what was written down by hand for it.
-fn checked_cases() -> Vec<Case> {
-    let all = cases::all();
-    let bad: Vec<&Case> = all.iter().filter(|c| !c.as_intended()).collect();
-    for case in &bad {
-        eprintln!("not as intended: {}: {}", case.comment, case.line());
-        eprintln!("  should start with {:?}, end with {:?}", case.starts, case.ends);
-    }
-    if !bad.is_empty() {
-        exit(1);
-    }
-    all
-}
-
-/// All calls of the device with their lines, held against the same.
-fn checked_device_cases() -> Vec<(device_cases::Case, String)> {
-    let cases = device_cases::all();
-    let lines = device_cases::lines(&cases);
-    let mut good = device_cases::comments_differ(&cases);
-    for (case, (line, fault)) in cases.iter().zip(&lines) {
-        if let Some(fault) = fault {
-            eprintln!("not as intended: {}: {}\n  {}", case.comment, line, fault);
-            good = false;
-        }
-    }
-    if !good {
-        exit(1);
-    }
-    cases.into_iter().zip(lines.into_iter().map(|(line, _)| line)).collect()
-}
-
-/// One line each.
-fn text(lines: impl Iterator<Item = String>) -> Vec<u8> {
-    lines.map(|line| line + "\n").collect::<String>().into_bytes()
-}
-
-/// Number, comment, line.
-fn listed<'a>(cases: impl Iterator<Item = (&'a str, String)>) -> Vec<u8> {
-    text(cases.enumerate().map(|(i, (comment, line))| format!("{} | {} | {}", i, comment, line)))
 }
 
 fn run_examples() {
