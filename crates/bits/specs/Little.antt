@@ -1,7 +1,7 @@
 -- Little-endian numbers in a list of bytes. Assumes nothing.
 use Rattle.std.specs.Prelude.{◌≡◌, ℕ, zero, suc, ◌+◌, ◌*◌, ◌/◌, ◌%◌, ◌^◌, ◌<◌, List, [], ◌∷◌, get_or}
 
--- the number of the n bytes of l from `at` on, the lowest first; past the end of l stand zeros [ends] [numbers]
+-- the number of the n bytes of l from `at` on, the lowest first; past the end of l stand zeros [numbers]
 abbrev pub le_at : List ℕ → ℕ → ℕ → ℕ
 le_at l at zero = 0
 le_at l at (suc n) = le_at l (suc at) n * 256 + get_or l at 0

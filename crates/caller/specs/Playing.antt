@@ -18,7 +18,7 @@ use Rattle.events.specs.Running.{kept, told}
 use Rattle.history.specs.Run.{Done, done}
 use Rattle.caller.specs.Continued.{Reached, Holds, Continues, Begins}
 
--- power-on by a settings record begins a history with the settings that it asks for; where it asks for none, 1, and there is no device [events-told] [event-24]
+-- power-on by a settings record begins a history with the settings that it asks for; where it asks for none, 1, and there is no device [events-told] [event-settings]
 abbrev pub BeginsBy : Option Settings → Result Sealed Refusal → Type 0
 BeginsBy (Some asked) r = Begins asked (powered_of r)
 BeginsBy None r = r ≡ Err Contradiction
@@ -53,7 +53,7 @@ unfoldable pub ContinuesBy : Device → Play → Option Done → Type 0
 ContinuesBy d p None = p.gave ≡ gave (answered d (Err NoFrame)) p.medium p.buffer
 ContinuesBy d p (Some x) = Continues d x.lent x.gave
 
--- by the call that it makes there [events-told] [event-24]
+-- by the call that it makes there [events-told]
 abbrev pub PlayContinues : Device → Play → Type 0
 PlayContinues d p = ContinuesBy d p (done_by d p)
 
@@ -70,11 +70,11 @@ EachPlay R d (p ∷ ps) = R d p × EachPlay R p.gave.outcome.state ps
 abbrev pub PlaysHold : Device → List Play → Type 0
 PlaysHold d ps = (s : Settings) (r : Outcome) (xs : List Done) → Reached s r xs d → Holds s r (xs ++ dones_all d ps) (end_state d ps)
 
--- events that continue one by one hold together [events-told] [event-24]
+-- events that continue one by one hold together [events-told]
 abbrev pub PlaysContinue : Type 0
 PlaysContinue = (d : Device) (ps : List Play) → EachPlay PlayContinues d ps → PlaysHold d ps
 
--- events of which each is as it was promised, whatever they are and whatever is lent to them, continue and hold [events-told] [event-24]
+-- events of which each is as it was promised, whatever they are and whatever is lent to them, continue and hold [events-told]
 abbrev pub GivenPlaysHold : Type 0
 GivenPlaysHold = (d : Device) (ps : List Play) → EachPlay PlayGiven d ps → EachPlay PlayContinues d ps × PlaysHold d ps
 
@@ -89,11 +89,11 @@ unfoldable pub EachTold : Bool → ℕ → Device → List Play → Type 0
 EachTold traced n d [] = Unit
 EachTold traced n d (p ∷ ps) = LineTold traced n d p × EachTold traced (n + 1) p.gave.outcome.state ps
 
--- events that are as promised have these lines [events-told] [event-24]
+-- events that are as promised have these lines [events-told]
 abbrev pub GivenPlaysTold : Type 0
 GivenPlaysTold = (traced : Bool) (n : ℕ) (d : Device) (ps : List Play) → EachPlay PlayGiven d ps → EachTold traced n d ps
 
--- behind power-on by a settings record: all that is promised holds of these events, with the settings that it asks for; where it asks for none, 1, and there is no device [events-told] [event-24]
+-- behind power-on by a settings record: all that is promised holds of these events, with the settings that it asks for; where it asks for none, 1, and there is no device [events-told] [event-settings]
 abbrev pub HeldBy : Option Settings → Outcome → List Play → Type 0
 HeldBy (Some asked) r ps = Holds asked r (dones_all r.state ps) (end_state r.state ps)
 HeldBy None r ps = r ≡ powered_of (Err Contradiction)

@@ -29,7 +29,7 @@ with_value d row = with_values d (counted_at d.values row)
 abbrev pub emptied_device : Device → Status → ErrorRecord → Device
 emptied_device d status record' = record d { status = status; entries = replicate 32 zero_entry; errors = record' }
 
--- halt: every outstanding command is given up, an open phase closes, the error record is set: with the tag, or NQ and tag 0 [other-halted] [other-between]
+-- halt: every outstanding command is given up, an open phase closes, the error record is set: with the tag, or NQ and tag 0 [halt] [record-set]
 unfoldable pub halt_with : Device → Fault → Device
 halt_with d f = emptied_device d (none_under_way true false) (record_of f)
 
@@ -37,15 +37,15 @@ halt_with d f = emptied_device d (none_under_way true false) (record_of f)
 abbrev pub with_status : Device → Status → List Entry → Device
 with_status d f es = record d { status = f; entries = es }
 
--- rule 4: the tag is outstanding
+-- accepted: the tag is outstanding [queued-good]
 unfoldable pub accepted_by : Device → Queued → Device
 accepted_by d q = with_status d (with_tag d.status q.tag) (table_with d.entries q.tag q.entry)
 
--- the halt ends [log-replies] [sweep]
+-- the halt ends [log-replies]
 unfoldable pub unhalted_device : Device → Device
 unhalted_device d = record d { status = record d.status { halted = false } }
 
--- the counters are zeroed [log-zeroes] [other-halted]
+-- the counters are zeroed [log-zeroes] [bist]
 unfoldable pub zeroed_if : Device → Bool → Device
 zeroed_if d on = with_values d (pick on (replicate 16 0) d.values)
 
@@ -53,7 +53,7 @@ zeroed_if d on = with_values d (pick on (replicate 16 0) d.values)
 unfoldable pub reset_held : Device → Device
 reset_held d = emptied_device d (none_under_way false true) blank_record
 
--- release [release] [signature]
+-- release [release]
 unfoldable pub released_device : Device → Device
 released_device d = record d { status = record d.status { held = false } }
 
@@ -62,15 +62,15 @@ unfoldable pub moved_by : Device → Move → Device
 moved_by d m =
     record d { status = record d.status { phase = pick m.last None d.status.phase }; entries = table_with d.entries m.tag m.entry }
 
--- the phase of a tag is open [open] [dma-setup]
+-- the phase of a tag is open [open]
 unfoldable pub opened_for : Device → ℕ → Device
 opened_for d tag = record d { status = record d.status { phase = Some tag } }
 
--- the commands of a set are finished [finish] [finished]
+-- the commands of a set are finished [finish]
 unfoldable pub finished_by : Device → ℕ → Device
 finished_by d set = with_status d (without_tags d.status set) (table_without d.entries set)
 
--- media error: halt; error bit 7 adds one to counter 001h [media-error] [failed]
+-- media error: halt; error bit 7 adds one to counter 001h [media-error]
 unfoldable pub failed_by : Device → Fault → Device
 failed_by d f = halt_with (pick (bit_in 8 f.error 7) (with_value d 0) d) f
 

@@ -17,16 +17,16 @@ counter_tests d number = counter_ladder (contradictory_device d) (no_number numb
 unfoldable pub counter_of : Device → ℕ → Result (Option ℕ) Refusal
 counter_of d number = unless (first_of (counter_tests d number)) (shown_for d.settings.mask d.values number)
 
--- what the call promises: value, absent or the refusal, and the refusal exactly by its list [power-refused] [counter-asked]
+-- what the call promises: value, absent or the refusal, and the refusal exactly by its list [counter-asked]
 pub record CounterGiven (d : Device) (number : ℕ) (r : Result (Option ℕ) Refusal) : Type 0 where
   pub answer : r ≡ counter_of d number
   pub refusal : refusal_in r ≡ first_of (counter_tests d number)
 
--- the ones of the outstanding mask; 1 for a state that contradicts itself, which is not read as idle [ones] [count-asked]
+-- the ones of the outstanding mask; 1 for a state that contradicts itself, which is not read as idle [count-asked]
 unfoldable pub count_of : Device → Result ℕ Refusal
 count_of d = unless (first_of (power_ladder (contradictory_device d))) (ones d.status.outstanding)
 
--- what that call promises: the count or the refusal, and the refusal exactly by its list [ones] [count-asked]
+-- what that call promises: the count or the refusal, and the refusal exactly by its list [count-asked]
 pub record CountGiven (d : Device) (r : Result ℕ Refusal) : Type 0 where
   pub answer : r ≡ count_of d
   pub refusal : refusal_in r ≡ first_of (power_ladder (contradictory_device d))

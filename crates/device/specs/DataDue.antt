@@ -15,6 +15,6 @@ phase_entry d = entry_meant d.entries d.status.phase
 abbrev pub writing : Device → Bool
 writing d = is_some d.status.phase && (phase_entry d).write
 
--- the length due, by the open write phase and what is left of it; of none no data is due [event-data]
+-- the length due, by the open write phase and what is left of it; of none no data is due [data-due]
 unfoldable pub data_due : Device → Option ℕ
 data_due d = pick (writing d) (Some (due_in (progress_of (phase_entry d)))) None

@@ -7,7 +7,7 @@ use Rattle.device_state.specs.declared.shapes.Entry.{Entry}
 abbrev pub open_entry : Entry → ℕ
 open_entry e = pick (eqb e.count 0) 0 1
 
--- the entries of commands [ones] [count-asked]
+-- the entries of commands [ones]
 abbrev pub open_entries : List Entry → ℕ
 open_entries [] = 0
 open_entries (e ∷ es) = open_entry e + open_entries es

@@ -7,7 +7,7 @@ use Rattle.device.specs.declared.state.Device.{Device}
 use Rattle.device.specs.declared.state.Outcome.{Outcome}
 use Rattle.device.specs.declared.sealed.Sealed.{Sealed}
 
--- a state is kept as it is, or contradicts itself and is refused with 1: that one which does is not kept is the field of `Sealed` [refused-1] [kept-device]
+-- a state is kept as it is, or contradicts itself and is refused with 1: that one which does is not kept is the field of `Sealed` [kept-device]
 abbrev pub Seals : Device → Result Sealed Refusal → Type 0
 Seals d r = MatchResult r (λ s. s.device ≡ d) (λ e. (e ≡ Contradiction) × (contradictory_device d ≡ true))
 

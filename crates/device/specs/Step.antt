@@ -40,7 +40,7 @@ step_by d l (Ok a) = record {
 unfoldable pub act_of : Device → Lent → Result Act Refusal
 act_of d l = act (facts_of d l) l.call
 
--- what a call leaves behind [one-function] [send]
+-- what a call leaves behind [one-function]
 abbrev pub step : Device → Lent → Step
 step d l = step_by d l (act_of d l)
 

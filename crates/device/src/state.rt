@@ -44,8 +44,8 @@ impl Device {
     /// Bytes of a sector.
     pub const SECTOR_SIZE: usize = device_state::SECTOR_SIZE;
 
-    /// The most bytes of a data frame's payload.
-    pub const FRAME_SIZE: usize = frames::PAYLOAD_LIMIT;
+    /// The most bytes of a data frame's payload; the frame itself has 4 more (`REPLY_SIZE`).
+    pub const PAYLOAD_LIMIT: usize = frames::PAYLOAD_LIMIT;
 
     /// The fewest bytes of a reply buffer that no call turns down.
     pub const REPLY_SIZE: usize = frames::DATA_FRAME_LIMIT;

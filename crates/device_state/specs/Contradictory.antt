@@ -37,19 +37,19 @@ other_tag e t = not (eqb (tag_in e.echo) t)
 abbrev pub other_range : Entry → Bool
 other_range e = not (eqb (task_in e.echo).lba e.first) || not (eqb (sectors_of e.features e.features_high) e.count)
 
--- moved exceeds count, which in bytes is `whole_of` [moved-above] [moved-fours]
+-- moved exceeds count, which in bytes is `whole_of` [moved-above]
 abbrev pub moved_above : Entry → Bool
 moved_above e = ltb (whole_of e.count) e.moved
 
--- moved is no multiple of 4 [moved-above] [moved-fours]
+-- moved is no multiple of 4 [moved-fours]
 abbrev pub moved_odd : Entry → Bool
 moved_odd e = not (eqb (e.moved % 4) 0)
 
--- moved is neither 0 nor count for a tag whose phase isn't open [moved-above] [moved-fours]
+-- moved is neither 0 nor count for a tag whose phase isn't open [moved-idle]
 abbrev pub moved_between : Entry → Bool → Bool
 moved_between e phase = not phase && (not (eqb e.moved 0) && not (eqb e.moved (whole_of e.count)))
 
--- the open phase's tag has all moved [phase-idle] [phase-done]
+-- the open phase's tag has all moved [phase-done]
 abbrev pub phase_done : Entry → Bool → Bool
 phase_done e phase = phase && eqb e.moved (whole_of e.count)
 
@@ -69,7 +69,7 @@ echo_set e =
     not (eqb e.b4 0 && eqb e.b5 0 && eqb e.b6 0 && eqb e.b7 0 && eqb e.b8 0 && eqb e.b9 0 && eqb e.b10 0
     && eqb e.b12 0 && eqb e.b13 0)
 
--- an idle tag's entry isn't zero [idle-entry] [unkept-row]
+-- an idle tag's entry isn't zero [idle-entry]
 unfoldable pub idle_bad : Entry → Bool
 idle_bad e =
     not (not e.write && eqb e.first 0 && eqb e.count 0 && eqb e.moved 0 && eqb e.features 0 && eqb e.features_high 0)
@@ -92,7 +92,7 @@ abbrev pub open_idle : ℕ → Option ℕ → Bool
 open_idle outstanding None = false
 open_idle outstanding (Some tag) = not (bit_in 32 outstanding tag)
 
--- the open phase's tag isn't outstanding [phase-idle] [phase-done]
+-- the open phase's tag isn't outstanding [phase-idle]
 abbrev pub phase_idle : Status → Bool
 phase_idle f = open_idle f.outstanding f.phase
 
@@ -100,11 +100,11 @@ phase_idle f = open_idle f.outstanding f.phase
 abbrev pub stopped_busy : Status → Bool
 stopped_busy f = (f.halted || f.held) && not (eqb f.outstanding 0)
 
--- halted and held [halted-held] [held-record]
+-- halted and held [halted-held]
 abbrev pub halted_held : Status → Bool
 halted_held f = f.halted && f.held
 
--- held with a record not blank [halted-held] [held-record]
+-- held with a record not blank [held-record]
 abbrev pub held_record : Status → Bool → Bool
 held_record f set = f.held && set
 
@@ -112,15 +112,15 @@ held_record f set = f.held && set
 unfoldable pub status_bad : Status → Bool → Bool
 status_bad f set = (stopped_busy f || halted_held f) || (held_record f set || phase_idle f)
 
--- a record with a tag above 31 [record-tag] [record-nq]
+-- a record with a tag above 31 [record-tag]
 abbrev pub tag_too_large : ErrorRecord → Bool
 tag_too_large r = ltb 31 r.tag
 
--- or under NQ [record-tag] [record-nq]
+-- or under NQ [record-nq]
 abbrev pub tag_under_nq : ErrorRecord → Bool
 tag_under_nq r = r.nq && not (eqb r.tag 0)
 
--- or blank with other bytes not 0 [record-tag] [record-nq]
+-- or blank with other bytes not 0 [blank-bytes]
 abbrev pub blank_not_zero : ErrorRecord → Bool
 blank_not_zero r = not r.set && ((r.nq || not (eqb r.tag 0)) || (not (eqb r.error 0) || echo_set r.echo))
 
@@ -128,7 +128,7 @@ blank_not_zero r = not r.set && ((r.nq || not (eqb r.tag 0)) || (not (eqb r.erro
 unfoldable pub record_bad : ErrorRecord → Bool
 record_bad r = (tag_too_large r || tag_under_nq r) || blank_not_zero r
 
--- an unkept row isn't zero [idle-entry] [unkept-row]
+-- an unkept row isn't zero [unkept-row]
 abbrev pub row_bad : ℕ → ℕ → ℕ → Bool
 row_bad mask row value = not (kept mask row) && not (eqb value 0)
 
@@ -140,7 +140,7 @@ row_bad_at mask values row = row_bad mask row (get_or values row 0)
 unfoldable pub rows_bad : ℕ → List ℕ → Bool
 rows_bad mask values = some_below 16 (row_bad_at mask values)
 
--- refusal 1: settings out of bounds, or the state handed in contradicts itself [refused-1] [kept-device]
+-- refusal 1: settings out of bounds, or the state handed in contradicts itself [refused-1]
 unfoldable pub contradictory : Settings → Status → List Entry → ErrorRecord → List ℕ → Bool
 contradictory s f es r values =
     ((settings_out s || table_bad s es f.outstanding f.phase) || (status_bad f r.set || record_bad r)) || rows_bad s.mask values

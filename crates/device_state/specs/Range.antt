@@ -1,7 +1,7 @@
 -- Sectors against a range. Assumes nothing.
 use Rattle.std.specs.Prelude.{Bool, ◌||◌, ℕ, ◌+◌, ltb, leb}
 
--- queued command, 3: first sector + count above capacity [queued-halted] [queued-tag]
+-- queued command, 3: first sector + count above capacity [queued-range]
 abbrev pub too_far : ℕ → ℕ → ℕ → Bool
 too_far capacity first count = ltb capacity (first + count)
 

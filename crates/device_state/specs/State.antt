@@ -39,7 +39,7 @@ echo_of t = record {
 abbrev pub medium_size : ℕ → ℕ
 medium_size capacity = 512 * capacity
 
--- the bytes of a command of so many sectors; more than 65,536 no command has (`settings_out`, `past_capacity`), and then as many count, so that 32 bits hold them [open] [dma-setup]
+-- the bytes of a command of so many sectors; more than 65,536 no command has (`settings_out`, `past_capacity`), and then as many count, so that 32 bits hold them [dma-setup] [moved-above]
 abbrev pub whole_of : ℕ → ℕ
 whole_of count = 512 * min count 65536
 
@@ -59,6 +59,6 @@ zero_echo = record { b4 = 0; b5 = 0; b6 = 0; b7 = 0; b8 = 0; b9 = 0; b10 = 0; b1
 abbrev pub zero_entry : Entry
 zero_entry = record { write = false; first = 0; count = 0; moved = 0; features = 0; features_high = 0; echo = zero_echo }
 
--- a blank record [record-set] [record-stays]
+-- a blank record [blank]
 abbrev pub blank_record : ErrorRecord
 blank_record = record { set = false; nq = false; tag = 0; error = 0; echo = zero_echo }

@@ -22,6 +22,6 @@ event_by_kind e kinds.HostData = Some (HostData (get_or e 1 0))
 event_by_kind e kinds.HostRegister = Some (HostRegister e)
 event_by_kind e kinds.Bist = Some (Bist e)
 
--- what the bytes e ask for; what is no event asks for nothing, and so do settings [event-call] [event-24]
+-- what the bytes e ask for; what is no event asks for nothing, and so do settings [event-kinds] [event-24]
 unfoldable pub event_of : List ℕ → Option Event
 event_of e = option_and_then (event_by_kind e) (event_kind e)

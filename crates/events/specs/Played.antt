@@ -24,7 +24,7 @@ unfoldable pub tests_for : Device → List ℕ → List ℕ → Option Call → 
 tests_for d m b None = rung NoFrame true ∷ []
 tests_for d m b (Some c) = tests (facts_of d (lent c m b)) c
 
--- what an event e leaves behind [event-call] [event-24]
+-- what an event e leaves behind [event-call]
 abbrev pub event_step : Device → List ℕ → List ℕ → List ℕ → Step
 event_step d e m b = step_for d m b (call_for d e)
 

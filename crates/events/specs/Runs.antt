@@ -35,7 +35,7 @@ pub record BreaksOff (P Q : List (List ℕ) → Type 0) (N : List (List ℕ) →
   pub cut : IsCut P N (joined_bytes es ++ part) es part
   pub written : Appends old new (T es ++ ending (Err NoEvent))
 
--- lines are lost: the input begins with events, and of their lines, and of `stop`, a front is written [event-broken] [event-lost]
+-- lines are lost: the input begins with events, and of their lines, and of `stop`, a front is written [event-lost]
 pub record Loses (P : List (List ℕ) → Type 0) (T : List (List ℕ) → List ℕ) (known old new : Option (List ℕ)) : Type 0 where
   pub es : List (List ℕ)
   pub begins : IfSome known (λ input. (rest : List ℕ) × (input ≡ joined_bytes es ++ rest))

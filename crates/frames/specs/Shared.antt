@@ -6,7 +6,7 @@ use Rattle.bits.specs.Little.{le_at, le_bytes, bytes_from}
 use Rattle.frames.specs.declared.shared.Task.{Task}
 use Rattle.frames.specs.declared.shared.Registers.{Registers}
 
--- byte 1, bits 7, 6 and 5: A or C, I, D [frame-41]
+-- byte 1, bits 7, 6 and 5: A or C, I, D [frame-27] [frame-41]
 abbrev pub flags_of : Bool → Bool → Bool → ℕ
 flags_of seven six five = bit_byte seven 7 + bit_byte six 6 + bit_byte five 5
 
@@ -18,7 +18,7 @@ halves_of b = b / 16 % 8 * 16 + b % 8
 abbrev pub lba_of : List ℕ → ℕ
 lba_of l = le_at l 8 3 * 2 ^ 24 + le_at l 4 3
 
--- 4-10 and 12-13: LBA, device, count [frame-27]
+-- 4-10 and 12-13: LBA, device, count [numbers] [frame-27]
 abbrev pub task_of : List ℕ → Task
 task_of l = record { lba = lba_of l; device = get_or l 7 0; count = le_at l 12 2 }
 

@@ -5,7 +5,7 @@ use Rattle.bits.specs.Pick.{pick}
 use Rattle.frames.specs.declared.kinds.FrameKind.{FrameKind}
 use Rattle.frames.specs.declared.kinds.FrameKind.TheVariants.{HostRegister, DeviceRegister, DmaActivate, DmaSetup, Data, BistActivate, PioSetup, SetDeviceBits}
 
--- the kind that a byte names, if it names one [frame-39] [frame-46]
+-- the kind that a byte names, if it names one [kinds]
 abbrev pub kind_named : ℕ → Option FrameKind
 kind_named byte =
     pick (eqb byte 0x27) (Some HostRegister)
@@ -28,11 +28,11 @@ size_of BistActivate = Some 12
 size_of PioSetup = Some 20
 size_of SetDeviceBits = Some 8
 
--- the length that a byte's kind fixes; 46h and an unknown kind fix none [frame-39] [frame-46]
+-- the length that a byte's kind fixes; 46h and an unknown kind fix none [kinds]
 unfoldable pub fixed_size : ℕ → Option ℕ
 fixed_size byte = option_and_then size_of (kind_named byte)
 
--- a payload is 4 to 8,192 bytes in steps of 4 [frame-39] [frame-46]
+-- a payload is 4 to 8,192 bytes in steps of 4 [data-size] [unfit-payload]
 abbrev pub payload_size : ℕ → Bool
 payload_size n = leb 4 n && leb n 8192 && eqb (n % 4) 0
 

@@ -73,7 +73,7 @@ pio_registers f = record {
   bytes = f.bytes;
 }
 
--- the bytes of a frame [read-back] [frame-34]
+-- the bytes of a frame [read-back] [kinds]
 unfoldable pub encode : FrameValue → List ℕ
 encode (host f) = register_bytes (host_registers f)
 encode (device f) = register_bytes (device_registers f)
@@ -84,7 +84,7 @@ encode (payload p) = 0x46 ∷ 0 ∷ 0 ∷ 0 ∷ p
 encode bist = 0x58 ∷ 0 ∷ 0 ∷ 0 ∷ 0 ∷ 0 ∷ 0 ∷ 0 ∷ 0 ∷ 0 ∷ 0 ∷ 0 ∷ []
 encode (pio f) = register_bytes (pio_registers f)
 
--- no value is too large for its bits, status bits 7 and 3 of A1h are not set, the payload is 4 to 8,192 bytes in steps of 4 [refused-25] [unfit-value]
+-- no value is too large for its bits, status bits 7 and 3 of A1h are not set, the payload is 4 to 8,192 bytes in steps of 4 [unfit-value] [unfit-status] [unfit-payload]
 unfoldable pub fits : FrameValue → Bool
 fits (host f) = is_below 8 f.command && is_below 8 f.features && is_below 8 f.features_high && is_below 8 f.control && task_fits f.task
 fits (device f) = is_below 8 f.status && is_below 8 f.error && task_fits f.task

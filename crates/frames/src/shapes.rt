@@ -8,11 +8,11 @@ pub struct HostReg {
     pub command_bit: bool,
     /// Byte 2.
     pub command: u8,
-    /// Byte 3: the low byte; the high one is `features_high`.
+    /// Byte 3. Of a queued command the low byte of its sector count, whose high byte is `features_high`; 0 is 65,536.
     pub features: u8,
     /// Bytes 4-10 and 12-13.
     pub task: Task,
-    /// Byte 11.
+    /// Byte 11. Of a queued command the high byte of its sector count.
     pub features_high: u8,
     /// Byte 15; bit 2 is SRST.
     pub control: u8,

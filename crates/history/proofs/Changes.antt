@@ -53,7 +53,7 @@ module _ (d : Device) (g : contradictory_device d ≡ false) where
   pub busy_calm : (t : ℕ) → bit_in 32 d.status.outstanding t ≡ true → d.status.halted ≡ false
   busy_calm t b = false_from_ne_true d.status.halted (λ e. no_busy d.status.outstanding t (halted_empty e) b)
 
-  -- rule 4: the tag is outstanding, and its entry is what the command asks for
+  -- a good one: the tag is outstanding, and its entry is what the command asks for
   pub took_by : (h : HostReg) (e : Seen) → e.asks ≡ register_asks h → d.status.halted ≡ false → d.status.phase ≡ None → bit_in 32 d.status.outstanding (tag_asked h) ≡ false
       → Took d e (accepted_by d (record { tag = tag_asked h; entry = entry_for h }))
   unfolding accepted_by

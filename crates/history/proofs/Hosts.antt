@@ -63,7 +63,7 @@ module _ (d : Device) (g : contradictory_device d ≡ false) where
     pub queued_faulted : (t e : ℕ) → h.command_bit ≡ true → is_queued h ≡ true → d.status.halted ≡ false → Comes d [] k (fault h (Some t) e)
     queued_faulted t e c q x = faulted (Some t) e c x (let u : k.queued ≡ true = rw (c, q) in rw u)
 
-    -- rule 4
+    -- a good one [queued-good]
     pub accepted : h.command_bit ≡ true → is_queued h ≡ true → d.status.halted ≡ false → d.status.phase ≡ None → bit_in 32 d.status.outstanding (tag_asked h) ≡ false
         → Comes d [] k (Accept (record { tag = tag_asked h; entry = entry_for h }))
     unfolding replies_of after_of view

@@ -126,7 +126,7 @@ module _ (d : Device) (h : List Event) (n : Named d h) where
   setup_named : (q : Queued) (task : Task) (d' : Device) → Stay d d' → Names quiet (setup_reply q ∷ activate_if q.entry.write) task d'
   setup_named q task d' s = stays quiet (setup_reply q ∷ activate_if q.entry.write) task d' (is_setup _ q.entry.write).accepted s
 
-  -- rule 4
+  -- a good one [queued-good]
   accepted_named : (f : HostReg) → f.command_bit ≡ true → (eqb f.command 0x60 || eqb f.command 0x61) ≡ true → f.task ≡ task_in (entry_for f).echo → (rs : List FrameValue) → accepts (view (register_asks f) rs) ≡ true
       → Names (register_asks f) rs f.task (accepted_by d (record { tag = tag_asked f; entry = entry_for f }))
   unfolding accepted_by view

@@ -97,7 +97,7 @@ host_replies deep capacity mask h _ = []
 
 -- ---- device events
 
--- open a phase: DMA Setup (A 0, I 0, offset 0, whole byte count; D 1 to the host); for a write an Activate follows. Of the outstanding command with the tag, of which there is at most one [one-per-tag]
+-- open a phase: DMA Setup (A 0, I 0, offset 0, whole byte count; D 1 to the host); for a write an Activate follows. Of the outstanding command with the tag, of which there is at most one [answered-exactly]
 abbrev pub opened_by : ℕ → Command → List FrameValue
 opened_by t c =
     setup (record { auto = false; interrupt = false; to_host = not c.accepted.asks.write; tag = t; offset = 0; count = size c }) ∷ pick c.accepted.asks.write (activate ∷ []) []

@@ -42,7 +42,7 @@ abbrev pub Ranges : List Seen → Type 0
 Ranges h = All (λ c. (finished c ≡ true → carried c ≡ span (base c) (size c)) × Beginning (base c) (size c) (carried c)) (commands h)
 
 -- data at a place: read, the payload is what the medium lent to that call held there; written, the medium that the call left holds the payload there and is otherwise as it was,
--- and none of it stands behind the medium's end [bytes-of-medium] [setup-reaches]
+-- and none of it stands behind the medium's end [bytes-of-medium] [data-place]
 pub record Moved (e : Event) (to_host : Bool) (at : ℕ) : Type 0 where
   pub read : to_host ≡ true → sent e ≡ take (length (sent e)) (drop at e.medium)
   pub written : to_host ≡ false → e.left ≡ written at (brought e) e.medium
@@ -86,11 +86,11 @@ Sactive h = waits h ≡ false → (t : ℕ) → t < 32 → sactive t h ≡ ltb 0
 abbrev pub Waiting : List Seen → Type 0
 Waiting h = waits h ≡ true → (total h ≡ 0) × ((t : ℕ) → t < 32 → sactive t h ≡ (given_up_there t h || bad_since t h))
 
--- at most the queue depth is ever outstanding [within-depth] [one-per-tag]
+-- at most the queue depth is ever outstanding [within-depth]
 abbrev pub Depth : ℕ → List Seen → Type 0
 Depth depth h = total h ≤ depth
 
--- no two commands of one tag are outstanding [within-depth] [one-per-tag]
+-- no two commands of one tag are outstanding [one-per-tag]
 abbrev pub OnePerTag : List Seen → Type 0
 OnePerTag h = (t : ℕ) → t < 32 → total_with t h ≤ 1
 

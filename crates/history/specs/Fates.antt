@@ -76,7 +76,7 @@ unfoldable pub All : (Command → Type 0) → List Command → Type 0
 All P [] = Unit
 All P (c ∷ cs) = P c × All P cs
 
--- how many commands are outstanding [within-depth] [one-per-tag]
+-- how many commands are outstanding [within-depth]
 unfoldable pub total : List Seen → ℕ
 total h = how_many outstanding (commands h)
 

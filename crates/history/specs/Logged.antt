@@ -32,7 +32,7 @@ abbrev pub call_task : Call → Task
 call_task (host_frame f) = frame_task (read_frame f)
 call_task _ = no_task
 
--- those of the newest command accepted with tag t; while one of this tag is outstanding, it is that one [one-per-tag]
+-- those of the newest command accepted with tag t; while one of this tag is outstanding, it is that one [errors-told]
 unfoldable pub named_by : ℕ → List Event → Task
 named_by t [] = no_task
 named_by t (e ∷ h) = pick (accepts (seen e) && eqb (seen e).asks.tag t) (call_task e.call) (named_by t h)

@@ -11,15 +11,15 @@ use Rattle.history.specs.Counted.{told_for}
 use Rattle.history.specs.ByHistory.{under_way_after, left_in_transfer}
 use Rattle.history.specs.Refused.{out_of_bounds, write_open}
 
--- 23: number asked not 1 to FFFh [polls-told] [data-due]
+-- 23: number asked not 1 to FFFh [polls-told]
 abbrev pub no_counter : ℕ → Bool
 no_counter number = not (leb 1 number && leb number 0xFFF)
 
--- a counter by its number: 1 where the settings of power-on were out of bounds, 23; else the events that the history counts, or absent [polls-told] [data-due]
+-- a counter by its number: 1 where the settings of power-on were out of bounds, 23; else the events that the history counts, or absent [polls-told]
 abbrev pub counter_polled : ℕ → ℕ → ℕ → List Event → ℕ → Result (Option ℕ) Refusal
 counter_polled deep capacity mask h number = unless (first_of (rung Contradiction (out_of_bounds deep capacity mask) ∷ rung NoCounter (no_counter number) ∷ [])) (told_for mask h number)
 
--- how many commands are outstanding: 1 there; else as many as by the history [polls-told] [data-due]
+-- how many commands are outstanding: 1 there; else as many as by the history [polls-told]
 abbrev pub count_polled : ℕ → ℕ → ℕ → List Event → Result ℕ Refusal
 count_polled deep capacity mask h = unless (first_of (rung Contradiction (out_of_bounds deep capacity mask) ∷ [])) (total (map seen h))
 

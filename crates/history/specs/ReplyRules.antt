@@ -36,7 +36,7 @@ pub record Swept (e : Event) (h : List Seen) : Type 0 where
   pub clean : (seen e).fails ≡ false
   pub tells : TellsError (read_log (page e))
 
--- an event e after a history h [waiting] [said]
+-- an event e after a history h [said] [shapes]
 pub record ReplyRules (e : Event) (h : List Seen) : Type 0 where
   -- a refused call replies nothing; a taken one has one of the replies that it may have, so that each can be read
   pub silent : taken e ≡ false → replied e ≡ []

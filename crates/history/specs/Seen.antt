@@ -42,7 +42,7 @@ pub record Seen : Type 0 where
 abbrev pub names : ℕ → SetBits → Bool
 names t f = bit_in 32 f.active t
 
--- what was asked for, the replies, and the bytes of data in them [waiting] [sweep-known]
+-- what was asked for, the replies, and the bytes of data in them [sweep-known]
 abbrev pub seen_in : Asked → List FrameRead → ℕ → Seen
 seen_in a fs n = record {
   asks = a;

@@ -14,7 +14,7 @@ sactive t (e ∷ h) = (asks_for t e || sactive t h) && (not (e.clears t) && not 
 abbrev pub raises : Seen → List Seen → Bool
 raises e h = (e.bad && (e.asks.queued || ltb 0 (total h))) || e.fails
 
--- if none waits; it waits to be read, until page 10h is delivered to a host that asked for it, or to a taken SRST or COMRESET [waiting] [sactive-calm]
+-- if none waits; it waits to be read, until page 10h is delivered to a host that asked for it, or to a taken SRST or COMRESET [waiting]
 unfoldable pub waits : List Seen → Bool
 waits [] = false
 waits (e ∷ h) = pick (waits h) (not (e.delivers 0x10) && not e.asks.resets) (raises e h)

@@ -14,7 +14,7 @@ unfoldable pub text_of : LogPage → List ℕ → List ℕ
 text_of Errors page = fields_text page
 text_of Counters page = counters_text page
 
--- why either page is refused, if it is [text-10h] [text-11h]
+-- why either page is refused, if it is [text-refused]
 unfoldable pub refusal_of : LogPage → List ℕ → Option Refusal
 refusal_of Errors page = refusal_in (log_told page)
 refusal_of Counters page = refusal_in (counters_told page)

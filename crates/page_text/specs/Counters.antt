@@ -50,6 +50,6 @@ told_text (Err refusal) = refusal_text refusal
 abbrev pub counters_told : List ℕ → Result (List Counter × ℕ) Refusal
 counters_told page = both (counters_in page ids) (count_others page)
 
--- page 11h: the sixteen counters and the count of other entries, or the refusal alone [text-10h] [text-11h]
+-- page 11h: the sixteen counters and the count of other entries, or the refusal alone [text-11h]
 abbrev pub counters_text : List ℕ → List ℕ
 counters_text page = told_text (counters_told page)

@@ -44,6 +44,6 @@ read_text (Err refusal) = refusal_text refusal
 abbrev pub log_told : List ℕ → Result (ErrorLog × ℕ) Refusal
 log_told page = both (read_log page) (count_other_bytes page)
 
--- page 10h [text-10h] [text-11h]
+-- page 10h [text-10h]
 abbrev pub fields_text : List ℕ → List ℕ
 fields_text page = read_text (log_told page)

@@ -33,11 +33,11 @@ log_registers f = record {
 unfoldable pub page10 : ErrorLog → List ℕ
 page10 f = sealed_page (register_bytes (log_registers f) ++ replicate 492 0)
 
--- 25: a value too large for its bits, or a tag that is not 0 under NQ [refused-25] [unfit-value]
+-- 25: a value too large for its bits, or a tag that is not 0 under NQ [refused-25] [unfit-tag]
 unfoldable pub fits10 : ErrorLog → Bool
 fits10 f = is_below 8 f.status && is_below 8 f.error && task_fits f.task && is_below 5 f.tag && (not f.nq || eqb f.tag 0)
 
--- the page by value, or 25 [unfit-tag]
+-- the page by value, or 25 [refused-25]
 abbrev pub log_page : ErrorLog → Result (List ℕ) Refusal
 log_page f = pick (fits10 f) (Ok (page10 f)) (Err Unfit)
 
@@ -63,7 +63,7 @@ ladder10 l = rung PageLength (not (eqb (length l) 512)) ∷ rung PageSum (not (e
 unfoldable pub read_log : List ℕ → Result ErrorLog Refusal
 read_log l = unless (first_of (ladder10 l)) (fields10 l)
 
--- what each answer tells: NQ, tag, status, error and the command's bytes, or the refusal's number [answer-values] [absent]
+-- what each answer tells: NQ, tag, status, error and the command's bytes, or the refusal's number [answer-values]
 unfoldable pub log_answer : Result ErrorLog Refusal → Answer
 log_answer (Ok f) = record { number = 0; values = bit_number f.nq ∷ f.tag ∷ f.status ∷ f.error ∷ f.task.lba ∷ f.task.device ∷ f.task.count ∷ [] }
 log_answer (Err r) = record { number = number r; values = [] }

@@ -16,7 +16,7 @@ use Rattle.pages.specs.declared.value.CounterValue.{CounterValue}
 abbrev pub any_fault : List CounterEntry → Bool
 any_fault es = (list_any wrong_width es || list_any past_end es) || list_any nameless es
 
--- 22: such an entry, or the asked number found twice [refused-22] [damaged-width]
+-- 22: such an entry, or the asked number found twice [refused-22] [damaged-twice]
 unfoldable pub damaged : ℕ → List CounterEntry → Bool
 damaged asked es = any_fault es || leb 2 (count_by (entry_asked asked) es)
 

@@ -13,7 +13,7 @@ Rung = Bool × Refusal
 abbrev pub rung : Refusal → Bool → Rung
 rung r t = (t, r)
 
--- the refusal of the first rung that holds, or none where none does [exactly]
+-- the refusal of the first rung that holds, or none where none does [first-number] [exactly]
 unfoldable pub first_of : List Rung → Option Refusal
 first_of [] = None
 first_of (r ∷ rs) = pick r.0 (Some r.1) (first_of rs)

@@ -2,6 +2,7 @@
 ghost use Rattle.std.specs.Prelude.{◌≡◌, Some, decimal};
 ghost use Rattle.refusals.specs.Number.{number, number_told};
 
+use std::error::Error;
 use std::fmt;
 
 /// Why something is turned down; its discriminant is the number that is told.
@@ -66,6 +67,8 @@ impl Refusal {
 }
 
 /// A refusal is printed as its number, in decimal.
+impl Error for Refusal {}
+
 impl fmt::Display for Refusal {
     ghost output = { λ r. Some (decimal (number r)) };
 

@@ -20,36 +20,36 @@ use Rattle.rules.specs.declared.acts.Act.TheVariants.{Nothing, Bad, BadAndHalt, 
 abbrev pub register : Bool → ℕ → ℕ → Task → FrameValue
 register i status error task = device (record { interrupt = i; status = status; error = error; task = task })
 
--- good: status 40h, error 0, I 0 [good] [bad]
+-- good: status 40h, error 0, I 0 [good]
 abbrev pub good : Task → FrameValue
 good task = register false 0x40 0 task
 
--- bad: status 41h, I 1, error as named [good] [bad]
+-- bad: status 41h, I 1, error as named [bad]
 abbrev pub bad_reply : ℕ → Task → FrameValue
 bad_reply error task = register true 0x41 error task
 
--- signature: 34h, I 0, status 40h, error 01h, bytes 4 and 12 01h, rest 0 [release] [signature]
+-- signature: 34h, I 0, status 40h, error 01h, bytes 4 and 12 01h, rest 0 [signature]
 abbrev pub signature : FrameValue
 signature = register false 0x40 0x01 (record { lba = 1; device = 0; count = 1 })
 
--- the sweep: A1h, I 0, status 40h, error 0, SActive FFFFFFFFh [log-replies] [sweep]
+-- the sweep: A1h, I 0, status 40h, error 0, SActive FFFFFFFFh [sweep]
 abbrev pub sweep : FrameValue
 sweep = set_bits (record { interrupt = false; status = 0x40; error = 0; active = 0xFFFF_FFFF })
 
--- PIO Setup: I 1, D 1, status 48h, error 0, ending status 40h, 512 bytes, the command's bytes [log-replies] [sweep]
+-- PIO Setup: I 1, D 1, status 48h, error 0, ending status 40h, 512 bytes, the command's bytes [pio-setup]
 abbrev pub pio_reply : Task → FrameValue
 pio_reply task = pio (record { interrupt = true; to_host = true; status = 0x48; error = 0; task = task; ending = 0x40; bytes = 512 })
 
--- DMA Setup: A 0, I 0, offset 0, whole byte count; D 1 to the host [open] [dma-setup]
+-- DMA Setup: A 0, I 0, offset 0, whole byte count; D 1 to the host [dma-setup]
 abbrev pub setup_reply : Queued → FrameValue
 setup_reply q =
     setup (record { auto = false; interrupt = false; to_host = not q.entry.write; tag = q.tag; offset = 0; count = whole_of q.entry.count })
 
--- finish: A1h, I 1, status 40h, error 0, SActive the set [finish] [finished]
+-- finish: A1h, I 1, status 40h, error 0, SActive the set [finished]
 abbrev pub finish_reply : ℕ → FrameValue
 finish_reply set = set_bits (record { interrupt = true; status = 0x40; error = 0; active = set })
 
--- media error: A1h, I 1, status 41h, that error, SActive 0 [media-error] [failed]
+-- media error: A1h, I 1, status 41h, that error, SActive 0 [failed]
 abbrev pub media_reply : ℕ → FrameValue
 media_reply error = set_bits (record { interrupt = true; status = 0x41; error = error; active = 0 })
 
@@ -61,7 +61,7 @@ sweep_if on = pick on (sweep ∷ []) []
 abbrev pub activate_if : Bool → List FrameValue
 activate_if on = pick on (activate ∷ []) []
 
--- the record as page 10h shows it: status 41h; a blank one is 80h and zeros [blank] [record-set]
+-- the record as page 10h shows it: status 41h; a blank one is 80h and zeros [record-stays]
 abbrev pub log_of : ErrorRecord → ErrorLog
 log_of r =
     pick r.set (record { nq = r.nq; tag = r.tag; status = 0x41; error = r.error; task = task_in r.echo })
@@ -75,15 +75,15 @@ page10_of r = pick (fits10 (log_of r)) (page10 (log_of r)) []
 abbrev pub page11_of : ℕ → List ℕ → List ℕ
 page11_of mask values = pick (keeps_both mask) (page11 mask values) []
 
--- if halted, first the sweep; then PIO Setup; then the page as a data frame [log-replies] [sweep]
+-- if halted, first the sweep; then PIO Setup; then the page as a data frame [log-replies]
 abbrev pub log_replies : Bool → Task → List ℕ → List FrameValue
 log_replies on task page = sweep_if on ++ pio_reply task ∷ payload page ∷ []
 
--- open: DMA Setup; for a write, an Activate follows [open] [dma-setup]
+-- open: DMA Setup; for a write, an Activate follows [open]
 abbrev pub open_replies : Queued → List FrameValue
 open_replies q = (setup_reply q ∷ []) ++ activate_if q.entry.write
 
--- the replies of an act; `part` is what of the medium it sends, and the rest is looked up in what the state shows [all-sent] [comreset]
+-- the replies of an act; `part` is what of the medium it sends, and the rest is looked up in what the state shows [all-sent]
 unfoldable pub replies_of : Shown → List ℕ → Act → List FrameValue
 replies_of s part Nothing = []
 replies_of s part (Bad b) = bad_reply b.error b.task ∷ []

@@ -53,7 +53,7 @@ pub data Heard (v : Facts) : Result Frame Refusal → Act → Type 0 where
   srst : (h : HostReg) → h.command_bit ≡ false → srst_of h.control ≡ true → Heard v (Ok (Host h)) Reset
   release : (h : HostReg) → h.command_bit ≡ false → srst_of h.control ≡ false → v.status.held ≡ true → Heard v (Ok (Host h)) Release
   nothing : (h : HostReg) → h.command_bit ≡ false → srst_of h.control ≡ false → v.status.held ≡ false → Heard v (Ok (Host h)) Nothing
-  -- queued commands, rules 1 to 4
+  -- queued commands: halt, tag, range, good
   rule1 : (h : HostReg) → TimelyCommand v h true → v.status.halted ≡ true → Heard v (Ok (Host h)) (bad h 0x04)
   rule2 : (h : HostReg) → TimelyCommand v h true → v.status.halted ≡ false → leb v.settings.depth (tag_asked h) || bit_in 32 v.status.outstanding (tag_asked h) ≡ true
       → Heard v (Ok (Host h)) (fault h (Some (tag_asked h)) 0x04)

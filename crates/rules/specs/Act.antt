@@ -15,7 +15,7 @@ use Rattle.rules.specs.declared.facts.Facts.{Facts}
 use Rattle.rules.specs.declared.acts.Act.{Act}
 use Rattle.rules.specs.declared.acts.Act.TheVariants.{Open, Send, Finish, Media, Count, Renew}
 
--- after a media error 4-6 and 8-10 hold the failing sector [media-error] [failed]
+-- after a media error 4-6 and 8-10 hold the failing sector [media-error] [record-set]
 unfoldable pub failing : Echo → ℕ → Echo
 failing e sector = record e {
   b4 = byte_of sector 0;

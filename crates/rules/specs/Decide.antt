@@ -62,14 +62,14 @@ abbrev pub queued_does : HostReg → Result Unit verdict.Bad → Act
 queued_does h (Ok _) = Accept (record { tag = tag_asked h; entry = entry_for h })
 queued_does h (Err b) = bad_does h (Some (tag_asked h)) b
 
--- queued command: what the first rule that holds says [queued-halted] [queued-tag]
+-- queued command: what the first rule that holds says [queued-halted] [queued-tag] [queued-range] [queued-good]
 unfoldable pub queued_act : Facts → HostReg → Act
 queued_act v h =
     queued_does h
     (queued_rule v.status.halted (tag_refused v.settings.depth (tag_asked h) (bit_in 32 v.status.outstanding (tag_asked h)))
     (too_far v.settings.capacity h.task.lba (count_asked h)))
 
--- READ LOG EXT (2Fh) is well-formed if byte 4 is 10h or 11h, bytes 5 and 9 are 0, byte 12 is 1 and 13 is 0: the page that it asks for, if it does [log-form] [other-bad]
+-- READ LOG EXT (2Fh) is well-formed if byte 4 is 10h or 11h, bytes 5 and 9 are 0, byte 12 is 1 and 13 is 0: the page that it asks for, if it does [log-form]
 unfoldable pub log_page : ℕ → Echo → Option LogPage
 log_page command e = pick (eqb command 0x2F && (eqb e.b5 0 && eqb e.b9 0) && (eqb e.b12 1 && eqb e.b13 0)) (page_named e.b4) None
 

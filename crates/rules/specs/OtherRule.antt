@@ -19,10 +19,10 @@ abbrev pub asks_counters : Option LogPage → Bool
 asks_counters (Some Counters) = true
 asks_counters _ = false
 
--- any other command: halted and not a well-formed READ LOG EXT of page 10h: bad; something outstanding: bad, halt; the page that it asks for, 10h or 11h; otherwise bad, no halt [other-halted] [other-between]
+-- any other command: halted and not a well-formed READ LOG EXT of page 10h: bad; something outstanding: bad, halt; the page that it asks for, 10h or 11h; otherwise bad, no halt [other-halted] [other-between] [other-bad]
 abbrev pub other_rule : Bool → Option LogPage → Bool → Result LogPage Bad
 other_rule halted page busy = pick (halted && not (asks_errors page)) (Err (Only Aborted)) (pick busy (Err (Halts Aborted)) (ok_or page (Only Aborted)))
 
--- page 11h with features bit 0 zeroes the counters [log-zeroes] [other-halted]
+-- page 11h with features bit 0 zeroes the counters [log-zeroes]
 abbrev pub log_zeroes : ℕ → Bool
 log_zeroes features = bit_in 8 features 0

@@ -35,7 +35,7 @@ impl TagNamed {
     }
 }
 
-/// Rules 1 to 4 of a queued command: bad, or good.
+/// A queued command is bad by the first rule that holds, or good: halt, tag, range.
 pub fn queued_rule(
     halted: bool,
     depth: u32,

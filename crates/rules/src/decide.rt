@@ -43,7 +43,7 @@ fn log_page(task: Task) -> Option<LogPage>
 }
 
 impl Facts {
-    // Rules 1 to 4 of a queued command, a write or a read.
+    // The rules of a queued command, a write or a read.
     #[tactic(auto, unfolding(crate::specs::Decide::queued_act))]
     fn queued_act(&self, host: HostReg, write: bool) -> Act
         requires { write ≡ eqb host.command 0x61 }
@@ -71,7 +71,7 @@ impl Facts {
             Ok(()) => {
                 let entry = Entry {
                     write,
-                    // rule 3 did not hold: it is at most the capacity, a u32
+                    // the range was not past the capacity, which is a u32
                     first: host.task.lba as u32,
                     count,
                     moved: 0,
