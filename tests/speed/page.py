@@ -18,8 +18,10 @@ KINDS = {
 
 
 def table(heads, rows):
-    lines = ["| " + " | ".join(heads) + " |", "|" + "|".join(["---"] + ["---:"] * (len(heads) - 1)) + "|"]
-    return "\n".join(lines + ["| " + " | ".join(row) + " |" for row in rows])
+    """Columns by their places, as code: the words to the left, the numbers to the right."""
+    widths = [max(len(row[i]) for row in [heads, *rows]) for i in range(len(heads))]
+    lines = [row[0].ljust(widths[0]) + "".join("  " + word.rjust(width) for word, width in zip(row[1:], widths[1:])) for row in [heads, *rows]]
+    return "\n".join(["```", *[line.rstrip() for line in lines], "```"])
 
 
 def times(*nanoseconds):
