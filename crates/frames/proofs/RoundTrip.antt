@@ -1,66 +1,73 @@
 -- What a writer wrote, the reader reads again. Assumes nothing.
-use Rattle.std.proofs.Common.{Ok, ◌≡◌, refl, ap, ◌∙◌, true, List, ℕ, ◌-◌, arith, length, take, drop, take_at}
-use Rattle.frames.specs.Shared.{register_bytes}
-use Rattle.frames.specs.Size.{readable}
-use Rattle.frames.specs.Read.{frame_by_kind, read_frame}
-use Rattle.frames.specs.Write.{FrameValue, host, device, set_bits, setup, activate, payload, bist, pio, bits_bytes, setup_bytes, encode, fits, FrameWriteGiven}
+use Rattle.std.proofs.Common.{Ok, ◌≡◌, refl, sym, ap, ◌∙◌, Bool, true, false, List, [], ◌++◌, ℕ, ◌+◌, ◌-◌, ◌*◌, ◌/◌, ◌%◌, ◌^◌, arith, length, get_or, take, drop, take_at, Some}
+use mathlib.Core.Path.{fun_ext}
+use Rattle.bits.specs.Bit.{bit_in}
+use Rattle.frames.specs.Layout.{masks, all_hold, bytes_of}
+use Rattle.frames.specs.Layouts.{layout_of, standing}
+use Rattle.frames.specs.Shared.{flags_of}
+use Rattle.frames.specs.Size.{kind_named, allows}
+use Rattle.frames.specs.Read.{frame_at, read_frame}
+use Rattle.frames.specs.Write.{FrameValue, host, device, set_bits, setup, activate, payload, bist, pio, kind_of, values_of, payload_in, encode, fits, FrameWriteGiven}
 use Rattle.frames.specs.RoundTrip.{read_back}
-use Rattle.frames.specs.declared.kinds.FrameKind.TheVariants as kinds
+use Rattle.frames.proofs.LayoutLaws.{value_at, got_written}
 use Rattle.frames.proofs.ReadLaws.{read_some}
 use Rattle.frames.proofs.WriteLaws.{length_payload}
 use Rattle.frames.proofs.EmitLaws.{wrote_all}
-use Rattle.frames.specs.declared.shapes.HostReg.{HostReg}
-use Rattle.frames.specs.declared.shapes.DevReg.{DevReg}
-use Rattle.frames.specs.declared.shapes.SetBits.{SetBits}
-use Rattle.frames.specs.declared.shapes.DmaSetup.{DmaSetup}
-use Rattle.frames.specs.declared.shapes.PioSetup.{PioSetup}
-use Rattle.frames.specs.declared.shapes.Frame.TheVariants.{Host, Device, Bits, Setup, Data, Pio}
 
--- ---- byte 1
+-- the three flags of byte 1 come back
+flag_7 : (a b c : Bool) → bit_in 8 (flags_of a b c) 7 ≡ a
+flag_7 a b c = grind arith
 
--- ---- records of equal fields
+flag_6 : (a b c : Bool) → bit_in 8 (flags_of a b c) 6 ≡ b
+flag_6 a b c = grind arith
 
--- ---- each kind
+flag_5 : (a b c : Bool) → bit_in 8 (flags_of a b c) 5 ≡ c
+flag_5 a b c = grind arith
 
-read_host : (f : HostReg) → fits (host f) ≡ true → read_frame (encode (host f)) ≡ Ok (Host f)
-unfolding read_frame frame_by_kind readable encode fits register_bytes
-read_host f h = grind arith
+-- and so does an LBA
+lba : (x : ℕ) → x / 2 ^ 24 * 2 ^ 24 + x % 2 ^ 24 ≡ x
+lba x = omega arith
 
-read_device : (f : DevReg) → fits (device f) ≡ true → read_frame (encode (device f)) ≡ Ok (Device f)
-unfolding read_frame frame_by_kind readable encode fits register_bytes
-read_device f h = grind arith
+-- a frame is what its values say
+told : FrameValue → ℕ → ℕ
+told f = value_at (layout_of (kind_of f)) (values_of f) 0
 
-read_pio : (f : PioSetup) → fits (pio f) ≡ true → read_frame (encode (pio f)) ≡ Ok (Pio f)
-unfolding read_frame frame_by_kind readable encode fits register_bytes
-read_pio f h = grind arith
+back : (f : FrameValue) → frame_at (kind_of f) (told f) (length (payload_in f)) ≡ read_back f
+unfolding told
+back (host f) = rw (flag_7 f.command_bit false false, lba f.task.lba) refl
+back (device f) = rw (flag_6 false f.interrupt false, lba f.task.lba) refl
+back (set_bits f) = rw (flag_6 false f.interrupt false) refl
+back (setup f) = rw (flag_7 f.auto f.interrupt f.to_host, flag_6 f.auto f.interrupt f.to_host, flag_5 f.auto f.interrupt f.to_host) refl
+back activate = refl
+back (payload p) = refl
+back bist = refl
+back (pio f) = rw (flag_6 false f.interrupt f.to_host, flag_5 false f.interrupt f.to_host, lba f.task.lba) refl
 
-read_bits : (f : SetBits) → fits (set_bits f) ≡ true → read_frame (encode (set_bits f)) ≡ Ok (Bits f)
-unfolding read_frame frame_by_kind readable encode fits bits_bytes
-read_bits f h = grind arith
+-- its values stand in its bytes
+stands : (f : FrameValue) → all_hold (layout_of (kind_of f)) (values_of f) ≡ true → standing (kind_of f) (encode f) ≡ told f
+unfolding encode told
+stands f h = fun_ext (λ at. got_written (layout_of (kind_of f)) (values_of f) [] (payload_in f) h at)
 
-read_setup : (f : DmaSetup) → fits (setup f) ≡ true → read_frame (encode (setup f)) ≡ Ok (Setup f)
-unfolding read_frame frame_by_kind readable encode fits setup_bytes
-read_setup f h = grind arith
-
--- a payload behind four bytes
-read_payload : (p : List ℕ) → fits (payload p) ≡ true → read_frame (encode (payload p)) ≡ Ok (Data (length p))
-unfolding encode fits
-read_payload p h =
-    let l = length_payload p in
-    let k : length (encode (payload p)) - 4 ≡ length p = omega arith in
-    read_some (encode (payload p)) kinds.Data refl (rw k h) ∙ ap (λ n. Ok (Data n)) k
+-- so its bytes are read as it, where its kind allows their length
+sent : (f : FrameValue) → kind_named (get_or (encode f) 0 0) ≡ Some (kind_of f) → allows (kind_of f) (length (encode f)) ≡ true
+    → length (encode f) - length (masks (layout_of (kind_of f))) ≡ length (payload_in f) → all_hold (layout_of (kind_of f)) (values_of f) ≡ true
+    → read_frame (encode f) ≡ Ok (read_back f)
+sent f k a n h = read_some (encode f) (kind_of f) k a ∙ ap (λ x. Ok x) (rw (stands f h, n) (back f))
 
 -- what was encoded is read as what was sent
 pub read_encoded : (f : FrameValue) → fits f ≡ true → read_frame (encode f) ≡ Ok (read_back f)
-unfolding read_frame frame_by_kind readable encode
-read_encoded (host f) h = read_host f h
-read_encoded (device f) h = read_device f h
-read_encoded (set_bits f) h = read_bits f h
-read_encoded (setup f) h = read_setup f h
-read_encoded activate h = refl
-read_encoded (payload p) h = read_payload p h
-read_encoded bist h = refl
-read_encoded (pio f) h = read_pio f h
+unfolding encode fits
+read_encoded (host f) h = sent (host f) refl refl refl h
+read_encoded (device f) h = sent (device f) refl refl refl h
+read_encoded (set_bits f) h = sent (set_bits f) refl refl refl h
+read_encoded (setup f) h = sent (setup f) refl refl refl h
+read_encoded activate h = sent activate refl refl refl h
+read_encoded (payload p) h =
+    let l = length_payload p in
+    let k : length (encode (payload p)) - 4 ≡ length p = omega arith in
+    sent (payload p) refl (rw k h) k refl
+read_encoded bist h = sent bist refl refl refl h
+read_encoded (pio f) h = sent (pio f) refl refl refl h
 
 -- the bytes that a writer wrote are the frame's
 pub written_front : (f : FrameValue) (d d' : List ℕ) (n : ℕ) → FrameWriteGiven f d (Ok n) d' → take n d' ≡ encode f

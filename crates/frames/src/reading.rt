@@ -1,6 +1,9 @@
 // The frame reader: an enum by value, or a refusal.
+#![tactic(auto, using(crate::proofs::SharedLaws::named_flags))]
+
 ghost use Rattle.std.specs.Prelude.{◌≡◌};
-ghost use Rattle.frames.specs.Read.{host_of, device_of, bits_of, setup_of, pio_of, frame_of, FrameGiven};
+ghost use Rattle.frames.specs.Layouts.{standing};
+ghost use Rattle.frames.specs.Read.{host_at, device_at, bits_at, setup_at, pio_at, frame_of, FrameGiven};
 
 use crate::shapes::{DevReg, DmaSetup, Frame, HostReg, PioSetup, SetBits};
 use crate::{FrameKind, Task, byte_of, flag, halves, payload_of};
@@ -8,7 +11,7 @@ use refusals::Refusal;
 
 impl HostReg {
     fn from_frame(bytes: &[u8]) -> HostReg
-        ensures { result ≡ host_of bytes.now }
+        ensures { result ≡ host_at (standing FrameKind.HostRegister bytes.now) }
     {
         HostReg {
             command_bit: flag(byte_of(bytes, 1), 7),
@@ -23,7 +26,7 @@ impl HostReg {
 
 impl DevReg {
     fn from_frame(bytes: &[u8]) -> DevReg
-        ensures { result ≡ device_of bytes.now }
+        ensures { result ≡ device_at (standing FrameKind.DeviceRegister bytes.now) }
     {
         DevReg {
             interrupt: flag(byte_of(bytes, 1), 6),
@@ -36,7 +39,7 @@ impl DevReg {
 
 impl SetBits {
     fn from_frame(bytes: &[u8]) -> SetBits
-        ensures { result ≡ bits_of bytes.now }
+        ensures { result ≡ bits_at (standing FrameKind.SetDeviceBits bytes.now) }
     {
         SetBits {
             interrupt: flag(byte_of(bytes, 1), 6),
@@ -49,7 +52,7 @@ impl SetBits {
 
 impl DmaSetup {
     fn from_frame(bytes: &[u8]) -> DmaSetup
-        ensures { result ≡ setup_of bytes.now }
+        ensures { result ≡ setup_at (standing FrameKind.DmaSetup bytes.now) }
     {
         DmaSetup {
             auto: flag(byte_of(bytes, 1), 7),
@@ -64,7 +67,7 @@ impl DmaSetup {
 
 impl PioSetup {
     fn from_frame(bytes: &[u8]) -> PioSetup
-        ensures { result ≡ pio_of bytes.now }
+        ensures { result ≡ pio_at (standing FrameKind.PioSetup bytes.now) }
     {
         PioSetup {
             interrupt: flag(byte_of(bytes, 1), 6),
