@@ -1,8 +1,8 @@
 -- What was read, written again, is the frame with its dropped bits zeroed. Assumes nothing.
-use Rattle.std.proofs.Common.{Result, Ok, Err, Some, ◌≡◌, refl, sym, ap, ◌∙◌, Bool, true, false, List, [], ◌++◌, ℕ, ◌+◌, ◌-◌, ◌*◌, ◌/◌, ◌%◌, ◌^◌, ◌<◌, ◌≤◌, le_of_eq, arith, bit_and, eqb, eqb→eq, lit<, length, get_or, drop, drop_of_length-le, length-drop, eqb-true, lt-ltb}
+use Rattle.std.proofs.Common.{Result, Ok, Err, Some, ◌≡◌, refl, sym, ap, ◌∙◌, T, Bool, true, false, List, [], ◌++◌, ℕ, ◌+◌, ◌-◌, ◌*◌, ◌/◌, ◌%◌, ◌^◌, ◌<◌, ◌≤◌, le_of_eq, arith, bit_and, eqb, eqb→eq, lit<, length, get_or, drop, drop_of_length-le, length-drop, eqb-true, lt-ltb}
 use Rattle.bits.specs.Bit.{bit_in}
 use Rattle.bits.specs.Little.{le_at, Bytes}
-use Rattle.bits.proofs.Tables.{below_all}
+use Rattle.bits.proofs.Tables.{all_below, below_all}
 use Rattle.bits.proofs.Littles.{le_lt}
 use Rattle.frames.specs.Layout.{masks, all_hold}
 use Rattle.frames.specs.Layouts.{layout_of}
@@ -20,30 +20,11 @@ use Rattle.frames.proofs.ReadLaws.{by_kind}
 use Rattle.refusals.specs.declared.reasons.Refusal.{Refusal}
 use Rattle.frames.specs.declared.shapes.Frame.{Frame}
 
--- ---- byte 1 under a mask: its flags, read and written again, computed
+-- byte 1 under a mask: its flags, read and written again, computed
+masked : (f : ℕ → ℕ) (m : ℕ) → T (all_below 256 (λ x. eqb (f x) (bit_and x m))) → (b : ℕ) → b < 256 → f b ≡ bit_and b m
+masked f m t b h = eqb→eq _ _ (below_all 256 (λ x. eqb (f x) (bit_and x m)) t b h)
 
-same : (ℕ → ℕ) → (ℕ → ℕ) → ℕ → Bool
-same f g b = eqb (f b) (g b)
-
-module _ (b : ℕ) (h : b < 256) where
-  masks_7 : flags_of (bit_in 8 (bit_and b 0x80) 7) false false ≡ bit_and b 0x80
-  unfolding same
-  masks_7 = eqb→eq _ _ (below_all 256 (same (λ (x : ℕ). flags_of (bit_in 8 (bit_and x 0x80) 7) false false) (λ (x : ℕ). bit_and x 0x80)) tt b h)
-
-  masks_6 : flags_of false (bit_in 8 (bit_and b 0x40) 6) false ≡ bit_and b 0x40
-  unfolding same
-  masks_6 = eqb→eq _ _ (below_all 256 (same (λ (x : ℕ). flags_of false (bit_in 8 (bit_and x 0x40) 6) false) (λ (x : ℕ). bit_and x 0x40)) tt b h)
-
-  masks_65 : flags_of false (bit_in 8 (bit_and b 0x60) 6) (bit_in 8 (bit_and b 0x60) 5) ≡ bit_and b 0x60
-  unfolding same
-  masks_65 = eqb→eq _ _ (below_all 256 (same (λ (x : ℕ). flags_of false (bit_in 8 (bit_and x 0x60) 6) (bit_in 8 (bit_and x 0x60) 5)) (λ (x : ℕ). bit_and x 0x60)) tt b h)
-
-  masks_765 : flags_of (bit_in 8 (bit_and b 0xE0) 7) (bit_in 8 (bit_and b 0xE0) 6) (bit_in 8 (bit_and b 0xE0) 5) ≡ bit_and b 0xE0
-  unfolding same
-  masks_765 = eqb→eq _ _ (below_all 256 (same (λ (x : ℕ). flags_of (bit_in 8 (bit_and x 0xE0) 7) (bit_in 8 (bit_and x 0xE0) 6) (bit_in 8 (bit_and x 0xE0) 5)) (λ (x : ℕ). bit_and x 0xE0)) tt b h)
-
--- ---- an LBA
-
+-- an LBA
 low : (hi lo : ℕ) → lo < 2 ^ 24 → (hi * 2 ^ 24 + lo) % 2 ^ 24 ≡ lo
 low hi lo h = omega arith
 
@@ -65,14 +46,11 @@ module _ (l : List ℕ) (bytes : Bytes l) where
   Values kind = values_of (again l (frame_of kind l)) ≡ values_in (layout_of kind) l 0
 
   values : (kind : FrameKind) → kind_named (get_or l 0 0) ≡ Some kind → Values kind
-  values kinds.HostRegister e = rw (named_byte (get_or l 0 0) kinds.HostRegister e, masks_7 (get_or l 1 0) (bytes 1), lba_low, lba_high) refl
-  values kinds.DeviceRegister e = rw (named_byte (get_or l 0 0) kinds.DeviceRegister e, masks_6 (get_or l 1 0) (bytes 1), lba_low, lba_high) refl
-  values kinds.SetDeviceBits e = rw (named_byte (get_or l 0 0) kinds.SetDeviceBits e, masks_6 (get_or l 1 0) (bytes 1)) refl
-  values kinds.DmaSetup e = rw (named_byte (get_or l 0 0) kinds.DmaSetup e, masks_765 (get_or l 1 0) (bytes 1)) refl
-  values kinds.DmaActivate e = rw (named_byte (get_or l 0 0) kinds.DmaActivate e) refl
-  values kinds.BistActivate e = rw (named_byte (get_or l 0 0) kinds.BistActivate e) refl
-  values kinds.PioSetup e = rw (named_byte (get_or l 0 0) kinds.PioSetup e, masks_65 (get_or l 1 0) (bytes 1), lba_low, lba_high) refl
-  values kinds.Data e = rw (named_byte (get_or l 0 0) kinds.Data e) refl
+  values kind e = grind (arith, named_byte (get_or l 0 0) kind e, lba_low, lba_high,
+      masked (λ x. flags_of (bit_in 8 (bit_and x 0x80) 7) false false) 0x80 tt (get_or l 1 0) (bytes 1),
+      masked (λ x. flags_of false (bit_in 8 (bit_and x 0x40) 6) false) 0x40 tt (get_or l 1 0) (bytes 1),
+      masked (λ x. flags_of false (bit_in 8 (bit_and x 0x60) 6) (bit_in 8 (bit_and x 0x60) 5)) 0x60 tt (get_or l 1 0) (bytes 1),
+      masked (λ x. flags_of (bit_in 8 (bit_and x 0xE0) 7) (bit_in 8 (bit_and x 0xE0) 6) (bit_in 8 (bit_and x 0xE0) 5)) 0xE0 tt (get_or l 1 0) (bytes 1))
 
   -- so the bytes of a frame that was read are those that stood there, with the dropped bits zeroed
   whole : (kind : FrameKind) → kind_named (get_or l 0 0) ≡ Some kind → length (masks (layout_of kind)) ≤ length l → (f : FrameValue) → kind_of f ≡ kind → values_of f ≡ values_in (layout_of kind) l 0

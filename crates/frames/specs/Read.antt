@@ -14,46 +14,20 @@ use Rattle.frames.specs.Shared.{task_at}
 use Rattle.frames.specs.Size.{kind_named, readable}
 use Rattle.frames.specs.declared.kinds.FrameKind.{FrameKind}
 use Rattle.frames.specs.declared.kinds.FrameKind.TheVariants as kinds
+use Rattle.frames.specs.declared.kinds.FrameKind.TheVariants.{HostRegister, DeviceRegister, SetDeviceBits, DmaSetup, DmaActivate, BistActivate, PioSetup}
 use Rattle.frames.specs.declared.shared.Task.{Task}
-use Rattle.frames.specs.declared.shapes.HostReg.{HostReg}
-use Rattle.frames.specs.declared.shapes.DevReg.{DevReg}
-use Rattle.frames.specs.declared.shapes.SetBits.{SetBits}
-use Rattle.frames.specs.declared.shapes.DmaSetup.{DmaSetup}
-use Rattle.frames.specs.declared.shapes.PioSetup.{PioSetup}
 use Rattle.frames.specs.declared.shapes.Frame.{Frame}
 use Rattle.frames.specs.declared.shapes.Frame.TheVariants.{Host, Device, Bits, Setup, Activate, Data, Bist, Pio}
 
--- Each kind that has fields, by the bytes with which its pieces begin.
-
--- 27h: byte 1 bit 7 is C [frame-27] [srst-bit]
-abbrev pub host_at : (ℕ → ℕ) → HostReg
-host_at at = record { command_bit = bit_in 8 (at 1) 7; command = at 2; features = at 3; task = task_at at; features_high = at 11; control = at 15 }
-
--- 34h: byte 1 bit 6 is I [frame-34]
-abbrev pub device_at : (ℕ → ℕ) → DevReg
-device_at at = record { interrupt = bit_in 8 (at 1) 6; status = at 2; error = at 3; task = task_at at }
-
--- A1h: byte 1 bit 6 is I [frame-A1]
-abbrev pub bits_at : (ℕ → ℕ) → SetBits
-bits_at at = record { interrupt = bit_in 8 (at 1) 6; status = at 2; error = at 3; active = at 4 }
-
--- 41h: byte 1 bit 7 is A, bit 6 I, bit 5 D [frame-41]
-abbrev pub setup_at : (ℕ → ℕ) → DmaSetup
-setup_at at = record { auto = bit_in 8 (at 1) 7; interrupt = bit_in 8 (at 1) 6; to_host = bit_in 8 (at 1) 5; tag = at 4; offset = at 16; count = at 20 }
-
--- 5Fh: as 34h, and byte 1 bit 5 is D [frame-5F]
-abbrev pub pio_at : (ℕ → ℕ) → PioSetup
-pio_at at = record { interrupt = bit_in 8 (at 1) 6; to_host = bit_in 8 (at 1) 5; status = at 2; error = at 3; task = task_at at; ending = at 15; bytes = at 16 }
-
--- the frame of a kind by the same, with n bytes behind its layout: a data frame leaves its payload where it is
+-- the frame of a kind by the bytes with which its pieces begin, and the count of those behind its layout: a data frame leaves its payload where it is. In byte 1, C and A are bit 7, I is bit 6, and D is bit 5 [frame-27] [frame-34] [frame-A1] [frame-41] [frame-5F] [srst-bit]
 abbrev pub frame_at : FrameKind → (ℕ → ℕ) → ℕ → Frame
-frame_at kinds.HostRegister at n = Host (host_at at)
-frame_at kinds.DeviceRegister at n = Device (device_at at)
-frame_at kinds.SetDeviceBits at n = Bits (bits_at at)
-frame_at kinds.DmaSetup at n = Setup (setup_at at)
-frame_at kinds.DmaActivate at n = Activate
-frame_at kinds.BistActivate at n = Bist
-frame_at kinds.PioSetup at n = Pio (pio_at at)
+frame_at HostRegister at n = Host (record { command_bit = bit_in 8 (at 1) 7; command = at 2; features = at 3; task = task_at at; features_high = at 11; control = at 15 })
+frame_at DeviceRegister at n = Device (record { interrupt = bit_in 8 (at 1) 6; status = at 2; error = at 3; task = task_at at })
+frame_at SetDeviceBits at n = Bits (record { interrupt = bit_in 8 (at 1) 6; status = at 2; error = at 3; active = at 4 })
+frame_at DmaSetup at n = Setup (record { auto = bit_in 8 (at 1) 7; interrupt = bit_in 8 (at 1) 6; to_host = bit_in 8 (at 1) 5; tag = at 4; offset = at 16; count = at 20 })
+frame_at DmaActivate at n = Activate
+frame_at BistActivate at n = Bist
+frame_at PioSetup at n = Pio (record { interrupt = bit_in 8 (at 1) 6; to_host = bit_in 8 (at 1) 5; status = at 2; error = at 3; task = task_at at; ending = at 15; bytes = at 16 })
 frame_at kinds.Data at n = Data n
 
 -- the frame that bytes of a kind are

@@ -6,7 +6,6 @@ use Rattle.frames.specs.Shared.{flags_of, register_values}
 use Rattle.frames.specs.Size.{payload_size}
 use Rattle.frames.specs.declared.kinds.FrameKind.{FrameKind}
 use Rattle.frames.specs.declared.kinds.FrameKind.TheVariants as kinds
-use Rattle.frames.specs.declared.shared.Registers.{Registers}
 use Rattle.frames.specs.Emit.{WriteGiven}
 use Rattle.frames.specs.declared.shapes.HostReg.{HostReg}
 use Rattle.frames.specs.declared.shapes.DevReg.{DevReg}
@@ -26,45 +25,6 @@ pub data FrameValue : Type 0 where
   bist : FrameValue
   pio : PioSetup → FrameValue
 
--- 27h in the layout that it shares with 34h and 5Fh
-abbrev pub host_registers : HostReg → Registers
-host_registers f = record {
-  kind = 0x27;
-  flags = flags_of f.command_bit false false;
-  second = f.command;
-  third = f.features;
-  task = f.task;
-  eleven = f.features_high;
-  fifteen = f.control;
-  bytes = 0;
-}
-
--- 34h in that layout
-abbrev pub device_registers : DevReg → Registers
-device_registers f = record {
-  kind = 0x34;
-  flags = flags_of false f.interrupt false;
-  second = f.status;
-  third = f.error;
-  task = f.task;
-  eleven = 0;
-  fifteen = 0;
-  bytes = 0;
-}
-
--- 5Fh in that layout
-abbrev pub pio_registers : PioSetup → Registers
-pio_registers f = record {
-  kind = 0x5F;
-  flags = flags_of false f.interrupt f.to_host;
-  second = f.status;
-  third = f.error;
-  task = f.task;
-  eleven = 0;
-  fifteen = f.ending;
-  bytes = f.bytes;
-}
-
 -- the kind of a frame
 abbrev pub kind_of : FrameValue → FrameKind
 kind_of (host f) = kinds.HostRegister
@@ -78,14 +38,14 @@ kind_of (pio f) = kinds.PioSetup
 
 -- its values, one for each piece of the kind's layout
 abbrev pub values_of : FrameValue → List ℕ
-values_of (host f) = register_values (host_registers f)
-values_of (device f) = register_values (device_registers f)
+values_of (host f) = register_values (record { kind = 0x27; flags = flags_of f.command_bit false false; second = f.command; third = f.features; task = f.task; eleven = f.features_high; fifteen = f.control; bytes = 0 })
+values_of (device f) = register_values (record { kind = 0x34; flags = flags_of false f.interrupt false; second = f.status; third = f.error; task = f.task; eleven = 0; fifteen = 0; bytes = 0 })
 values_of (set_bits f) = 0xA1 ∷ flags_of false f.interrupt false ∷ f.status ∷ f.error ∷ f.active ∷ []
 values_of (setup f) = 0x41 ∷ flags_of f.auto f.interrupt f.to_host ∷ 0 ∷ f.tag ∷ 0 ∷ f.offset ∷ f.count ∷ 0 ∷ []
 values_of activate = 0x39 ∷ 0 ∷ []
 values_of (payload p) = 0x46 ∷ 0 ∷ []
 values_of bist = 0x58 ∷ 0 ∷ []
-values_of (pio f) = register_values (pio_registers f)
+values_of (pio f) = register_values (record { kind = 0x5F; flags = flags_of false f.interrupt f.to_host; second = f.status; third = f.error; task = f.task; eleven = 0; fifteen = f.ending; bytes = f.bytes })
 
 -- what stands behind the layout
 abbrev pub payload_in : FrameValue → List ℕ

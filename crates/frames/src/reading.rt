@@ -2,8 +2,7 @@
 #![tactic(auto, using(crate::proofs::SharedLaws::named_flags))]
 
 ghost use Rattle.std.specs.Prelude.{◌≡◌};
-ghost use Rattle.frames.specs.Layouts.{standing};
-ghost use Rattle.frames.specs.Read.{host_at, device_at, bits_at, setup_at, pio_at, frame_of, FrameGiven};
+ghost use Rattle.frames.specs.Read.{frame_of, FrameGiven};
 
 use crate::shapes::{DevReg, DmaSetup, Frame, HostReg, PioSetup, SetBits};
 use crate::{FrameKind, Task, byte_of, flag, halves, payload_of};
@@ -11,7 +10,7 @@ use refusals::Refusal;
 
 impl HostReg {
     fn from_frame(bytes: &[u8]) -> HostReg
-        ensures { result ≡ host_at (standing FrameKind.HostRegister bytes.now) }
+        ensures { Frame.Host result ≡ frame_of FrameKind.HostRegister bytes.now }
     {
         HostReg {
             command_bit: flag(byte_of(bytes, 1), 7),
@@ -26,7 +25,7 @@ impl HostReg {
 
 impl DevReg {
     fn from_frame(bytes: &[u8]) -> DevReg
-        ensures { result ≡ device_at (standing FrameKind.DeviceRegister bytes.now) }
+        ensures { Frame.Device result ≡ frame_of FrameKind.DeviceRegister bytes.now }
     {
         DevReg {
             interrupt: flag(byte_of(bytes, 1), 6),
@@ -39,7 +38,7 @@ impl DevReg {
 
 impl SetBits {
     fn from_frame(bytes: &[u8]) -> SetBits
-        ensures { result ≡ bits_at (standing FrameKind.SetDeviceBits bytes.now) }
+        ensures { Frame.Bits result ≡ frame_of FrameKind.SetDeviceBits bytes.now }
     {
         SetBits {
             interrupt: flag(byte_of(bytes, 1), 6),
@@ -52,7 +51,7 @@ impl SetBits {
 
 impl DmaSetup {
     fn from_frame(bytes: &[u8]) -> DmaSetup
-        ensures { result ≡ setup_at (standing FrameKind.DmaSetup bytes.now) }
+        ensures { Frame.Setup result ≡ frame_of FrameKind.DmaSetup bytes.now }
     {
         DmaSetup {
             auto: flag(byte_of(bytes, 1), 7),
@@ -67,7 +66,7 @@ impl DmaSetup {
 
 impl PioSetup {
     fn from_frame(bytes: &[u8]) -> PioSetup
-        ensures { result ≡ pio_at (standing FrameKind.PioSetup bytes.now) }
+        ensures { Frame.Pio result ≡ frame_of FrameKind.PioSetup bytes.now }
     {
         PioSetup {
             interrupt: flag(byte_of(bytes, 1), 6),

@@ -23,7 +23,7 @@ fn write_registers(buf: &mut [u8], registers: Registers) -> Result<usize, Refusa
 ///
 /// # Errors
 /// `Unfit` (25) for an LBA of more than 48 bits, and else `BufferShort` (26).
-#[tactic(auto, using(crate::proofs::FitLaws::written_registers))]
+#[tactic(auto, unfolding(crate::specs::Write::encode, crate::specs::Write::fits, crate::specs::Shared::register_bytes), using(crate::proofs::FitLaws::register_frames))]
 pub fn write_host(buf: &mut [u8], frame: HostReg) -> Result<usize, Refusal>
     ensures { FrameWriteGiven (host frame) buf.old result buf.new }
 {
@@ -44,7 +44,7 @@ pub fn write_host(buf: &mut [u8], frame: HostReg) -> Result<usize, Refusal>
 ///
 /// # Errors
 /// `Unfit` (25) for an LBA of more than 48 bits, and else `BufferShort` (26).
-#[tactic(auto, using(crate::proofs::FitLaws::written_registers))]
+#[tactic(auto, unfolding(crate::specs::Write::encode, crate::specs::Write::fits, crate::specs::Shared::register_bytes), using(crate::proofs::FitLaws::register_frames))]
 pub fn write_device(buf: &mut [u8], frame: DevReg) -> Result<usize, Refusal>
     ensures { FrameWriteGiven (device frame) buf.old result buf.new }
 {
@@ -63,7 +63,7 @@ pub fn write_device(buf: &mut [u8], frame: DevReg) -> Result<usize, Refusal>
 ///
 /// # Errors
 /// `Unfit` (25) for an LBA of more than 48 bits, and else `BufferShort` (26).
-#[tactic(auto, using(crate::proofs::FitLaws::written_registers))]
+#[tactic(auto, unfolding(crate::specs::Write::encode, crate::specs::Write::fits, crate::specs::Shared::register_bytes), using(crate::proofs::FitLaws::register_frames))]
 pub fn write_pio(buf: &mut [u8], frame: PioSetup) -> Result<usize, Refusal>
     ensures { FrameWriteGiven (pio frame) buf.old result buf.new }
 {
