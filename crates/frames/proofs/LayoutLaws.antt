@@ -1,5 +1,5 @@
 -- There and back, for every layout. Assumes nothing.
-use Rattle.std.proofs.Common.{◌≡◌, refl, sym, ap, ap₂, ◌∙◌, Bool, true, false, List, [], ◌∷◌, ◌++◌, ℕ, zero, suc, ◌+◌, ◌*◌, ◌^◌, ◌<◌, ◌≤◌, arith, length, get_or, take, drop, replicate, append_assoc, length-append, length-drop, take_at, drop_at, mod-eq_of_lt, eqb, ltb, eqb-true, ltb-true, lt-ltb, eq-eqb, bit_and}
+use Rattle.std.proofs.Common.{◌≡◌, refl, sym, ap, ◌∙◌, Bool, true, false, List, [], ◌∷◌, ◌++◌, ℕ, zero, suc, ◌+◌, ◌*◌, ◌^◌, ◌<◌, ◌≤◌, arith, length, get_or, take, drop, replicate, append_assoc, length-append, length-drop, take_at, drop_at, mod-eq_of_lt, eqb, eqb-true, ltb-true, lt-ltb, bit_and}
 use native.Mathlib.Nat.{mod-one}
 use lib.Bits.{and_mask}
 use Rattle.std.specs.Int.Bits.{and_self}
@@ -24,10 +24,7 @@ long k zero x = refl
 long k (suc n) x = ap suc (long (suc k) n x)
 
 length_put : (p : Piece) (v : ℕ) → length (put p v) ≡ length (mask p)
-length_put byte v = refl
-length_put (bits m) v = refl
-length_put (number n) v = long 0 n v ∙ sym (length-replicate {A = ℕ} n 0xFF)
-length_put (unnamed n) v = length-replicate {A = ℕ} n 0 ∙ sym (length-replicate {A = ℕ} n 0)
+length_put p v = grind (arith, long, length-replicate)
 
 byte_behind : (f : List ℕ) (v : ℕ) (r : List ℕ) → get_or (f ++ (v ∷ r)) (length f) 0 ≡ v
 byte_behind [] v r = refl
@@ -85,28 +82,19 @@ module _ (l : List ℕ) (bytes : Bytes l) where
 
   number_again : (x n k at : ℕ) (ms : List ℕ) → ((j : ℕ) → j < n → byte_of x (k + j) ≡ get_or l (at + j) 0)
       → masked_from at (replicate n 0xFF ++ ms) l ≡ bytes_from k n x ++ masked_from (at + n) ms l
-  number_again x zero k at ms h = let a : at + 0 ≡ at = omega arith in rw a
+  number_again x zero k at ms h = grind arith
   number_again x (suc n) k at ms h =
-      let k0 : k + 0 ≡ k = omega arith in
-      let a0 : at + 0 ≡ at = omega arith in
-      let a1 : at + suc n ≡ suc at + n = omega arith in
-      let e : byte_of x k ≡ get_or l at 0 = (rw (k0, a0) at (h 0 (omega arith))) in
-      let r = number_again x n (suc k) (suc at) ms (λ j q. let kj : suc k + j ≡ k + suc j = omega arith in let aj : suc at + j ≡ at + suc j = omega arith in rw (kj, aj) (h (suc j) (omega arith))) in
-      rw (keeps at, e, a1, r)
+      grind (arith, keeps at, h 0 (omega arith), number_again x n (suc k) (suc at) ms (λ j q. let kj : suc k + j ≡ k + suc j = omega arith in let aj : suc at + j ≡ at + suc j = omega arith in rw (kj, aj) (h (suc j) (omega arith))))
+
+  number_bytes : (n at : ℕ) (ms : List ℕ) → masked_from at (replicate n 0xFF ++ ms) l ≡ le_bytes n (le_at l at n) ++ masked_from (at + n) ms l
+  number_bytes n at ms = number_again (le_at l at n) n 0 at ms (λ j h. let z : 0 + j ≡ j = omega arith in rw z (byte_le l bytes at n j h))
 
   unnamed_again : (n at : ℕ) (ms : List ℕ) → masked_from at (replicate n 0 ++ ms) l ≡ replicate n 0 ++ masked_from (at + n) ms l
-  unnamed_again zero at ms = let a : at + 0 ≡ at = omega arith in rw a
-  unnamed_again (suc n) at ms =
-      let a1 : at + suc n ≡ suc at + n = omega arith in
-      rw (drops at, a1, unnamed_again n (suc at) ms)
+  unnamed_again zero at ms = grind arith
+  unnamed_again (suc n) at ms = grind (arith, drops at, unnamed_again n (suc at) ms)
 
   piece_again : (p : Piece) (at : ℕ) (ms : List ℕ) → masked_from at (mask p ++ ms) l ≡ put p (got p l at) ++ masked_from (at + length (mask p)) ms l
-  piece_again byte at ms = let a : at + 1 ≡ suc at = omega arith in rw (keeps at, a)
-  piece_again (bits m) at ms = let a : at + 1 ≡ suc at = omega arith in rw a
-  piece_again (number n) at ms =
-      rw (length-replicate {A = ℕ} n 0xFF)
-      (number_again (le_at l at n) n 0 at ms (λ j h. let z : 0 + j ≡ j = omega arith in rw z (byte_le l bytes at n j h)))
-  piece_again (unnamed n) at ms = rw (length-replicate {A = ℕ} n 0) (unnamed_again n at ms)
+  piece_again p at ms = grind (arith, keeps at, length-replicate, unnamed_again, number_bytes)
 
   -- the bytes of what was read, with what stands behind
   pub written_again : (ps : List Piece) (at : ℕ) → bytes_of ps (values_in ps l at) ++ drop (at + length (masks ps)) l ≡ masked_from at (masks ps) l
@@ -116,10 +104,7 @@ module _ (l : List ℕ) (bytes : Bytes l) where
       rw (n, piece_again p at (masks ps), append_assoc (put p (got p l at)) (bytes_of ps (values_in ps l (at + length (mask p)))) (drop ((at + length (mask p)) + length (masks ps)) l), written_again ps (at + length (mask p)))
 
   got_holds : (p : Piece) (at : ℕ) → holds p (got p l at) ≡ true
-  got_holds byte at = lt-ltb (get_or l at 0) 256 (bytes at)
-  got_holds (bits m) at = eq-eqb (bit_and (bit_and (get_or l at 0) m) m) (bit_and (get_or l at 0) m) (and_assoc m (get_or l at 0) m ∙ ap (bit_and (get_or l at 0)) (and_self m))
-  got_holds (number n) at = lt-ltb (le_at l at n) (2 ^ (8 * n)) (le_lt l bytes at n)
-  got_holds (unnamed n) at = refl
+  got_holds p at = grind (arith, lt-ltb, bytes at, le_lt l bytes at, and_assoc, and_self)
 
   -- what was read has its places
   pub read_holds : (ps : List Piece) (at : ℕ) → all_hold ps (values_in ps l at) ≡ true

@@ -1,17 +1,14 @@
 -- What a writer wrote, the reader reads again. Assumes nothing.
-use Rattle.std.proofs.Common.{Ok, ◌≡◌, refl, sym, ap, ◌∙◌, Bool, true, false, List, [], ◌++◌, ℕ, ◌+◌, ◌-◌, ◌*◌, ◌/◌, ◌%◌, ◌^◌, arith, length, get_or, take, drop, take_at, Some}
+use Rattle.std.proofs.Common.{Ok, ◌≡◌, refl, ap, ◌∙◌, true, List, [], ℕ, ◌-◌, arith, length, get_or, take, drop, take_at, Some}
 use mathlib.Core.Path.{fun_ext}
-use Rattle.bits.specs.Bit.{bit_in}
-use Rattle.frames.specs.Layout.{masks, all_hold, bytes_of}
+use Rattle.frames.specs.Layout.{masks, all_hold}
 use Rattle.frames.specs.Layouts.{layout_of, standing}
-use Rattle.frames.specs.Shared.{flags_of}
 use Rattle.frames.specs.Size.{kind_named, payload_size, allows}
 use Rattle.frames.specs.Read.{frame_at, read_frame}
-use Rattle.frames.specs.Write.{FrameValue, host, device, set_bits, setup, activate, payload, bist, pio, kind_of, values_of, payload_in, encode, fits, FrameWriteGiven}
+use Rattle.frames.specs.Write.{FrameValue, payload, kind_of, values_of, payload_in, encode, fits, FrameWriteGiven}
 use Rattle.frames.specs.RoundTrip.{read_back}
 use Rattle.frames.proofs.LayoutLaws.{value_at, got_written}
 use Rattle.frames.proofs.ReadLaws.{read_some}
-use Rattle.frames.proofs.WriteLaws.{length_payload}
 use Rattle.frames.proofs.EmitLaws.{wrote_all}
 
 -- a frame is what its values say

@@ -1,6 +1,6 @@
 -- What is written of a command's bytes is read again. Assumes nothing.
-use Rattle.std.proofs.Common.{◌≡◌, refl, true, List, [], ◌∷◌, ◌++◌, ℕ, zero, suc, ◌+◌, ◌*◌, ◌/◌, ◌%◌, ◌^◌, ◌<◌, arith, lit<, div-one, shr-shr, ltb-true}
-use Rattle.bits.specs.Little.{Bytes, byte_of, bytes_from, le_bytes}
+use Rattle.std.proofs.Common.{◌≡◌, true, List, [], ◌∷◌, ◌++◌, ℕ, ◌^◌, ◌<◌, arith, ltb-true}
+use Rattle.bits.specs.Little.{Bytes, bytes_from, le_bytes}
 use Rattle.frames.specs.Shared.{task_of, register_bytes, is_below, task_fits}
 use Rattle.frames.specs.declared.shared.Task.{Task}
 use Rattle.frames.specs.declared.shared.Registers.{Registers}
@@ -24,14 +24,4 @@ task_fits_lem l bytes = grind arith
 pub register_list : (r : Registers)
     → register_bytes r ≡ r.kind ∷ r.flags ∷ r.second ∷ r.third ∷ bytes_from 0 3 r.task.lba ++ r.task.device ∷ bytes_from 3 3 r.task.lba ++ r.eleven ∷ le_bytes 2 r.task.count ++ 0 ∷ r.fifteen ∷ le_bytes 2 r.bytes ++ 0 ∷ 0 ∷ []
 unfolding register_bytes
-register_list r =
-    rw (low 0 (lit< tt), low 1 (lit< tt), low 2 (lit< tt), high 0, high 1, high 2) refl
-  where
-    low : (k : ℕ) → k < 3 → byte_of (r.task.lba % 2 ^ 24) k ≡ byte_of r.task.lba k
-    low zero h = rw (div-one, div-one) (omega arith)
-    low (suc zero) h = omega arith
-    low (suc (suc zero)) h = omega arith
-    low (suc (suc (suc k))) h = absurd (omega arith)
-
-    high : (k : ℕ) → byte_of (r.task.lba / 2 ^ 24) k ≡ byte_of r.task.lba (3 + k)
-    high k = let e : 8 * (3 + k) ≡ 24 + 8 * k = omega arith in rw (e, ← shr-shr r.task.lba 24 (8 * k)) refl
+register_list r = grind arith

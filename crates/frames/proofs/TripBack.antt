@@ -1,17 +1,16 @@
 -- What was read, written again, is the frame with its dropped bits zeroed. Assumes nothing.
-use Rattle.std.proofs.Common.{Result, Ok, Err, Some, ◌≡◌, refl, sym, ap, ◌∙◌, T, Bool, true, false, List, [], ◌++◌, ℕ, ◌+◌, ◌-◌, ◌*◌, ◌/◌, ◌%◌, ◌^◌, ◌<◌, ◌≤◌, le_of_eq, arith, bit_and, eqb, eqb→eq, lit<, length, get_or, drop, drop_of_length-le, length-drop, eqb-true, lt-ltb}
+use Rattle.std.proofs.Common.{Result, Ok, Err, Some, ◌≡◌, T, true, false, List, ℕ, ◌+◌, ◌*◌, ◌/◌, ◌%◌, ◌^◌, ◌<◌, ◌≤◌, arith, bit_and, eqb, eqb→eq, length, get_or, drop, drop_of_length-le, length-drop}
 use Rattle.bits.specs.Bit.{bit_in}
 use Rattle.bits.specs.Little.{le_at, Bytes}
 use Rattle.bits.proofs.Tables.{all_below, below_all}
 use Rattle.bits.proofs.Littles.{le_lt}
-use Rattle.frames.specs.Layout.{masks, all_hold}
+use Rattle.frames.specs.Layout.{masks}
 use Rattle.frames.specs.Layouts.{layout_of}
 use Rattle.frames.specs.Shared.{flags_of}
-use Rattle.frames.specs.Size.{kind_named, allows, payload_size}
+use Rattle.frames.specs.Size.{kind_named, allows}
 use Rattle.frames.specs.declared.kinds.FrameKind.{FrameKind}
-use Rattle.frames.specs.declared.kinds.FrameKind.TheVariants as kinds
 use Rattle.frames.specs.Read.{frame_of, read_frame}
-use Rattle.frames.specs.Write.{FrameValue, payload, kind_of, values_of, payload_in, encode, fits, FrameWriteGiven}
+use Rattle.frames.specs.Write.{FrameValue, kind_of, values_of, payload_in, encode, fits, FrameWriteGiven}
 use Rattle.frames.specs.RoundTrip.{again, named_bits, zeroed}
 use Rattle.frames.specs.Emit.{WriteGiven}
 use Rattle.frames.proofs.LayoutLaws.{values_in, written_again, read_holds, masked_length}
@@ -46,11 +45,16 @@ module _ (l : List ℕ) (bytes : Bytes l) where
   Values kind = values_of (again l (frame_of kind l)) ≡ values_in (layout_of kind) l 0
 
   values : (kind : FrameKind) → kind_named (get_or l 0 0) ≡ Some kind → Values kind
-  values kind e = grind (arith, named_byte (get_or l 0 0) kind e, lba_low, lba_high,
-      masked (λ x. flags_of (bit_in 8 (bit_and x 0x80) 7) false false) 0x80 tt (get_or l 1 0) (bytes 1),
-      masked (λ x. flags_of false (bit_in 8 (bit_and x 0x40) 6) false) 0x40 tt (get_or l 1 0) (bytes 1),
-      masked (λ x. flags_of false (bit_in 8 (bit_and x 0x60) 6) (bit_in 8 (bit_and x 0x60) 5)) 0x60 tt (get_or l 1 0) (bytes 1),
-      masked (λ x. flags_of (bit_in 8 (bit_and x 0xE0) 7) (bit_in 8 (bit_and x 0xE0) 6) (bit_in 8 (bit_and x 0xE0) 5)) 0xE0 tt (get_or l 1 0) (bytes 1))
+  values kind e = grind (
+    arith,
+    named_byte (get_or l 0 0) kind e,
+    lba_low,
+    lba_high,
+    masked (λ x. flags_of (bit_in 8 (bit_and x 0x80) 7) false false) 0x80 tt (get_or l 1 0) (bytes 1),
+    masked (λ x. flags_of false (bit_in 8 (bit_and x 0x40) 6) false) 0x40 tt (get_or l 1 0) (bytes 1),
+    masked (λ x. flags_of false (bit_in 8 (bit_and x 0x60) 6) (bit_in 8 (bit_and x 0x60) 5)) 0x60 tt (get_or l 1 0) (bytes 1),
+    masked (λ x. flags_of (bit_in 8 (bit_and x 0xE0) 7) (bit_in 8 (bit_and x 0xE0) 6) (bit_in 8 (bit_and x 0xE0) 5)) 0xE0 tt (get_or l 1 0) (bytes 1),
+  )
 
   -- so the bytes of a frame that was read are those that stood there, with the dropped bits zeroed
   whole : (kind : FrameKind) → kind_named (get_or l 0 0) ≡ Some kind → length (masks (layout_of kind)) ≤ length l → (f : FrameValue) → kind_of f ≡ kind → values_of f ≡ values_in (layout_of kind) l 0
@@ -61,12 +65,18 @@ module _ (l : List ℕ) (bytes : Bytes l) where
       let w = rw z at (written_again l bytes (layout_of kind) 0) in
       (t, rw (e, k, v, p) w, rw e (omega (arith, masked_length (masks (layout_of kind)) l 0 (omega arith))))
 
-  -- of a kind that fixes its length
-  fixed : (kind : FrameKind) → kind_named (get_or l 0 0) ≡ Some kind → length l ≡ length (masks (layout_of kind)) → kind_of (again l (frame_of kind l)) ≡ kind
-      → payload_in (again l (frame_of kind l)) ≡ [] → fits (again l (frame_of kind l)) ≡ all_hold (layout_of kind) (values_of (again l (frame_of kind l))) → Back (again l (frame_of kind l))
-  fixed kind e h k p t =
-      whole kind e (omega arith) (again l (frame_of kind l)) k (values kind e) (p ∙ sym (drop_of_length-le l (le_of_eq h)))
-      (t ∙ ap (all_hold (layout_of kind)) (values kind e) ∙ read_holds l bytes (layout_of kind) 0)
+  kind_again : (kind : FrameKind) → kind_of (again l (frame_of kind l)) ≡ kind
+  kind_again kind = grind arith
+
+  room : (kind : FrameKind) → allows kind (length l) ≡ true → length (masks (layout_of kind)) ≤ length l
+  room kind a = grind (arith, payload_4)
+
+  rest : (kind : FrameKind) → allows kind (length l) ≡ true → payload_in (again l (frame_of kind l)) ≡ drop (length (masks (layout_of kind))) l
+  rest kind a = grind (arith, drop_of_length-le)
+
+  held : (kind : FrameKind) → kind_named (get_or l 0 0) ≡ Some kind → allows kind (length l) ≡ true → fits (again l (frame_of kind l)) ≡ true
+  unfolding fits
+  held kind e a = grind (arith, length-drop 4 l, values kind e, read_holds l bytes (layout_of kind) 0)
 
   -- what a reader's answer has to give: of a frame, that it can be written
   abbrev Goes : Result Frame Refusal → Type 0
@@ -74,18 +84,7 @@ module _ (l : List ℕ) (bytes : Bytes l) where
   Goes (Err r) = Unit
 
   goes : Goes (read_frame l)
-  unfolding fits
-  goes = by_kind Goes l tt of_kind
-    where
-      of_kind : (kind : FrameKind) → kind_named (get_or l 0 0) ≡ Some kind → allows kind (length l) ≡ true → Goes (Ok (frame_of kind l))
-      of_kind kinds.HostRegister e a = fixed kinds.HostRegister e (sym (eqb-true 20 (length l) a)) refl refl refl
-      of_kind kinds.DeviceRegister e a = fixed kinds.DeviceRegister e (sym (eqb-true 20 (length l) a)) refl refl refl
-      of_kind kinds.SetDeviceBits e a = fixed kinds.SetDeviceBits e (sym (eqb-true 8 (length l) a)) refl refl refl
-      of_kind kinds.DmaSetup e a = fixed kinds.DmaSetup e (sym (eqb-true 28 (length l) a)) refl refl refl
-      of_kind kinds.DmaActivate e a = fixed kinds.DmaActivate e (sym (eqb-true 4 (length l) a)) refl refl refl
-      of_kind kinds.BistActivate e a = fixed kinds.BistActivate e (sym (eqb-true 12 (length l) a)) refl refl refl
-      of_kind kinds.PioSetup e a = fixed kinds.PioSetup e (sym (eqb-true 20 (length l) a)) refl refl refl
-      of_kind kinds.Data e a = whole kinds.Data e (payload_4 (length l) a) (payload (drop 4 l)) refl (values kinds.Data e) refl (rw (length-drop 4 l) a)
+  goes = by_kind Goes l tt (λ kind e a. whole kind e (room kind a) (again l (frame_of kind l)) (kind_again kind) (values kind e) (rest kind a) (held kind e a))
 
   -- what was read can be written, and its bytes are the frame with its dropped bits zeroed
   pub encoded_again : (f : Frame) → read_frame l ≡ Ok f → Back (again l f)
