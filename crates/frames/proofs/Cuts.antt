@@ -1,15 +1,14 @@
 -- Frames that were sent one behind the other come back from the cut. Assumes nothing.
 use Rattle.std.proofs.Common.{◌≡◌, refl, ap, ap₂, ◌∙◌, true, List, [], ◌∷◌, ◌++◌, map, append-nil, ℕ, zero, suc, ◌≤◌, ◌<◌, arith, length, take, drop, length-append, take_at, drop_at}
-use Rattle.frames.specs.Shared.{register_bytes}
 use Rattle.frames.specs.Size.{fixed_size}
 use Rattle.frames.specs.Cut.{first_length, cut_to, cut, joined_bytes}
 use Rattle.frames.proofs.CutLaws.{cut_none, cut_one, fixed, unfixed}
-use Rattle.frames.specs.Write.{FrameValue, host, device, set_bits, setup, activate, payload, bist, pio, bits_bytes, setup_bytes, encode}
+use Rattle.frames.specs.Write.{FrameValue, host, device, set_bits, setup, activate, payload, bist, pio, encode}
 use Rattle.frames.specs.DataLast.{is_payload, DataLast}
 
 -- a frame in front is cut off whole
 pub first_length_of : (f : FrameValue) (rest : List ℕ) → (is_payload f ≡ true → rest ≡ []) → first_length (encode f ++ rest) ≡ length (encode f)
-unfolding encode register_bytes bits_bytes setup_bytes fixed_size
+unfolding encode fixed_size
 first_length_of (host f) rest h = fixed 0x27 20 _ refl refl (omega arith)
 first_length_of (device f) rest h = fixed 0x34 20 _ refl refl (omega arith)
 first_length_of (set_bits f) rest h = fixed 0xA1 8 _ refl refl (omega arith)
@@ -22,7 +21,7 @@ first_length_of (pio f) rest h = fixed 0x5F 20 _ refl refl (omega arith)
 
 -- no frame is empty
 pub encode_some : (f : FrameValue) → 0 < length (encode f)
-unfolding encode register_bytes bits_bytes setup_bytes
+unfolding encode
 encode_some f = grind arith
 
 sent_to : (n : ℕ) (fs : List FrameValue) → DataLast fs → length (joined_bytes (map encode fs)) ≤ n → cut_to n (joined_bytes (map encode fs)) ≡ map encode fs

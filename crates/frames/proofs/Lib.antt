@@ -2,6 +2,8 @@ pub mod SharedLaws
 pub mod SizeLaws
 pub mod TaskLaws
 pub mod Defaults
+pub mod LayoutLaws
+pub mod FitLaws
 pub mod QueuedLaws
 pub mod EmitLaws
 pub mod CutLaws

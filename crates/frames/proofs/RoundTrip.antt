@@ -1,66 +1,53 @@
 -- What a writer wrote, the reader reads again. Assumes nothing.
-use Rattle.std.proofs.Common.{Ok, ◌≡◌, refl, ap, ◌∙◌, true, List, ℕ, ◌-◌, arith, length, take, drop, take_at}
-use Rattle.frames.specs.Shared.{register_bytes}
-use Rattle.frames.specs.Size.{readable}
-use Rattle.frames.specs.Read.{frame_by_kind, read_frame}
-use Rattle.frames.specs.Write.{FrameValue, host, device, set_bits, setup, activate, payload, bist, pio, bits_bytes, setup_bytes, encode, fits, FrameWriteGiven}
+use Rattle.std.proofs.Common.{Ok, ◌≡◌, refl, ap, ◌∙◌, true, List, [], ℕ, ◌-◌, arith, length, get_or, take, drop, take_at, Some}
+use mathlib.Core.Path.{fun_ext}
+use Rattle.frames.specs.Layout.{masks, all_hold}
+use Rattle.frames.specs.Layouts.{layout_of, standing}
+use Rattle.frames.specs.Size.{kind_named, payload_size, allows}
+use Rattle.frames.specs.Read.{frame_at, read_frame}
+use Rattle.frames.specs.Write.{FrameValue, payload, kind_of, values_of, payload_in, encode, fits, FrameWriteGiven}
 use Rattle.frames.specs.RoundTrip.{read_back}
-use Rattle.frames.specs.declared.kinds.FrameKind.TheVariants as kinds
+use Rattle.frames.proofs.LayoutLaws.{value_at, got_written}
 use Rattle.frames.proofs.ReadLaws.{read_some}
-use Rattle.frames.proofs.WriteLaws.{length_payload}
 use Rattle.frames.proofs.EmitLaws.{wrote_all}
-use Rattle.frames.specs.declared.shapes.HostReg.{HostReg}
-use Rattle.frames.specs.declared.shapes.DevReg.{DevReg}
-use Rattle.frames.specs.declared.shapes.SetBits.{SetBits}
-use Rattle.frames.specs.declared.shapes.DmaSetup.{DmaSetup}
-use Rattle.frames.specs.declared.shapes.PioSetup.{PioSetup}
-use Rattle.frames.specs.declared.shapes.Frame.TheVariants.{Host, Device, Bits, Setup, Data, Pio}
 
--- ---- byte 1
+-- a frame is what its values say
+told : FrameValue → ℕ → ℕ
+told f = value_at (layout_of (kind_of f)) (values_of f) 0
 
--- ---- records of equal fields
+back : (f : FrameValue) → frame_at (kind_of f) (told f) (length (payload_in f)) ≡ read_back f
+unfolding told
+back f = grind arith
 
--- ---- each kind
+-- its bytes have its kind, and a length that this allows
+of_kind : (f : FrameValue) → kind_named (get_or (encode f) 0 0) ≡ Some (kind_of f)
+unfolding encode
+of_kind f = grind arith
 
-read_host : (f : HostReg) → fits (host f) ≡ true → read_frame (encode (host f)) ≡ Ok (Host f)
-unfolding read_frame frame_by_kind readable encode fits register_bytes
-read_host f h = grind arith
+sized : (p : List ℕ) → fits (payload p) ≡ payload_size (length p)
+unfolding fits
+sized p = refl
 
-read_device : (f : DevReg) → fits (device f) ≡ true → read_frame (encode (device f)) ≡ Ok (Device f)
-unfolding read_frame frame_by_kind readable encode fits register_bytes
-read_device f h = grind arith
+allowed : (f : FrameValue) → fits f ≡ true → allows (kind_of f) (length (encode f)) ≡ true
+unfolding encode
+allowed f h = grind (arith, sized)
 
-read_pio : (f : PioSetup) → fits (pio f) ≡ true → read_frame (encode (pio f)) ≡ Ok (Pio f)
-unfolding read_frame frame_by_kind readable encode fits register_bytes
-read_pio f h = grind arith
+behind : (f : FrameValue) → length (encode f) - length (masks (layout_of (kind_of f))) ≡ length (payload_in f)
+unfolding encode
+behind f = grind arith
 
-read_bits : (f : SetBits) → fits (set_bits f) ≡ true → read_frame (encode (set_bits f)) ≡ Ok (Bits f)
-unfolding read_frame frame_by_kind readable encode fits bits_bytes
-read_bits f h = grind arith
+placed : (f : FrameValue) → fits f ≡ true → all_hold (layout_of (kind_of f)) (values_of f) ≡ true
+unfolding fits
+placed f h = grind arith
 
-read_setup : (f : DmaSetup) → fits (setup f) ≡ true → read_frame (encode (setup f)) ≡ Ok (Setup f)
-unfolding read_frame frame_by_kind readable encode fits setup_bytes
-read_setup f h = grind arith
-
--- a payload behind four bytes
-read_payload : (p : List ℕ) → fits (payload p) ≡ true → read_frame (encode (payload p)) ≡ Ok (Data (length p))
-unfolding encode fits
-read_payload p h =
-    let l = length_payload p in
-    let k : length (encode (payload p)) - 4 ≡ length p = omega arith in
-    read_some (encode (payload p)) kinds.Data refl (rw k h) ∙ ap (λ n. Ok (Data n)) k
+-- its values stand in them
+stands : (f : FrameValue) → fits f ≡ true → standing (kind_of f) (encode f) ≡ told f
+unfolding encode told
+stands f h = fun_ext (λ at. got_written (layout_of (kind_of f)) (values_of f) [] (payload_in f) (placed f h) at)
 
 -- what was encoded is read as what was sent
 pub read_encoded : (f : FrameValue) → fits f ≡ true → read_frame (encode f) ≡ Ok (read_back f)
-unfolding read_frame frame_by_kind readable encode
-read_encoded (host f) h = read_host f h
-read_encoded (device f) h = read_device f h
-read_encoded (set_bits f) h = read_bits f h
-read_encoded (setup f) h = read_setup f h
-read_encoded activate h = refl
-read_encoded (payload p) h = read_payload p h
-read_encoded bist h = refl
-read_encoded (pio f) h = read_pio f h
+read_encoded f h = read_some (encode f) (kind_of f) (of_kind f) (allowed f h) ∙ ap (λ x. Ok x) (rw (stands f h, behind f) (back f))
 
 -- the bytes that a writer wrote are the frame's
 pub written_front : (f : FrameValue) (d d' : List ℕ) (n : ℕ) → FrameWriteGiven f d (Ok n) d' → take n d' ≡ encode f

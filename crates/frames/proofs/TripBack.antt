@@ -1,193 +1,82 @@
 -- What was read, written again, is the frame with its dropped bits zeroed. Assumes nothing.
-use Rattle.std.proofs.Common.{Result, Ok, Err, Some, ◌≡◌, refl, sym, ap, ◌∙◌, Bool, true, false, not, List, [], ◌∷◌, ℕ, zero, suc, ◌+◌, ◌-◌, ◌*◌, ◌/◌, ◌^◌, ◌<◌, mod-eq_of_lt, div-one, le_of_eq, arith, bit_and, shr-shr, T, eqb, ltb, eqb→eq, lit<, length, get_or, drop, drop_of_length-le, length-drop, eqb-true, lt-ltb}
-use native.Mathlib.Nat.{mod-one}
-use lib.Bits.{and_mask}
+use Rattle.std.proofs.Common.{Result, Ok, Err, Some, ◌≡◌, T, true, false, List, ℕ, ◌+◌, ◌*◌, ◌/◌, ◌%◌, ◌^◌, ◌<◌, ◌≤◌, arith, bit_and, eqb, eqb→eq, length, get_or, drop, drop_of_length-le, length-drop}
 use Rattle.bits.specs.Bit.{bit_in}
-use Rattle.bits.specs.Little.{le_at, byte_of, Bytes}
-use Rattle.bits.proofs.Tables.{below_all}
-use Rattle.bits.proofs.Littles.{le_lt, byte_le}
-use Rattle.frames.specs.Shared.{flags_of, halves_of, lba_of, task_of, register_bytes}
-use Rattle.frames.specs.Size.{kind_named, allows, payload_size}
+use Rattle.bits.specs.Little.{le_at, Bytes}
+use Rattle.bits.proofs.Tables.{all_below, below_all}
+use Rattle.bits.proofs.Littles.{le_lt}
+use Rattle.frames.specs.Layout.{masks}
+use Rattle.frames.specs.Layouts.{layout_of}
+use Rattle.frames.specs.Shared.{flags_of}
+use Rattle.frames.specs.Size.{kind_named, allows}
 use Rattle.frames.specs.declared.kinds.FrameKind.{FrameKind}
-use Rattle.frames.specs.declared.kinds.FrameKind.TheVariants as kinds
-use Rattle.frames.specs.Read.{flag_at, host_of, device_of, bits_of, setup_of, pio_of, frame_of, read_frame}
-use Rattle.frames.specs.Write.{FrameValue, host, device, set_bits, setup, activate, payload, bist, pio, bits_bytes, setup_bytes, encode, fits, FrameWriteGiven}
+use Rattle.frames.specs.Read.{frame_of, read_frame}
+use Rattle.frames.specs.Write.{FrameValue, kind_of, values_of, payload_in, encode, fits, FrameWriteGiven}
 use Rattle.frames.specs.RoundTrip.{again, named_bits, zeroed}
 use Rattle.frames.specs.Emit.{WriteGiven}
+use Rattle.frames.proofs.LayoutLaws.{values_in, written_again, read_holds, masked_length}
 use Rattle.frames.proofs.SizeLaws.{payload_4, named_byte}
-use Rattle.frames.proofs.TaskLaws.{task_fits_lem}
 use Rattle.frames.proofs.ReadLaws.{by_kind}
-use Rattle.frames.proofs.WriteLaws.{length_payload}
 use Rattle.refusals.specs.declared.reasons.Refusal.{Refusal}
 use Rattle.frames.specs.declared.shapes.Frame.{Frame}
 
--- ---- one byte under a mask
+-- byte 1 under a mask: its flags, read and written again, computed
+masked : (f : ℕ → ℕ) (m : ℕ) → T (all_below 256 (λ x. eqb (f x) (bit_and x m))) → (b : ℕ) → b < 256 → f b ≡ bit_and b m
+masked f m t b h = eqb→eq _ _ (below_all 256 (λ x. eqb (f x) (bit_and x m)) t b h)
 
-keeps : (b : ℕ) → b < 256 → bit_and b 255 ≡ b
-keeps b h = and_mask b 8 ∙ mod-eq_of_lt h
+-- an LBA
+low : (hi lo : ℕ) → lo < 2 ^ 24 → (hi * 2 ^ 24 + lo) % 2 ^ 24 ≡ lo
+low hi lo h = omega arith
 
-drops : (b : ℕ) → bit_and b 0 ≡ 0
-drops b = and_mask b 0 ∙ mod-one b
-
--- a rule of all bytes, computed
-same : (ℕ → ℕ) → (ℕ → ℕ) → ℕ → Bool
-same f g b = eqb (f b) (g b)
-
-off : ℕ → ℕ → Bool
-off k b = not (bit_in 8 (halves_of b) k)
-
-is_off : (b : Bool) → T (not b) → b ≡ false
-is_off b t = grind arith
-
-module _ (b : ℕ) (h : b < 256) where
-  masks_7 : flags_of (bit_in 8 b 7) false false ≡ bit_and b 0x80
-  unfolding same
-  masks_7 = eqb→eq _ _ (below_all 256 (same (λ (x : ℕ). flags_of (bit_in 8 x 7) false false) (λ (x : ℕ). bit_and x 0x80)) tt b h)
-
-  masks_6 : flags_of false (bit_in 8 b 6) false ≡ bit_and b 0x40
-  unfolding same
-  masks_6 = eqb→eq _ _ (below_all 256 (same (λ (x : ℕ). flags_of false (bit_in 8 x 6) false) (λ (x : ℕ). bit_and x 0x40)) tt b h)
-
-  masks_65 : flags_of false (bit_in 8 b 6) (bit_in 8 b 5) ≡ bit_and b 0x60
-  unfolding same
-  masks_65 = eqb→eq _ _ (below_all 256 (same (λ (x : ℕ). flags_of false (bit_in 8 x 6) (bit_in 8 x 5)) (λ (x : ℕ). bit_and x 0x60)) tt b h)
-
-  masks_765 : flags_of (bit_in 8 b 7) (bit_in 8 b 6) (bit_in 8 b 5) ≡ bit_and b 0xE0
-  unfolding same
-  masks_765 = eqb→eq _ _ (below_all 256 (same (λ (x : ℕ). flags_of (bit_in 8 x 7) (bit_in 8 x 6) (bit_in 8 x 5)) (λ (x : ℕ). bit_and x 0xE0)) tt b h)
-
-  masks_halves : halves_of (halves_of b) ≡ bit_and b 0x77
-  unfolding same
-  masks_halves = eqb→eq _ _ (below_all 256 (same (λ (x : ℕ). halves_of (halves_of x)) (λ (x : ℕ). bit_and x 0x77)) tt b h)
-
-  halves_fit : ltb (halves_of b) 256 ≡ true
-  halves_fit = lt-ltb (halves_of b) 256 (omega arith)
-
-  halves_7 : bit_in 8 (halves_of b) 7 ≡ false
-  unfolding off
-  halves_7 = is_off (bit_in 8 (halves_of b) 7) (below_all 256 (off 7) tt b h)
-
-  halves_3 : bit_in 8 (halves_of b) 3 ≡ false
-  unfolding off
-  halves_3 = is_off (bit_in 8 (halves_of b) 3) (below_all 256 (off 3) tt b h)
-
--- ---- the bytes of the numbers that were read
-
-low_byte : (hi lo k : ℕ) → k < 3 → byte_of (hi * 2 ^ 24 + lo) k ≡ byte_of lo k
-low_byte hi lo zero h = rw (div-one, div-one) (omega arith)
-low_byte hi lo (suc zero) h = omega arith
-low_byte hi lo (suc (suc zero)) h = omega arith
-low_byte hi lo (suc (suc (suc k))) h = absurd (omega arith)
-
-high_byte : (hi lo k : ℕ) → lo < 2 ^ 24 → byte_of (hi * 2 ^ 24 + lo) (3 + k) ≡ byte_of hi k
-high_byte hi lo k h =
-    let e : 8 * (3 + k) ≡ 24 + 8 * k = omega arith in
-    let d : (hi * 2 ^ 24 + lo) / 2 ^ 24 ≡ hi = omega arith in
-    rw (e, ← shr-shr (hi * 2 ^ 24 + lo) 24 (8 * k), d)
+high : (hi lo : ℕ) → lo < 2 ^ 24 → (hi * 2 ^ 24 + lo) / 2 ^ 24 ≡ hi
+high hi lo h = omega arith
 
 module _ (l : List ℕ) (bytes : Bytes l) where
-  lba_low : (k : ℕ) → k < 3 → byte_of (lba_of l) k ≡ get_or l (4 + k) 0
-  lba_low k h = low_byte (le_at l 8 3) (le_at l 4 3) k h ∙ byte_le l bytes 4 3 k h
+  lba_low : (le_at l 8 3 * 2 ^ 24 + le_at l 4 3) % 2 ^ 24 ≡ le_at l 4 3
+  lba_low = low (le_at l 8 3) (le_at l 4 3) (le_lt l bytes 4 3)
 
-  lba_high : (k : ℕ) → k < 3 → byte_of (lba_of l) (3 + k) ≡ get_or l (8 + k) 0
-  lba_high k h = high_byte (le_at l 8 3) (le_at l 4 3) k (le_lt l bytes 4 3) ∙ byte_le l bytes 8 3 k h
-
-  keep : (i : ℕ) → bit_and (get_or l i 0) 255 ≡ get_or l i 0
-  keep i = keeps (get_or l i 0) (bytes i)
-
-  -- the layout of 27h, 34h and 5Fh, over what was read
-  register_again : (k g e f n : ℕ)
-      → register_bytes (record { kind = k; flags = g; second = get_or l 2 0; third = get_or l 3 0; task = task_of l; eleven = e; fifteen = f; bytes = n })
-      ≡ k ∷ g ∷ get_or l 2 0 ∷ get_or l 3 0 ∷ get_or l 4 0 ∷ get_or l 5 0 ∷ get_or l 6 0 ∷ get_or l 7 0 ∷ get_or l 8 0 ∷ get_or l 9 0 ∷ get_or l 10 0
-      ∷ e ∷ get_or l 12 0 ∷ get_or l 13 0 ∷ 0 ∷ f ∷ byte_of n 0 ∷ byte_of n 1 ∷ 0 ∷ 0 ∷ []
-  unfolding register_bytes
-  register_again k g e f n =
-      rw (
-        lba_low 0 (lit< tt),
-        lba_low 1 (lit< tt),
-        lba_low 2 (lit< tt),
-        lba_high 0 (lit< tt),
-        lba_high 1 (lit< tt),
-        lba_high 2 (lit< tt),
-        byte_le l bytes 12 2 0 (lit< tt),
-        byte_le l bytes 12 2 1 (lit< tt),
-      )
+  lba_high : (le_at l 8 3 * 2 ^ 24 + le_at l 4 3) / 2 ^ 24 ≡ le_at l 8 3
+  lba_high = high (le_at l 8 3) (le_at l 4 3) (le_lt l bytes 4 3)
 
   abbrev pub Back : FrameValue → Type 0
   Back f = (fits f ≡ true) × (encode f ≡ zeroed l) × (length (zeroed l) ≡ length l)
 
-  -- the frame's own length, from its bytes
-  whole : (f : FrameValue) (n : ℕ) → length (encode f) ≡ n → length l ≡ n → fits f ≡ true → encode f ≡ zeroed l → Back f
-  whole f n e h t z = (t, z, sym (ap length z) ∙ e ∙ sym h)
+  -- the values of what was read of a kind are those that stand there
+  abbrev Values : FrameKind → Type 0
+  Values kind = values_of (again l (frame_of kind l)) ≡ values_in (layout_of kind) l 0
 
-  host_again : get_or l 0 0 ≡ 0x27 → length l ≡ 20 → Back (host (host_of l))
-  unfolding encode fits named_bits register_bytes
-  host_again e h =
-      whole (host (host_of l)) 20 refl h
-      (rw (lt-ltb (get_or l 2 0) 256 (bytes 2), lt-ltb (get_or l 3 0) 256 (bytes 3), lt-ltb (get_or l 11 0) 256 (bytes 11), lt-ltb (get_or l 15 0) 256 (bytes 15)) (task_fits_lem l bytes))
-      (register_again 0x27 (flags_of (flag_at l 7) false false) (get_or l 11 0) (get_or l 15 0) 0
-      ∙ sym (rw e (simp (keep, drops, drop_of_length-le l (le_of_eq h), e, sym (masks_7 (get_or l 1 0) (bytes 1))))))
+  values : (kind : FrameKind) → kind_named (get_or l 0 0) ≡ Some kind → Values kind
+  values kind e = grind (
+    arith,
+    named_byte (get_or l 0 0) kind e,
+    lba_low,
+    lba_high,
+    masked (λ x. flags_of (bit_in 8 (bit_and x 0x80) 7) false false) 0x80 tt (get_or l 1 0) (bytes 1),
+    masked (λ x. flags_of false (bit_in 8 (bit_and x 0x40) 6) false) 0x40 tt (get_or l 1 0) (bytes 1),
+    masked (λ x. flags_of false (bit_in 8 (bit_and x 0x60) 6) (bit_in 8 (bit_and x 0x60) 5)) 0x60 tt (get_or l 1 0) (bytes 1),
+    masked (λ x. flags_of (bit_in 8 (bit_and x 0xE0) 7) (bit_in 8 (bit_and x 0xE0) 6) (bit_in 8 (bit_and x 0xE0) 5)) 0xE0 tt (get_or l 1 0) (bytes 1),
+  )
 
-  device_again : get_or l 0 0 ≡ 0x34 → length l ≡ 20 → Back (device (device_of l))
-  unfolding encode fits named_bits register_bytes
-  device_again e h =
-      whole (device (device_of l)) 20 refl h
-      (rw (lt-ltb (get_or l 2 0) 256 (bytes 2), lt-ltb (get_or l 3 0) 256 (bytes 3)) (task_fits_lem l bytes))
-      (register_again 0x34 (flags_of false (flag_at l 6) false) 0 0 0
-      ∙ sym (rw e (simp (keep, drops, drop_of_length-le l (le_of_eq h), e, sym (masks_6 (get_or l 1 0) (bytes 1))))))
+  -- so the bytes of a frame that was read are those that stood there, with the dropped bits zeroed
+  whole : (kind : FrameKind) → kind_named (get_or l 0 0) ≡ Some kind → length (masks (layout_of kind)) ≤ length l → (f : FrameValue) → kind_of f ≡ kind → values_of f ≡ values_in (layout_of kind) l 0
+      → payload_in f ≡ drop (length (masks (layout_of kind))) l → fits f ≡ true → Back f
+  unfolding encode named_bits
+  whole kind e n f k v p t =
+      let z : 0 + length (masks (layout_of kind)) ≡ length (masks (layout_of kind)) = omega arith in
+      let w = rw z at (written_again l bytes (layout_of kind) 0) in
+      (t, rw (e, k, v, p) w, rw e (omega (arith, masked_length (masks (layout_of kind)) l 0 (omega arith))))
 
-  pio_again : get_or l 0 0 ≡ 0x5F → length l ≡ 20 → Back (pio (pio_of l))
-  unfolding encode fits named_bits register_bytes
-  pio_again e h =
-      whole (pio (pio_of l)) 20 refl h
-      (rw (lt-ltb (get_or l 2 0) 256 (bytes 2), lt-ltb (get_or l 3 0) 256 (bytes 3), lt-ltb (get_or l 15 0) 256 (bytes 15), lt-ltb (le_at l 16 2) 65536 (le_lt l bytes 16 2)) (task_fits_lem l bytes))
-      (register_again 0x5F (flags_of false (flag_at l 6) (flag_at l 5)) 0 (get_or l 15 0) (le_at l 16 2)
-      ∙ rw (byte_le l bytes 16 2 0 (lit< tt), byte_le l bytes 16 2 1 (lit< tt))
-      (sym (rw e (simp (keep, drops, drop_of_length-le l (le_of_eq h), e, sym (masks_65 (get_or l 1 0) (bytes 1)))))))
+  kind_again : (kind : FrameKind) → kind_of (again l (frame_of kind l)) ≡ kind
+  kind_again kind = grind arith
 
-  bits_again : get_or l 0 0 ≡ 0xA1 → length l ≡ 8 → Back (set_bits (bits_of l))
-  unfolding encode fits bits_bytes named_bits
-  bits_again e h =
-      whole (set_bits (bits_of l)) 8 refl h
-      (rw (halves_fit (get_or l 2 0) (bytes 2), lt-ltb (get_or l 3 0) 256 (bytes 3), lt-ltb (le_at l 4 4) 4294967296 (le_lt l bytes 4 4), halves_7 (get_or l 2 0) (bytes 2), halves_3 (get_or l 2 0) (bytes 2)))
-      (rw (masks_6 (get_or l 1 0) (bytes 1), masks_halves (get_or l 2 0) (bytes 2), byte_le l bytes 4 4 0 (lit< tt), byte_le l bytes 4 4 1 (lit< tt), byte_le l bytes 4 4 2 (lit< tt), byte_le l bytes 4 4 3 (lit< tt))
-      (sym (rw e (simp (keep, drop_of_length-le l (le_of_eq h), e)))))
+  room : (kind : FrameKind) → allows kind (length l) ≡ true → length (masks (layout_of kind)) ≤ length l
+  room kind a = grind (arith, payload_4)
 
-  setup_again : get_or l 0 0 ≡ 0x41 → length l ≡ 28 → Back (setup (setup_of l))
-  unfolding encode fits setup_bytes named_bits
-  setup_again e h =
-      whole (setup (setup_of l)) 28 refl h
-      (rw (lt-ltb (le_at l 4 4) 4294967296 (le_lt l bytes 4 4), lt-ltb (le_at l 16 4) 4294967296 (le_lt l bytes 16 4), lt-ltb (le_at l 20 4) 4294967296 (le_lt l bytes 20 4)))
-      (rw (
-        masks_765 (get_or l 1 0) (bytes 1),
-        byte_le l bytes 4 4 0 (lit< tt),
-        byte_le l bytes 4 4 1 (lit< tt),
-        byte_le l bytes 4 4 2 (lit< tt),
-        byte_le l bytes 4 4 3 (lit< tt),
-        byte_le l bytes 16 4 0 (lit< tt),
-        byte_le l bytes 16 4 1 (lit< tt),
-        byte_le l bytes 16 4 2 (lit< tt),
-        byte_le l bytes 16 4 3 (lit< tt),
-        byte_le l bytes 20 4 0 (lit< tt),
-        byte_le l bytes 20 4 1 (lit< tt),
-        byte_le l bytes 20 4 2 (lit< tt),
-        byte_le l bytes 20 4 3 (lit< tt),
-      )
-      (sym (rw e (simp (keep, drops, drop_of_length-le l (le_of_eq h), e)))))
+  rest : (kind : FrameKind) → allows kind (length l) ≡ true → payload_in (again l (frame_of kind l)) ≡ drop (length (masks (layout_of kind))) l
+  rest kind a = grind (arith, drop_of_length-le)
 
-  activate_again : get_or l 0 0 ≡ 0x39 → length l ≡ 4 → Back activate
-  unfolding encode fits named_bits
-  activate_again e h = whole activate 4 refl h refl (sym (rw e (simp (keep, drops, drop_of_length-le l (le_of_eq h), e))))
-
-  bist_again : get_or l 0 0 ≡ 0x58 → length l ≡ 12 → Back bist
-  unfolding encode fits named_bits
-  bist_again e h = whole bist 12 refl h refl (sym (rw e (simp (keep, drops, drop_of_length-le l (le_of_eq h), e))))
-
-  payload_again : get_or l 0 0 ≡ 0x46 → payload_size (length l - 4) ≡ true → Back (payload (drop 4 l))
-  unfolding encode fits named_bits
-  payload_again e h =
-      let four = payload_4 (length l) h in
-      whole (payload (drop 4 l)) (length l) (omega (arith, length_payload (drop 4 l), length-drop 4 l)) refl (rw (length-drop 4 l) h) (sym (rw e (simp (keep, drops, e))))
+  held : (kind : FrameKind) → kind_named (get_or l 0 0) ≡ Some kind → allows kind (length l) ≡ true → fits (again l (frame_of kind l)) ≡ true
+  unfolding fits
+  held kind e a = grind (arith, length-drop 4 l, values kind e, read_holds l bytes (layout_of kind) 0)
 
   -- what a reader's answer has to give: of a frame, that it can be written
   abbrev Goes : Result Frame Refusal → Type 0
@@ -195,17 +84,7 @@ module _ (l : List ℕ) (bytes : Bytes l) where
   Goes (Err r) = Unit
 
   goes : Goes (read_frame l)
-  goes = by_kind Goes l tt of_kind
-    where
-      of_kind : (kind : FrameKind) → kind_named (get_or l 0 0) ≡ Some kind → allows kind (length l) ≡ true → Goes (Ok (frame_of kind l))
-      of_kind kinds.HostRegister e a = host_again (named_byte _ _ e) (sym (eqb-true 20 (length l) a))
-      of_kind kinds.DeviceRegister e a = device_again (named_byte _ _ e) (sym (eqb-true 20 (length l) a))
-      of_kind kinds.SetDeviceBits e a = bits_again (named_byte _ _ e) (sym (eqb-true 8 (length l) a))
-      of_kind kinds.DmaSetup e a = setup_again (named_byte _ _ e) (sym (eqb-true 28 (length l) a))
-      of_kind kinds.DmaActivate e a = activate_again (named_byte _ _ e) (sym (eqb-true 4 (length l) a))
-      of_kind kinds.BistActivate e a = bist_again (named_byte _ _ e) (sym (eqb-true 12 (length l) a))
-      of_kind kinds.PioSetup e a = pio_again (named_byte _ _ e) (sym (eqb-true 20 (length l) a))
-      of_kind kinds.Data e a = payload_again (named_byte _ _ e) a
+  goes = by_kind Goes l tt (λ kind e a. whole kind e (room kind a) (again l (frame_of kind l)) (kind_again kind) (values kind e) (rest kind a) (held kind e a))
 
   -- what was read can be written, and its bytes are the frame with its dropped bits zeroed
   pub encoded_again : (f : Frame) → read_frame l ≡ Ok f → Back (again l f)

@@ -1,3 +1,5 @@
+pub mod Layout
+pub mod Layouts
 pub mod Shared
 pub mod Size
 pub mod Emit

@@ -1,83 +1,38 @@
 -- The frames as they are read: unnamed bits and bytes are dropped. Assumes nothing.
-use Rattle.std.specs.Prelude.{Bool, not, ◌≡◌, List, [], ◌∷◌, ◌++◌, ℕ, ◌-◌, length, get_or, Result, Ok, Err}
+use Rattle.std.specs.Prelude.{not, ◌≡◌, List, [], ◌∷◌, ◌++◌, ℕ, ◌-◌, length, get_or, Result, Ok, Err}
 use Rattle.std.specs.Option.{option_map_or}
 use Rattle.bits.specs.Pick.{pick}
 use Rattle.bits.specs.Bit.{bit_in}
 use Rattle.bits.specs.Answer.{Answer, bit_number}
-use Rattle.bits.specs.Little.{le_at}
 use Rattle.refusals.specs.Number.{number}
 use Rattle.refusals.specs.First.{Rung, rung, first_of, refusal_in}
 use Rattle.refusals.specs.declared.reasons.Refusal.{Refusal}
 use Rattle.refusals.specs.declared.reasons.Refusal.TheVariants.{NoFrame}
-use Rattle.frames.specs.Shared.{halves_of, task_of}
+use Rattle.frames.specs.Layout.{masks}
+use Rattle.frames.specs.Layouts.{layout_of, standing}
+use Rattle.frames.specs.Shared.{task_at}
 use Rattle.frames.specs.Size.{kind_named, readable}
 use Rattle.frames.specs.declared.kinds.FrameKind.{FrameKind}
 use Rattle.frames.specs.declared.kinds.FrameKind.TheVariants as kinds
+use Rattle.frames.specs.declared.kinds.FrameKind.TheVariants.{HostRegister, DeviceRegister, SetDeviceBits, DmaSetup, DmaActivate, BistActivate, PioSetup}
 use Rattle.frames.specs.declared.shared.Task.{Task}
-use Rattle.frames.specs.declared.shapes.HostReg.{HostReg}
-use Rattle.frames.specs.declared.shapes.DevReg.{DevReg}
-use Rattle.frames.specs.declared.shapes.SetBits.{SetBits}
-use Rattle.frames.specs.declared.shapes.DmaSetup.{DmaSetup}
-use Rattle.frames.specs.declared.shapes.PioSetup.{PioSetup}
 use Rattle.frames.specs.declared.shapes.Frame.{Frame}
 use Rattle.frames.specs.declared.shapes.Frame.TheVariants.{Host, Device, Bits, Setup, Activate, Data, Bist, Pio}
 
--- bit k of byte 1
-abbrev pub flag_at : List ℕ → ℕ → Bool
-flag_at l k = bit_in 8 (get_or l 1 0) k
+-- the frame of a kind by the bytes with which its pieces begin, and the count of those behind its layout: a data frame leaves its payload where it is. In byte 1, C and A are bit 7, I is bit 6, and D is bit 5 [frame-27] [frame-34] [frame-A1] [frame-41] [frame-5F] [srst-bit]
+abbrev pub frame_at : FrameKind → (ℕ → ℕ) → ℕ → Frame
+frame_at HostRegister at n = Host (record { command_bit = bit_in 8 (at 1) 7; command = at 2; features = at 3; task = task_at at; features_high = at 11; control = at 15 })
+frame_at DeviceRegister at n = Device (record { interrupt = bit_in 8 (at 1) 6; status = at 2; error = at 3; task = task_at at })
+frame_at SetDeviceBits at n = Bits (record { interrupt = bit_in 8 (at 1) 6; status = at 2; error = at 3; active = at 4 })
+frame_at DmaSetup at n = Setup (record { auto = bit_in 8 (at 1) 7; interrupt = bit_in 8 (at 1) 6; to_host = bit_in 8 (at 1) 5; tag = at 4; offset = at 16; count = at 20 })
+frame_at DmaActivate at n = Activate
+frame_at BistActivate at n = Bist
+frame_at PioSetup at n = Pio (record { interrupt = bit_in 8 (at 1) 6; to_host = bit_in 8 (at 1) 5; status = at 2; error = at 3; task = task_at at; ending = at 15; bytes = at 16 })
+frame_at kinds.Data at n = Data n
 
--- 27h: byte 1 bit 7 command (C); 2 command, 3 features, 11 features high, 15 control [frame-27] [srst-bit]
-abbrev pub host_of : List ℕ → HostReg
-host_of l = record {
-  command_bit = flag_at l 7;
-  command = get_or l 2 0;
-  features = get_or l 3 0;
-  task = task_of l;
-  features_high = get_or l 11 0;
-  control = get_or l 15 0;
-}
-
--- 34h: byte 1 bit 6 is I; 2 status, 3 error [frame-34]
-abbrev pub device_of : List ℕ → DevReg
-device_of l = record { interrupt = flag_at l 6; status = get_or l 2 0; error = get_or l 3 0; task = task_of l }
-
--- A1h: byte 1 bit 6 I; byte 2 the status halves; 3 error; 4-7 SActive [frame-A1]
-abbrev pub bits_of : List ℕ → SetBits
-bits_of l = record { interrupt = flag_at l 6; status = halves_of (get_or l 2 0); error = get_or l 3 0; active = le_at l 4 4 }
-
--- 41h: byte 1 bit 7 A, bit 6 I, bit 5 D; 4-7 tag, 16-19 offset, 20-23 byte count [frame-41]
-abbrev pub setup_of : List ℕ → DmaSetup
-setup_of l = record {
-  auto = flag_at l 7;
-  interrupt = flag_at l 6;
-  to_host = flag_at l 5;
-  tag = le_at l 4 4;
-  offset = le_at l 16 4;
-  count = le_at l 20 4;
-}
-
--- 5Fh: as 34h, with D at byte 1 bit 5, ending status at 15, byte count at 16-17 [frame-5F]
-abbrev pub pio_of : List ℕ → PioSetup
-pio_of l = record {
-  interrupt = flag_at l 6;
-  to_host = flag_at l 5;
-  status = get_or l 2 0;
-  error = get_or l 3 0;
-  task = task_of l;
-  ending = get_or l 15 0;
-  bytes = le_at l 16 2;
-}
-
--- the frame that bytes of a kind are; a data frame leaves its payload where it is
+-- the frame that bytes of a kind are
 abbrev pub frame_of : FrameKind → List ℕ → Frame
-frame_of kinds.HostRegister l = Host (host_of l)
-frame_of kinds.DeviceRegister l = Device (device_of l)
-frame_of kinds.SetDeviceBits l = Bits (bits_of l)
-frame_of kinds.DmaSetup l = Setup (setup_of l)
-frame_of kinds.DmaActivate l = Activate
-frame_of kinds.BistActivate l = Bist
-frame_of kinds.PioSetup l = Pio (pio_of l)
-frame_of kinds.Data l = Data (length l - 4)
+frame_of kind l = frame_at kind (standing kind l) (length l - length (masks (layout_of kind)))
 
 -- a frame by the byte of its kind, or 24 for an unknown one
 unfoldable pub frame_by_kind : ℕ → List ℕ → Result Frame Refusal

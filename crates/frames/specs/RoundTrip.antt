@@ -1,7 +1,10 @@
 -- There and back: what the reader sees of a frame that was sent, and the frame that is sent again of one that was read. Assumes nothing.
-use Rattle.std.specs.Prelude.{◌||◌, List, [], ◌∷◌, ℕ, suc, eqb, length, get_or, drop}
+use Rattle.std.specs.Prelude.{List, [], ◌∷◌, ℕ, suc, length, get_or, drop}
 use Rattle.std.specs.Int.Bits.{bit_and}
-use Rattle.bits.specs.Pick.{pick}
+use Rattle.std.specs.Option.{option_map_or}
+use Rattle.frames.specs.Layout.{masks}
+use Rattle.frames.specs.Layouts.{layout_of}
+use Rattle.frames.specs.Size.{kind_named}
 use Rattle.frames.specs.Write.{FrameValue, host, device, set_bits, setup, activate, payload, bist, pio}
 use Rattle.frames.specs.declared.shapes.Frame.{Frame}
 use Rattle.frames.specs.declared.shapes.Frame.TheVariants.{Host, Device, Bits, Setup, Activate, Data, Bist, Pio}
@@ -28,16 +31,9 @@ again l (Data n) = payload (drop 4 l)
 again l Bist = bist
 again l (Pio f) = pio f
 
--- the named bits of each kind, byte by byte; every other bit is written 0 and dropped on reading [dropped]
+-- the named bits of a byte's kind, byte by byte; every other bit is written 0 and dropped on reading [dropped]
 unfoldable pub named_bits : ℕ → List ℕ
-named_bits k =
-    pick (eqb k 0x27) (0xFF ∷ 0x80 ∷ 0xFF ∷ 0xFF ∷ 0xFF ∷ 0xFF ∷ 0xFF ∷ 0xFF ∷ 0xFF ∷ 0xFF ∷ 0xFF ∷ 0xFF ∷ 0xFF ∷ 0xFF ∷ 0 ∷ 0xFF ∷ 0 ∷ 0 ∷ 0 ∷ 0 ∷ [])
-    (pick (eqb k 0x34) (0xFF ∷ 0x40 ∷ 0xFF ∷ 0xFF ∷ 0xFF ∷ 0xFF ∷ 0xFF ∷ 0xFF ∷ 0xFF ∷ 0xFF ∷ 0xFF ∷ 0 ∷ 0xFF ∷ 0xFF ∷ 0 ∷ 0 ∷ 0 ∷ 0 ∷ 0 ∷ 0 ∷ [])
-    (pick (eqb k 0xA1) (0xFF ∷ 0x40 ∷ 0x77 ∷ 0xFF ∷ 0xFF ∷ 0xFF ∷ 0xFF ∷ 0xFF ∷ [])
-    (pick (eqb k 0x41) (0xFF ∷ 0xE0 ∷ 0 ∷ 0 ∷ 0xFF ∷ 0xFF ∷ 0xFF ∷ 0xFF ∷ 0 ∷ 0 ∷ 0 ∷ 0 ∷ 0 ∷ 0 ∷ 0 ∷ 0 ∷ 0xFF ∷ 0xFF ∷ 0xFF ∷ 0xFF ∷ 0xFF ∷ 0xFF ∷ 0xFF ∷ 0xFF ∷ 0 ∷ 0 ∷ 0 ∷ 0 ∷ [])
-    (pick (eqb k 0x58) (0xFF ∷ 0 ∷ 0 ∷ 0 ∷ 0 ∷ 0 ∷ 0 ∷ 0 ∷ 0 ∷ 0 ∷ 0 ∷ 0 ∷ [])
-    (pick (eqb k 0x5F) (0xFF ∷ 0x60 ∷ 0xFF ∷ 0xFF ∷ 0xFF ∷ 0xFF ∷ 0xFF ∷ 0xFF ∷ 0xFF ∷ 0xFF ∷ 0xFF ∷ 0 ∷ 0xFF ∷ 0xFF ∷ 0 ∷ 0xFF ∷ 0xFF ∷ 0xFF ∷ 0 ∷ 0 ∷ [])
-    (pick (eqb k 0x39 || eqb k 0x46) (0xFF ∷ 0 ∷ 0 ∷ 0 ∷ []) []))))))
+named_bits byte = option_map_or (λ kind. masks (layout_of kind)) (kind_named byte) []
 
 -- of the bytes of l from place i on, the bits that the masks keep; behind the last mask all, as in a payload
 abbrev pub masked_from : ℕ → List ℕ → List ℕ → List ℕ

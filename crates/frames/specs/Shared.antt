@@ -1,8 +1,10 @@
 -- The parts that several frames share. Numbers are little-endian. Assumes nothing.
-use Rattle.std.specs.Prelude.{◌≡◌, Bool, ◌&&◌, List, [], ◌∷◌, ◌++◌, ℕ, ◌+◌, ◌*◌, ◌/◌, ◌%◌, ◌^◌, ◌<◌, get_or, eqb, ltb}
+use Rattle.std.specs.Prelude.{◌≡◌, Bool, ◌&&◌, List, [], ◌∷◌, ℕ, ◌+◌, ◌*◌, ◌/◌, ◌%◌, ◌^◌, ◌<◌, eqb, ltb}
 use Rattle.bits.specs.Pick.{pick}
 use Rattle.bits.specs.Bit.{bit_in, bit_byte}
-use Rattle.bits.specs.Little.{le_at, le_bytes, bytes_from}
+use Rattle.frames.specs.Layout.{byte, number, bytes_of}
+use Rattle.frames.specs.Layouts.{register_layout, standing}
+use Rattle.frames.specs.declared.kinds.FrameKind.TheVariants.{DeviceRegister}
 use Rattle.frames.specs.declared.shared.Task.{Task}
 use Rattle.frames.specs.declared.shared.Registers.{Registers}
 
@@ -10,17 +12,13 @@ use Rattle.frames.specs.declared.shared.Registers.{Registers}
 abbrev pub flags_of : Bool → Bool → Bool → ℕ
 flags_of seven six five = bit_byte seven 7 + bit_byte six 6 + bit_byte five 5
 
--- A1h, byte 2: bits 6:4 and 2:0 are those bits of status [frame-A1]
-abbrev pub halves_of : ℕ → ℕ
-halves_of b = b / 16 % 8 * 16 + b % 8
+-- the command's bytes of 27h, 34h and 5Fh by the bytes with which their pieces begin: LBA, device, count [frame-27] [numbers]
+abbrev pub task_at : (ℕ → ℕ) → Task
+task_at at = record { lba = at 8 * 2 ^ 24 + at 4; device = at 7; count = at 12 }
 
--- 4-6 LBA 0-23, 8-10 LBA 24-47
-abbrev pub lba_of : List ℕ → ℕ
-lba_of l = le_at l 8 3 * 2 ^ 24 + le_at l 4 3
-
--- 4-10 and 12-13: LBA, device, count [numbers] [frame-27]
+-- 4-10 and 12-13, which stand alike in each of them
 abbrev pub task_of : List ℕ → Task
-task_of l = record { lba = lba_of l; device = get_or l 7 0; count = le_at l 12 2 }
+task_of l = task_at (standing DeviceRegister l)
 
 -- 27h: 15 control (bit 2 SRST) [srst-bit]
 abbrev pub srst_of : ℕ → Bool
@@ -34,12 +32,14 @@ tag_of count = count / 8 % 32
 abbrev pub sectors_of : ℕ → ℕ → ℕ
 sectors_of features high = pick (eqb (high * 256 + features) 0) 65536 (high * 256 + features)
 
+-- the values of the layout that 27h, 34h and 5Fh share
+abbrev pub register_values : Registers → List ℕ
+register_values r =
+    r.kind ∷ r.flags ∷ r.second ∷ r.third ∷ r.task.lba % 2 ^ 24 ∷ r.task.device ∷ r.task.lba / 2 ^ 24 ∷ r.eleven ∷ r.task.count ∷ 0 ∷ r.fifteen ∷ r.bytes ∷ 0 ∷ []
+
 -- the twenty bytes of 27h, 34h and 5Fh; unnamed bytes are written 0 [frame-27]
 unfoldable pub register_bytes : Registers → List ℕ
-register_bytes r =
-    r.kind ∷ r.flags ∷ r.second ∷ r.third
-    ∷ bytes_from 0 3 r.task.lba ++ r.task.device ∷ bytes_from 3 3 r.task.lba ++ r.eleven
-    ∷ le_bytes 2 r.task.count ++ 0 ∷ r.fifteen ∷ le_bytes 2 r.bytes ++ 0 ∷ 0 ∷ []
+register_bytes r = bytes_of (register_layout 0xFF byte byte (number 2)) (register_values r)
 
 -- x is not too large for k bits
 abbrev pub is_below : ℕ → ℕ → Bool
@@ -51,5 +51,5 @@ task_fits t = is_below 8 t.device && is_below 16 t.count && is_below 48 t.lba
 
 -- what the code that reads an LBA answers: the number, which is below 2 ^ 48
 pub record LbaGiven (l : List ℕ) (r : ℕ) : Type 0 where
-  pub value : r ≡ lba_of l
+  pub value : r ≡ (task_of l).lba
   pub bound : r < 2 ^ 48

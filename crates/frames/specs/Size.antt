@@ -1,7 +1,9 @@
 -- Kinds and their lengths. Assumes nothing.
-use Rattle.std.specs.Prelude.{Bool, false, ◌&&◌, ℕ, ◌-◌, ◌%◌, eqb, leb, Option, Some, None}
+use Rattle.std.specs.Prelude.{Bool, false, ◌&&◌, ℕ, ◌-◌, ◌%◌, length, eqb, leb, Option, Some, None}
 use Rattle.std.specs.Option.{option_eq, option_and_then, option_map_or}
 use Rattle.bits.specs.Pick.{pick}
+use Rattle.frames.specs.Layout.{masks}
+use Rattle.frames.specs.Layouts.{layout_of}
 use Rattle.frames.specs.declared.kinds.FrameKind.{FrameKind}
 use Rattle.frames.specs.declared.kinds.FrameKind.TheVariants.{HostRegister, DeviceRegister, DmaActivate, DmaSetup, Data, BistActivate, PioSetup, SetDeviceBits}
 
@@ -17,16 +19,10 @@ kind_named byte =
     (pick (eqb byte 0x5F) (Some PioSetup)
     (pick (eqb byte 0xA1) (Some SetDeviceBits) None)))))))
 
--- the length that a kind fixes; a data frame's is not fixed
+-- the length that a kind fixes, which is its layout's; a data frame's is not fixed
 abbrev pub size_of : FrameKind → Option ℕ
-size_of HostRegister = Some 20
-size_of DeviceRegister = Some 20
-size_of DmaActivate = Some 4
-size_of DmaSetup = Some 28
 size_of Data = None
-size_of BistActivate = Some 12
-size_of PioSetup = Some 20
-size_of SetDeviceBits = Some 8
+size_of kind = Some (length (masks (layout_of kind)))
 
 -- the length that a byte's kind fixes; 46h and an unknown kind fix none [kinds]
 unfoldable pub fixed_size : ℕ → Option ℕ

@@ -1,6 +1,8 @@
 // The frame reader: an enum by value, or a refusal.
+#![tactic(auto, using(crate::proofs::SharedLaws::named_flags))]
+
 ghost use Rattle.std.specs.Prelude.{◌≡◌};
-ghost use Rattle.frames.specs.Read.{host_of, device_of, bits_of, setup_of, pio_of, frame_of, FrameGiven};
+ghost use Rattle.frames.specs.Read.{frame_of, FrameGiven};
 
 use crate::shapes::{DevReg, DmaSetup, Frame, HostReg, PioSetup, SetBits};
 use crate::{FrameKind, Task, byte_of, flag, halves, payload_of};
@@ -8,7 +10,7 @@ use refusals::Refusal;
 
 impl HostReg {
     fn from_frame(bytes: &[u8]) -> HostReg
-        ensures { result ≡ host_of bytes.now }
+        ensures { Frame.Host result ≡ frame_of FrameKind.HostRegister bytes.now }
     {
         HostReg {
             command_bit: flag(byte_of(bytes, 1), 7),
@@ -23,7 +25,7 @@ impl HostReg {
 
 impl DevReg {
     fn from_frame(bytes: &[u8]) -> DevReg
-        ensures { result ≡ device_of bytes.now }
+        ensures { Frame.Device result ≡ frame_of FrameKind.DeviceRegister bytes.now }
     {
         DevReg {
             interrupt: flag(byte_of(bytes, 1), 6),
@@ -36,7 +38,7 @@ impl DevReg {
 
 impl SetBits {
     fn from_frame(bytes: &[u8]) -> SetBits
-        ensures { result ≡ bits_of bytes.now }
+        ensures { Frame.Bits result ≡ frame_of FrameKind.SetDeviceBits bytes.now }
     {
         SetBits {
             interrupt: flag(byte_of(bytes, 1), 6),
@@ -49,7 +51,7 @@ impl SetBits {
 
 impl DmaSetup {
     fn from_frame(bytes: &[u8]) -> DmaSetup
-        ensures { result ≡ setup_of bytes.now }
+        ensures { Frame.Setup result ≡ frame_of FrameKind.DmaSetup bytes.now }
     {
         DmaSetup {
             auto: flag(byte_of(bytes, 1), 7),
@@ -64,7 +66,7 @@ impl DmaSetup {
 
 impl PioSetup {
     fn from_frame(bytes: &[u8]) -> PioSetup
-        ensures { result ≡ pio_of bytes.now }
+        ensures { Frame.Pio result ≡ frame_of FrameKind.PioSetup bytes.now }
     {
         PioSetup {
             interrupt: flag(byte_of(bytes, 1), 6),

@@ -1,7 +1,8 @@
 // The parts that several frames share: single bytes, flags, the status halves of A1h, the command's bytes, and the layout of 27h, 34h and 5Fh.
 ghost use Rattle.std.specs.Prelude.{◌≡◌, ◌%◌, get_or, drop};
+ghost use Rattle.std.specs.Int.Bits.{bit_and};
 ghost use Rattle.bits.specs.Bit.{bit_in};
-ghost use Rattle.frames.specs.Shared.{flags_of, halves_of, LbaGiven, task_of, srst_of, tag_of, sectors_of, register_bytes, task_fits};
+ghost use Rattle.frames.specs.Shared.{flags_of, LbaGiven, task_of, srst_of, tag_of, sectors_of, register_bytes, task_fits};
 
 use crate::sizes::DATA_HEAD_SIZE;
 
@@ -74,7 +75,7 @@ pub fn flags(seven: bool, six: bool, five: bool) -> u8
 
 /// Bits 6:4 and 2:0.
 pub fn halves(status: u8) -> u8
-    ensures { result ≡ halves_of status }
+    ensures { result ≡ bit_and status 0x77 }
 {
     status & 0x77
 }
@@ -135,7 +136,7 @@ pub struct Registers {
 impl Registers {
     /// The bytes of the layout. It refuses nothing: of an LBA the 48 bits that have a place are laid, and the writers
     /// above, which ask `Task::fits`, turn a larger one down.
-    #[tactic(auto, unfolding(crate::specs::Shared::register_bytes))]
+    #[tactic(auto, using(crate::proofs::TaskLaws::register_list))]
     pub fn to_bytes(self) -> [u8; 20]
         ensures { result ≡ register_bytes self }
     {

@@ -1,15 +1,15 @@
 // The frame writers: the frame in front of the buffer, or a refusal, and then no byte is changed.
-#![tactic(auto, unfolding(crate::specs::Write::encode, crate::specs::Write::fits), using(crate::proofs::Defaults::default_zeros))]
+#![tactic(auto, unfolding(crate::specs::Write::encode, crate::specs::Write::fits))]
 
-ghost use Rattle.std.specs.Prelude.{◌≡◌, ◌&&◌, not};
-ghost use Rattle.bits.specs.Bit.{bit_in};
+ghost use Rattle.std.specs.Prelude.{◌≡◌, eqb};
+ghost use Rattle.std.specs.Int.Bits.{bit_and};
 ghost use Rattle.frames.specs.Emit.{WriteGiven};
 ghost use Rattle.frames.specs.Shared.{register_bytes, task_fits};
-ghost use Rattle.frames.specs.Write.{bits_bytes, setup_bytes, FrameWriteGiven};
+ghost use Rattle.frames.specs.Write.{encode, FrameWriteGiven};
 ghost use Rattle.frames.specs.Write.FrameValue.{host, device, set_bits, setup, activate, payload, bist, pio};
 
 use crate::shapes::{DevReg, DmaSetup, HostReg, PioSetup, SetBits};
-use crate::{DATA_HEAD, FrameKind, Registers, emit, flag, flags, halves, is_payload_size};
+use crate::{DATA_HEAD, FrameKind, Registers, emit, flags, halves, is_payload_size};
 use refusals::Refusal;
 
 // The layout that 27h, 34h and 5Fh share.
@@ -23,6 +23,7 @@ fn write_registers(buf: &mut [u8], registers: Registers) -> Result<usize, Refusa
 ///
 /// # Errors
 /// `Unfit` (25) for an LBA of more than 48 bits, and else `BufferShort` (26).
+#[tactic(auto, unfolding(crate::specs::Write::encode, crate::specs::Write::fits, crate::specs::Shared::register_bytes), using(crate::proofs::FitLaws::register_frames))]
 pub fn write_host(buf: &mut [u8], frame: HostReg) -> Result<usize, Refusal>
     ensures { FrameWriteGiven (host frame) buf.old result buf.new }
 {
@@ -43,6 +44,7 @@ pub fn write_host(buf: &mut [u8], frame: HostReg) -> Result<usize, Refusal>
 ///
 /// # Errors
 /// `Unfit` (25) for an LBA of more than 48 bits, and else `BufferShort` (26).
+#[tactic(auto, unfolding(crate::specs::Write::encode, crate::specs::Write::fits, crate::specs::Shared::register_bytes), using(crate::proofs::FitLaws::register_frames))]
 pub fn write_device(buf: &mut [u8], frame: DevReg) -> Result<usize, Refusal>
     ensures { FrameWriteGiven (device frame) buf.old result buf.new }
 {
@@ -61,6 +63,7 @@ pub fn write_device(buf: &mut [u8], frame: DevReg) -> Result<usize, Refusal>
 ///
 /// # Errors
 /// `Unfit` (25) for an LBA of more than 48 bits, and else `BufferShort` (26).
+#[tactic(auto, unfolding(crate::specs::Write::encode, crate::specs::Write::fits, crate::specs::Shared::register_bytes), using(crate::proofs::FitLaws::register_frames))]
 pub fn write_pio(buf: &mut [u8], frame: PioSetup) -> Result<usize, Refusal>
     ensures { FrameWriteGiven (pio frame) buf.old result buf.new }
 {
@@ -78,21 +81,20 @@ pub fn write_pio(buf: &mut [u8], frame: PioSetup) -> Result<usize, Refusal>
 }
 
 impl SetBits {
-    #[tactic(auto, unfolding(crate::specs::Write::bits_bytes))]
     fn to_bytes(&self) -> [u8; 8]
-        ensures { result ≡ bits_bytes self.now }
+        ensures { result ≡ encode (set_bits self.now) }
     {
         let kind = FrameKind::SetDeviceBits as u8;
         let one = flags(false, self.interrupt, false);
         let [a0, a1, a2, a3] = self.active.to_le_bytes();
-        [kind, one, halves(self.status), self.error, a0, a1, a2, a3]
+        [kind, one, self.status, self.error, a0, a1, a2, a3]
     }
 
     // Status bits 7 and 3 have no place in A1h.
     fn fits(&self) -> bool
-        ensures { result ≡ not (bit_in 8 self.now.status 7) && not (bit_in 8 self.now.status 3) }
+        ensures { result ≡ eqb (bit_and self.now.status 0x77) self.now.status }
     {
-        !flag(self.status, 7) && !flag(self.status, 3)
+        halves(self.status) == self.status
     }
 }
 
@@ -107,9 +109,8 @@ pub fn write_bits(buf: &mut [u8], frame: SetBits) -> Result<usize, Refusal>
 }
 
 impl DmaSetup {
-    #[tactic(auto, unfolding(crate::specs::Write::setup_bytes))]
     fn to_bytes(&self) -> [u8; 28]
-        ensures { result ≡ setup_bytes self.now }
+        ensures { result ≡ encode (setup self.now) }
     {
         let kind = FrameKind::DmaSetup as u8;
         let one = flags(self.auto, self.interrupt, self.to_host);

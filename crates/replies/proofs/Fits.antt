@@ -5,6 +5,7 @@ use Rattle.bits.proofs.Picks.{pick_yes}
 use Rattle.frames.specs.Cut.{cut, joined_bytes}
 use Rattle.frames.specs.Shared.{task_fits}
 use Rattle.frames.specs.declared.shared.Task.{Task}
+use Rattle.frames.proofs.FitLaws.{low_fits, high_fits}
 use Rattle.frames.proofs.TaskLaws.{task_fits_lem}
 use Rattle.frames.specs.Write.{FrameValue, payload, encode, fits}
 use Rattle.frames.specs.DataLast.{DataLast}
@@ -31,11 +32,11 @@ all_sent (f ∷ fs) h = ap₂ (λ (a b : List ℕ). a ++ b) (pick_yes (fits f) (
 
 register_fits : (i : Bool) (status error : ℕ) (task : Task) → status < 256 → error < 256 → task_fits task ≡ true → fits (register i status error task) ≡ true
 unfolding fits
-register_fits i status error task s e t = rw (lt-ltb status 256 s, lt-ltb error 256 e) t
+register_fits i status error task s e t = grind (arith, low_fits, high_fits)
 
 pio_fits : (task : Task) → task_fits task ≡ true → fits (pio_reply task) ≡ true
 unfolding fits
-pio_fits task t = t
+pio_fits task t = grind (arith, low_fits, high_fits)
 
 -- what stands in the bytes of a command
 echo_fits : (e : Echo) → Bytes (placed_bytes e) → task_fits (task_in e) ≡ true
@@ -90,7 +91,7 @@ module _ (s : Shown) (part : List ℕ) where
   replies_fit (Store m) h = activate_fits (not m.last)
   replies_fit (Open q) h =
       let most : whole_of q.entry.count < 2 ^ 32 = omega arith in
-      (rw (lt-ltb q.tag (2 ^ 32) h, lt-ltb (whole_of q.entry.count) (2 ^ 32) most), activate_fits q.entry.write)
+      (grind arith, activate_fits q.entry.write)
   replies_fit (Send m) h = (h, tt)
   replies_fit (Finish set) h = (rw (lt-ltb set (2 ^ 32) h), tt)
   replies_fit (Media f) h = (rw (lt-ltb f.error 256 h), tt)

@@ -6,7 +6,7 @@ use Rattle.std.proofs.lemmas.Bool.{cases_lt}
 use Rattle.frames.specs.Cut.{joined_bytes}
 use Rattle.frames.specs.Shared.{register_bytes}
 use Rattle.frames.specs.declared.shared.Task.{Task}
-use Rattle.frames.specs.Write.{FrameValue, host, device, set_bits, setup, activate, payload, bist, pio, bits_bytes, setup_bytes, encode, fits}
+use Rattle.frames.specs.Write.{FrameValue, host, device, set_bits, setup, activate, payload, bist, pio, encode, fits}
 use Rattle.frames.proofs.WriteLaws.{length_payload}
 use Rattle.pages.specs.Page10.{page10, fits10}
 use Rattle.counters.specs.Rows.{keeps_both}
@@ -37,7 +37,7 @@ within f n e = rw (sent_one f) (omega (arith, e, picked_short (fits f) (encode f
 
 -- no frame that is sent is longer than a whole data frame
 one_room : (f : FrameValue) → length (sent_all (f ∷ [])) ≤ 8196
-unfolding encode register_bytes bits_bytes setup_bytes
+unfolding encode register_bytes
 one_room (host f) = omega (arith, within (host f) 20 refl)
 one_room (device f) = omega (arith, within (device f) 20 refl)
 one_room (set_bits f) = omega (arith, within (set_bits f) 8 refl)
@@ -60,13 +60,13 @@ unfolding encode
 activate_room on = if_room on activate 4 refl
 
 open_room : (q : Queued) → length (sent_all (open_replies q)) ≤ 8196
-unfolding encode setup_bytes
+unfolding encode
 open_room q =
     let a = within (setup_reply q) 28 refl in
     omega (arith, a, activate_room q.entry.write, length_sent (setup_reply q ∷ []) (activate_if q.entry.write))
 
 log_room : (on : Bool) (task : Task) (page : List ℕ) → length page ≤ 512 → length (sent_all (log_replies on task page)) ≤ 8196
-unfolding encode register_bytes bits_bytes
+unfolding encode register_bytes
 log_room on task page h =
     let a = if_room on sweep 8 refl in
     let b = within (pio_reply task) 20 refl in

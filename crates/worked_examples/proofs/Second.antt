@@ -6,7 +6,7 @@ use Rattle.frames.specs.Cut.{joined_bytes, cut, cut_to, first_length}
 use Rattle.frames.specs.Shared.{register_bytes}
 use Rattle.frames.specs.Size.{readable, fixed_size}
 use Rattle.frames.specs.Read.{read_frame, frame_by_kind}
-use Rattle.frames.specs.Write.{fits, encode, setup_bytes, bits_bytes}
+use Rattle.frames.specs.Write.{fits, encode}
 use Rattle.pages.specs.Page10.{fits10, page10}
 use Rattle.pages.specs.Sum.{sealed_page, sum256}
 use Rattle.device_state.specs.Contradictory.{moved_bad, contradictory, status_bad, settings_out, record_bad, rows_bad, table_bad, entry_bad, busy_bad, idle_bad}
@@ -44,7 +44,7 @@ typed_long = all_typed long_calls refl
 
 -- the run of resets and errors
 pub second_not_empty : SecondShows
-unfolding first_of overlay_with_room joined_bytes cut cut_to first_length register_bytes readable fixed_size read_frame frame_by_kind fits encode bits_bytes fits10 page10 sealed_page sum256 contradictory status_bad settings_out record_bad rows_bad table_bad entry_bad busy_bad idle_bad echo_of task_in some_below table_with tabulation table_without register_act queued_act other_act log_page sent_all sent_bytes replies_of after_of reset_held unhalted_device halt_with released_device accepted_by contradictory_device power_on fresh_device second tags_from lines_of commands outstanding_at finished_at given_up_at dropped_at total total_with how_many collect some payloads run seen waits sactive before since moved_bad wrong_kind wrong_time wrong_size tests frame_act does act touch_of act_of read_log holding control_act
+unfolding first_of overlay_with_room joined_bytes cut cut_to first_length register_bytes readable fixed_size read_frame frame_by_kind fits encode fits10 page10 sealed_page sum256 contradictory status_bad settings_out record_bad rows_bad table_bad entry_bad busy_bad idle_bad echo_of task_in some_below table_with tabulation table_without register_act queued_act other_act log_page sent_all sent_bytes replies_of after_of reset_held unhalted_device halt_with released_device accepted_by contradictory_device power_on fresh_device second tags_from lines_of commands outstanding_at finished_at given_up_at dropped_at total total_with how_many collect some payloads run seen waits sactive before since moved_bad wrong_kind wrong_time wrong_size tests frame_act does act touch_of act_of read_log holding control_act
 second_not_empty = record {
   typed = typed;
   lines = refl;
@@ -64,7 +64,7 @@ second_not_empty = record {
 
 -- the run of long commands
 pub long_not_empty : LongShows
-unfolding first_of overlay_with_room joined_bytes cut cut_to first_length register_bytes readable fixed_size read_frame frame_by_kind fits encode setup_bytes bits_bytes contradictory status_bad settings_out record_bad rows_bad table_bad entry_bad busy_bad idle_bad echo_of task_in some_below table_with tabulation register_act queued_act some_unready move_of advanced_by stored_medium sent_all sent_bytes replies_of after_of moved_by finished_by opened_for accepted_by contradictory_device power_on fresh_device carried_at span transfer long tags_from lines_of commands outstanding_at finished_at given_up_at dropped_at total collect some payloads run seen begun waits sactive moved_bad wrong_kind wrong_time wrong_size tests frame_act does act touch_of act_of
+unfolding first_of overlay_with_room joined_bytes cut cut_to first_length register_bytes readable fixed_size read_frame frame_by_kind fits encode contradictory status_bad settings_out record_bad rows_bad table_bad entry_bad busy_bad idle_bad echo_of task_in some_below table_with tabulation register_act queued_act some_unready move_of advanced_by stored_medium sent_all sent_bytes replies_of after_of moved_by finished_by opened_for accepted_by contradictory_device power_on fresh_device carried_at span transfer long tags_from lines_of commands outstanding_at finished_at given_up_at dropped_at total collect some payloads run seen begun waits sactive moved_bad wrong_kind wrong_time wrong_size tests frame_act does act touch_of act_of
 long_not_empty = record {
   powered = refl;
   typed = typed_long;

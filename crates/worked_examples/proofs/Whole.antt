@@ -5,7 +5,7 @@ use Rattle.frames.specs.Cut.{joined_bytes, cut, cut_to, first_length}
 use Rattle.frames.specs.Shared.{register_bytes}
 use Rattle.frames.specs.Size.{fixed_size, readable}
 use Rattle.frames.specs.Read.{frame_by_kind, read_frame}
-use Rattle.frames.specs.Write.{bits_bytes, setup_bytes, encode}
+use Rattle.frames.specs.Write.{encode}
 use Rattle.pages.specs.Sum.{sum256, sealed_page}
 use Rattle.counters.specs.Rows.{ids}
 use Rattle.pages.specs.Layout11.{row_bytes, rows_to, open_to, page11}
@@ -15,7 +15,7 @@ use Rattle.pages.specs.Read11.{damaged, value_in, read_counter}
 use Rattle.worked_examples.specs.Whole.{Placed, whole_frames, WholeShows}
 
 pub frames_placed : Placed whole_frames
-unfolding Placed whole_frames register_bytes fixed_size readable frame_by_kind read_frame bits_bytes setup_bytes encode
+unfolding Placed whole_frames register_bytes fixed_size readable frame_by_kind read_frame encode
 frames_placed = (refl, (refl, (refl, (refl, (refl, (refl, (refl, (refl, (refl, (refl, (refl, (refl, (refl, (refl, (refl, (refl, (refl, (refl, (refl, (refl, (refl, (refl, (refl, (refl, (refl, (refl, (refl, (refl, (refl, (refl, (refl, (refl, (refl, tt)))))))))))))))))))))))))))))))))
 
 pub pages_placed : WholeShows
