@@ -3,7 +3,6 @@ use Rattle.std.proofs.Common.{Some, None, Ok, ◌≡◌, refl, sym, ap, ◌∙�
 use mathlib.Core.Bool.{false≢true}
 use mathlib.Core.Path.{subst⁻¹}
 use lib.ListN.{get_or-eq_default}
-use Rattle.std.specs.List.{count_by}
 use Rattle.std.proofs.lemmas.Bool.{cases_lt}
 use Rattle.bits.specs.Pick.{pick}
 use Rattle.bits.proofs.Picks.{tested}
@@ -36,8 +35,9 @@ abbrev pub tally : List ℕ → Lent
 tally ns = lent (happens (LinkTally ns)) [] []
 
 -- how many of these link events are of a row
-abbrev pub times : ℕ → List ℕ → ℕ
-times r rs = count_by (eqb r) rs
+unfoldable pub times : ℕ → List ℕ → ℕ
+times r [] = 0
+times r (x ∷ rs) = pick (eqb r x) 1 0 + times r rs
 
 -- link events one after the other, each of them taken, lead from a state to another
 pub data Linked : Device → List ℕ → Device → Type 0 where
@@ -87,7 +87,7 @@ length_after vs (r ∷ rs) = length_after (tallied vs (single r)) rs ∙ length_
 
 -- each row has as many more as there were events of it
 after_at : (vs rs : List ℕ) (k : ℕ) → length vs ≡ 16 → k < 16 → get_or (after_links vs rs) k 0 ≡ next_count (get_or vs k 0) (times k rs)
-unfolding after_links
+unfolding after_links times
 after_at vs [] k l u = refl
 after_at vs (r ∷ rs) k l u =
     after_at (tallied vs (single r)) rs k (length_tallied vs (single r) ∙ l) u
@@ -107,10 +107,11 @@ abbrev Free : ℕ → List ℕ → Type 0
 Free mask rs = (r : ℕ) → 0 < times r rs → row_refused mask r ≡ false
 
 first_free : (mask r : ℕ) (rs : List ℕ) → Free mask (r ∷ rs) → row_refused mask r ≡ false
+unfolding times
 first_free mask r rs f = f r (rw (eq-eqb r r refl) (omega arith))
 
 links : (rs : List ℕ) (d : Device) → contradictory_device d ≡ false → Free d.settings.mask rs → Linked d rs (with_values d (after_links d.values rs))
-unfolding after_links counted_by
+unfolding after_links counted_by times
 links [] d g f = no_more d
 links (r ∷ rs) d g f =
     let row = first_free d.settings.mask r rs f in
@@ -126,7 +127,7 @@ tally_links d ns rs l m z e =
     let c = tally_counted d ns z in
     let mask = d.settings.mask in
     let none : tally_refused mask ns ≡ false = let t = tally_refusal d ns c.good in grind arith in
-    let free : Free mask rs = λ r u. ⊎_elim (λ (w : r < 16). let a = some_absent (amount_refused_at mask ns) 16 r none w in let n = e r in grind arith) (λ (w : 16 ≤ r). let n = get_or-eq_default ns 0 (rw m w) in absurd (omega (arith, u, e r, n))) (cases_lt r 16) in
+    let free : Free mask rs = λ r u. ⊎_elim (λ (w : r < 16). let a = some_absent (amount_refused_at mask ns) 16 r none w in let n = e r in grind arith) (λ (w : 16 ≤ r). let n = get_or-eq_default ns 0 {n = r} (rw m w) in absurd (omega (arith, u, e r, n))) (cases_lt r 16) in
     subst⁻¹ (λ (x : Device). Linked d rs x) (c.state ∙ ap (with_values d) (sym (after_tallied d.values ns rs l e))) (links rs d c.good free)
 
 -- ---- refused

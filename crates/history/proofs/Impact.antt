@@ -1,5 +1,6 @@
 -- What a call does to the counters is what the history reads of it. Assumes nothing.
-use Rattle.std.proofs.Common.{◌≡◌, refl, sym, ap, ◌∙◌, Bool, true, false, List, ℕ, ◌<◌, get_or, replicate, length-replicate}
+use Rattle.std.proofs.Common.{◌≡◌, refl, sym, ap, ◌∙◌, Bool, true, false, List, ℕ, ◌<◌, get_or, replicate}
+use lib.ListN.{length-replicate}
 use mathlib.Core.Path.{subst⁻¹}
 use Rattle.std.proofs.lemmas.List.{get_or-replicate}
 use Rattle.bits.specs.Pick.{pick}

@@ -3,7 +3,7 @@ ghost use Rattle.std.specs.Prelude.{◌≡◌};
 ghost use Rattle.rules.specs.Call.{happens};
 ghost use Rattle.rules.specs.Handed.{handed};
 
-use counters::Counters;
+use counters::ROWS;
 
 /// A device event, with its arguments.
 #[derive(Clone, Copy, Debug, PartialEq, Eq)]
@@ -26,7 +26,7 @@ pub enum DeviceEvent {
     /// One more in the counter of a row of page 11h.
     LinkEvent(u8),
     /// So many more in the counter of each row: what as many link events do.
-    LinkTally(Counters),
+    LinkTally([u32; ROWS]),
     /// COMRESET.
     Comreset,
 }
