@@ -2,7 +2,7 @@
 use Rattle.std.specs.Prelude.{ℕ, List, [], ◌∷◌, codes, Option, Some, None}
 use Rattle.call_scripts.specs.Names.{named_in}
 use Rattle.call_scripts.specs.declared.verbs.Verb.{Verb}
-use Rattle.call_scripts.specs.declared.verbs.Verb.TheVariants.{Power, Frame, Data, Open, Send, Finish, Media, Link, Comreset, Counter, Count, Lend, Fill, Set, Show, Medium}
+use Rattle.call_scripts.specs.declared.verbs.Verb.TheVariants.{Power, Frame, Data, Open, Send, Finish, Media, Link, Tally, Comreset, Counter, Count, Lend, Fill, Set, Show, Medium}
 
 -- each verb by its word
 abbrev pub verbs : List (List ℕ × Verb)
@@ -15,6 +15,7 @@ verbs =
     (codes "finish", Finish) ∷
     (codes "media", Media) ∷
     (codes "link", Link) ∷
+    (codes "tally", Tally) ∷
     (codes "comreset", Comreset) ∷
     (codes "counter", Counter) ∷
     (codes "count", Count) ∷
@@ -47,3 +48,4 @@ words_in Lend = Some 3
 words_in Medium = Some 3
 words_in Power = Some 4
 words_in Media = Some 4
+words_in Tally = Some 17

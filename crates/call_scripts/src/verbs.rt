@@ -23,6 +23,8 @@ pub(crate) enum Verb {
     Media,
     /// `link`: one more in a row's counter.
     Link,
+    /// `tally`: so many more in the counter of each row.
+    Tally,
     /// `comreset`: COMRESET.
     Comreset,
     /// `counter`: what a counter is.
@@ -41,7 +43,7 @@ pub(crate) enum Verb {
     Medium,
 }
 
-const VERBS: [(&[u8], Verb); 16] = [
+const VERBS: [(&[u8], Verb); 17] = [
     (b"power", Verb::Power),
     (b"frame", Verb::Frame),
     (b"data", Verb::Data),
@@ -50,6 +52,7 @@ const VERBS: [(&[u8], Verb); 16] = [
     (b"finish", Verb::Finish),
     (b"media", Verb::Media),
     (b"link", Verb::Link),
+    (b"tally", Verb::Tally),
     (b"comreset", Verb::Comreset),
     (b"counter", Verb::Counter),
     (b"count", Verb::Count),
@@ -78,6 +81,7 @@ impl Verb {
             Verb::Open | Verb::Finish | Verb::Link | Verb::Counter | Verb::Fill => Some(2),
             Verb::Data | Verb::Lend | Verb::Medium => Some(3),
             Verb::Power | Verb::Media => Some(4),
+            Verb::Tally => Some(17),
         }
     }
 }

@@ -3,7 +3,7 @@ use Rattle.std.proofs.Common.{[], IfSome}
 use Rattle.bits.specs.Contract.{Says, SaysOver}
 use Rattle.bits.proofs.Tying.{say}
 use Rattle.rules.specs.Call.{host_frame, happens}
-use Rattle.rules.specs.declared.event.DeviceEvent.TheVariants.{OpenPhase, SendData, FinishTags, MediaError, LinkEvent, Comreset}
+use Rattle.rules.specs.declared.event.DeviceEvent.TheVariants.{OpenPhase, SendData, FinishTags, MediaError, LinkEvent, LinkTally, Comreset}
 use Rattle.device.specs.Lent.{lent, gave, answered}
 use Rattle.device.specs.Sealing.{powered_of}
 use Rattle.events.specs.Settings.{asked_of}
@@ -49,6 +49,9 @@ tied_media_error = say (λ κs a. tt) (λ κs a r ws p. p)
 pub tied_link_event : Says calling-said.link_event.ended calling.link_event.Reads.Asked calling.link_event.Reads.Post (λ κs a r ws. ContinuesAlone a.0 (happens (LinkEvent a.1.0)) r)
 tied_link_event = say (λ κs a. tt) (λ κs a r ws p. p)
 
+pub tied_link_tally : Says calling-said.link_tally.ended calling.link_tally.Reads.Asked calling.link_tally.Reads.Post (λ κs a r ws. ContinuesAlone a.0 (happens (LinkTally a.1.0)) r)
+tied_link_tally = say (λ κs a. tt) (λ κs a r ws p. p)
+
 pub tied_comreset : Says calling-said.comreset.ended calling.comreset.Reads.Asked calling.comreset.Reads.Post (λ κs a r ws. ContinuesReplying a.0 (happens Comreset) a.1.0.now r ws.1.0)
 tied_comreset = say (λ κs a. tt) (λ κs a r ws p. p)
 
@@ -83,6 +86,9 @@ tied_kept_media_error = say (λ κs a. tt) (λ κs a r ws p. p)
 
 pub tied_kept_link_event : Says keeping-said.kept_link_event.ended keeping.kept_link_event.Reads.Asked keeping.kept_link_event.Reads.Post (λ κs a r ws. ContinuesAlone a.0.now.device (happens (LinkEvent a.1.0)) (answered ws.0.device r))
 tied_kept_link_event = say (λ κs a. tt) (λ κs a r ws p. p)
+
+pub tied_kept_link_tally : Says keeping-said.kept_link_tally.ended keeping.kept_link_tally.Reads.Asked keeping.kept_link_tally.Reads.Post (λ κs a r ws. ContinuesAlone a.0.now.device (happens (LinkTally a.1.0)) (answered ws.0.device r))
+tied_kept_link_tally = say (λ κs a. tt) (λ κs a r ws p. p)
 
 pub tied_kept_comreset : Says keeping-said.kept_comreset.ended keeping.kept_comreset.Reads.Asked keeping.kept_comreset.Reads.Post (λ κs a r ws. ContinuesReplying a.0.now.device (happens Comreset) a.1.0.now (answered ws.0.device r) ws.1.0)
 tied_kept_comreset = say (λ κs a. tt) (λ κs a r ws p. p)

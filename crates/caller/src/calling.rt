@@ -1,6 +1,6 @@
 // One call of the device each. Nothing here is taken from the definitions of the device: what is proved is what its contracts tell a caller.
 ghost use Rattle.rules.specs.Call.{host_frame, happens};
-ghost use Rattle.rules.specs.declared.event.DeviceEvent.TheVariants.{OpenPhase, SendData, FinishTags, MediaError, LinkEvent, Comreset};
+ghost use Rattle.rules.specs.declared.event.DeviceEvent.TheVariants.{OpenPhase, SendData, FinishTags, MediaError, LinkEvent, LinkTally, Comreset};
 ghost use Rattle.device.specs.Lent.{lent, gave};
 ghost use Rattle.caller.specs.Continued.{Begins, Continues, ContinuesReplying, ContinuesAlone, FirstCall};
 
@@ -54,6 +54,13 @@ pub fn link_event(device: Device, row: u8) -> Outcome
     ensures { ContinuesAlone device (happens (LinkEvent row)) result }
 {
     device.link_event(row)
+}
+
+/// Link tally: adds to each row's counter its amount.
+pub fn link_tally(device: Device, amounts: [u32; 16]) -> Outcome
+    ensures { ContinuesAlone device (happens (LinkTally amounts)) result }
+{
+    device.link_tally(amounts)
 }
 
 /// COMRESET.

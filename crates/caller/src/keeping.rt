@@ -1,6 +1,6 @@
 // One call of a kept device each: what is proved is what its contracts tell a caller, and it is what those of the device that is handed on tell.
 ghost use Rattle.rules.specs.Call.{host_frame, happens};
-ghost use Rattle.rules.specs.declared.event.DeviceEvent.TheVariants.{OpenPhase, SendData, FinishTags, MediaError, LinkEvent, Comreset};
+ghost use Rattle.rules.specs.declared.event.DeviceEvent.TheVariants.{OpenPhase, SendData, FinishTags, MediaError, LinkEvent, LinkTally, Comreset};
 ghost use Rattle.device.specs.Lent.{lent, gave, answered};
 ghost use Rattle.device.specs.Sealing.{powered_of};
 ghost use Rattle.caller.specs.Continued.{Begins, Continues, ContinuesReplying, ContinuesAlone};
@@ -67,6 +67,13 @@ pub fn kept_link_event(sealed: &mut Sealed, row: u8) -> Result<usize, Refusal>
     ensures { ContinuesAlone sealed.old.device (happens (LinkEvent row)) (answered sealed.new.device result) }
 {
     sealed.link_event(row)
+}
+
+/// Link tally: adds to each row's counter its amount.
+pub fn kept_link_tally(sealed: &mut Sealed, amounts: [u32; 16]) -> Result<usize, Refusal>
+    ensures { ContinuesAlone sealed.old.device (happens (LinkTally amounts)) (answered sealed.new.device result) }
+{
+    sealed.link_tally(amounts)
 }
 
 /// COMRESET.

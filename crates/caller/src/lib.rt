@@ -10,11 +10,12 @@ mod playing;
 mod running;
 
 pub use calling::{
-    begin, comreset, finish, first_link, host_frame, link_event, media_error, open, send,
+    begin, comreset, finish, first_link, host_frame, link_event, link_tally, media_error, open,
+    send,
 };
 pub use keeping::{
-    keep, kept_comreset, kept_finish, kept_host_frame, kept_link_event, kept_media_error,
-    kept_open, kept_send,
+    keep, kept_comreset, kept_finish, kept_host_frame, kept_link_event, kept_link_tally,
+    kept_media_error, kept_open, kept_send,
 };
 pub use playing::{events_are_a_history, play, play_by_value, start};
 pub use running::run;

@@ -1,2 +1,3 @@
+pub mod CountLaws
 pub mod RowLaws
 pub mod Tied

@@ -21,5 +21,8 @@ tied_keeps_both = sole (λ κs a. tt) (λ κs a r r' ws ws' p q. (same p q, refl
 pub tied_shown_at : Sole shown-said.shown_at.ended shown.shown_at.Reads.Asked shown.shown_at.Reads.Post
 tied_shown_at = sole (λ κs a. tt) (λ κs a r r' ws ws' p q. (same p q, refl))
 
-pub tied_count : Sole counts-said.count.ended counts.count.Reads.Asked counts.count.Reads.Post
-tied_count = sole (λ κs a. tt) (λ κs a r r' ws ws' p q. (refl, λ i. (same p q i, (tt, tt))))
+pub tied_tally : Sole counts-said.tally.ended counts.tally.Reads.Asked counts.tally.Reads.Post
+tied_tally = sole (λ κs a. tt) (λ κs a r r' ws ws' p q. (refl, λ i. (same p q i, (tt, tt))))
+
+pub tied_single : Sole counts-said.single.ended counts.single.Reads.Asked counts.single.Reads.Post
+tied_single = sole (λ κs a. tt) (λ κs a r r' ws ws' p q. (same p q, refl))

@@ -5,7 +5,7 @@ mod counts;
 mod rows;
 mod shown;
 
-pub use counts::count;
+pub use counts::{single, tally};
 pub use rows::{
     COMRESET_ROW, Counters, IDENTIFIERS, INTERFACE_CRC_ROW, ROWS, is_kept, keeps_both, row_of,
 };

@@ -1,15 +1,16 @@
 -- SRST, release, a halt and its end, a media error and zeroed counters leave a state that does not contradict itself. Assumes nothing.
 use Rattle.std.proofs.Common.{Option, is_none, unwrap_or, ◌≡◌, Bool, true, false, not, ◌&&◌, ℕ, eqb, ltb, arith}
 use Rattle.bits.specs.Bit.{bit_in}
+use Rattle.counters.specs.Counts.{single}
 use Rattle.device_state.specs.Contradictory.{status_bad, record_bad, contradictory}
 use Rattle.bits.proofs.Picks.{by_test}
 use Rattle.rules.specs.declared.acts.Fault.{Fault}
 use Rattle.device.specs.Device.{contradictory_device}
 use Rattle.device_state.specs.declared.shapes.Status.{Status}
-use Rattle.device.specs.After.{with_value, with_status, halt_with, unhalted_device, zeroed_if, reset_held, released_device, failed_by, renewed_device}
+use Rattle.device.specs.After.{counted_by, with_status, halt_with, unhalted_device, zeroed_if, reset_held, released_device, failed_by, renewed_device}
 use Rattle.device.specs.declared.state.Device.{Device}
 use Rattle.device.proofs.Never.{fresh_table, fresh_rows}
-use Rattle.device.proofs.Keeping.{counted_good, first_kept, resets_kept, rest_good, rows_good, settings_good}
+use Rattle.device.proofs.Keeping.{counted_good, single_spares, first_kept, resets_kept, rest_good, rows_good, settings_good}
 use Rattle.device.proofs.Parts.{table_good, status_good, refilled_good}
 
 -- SRST
@@ -53,11 +54,11 @@ halt_good d f h tag = rw (settings_good d h, fresh_table d.settings, tag, untagg
 pub failed_good : (d : Device) (f : Fault) → contradictory_device d ≡ false → ltb 31 (unwrap_or f.tag 0) ≡ false → contradictory_device (failed_by d f) ≡ false
 unfolding failed_by
 failed_good d f h tag =
-    by_test (λ (e : Device). contradictory_device (halt_with e f) ≡ false) (bit_in 8 f.error 7) (with_value d 0) d
-    (λ _. halt_good (with_value d 0) f (counted_good d 0 h (first_kept d h)) tag)
+    by_test (λ (e : Device). contradictory_device (halt_with e f) ≡ false) (bit_in 8 f.error 7) (counted_by d (single 0)) d
+    (λ _. halt_good (counted_by d (single 0)) f (counted_good d (single 0) h (single_spares d.settings.mask 0 (first_kept d h))) tag)
     (λ _. halt_good d f h tag)
 
 -- SRST and release together, and one link reset more
 pub renewed_good : (d : Device) → contradictory_device d ≡ false → contradictory_device (renewed_device d) ≡ false
 unfolding renewed_device released_device reset_held
-renewed_good d h = counted_good (released_device (reset_held d)) 9 (released_good (reset_held d) (reset_held_good d h)) (resets_kept d h)
+renewed_good d h = counted_good (released_device (reset_held d)) (single 9) (released_good (reset_held d) (reset_held_good d h)) (single_spares d.settings.mask 9 (resets_kept d h))

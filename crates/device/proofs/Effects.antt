@@ -1,7 +1,8 @@
 -- What each change of the state does, said of its parts; and of every act: settings, record, bytes. Assumes nothing.
-use Rattle.std.proofs.Common.{None, ◌≡◌, refl, sym, subst, Bool, true, false, true≢false, ℕ, ◌<◌, lit<, replicate, arith}
+use Rattle.std.proofs.Common.{None, ◌≡◌, refl, sym, subst, Bool, true, false, true≢false, List, ℕ, ◌<◌, lit<, replicate, arith}
 use Rattle.bits.specs.Pick.{pick}
 use Rattle.bits.specs.Bit.{bit_in}
+use Rattle.counters.specs.Counts.{single}
 use Rattle.device_state.specs.State.{blank_record, zero_echo}
 use Rattle.device_state.specs.declared.shapes.Echo.{Echo}
 use Rattle.device_state.specs.declared.shapes.Entry.{Entry}
@@ -9,7 +10,7 @@ use Rattle.device_state.specs.declared.shapes.ErrorRecord.{ErrorRecord}
 use Rattle.rules.specs.declared.acts.Fault.{Fault}
 use Rattle.rules.specs.declared.acts.Act.{Act}
 use Rattle.rules.specs.declared.acts.Act.TheVariants.{BadAndHalt, Accept, Reset, Store, Send, Finish, Media, Renew}
-use Rattle.device.specs.After.{with_value, halt_with, unhalted_device, zeroed_if, reset_held, released_device, accepted_by, moved_by, opened_for, finished_by, failed_by, renewed_device, after_of}
+use Rattle.device.specs.After.{counted_by, halt_with, unhalted_device, zeroed_if, reset_held, released_device, accepted_by, moved_by, opened_for, finished_by, failed_by, renewed_device, after_of}
 use Rattle.device.specs.declared.state.Device.{Device}
 use Rattle.device.proofs.Widths.{Small, SmallAll, Wide, zero_small, placed_small, cleared_small, idle_small}
 
@@ -84,21 +85,21 @@ pub record ActLaws (d : Device) (a : Act) : Type 0 where
   pub wide : Wide d → Puts a → Wide (after_of d a)
 
 -- nor does a media error
-failed_settings : (d : Device) (f : Fault) → (b : Bool) → (halt_with (pick b (with_value d 0) d) f).settings ≡ d.settings
-unfolding halt_with with_value
+failed_settings : (d : Device) (f : Fault) → (b : Bool) → (halt_with (pick b (counted_by d (single 0)) d) f).settings ≡ d.settings
+unfolding halt_with counted_by
 failed_settings d f b = grind arith
 
--- one more event at a row leaves record and table
-raised_wide : (d : Device) (row : ℕ) → Wide d → Wide (with_value d row)
-unfolding with_value
-raised_wide d row w = record { sized = record { error = w.sized.error; echo = w.sized.echo }; entries = w.entries }
+-- counting leaves record and table
+counted_wide : (d : Device) (ns : List ℕ) → Wide d → Wide (counted_by d ns)
+unfolding counted_by
+counted_wide d ns w = record { sized = record { error = w.sized.error; echo = w.sized.echo }; entries = w.entries }
 
 -- another state with this record, and a table of bytes
 same_record : {d e : Device} → e.errors ≡ d.errors → Wide d → SmallAll e.entries → Wide e
 same_record q w s = record { sized = record { error = subst (λ (r : ErrorRecord). r.error < 256) (sym q) w.sized.error; echo = subst (λ (r : ErrorRecord). Small r.echo) (sym q) w.sized.echo }; entries = s }
 
 pub act_laws : (d : Device) (a : Act) → ActLaws d a
-unfolding traits after_of halt_with accepted_by unhalted_device zeroed_if reset_held released_device moved_by opened_for finished_by failed_by renewed_device with_value
+unfolding traits after_of halt_with accepted_by unhalted_device zeroed_if reset_held released_device moved_by opened_for finished_by failed_by renewed_device counted_by
 act_laws d (BadAndHalt f) = record {
   settings = refl;
   stays = λ h. absurd (true≢false h);
@@ -121,7 +122,7 @@ act_laws d (Media f) = record {
 act_laws d Renew = record {
   settings = refl;
   stays = λ h. absurd (true≢false h);
-  wide = λ _ _. raised_wide (released_device (reset_held d)) 9 (record { sized = record { error = lit< tt; echo = zero_small }; entries = idle_small });
+  wide = λ _ _. counted_wide (released_device (reset_held d)) (single 9) (record { sized = record { error = lit< tt; echo = zero_small }; entries = idle_small });
 }
 act_laws d _ = record { settings = refl; stays = λ _. refl; wide = λ w _. same_record refl w w.entries }
 

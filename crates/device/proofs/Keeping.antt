@@ -1,19 +1,33 @@
--- A taken link event never makes a state that contradicts itself. Assumes nothing.
-use Rattle.std.proofs.Common.{◌≡◌, true, false, ◌||◌, List, ℕ, get_or, set, get_or-set_other, arith}
+-- Taken link events never make a state that contradicts itself. Assumes nothing.
+use Rattle.std.proofs.Common.{◌≡◌, true, false, ◌||◌, List, ℕ, ◌<◌, get_or, arith}
 use Rattle.counters.specs.Rows.{kept, keeps_both}
-use Rattle.counters.specs.Counts.{next_count}
-use Rattle.device_state.specs.Contradictory.{settings_out, table_bad, status_bad, record_bad, row_bad_at, rows_bad, contradictory}
+use Rattle.counters.specs.Counts.{tallied, single}
+use Rattle.counters.proofs.CountLaws.{tallied_none, single_other}
+use Rattle.device_state.specs.Contradictory.{settings_out, table_bad, status_bad, record_bad, row_bad_at, rows_bad, contradictory, amount_refused_at, tally_refused}
 use Rattle.device_state.proofs.TableLaws.{some_never, some_absent}
 use Rattle.device.specs.Device.{contradictory_device}
-use Rattle.device.specs.After.{with_value}
+use Rattle.device.specs.After.{counted_by}
 use Rattle.device.specs.declared.state.Device.{Device}
 
--- another value at a row that is kept
-kept_rows : (mask : ℕ) (values : List ℕ) (row v : ℕ) → kept mask row ≡ true → rows_bad mask values ≡ false → rows_bad mask (set values row v) ≡ false
+-- no event of a row that is not kept
+abbrev pub Spares : ℕ → List ℕ → Type 0
+Spares mask ns = (i : ℕ) → i < 16 → kept mask i ≡ false → get_or ns i 0 ≡ 0
+
+-- of one row that is kept
+pub single_spares : (mask row : ℕ) → kept mask row ≡ true → Spares mask (single row)
+single_spares mask row k i l n = single_other row i (λ e. grind arith)
+
+-- of amounts that are not refused
+pub tally_spares : (mask : ℕ) (ns : List ℕ) → tally_refused mask ns ≡ false → Spares mask ns
+unfolding tally_refused
+tally_spares mask ns h i l n = let was = some_absent (amount_refused_at mask ns) 16 i h l in grind arith
+
+-- events of rows that are kept
+kept_rows : (mask : ℕ) (values ns : List ℕ) → Spares mask ns → rows_bad mask values ≡ false → rows_bad mask (tallied values ns) ≡ false
 unfolding rows_bad
-kept_rows mask values row v k h =
-    some_never (row_bad_at mask (set values row v)) 16
-    (λ i l. let was = some_absent (row_bad_at mask values) 16 i h l in grind (arith, get_or-set_other values row i v 0))
+kept_rows mask values ns k h =
+    some_never (row_bad_at mask (tallied values ns)) 16
+    (λ i l. let was = some_absent (row_bad_at mask values) 16 i h l in let none = k i l in let same = tallied_none values ns i in grind arith)
 
 -- what is found where a state does not contradict itself
 pub rows_good : (d : Device) → contradictory_device d ≡ false → rows_bad d.settings.mask d.values ≡ false
@@ -41,7 +55,7 @@ first_kept d h = let k = both_kept d h in grind arith
 pub resets_kept : (d : Device) → contradictory_device d ≡ false → kept d.settings.mask 9 ≡ true
 resets_kept d h = let k = both_kept d h in grind arith
 
--- one more at a row that is kept
-pub counted_good : (d : Device) (row : ℕ) → contradictory_device d ≡ false → kept d.settings.mask row ≡ true → contradictory_device (with_value d row) ≡ false
-unfolding contradictory_device contradictory with_value
-counted_good d row h k = grind (arith, kept_rows d.settings.mask d.values row (next_count (get_or d.values row 0) 1) k (rows_good d h))
+-- more of rows that are kept
+pub counted_good : (d : Device) (ns : List ℕ) → contradictory_device d ≡ false → Spares d.settings.mask ns → contradictory_device (counted_by d ns) ≡ false
+unfolding contradictory_device contradictory counted_by
+counted_good d ns h k = let rows = kept_rows d.settings.mask d.values ns k (rows_good d h) in grind arith

@@ -32,6 +32,7 @@ pub mod Widening
 pub mod Sending
 pub mod Storing
 pub mod Moves
+pub mod Tallies
 pub mod Due
 pub mod Contradicted
 pub mod Zeros

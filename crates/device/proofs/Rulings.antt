@@ -7,6 +7,7 @@ use Rattle.frames.specs.declared.shapes.HostReg.{HostReg}
 use Rattle.frames.specs.declared.shapes.Frame.{Frame}
 use Rattle.frames.proofs.ReadLaws.{DataRead}
 use Rattle.refusals.specs.declared.reasons.Refusal.{Refusal}
+use Rattle.counters.specs.Counts.{single}
 use Rattle.device_state.specs.State.{echo_of, zero_echo}
 use Rattle.device_state.specs.declared.shapes.Entry.{Entry}
 use Rattle.device_state.specs.Table.{entry_of}
@@ -28,7 +29,7 @@ use Rattle.device.specs.After.{after_of, moved_by}
 use Rattle.device.specs.Step.{state_shown}
 use Rattle.device.specs.declared.state.Device.{Device}
 use Rattle.device.proofs.Effects.{traits, Puts}
-use Rattle.device.proofs.Keeping.{both_kept, counted_good, settings_good}
+use Rattle.device.proofs.Keeping.{both_kept, counted_good, settings_good, single_spares, tally_spares}
 use Rattle.device.proofs.Acts.{failed_good, halt_good, released_good, renewed_good, reset_held_good, unhalted_good, zeroed_good}
 use Rattle.device.proofs.Changes.{accepted_good, finished_good, moved_good, opened_good}
 use Rattle.device.proofs.Entering.{entry_good, tag_small}
@@ -134,7 +135,8 @@ own_rule d m b (by.failed u e x g s o y w) = record {
   puts = λ t es. (t.2, failing_small (entry_of d.entries u).echo x (es u));
   good = λ _. let small : u < 32 = busy_below d.status.outstanding u o in failed_good d _ g (le-ltb 31 u (omega arith));
 }
-own_rule d m b (by.linked r g x) = record { fits = λ _ _. tt; puts = λ _ _. none_puts; good = λ _. counted_good d r g (grind arith) }
+own_rule d m b (by.linked r g x) = record { fits = λ _ _. tt; puts = λ _ _. none_puts; good = λ _. counted_good d (single r) g (single_spares d.settings.mask r (grind arith)) }
+own_rule d m b (by.tallied ns g x) = record { fits = λ _ _. tt; puts = λ _ _. none_puts; good = λ _. counted_good d ns g (tally_spares d.settings.mask ns x) }
 own_rule d m b (by.renewed g s) = record { fits = λ _ _. tt; puts = λ _ _. none_puts; good = λ _. renewed_good d g }
 
 -- by the event: nothing is said of one that is lent a buffer, and the rest replies nothing

@@ -27,6 +27,9 @@ tied_media_error = sole (λ κs a. tt) (λ κs a r r' ws ws' p q. let e = given_
 pub tied_link_event : Sole state-said.Device.link_event.ended state.Device.link_event.Reads.Asked state.Device.link_event.Reads.Post
 tied_link_event = sole (λ κs a. tt) (λ κs a r r' ws ws' p q. let e = given_once _ _ r r' [] [] [] [] p q in (e.0, λ i. (tt, (tt, tt))))
 
+pub tied_link_tally : Sole state-said.Device.link_tally.ended state.Device.link_tally.Reads.Asked state.Device.link_tally.Reads.Post
+tied_link_tally = sole (λ κs a. tt) (λ κs a r r' ws ws' p q. let e = given_once _ _ r r' [] [] [] [] p q in (e.0, λ i. (tt, (tt, tt))))
+
 pub tied_comreset : Sole state-said.Device.comreset.ended state.Device.comreset.Reads.Asked state.Device.comreset.Reads.Post
 tied_comreset = sole (λ κs a. tt) (λ κs a r r' ws ws' p q. let e = given_once _ _ r r' [] [] ws.1.0 ws'.1.0 p q in (e.0, λ i. (tt, (e.1.1 i, tt))))
 

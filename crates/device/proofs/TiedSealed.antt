@@ -29,6 +29,9 @@ tied_media_error = sole (λ κs a. tt) (λ κs a r r' ws ws' p q. let e = given_
 pub tied_link_event : Sole sealed-said.Sealed.link_event.ended sealed.Sealed.link_event.Reads.Asked sealed.Sealed.link_event.Reads.Post
 tied_link_event = sole (λ κs a. tt) (λ κs a r r' ws ws' p q. let e = given_once _ _ (answered ws.0.device r) (answered ws'.0.device r') [] [] [] [] p q in (same_answer _ _ r r' e.0, λ i. (kept_once ws.0 ws'.0 (same_state _ _ r r' e.0) i, (tt, tt))))
 
+pub tied_link_tally : Sole sealed-said.Sealed.link_tally.ended sealed.Sealed.link_tally.Reads.Asked sealed.Sealed.link_tally.Reads.Post
+tied_link_tally = sole (λ κs a. tt) (λ κs a r r' ws ws' p q. let e = given_once _ _ (answered ws.0.device r) (answered ws'.0.device r') [] [] [] [] p q in (same_answer _ _ r r' e.0, λ i. (kept_once ws.0 ws'.0 (same_state _ _ r r' e.0) i, (tt, tt))))
+
 pub tied_comreset : Sole sealed-said.Sealed.comreset.ended sealed.Sealed.comreset.Reads.Asked sealed.Sealed.comreset.Reads.Post
 tied_comreset = sole (λ κs a. tt) (λ κs a r r' ws ws' p q. let e = given_once _ _ (answered ws.0.device r) (answered ws'.0.device r') [] [] ws.1.0 ws'.1.0 p q in (same_answer _ _ r r' e.0, λ i. (kept_once ws.0 ws'.0 (same_state _ _ r r' e.0) i, (e.1.1 i, tt))))
 

@@ -8,7 +8,7 @@ use Rattle.device_state.specs.UnderWay.{none_under_way, with_tag, without_tags}
 use Rattle.device_state.specs.declared.shapes.Status.{Status}
 use Rattle.device_state.specs.declared.shapes.Entry.{Entry}
 use Rattle.device_state.specs.declared.shapes.ErrorRecord.{ErrorRecord}
-use Rattle.counters.specs.Counts.{counted_at}
+use Rattle.counters.specs.Counts.{tallied, single}
 use Rattle.rules.specs.Record.{record_of}
 use Rattle.rules.specs.declared.acts.Fault.{Fault}
 use Rattle.rules.specs.declared.acts.Queued.{Queued}
@@ -21,9 +21,9 @@ use Rattle.device.specs.declared.state.Device.{Device}
 abbrev pub with_values : Device → List ℕ → Device
 with_values d values = record d { values = values }
 
--- one event more at a row [link-event]
-unfoldable pub with_value : Device → ℕ → Device
-with_value d row = with_values d (counted_at d.values row)
+-- so many events more of each row [link-event] [link-tally]
+unfoldable pub counted_by : Device → List ℕ → Device
+counted_by d amounts = with_values d (tallied d.values amounts)
 
 -- the same settings and counters, an empty table [halt]
 abbrev pub emptied_device : Device → Status → ErrorRecord → Device
@@ -72,13 +72,13 @@ finished_by d set = with_status d (without_tags d.status set) (table_without d.e
 
 -- media error: halt; error bit 7 adds one to counter 001h [media-error]
 unfoldable pub failed_by : Device → Fault → Device
-failed_by d f = halt_with (pick (bit_in 8 f.error 7) (with_value d 0) d) f
+failed_by d f = halt_with (pick (bit_in 8 f.error 7) (counted_by d (single 0)) d) f
 
 -- COMRESET: as SRST and release together, counter 00Ah + 1 (row 9), counters kept [comreset]
 unfoldable pub renewed_device : Device → Device
-renewed_device d = with_value (released_device (reset_held d)) 9
+renewed_device d = counted_by (released_device (reset_held d)) (single 9)
 
--- by the act; a link event adds one to its row's counter [all-done]
+-- by the act [all-done]
 unfoldable pub after_of : Device → Act → Device
 after_of d Nothing = d
 after_of d (Bad b) = d
@@ -94,5 +94,5 @@ after_of d (Open q) = opened_for d q.tag
 after_of d (Send m) = moved_by d m
 after_of d (Finish set) = finished_by d set
 after_of d (Media f) = failed_by d f
-after_of d (Count row) = with_value d row
+after_of d (Count amounts) = counted_by d amounts
 after_of d Renew = renewed_device d

@@ -1,20 +1,20 @@
 // The state after an act.
-#![tactic(auto, unfolding(crate::specs::After::with_value, crate::specs::After::halt_with, crate::specs::After::accepted_by, crate::specs::After::unhalted_device, crate::specs::After::zeroed_if, crate::specs::After::reset_held, crate::specs::After::released_device, crate::specs::After::moved_by, crate::specs::After::opened_for, crate::specs::After::finished_by, crate::specs::After::failed_by, crate::specs::After::renewed_device, crate::specs::After::after_of))]
+#![tactic(auto, unfolding(crate::specs::After::counted_by, crate::specs::After::halt_with, crate::specs::After::accepted_by, crate::specs::After::unhalted_device, crate::specs::After::zeroed_if, crate::specs::After::reset_held, crate::specs::After::released_device, crate::specs::After::moved_by, crate::specs::After::opened_for, crate::specs::After::finished_by, crate::specs::After::failed_by, crate::specs::After::renewed_device, crate::specs::After::after_of))]
 
 ghost use Rattle.std.specs.Prelude.{◌≡◌, true};
-ghost use Rattle.device.specs.After.{with_value, emptied_device, halt_with, accepted_by, unhalted_device, zeroed_if, reset_held, released_device, moved_by, opened_for, finished_by, failed_by, renewed_device, after_of};
+ghost use Rattle.device.specs.After.{counted_by, emptied_device, halt_with, accepted_by, unhalted_device, zeroed_if, reset_held, released_device, moved_by, opened_for, finished_by, failed_by, renewed_device, after_of};
 
 use crate::state::Device;
-use counters::{COMRESET_ROW, INTERFACE_CRC_ROW, ROWS};
+use counters::{COMRESET_ROW, Counters, INTERFACE_CRC_ROW, ROWS};
 use device_state::{Entry, ErrorRecord, Settings, Status};
 use rules::{Act, Fault, Move, Queued};
 
 impl Device {
-    // One row's counter has one event more.
-    fn count(&mut self, row: u8)
-        ensures { self.new ≡ with_value self.old row }
+    // Each row's counter has so many events more.
+    fn count(&mut self, amounts: &Counters)
+        ensures { self.new ≡ counted_by self.old amounts.now }
     {
-        counters::count(&mut self.values, row);
+        counters::tally(&mut self.values, amounts);
     }
 
     // Nothing is under way any more; settings and counters stay.
@@ -90,14 +90,14 @@ impl Device {
         ensures { self.new ≡ renewed_device self.old }
     {
         self.empty(Status::idle(), ErrorRecord::default());
-        self.count(COMRESET_ROW);
+        self.count(&counters::single(COMRESET_ROW));
     }
 
     fn fail(&mut self, fault: Fault)
         ensures { self.new ≡ failed_by self.old fault }
     {
         if frames::flag(fault.error, 7) {
-            self.count(INTERFACE_CRC_ROW);
+            self.count(&counters::single(INTERFACE_CRC_ROW));
         }
         self.halt(fault);
     }
@@ -123,7 +123,7 @@ impl Device {
             Act::Open(queued) => self.open_for(queued.tag),
             Act::Finish(set) => self.finish_tags(*set),
             Act::Media(fault) => self.fail(*fault),
-            Act::Count(row) => self.count(*row),
+            Act::Count(amounts) => self.count(amounts),
             Act::Renew => self.renew(),
         }
     }

@@ -3,13 +3,14 @@
 
 ghost use Rattle.std.specs.Prelude.{◌≡◌};
 ghost use Rattle.rules.specs.Call.{host_frame, happens};
-ghost use Rattle.rules.specs.declared.event.DeviceEvent.TheVariants.{OpenPhase, SendData, FinishTags, MediaError, LinkEvent, Comreset};
+ghost use Rattle.rules.specs.declared.event.DeviceEvent.TheVariants.{OpenPhase, SendData, FinishTags, MediaError, LinkEvent, LinkTally, Comreset};
 ghost use Rattle.device.specs.Lent.{lent, gave};
 ghost use Rattle.device.specs.DataDue.{data_due};
 ghost use Rattle.device.specs.Step.{Given, GivenReplying, GivenAlone};
 
 use crate::sealed::Sealed;
 use crate::state::{Device, Outcome};
+use counters::Counters;
 
 // The call of a device that is kept; a state that contradicts itself is handed back as it is.
 macro_rules! kept {
@@ -84,6 +85,16 @@ impl Device {
         ensures { GivenAlone self (happens (LinkEvent row)) result }
     {
         kept!(self.link_event(row))
+    }
+
+    /// Link tally: adds to the counter of each row what as many link events would, all of them or none. An amount of 0 may
+    /// stand anywhere. No reply.
+    ///
+    /// Refused with the first that holds of `Contradiction` (1), `NoRow` (13).
+    pub fn link_tally(mut self, amounts: Counters) -> Outcome
+        ensures { GivenAlone self (happens (LinkTally amounts)) result }
+    {
+        kept!(self.link_tally(amounts))
     }
 
     /// COMRESET: as SRST and release together, and one link reset more: the signature.

@@ -5,7 +5,7 @@ ghost use Rattle.std.specs.Prelude.{◌≡◌, ◌<◌, ◌^◌, [], leb, length
 ghost use Rattle.bits.specs.Pick.{pick};
 ghost use Rattle.rules.specs.Handed.{handed};
 ghost use Rattle.rules.specs.Call.{host_frame, happens};
-ghost use Rattle.rules.specs.declared.event.DeviceEvent.TheVariants.{OpenPhase, SendData, FinishTags, MediaError, LinkEvent, Comreset};
+ghost use Rattle.rules.specs.declared.event.DeviceEvent.TheVariants.{OpenPhase, SendData, FinishTags, MediaError, LinkEvent, LinkTally, Comreset};
 ghost use Rattle.replies.specs.Replies.{replies_of, RepliesGiven};
 ghost use Rattle.device.specs.Device.{power_on};
 ghost use Rattle.device.specs.Lent.{lent, gave, answered};
@@ -16,6 +16,7 @@ ghost use Rattle.device.specs.Sealing.{powered_of};
 
 use crate::sealed::Sealed;
 use crate::state::Device;
+use counters::Counters;
 use device_state::{Entry, Settings};
 use refusals::Refusal;
 use replies::Shown;
@@ -101,6 +102,7 @@ impl Sealed {
             | DeviceEvent::SendData
             | DeviceEvent::MediaError { .. }
             | DeviceEvent::LinkEvent(_)
+            | DeviceEvent::LinkTally(_)
             | DeviceEvent::Comreset => false,
         }
     }
@@ -151,8 +153,8 @@ impl Sealed {
         Ok(self.device.done(&act, b"", reply))
     }
 
-    /// A device event. Of what is lent, it looks at the medium for a send alone, and for a link event not at the reply
-    /// buffer.
+    /// A device event. Of what is lent, it looks at the medium for a send alone, and for a link event or tally not
+    /// at the reply buffer.
     ///
     /// # Errors
     /// Those of the method that it has below.
@@ -224,6 +226,18 @@ impl Sealed {
         ensures { GivenAlone self.old.device (happens (LinkEvent row)) (answered self.new.device result) }
     {
         self.event(DeviceEvent::LinkEvent(row), b"", &mut [])
+    }
+
+    /// Link tally: adds to the counter of each row what as many link events would, all of them or none. An amount of 0 may
+    /// stand anywhere. It replies nothing: 0 bytes.
+    ///
+    /// # Errors
+    /// `NoRow` (13), for a row with another amount.
+    #[tactic(auto, using(crate::proofs::Lending::given_silent))]
+    pub fn link_tally(&mut self, amounts: Counters) -> Result<usize, Refusal>
+        ensures { GivenAlone self.old.device (happens (LinkTally amounts)) (answered self.new.device result) }
+    {
+        self.event(DeviceEvent::LinkTally(amounts), b"", &mut [])
     }
 
     /// COMRESET: as SRST and release together, and one link reset more: the signature.

@@ -101,3 +101,6 @@ tied_contradicts = sole (λ κs a. tt) (λ κs a r r' ws ws' p q. (same p q, ref
 
 pub tied_row_refused : Sole contradicting-said.row_refused.ended contradicting.row_refused.Reads.Asked contradicting.row_refused.Reads.Post
 tied_row_refused = sole (λ κs a. tt) (λ κs a r r' ws ws' p q. (same p q, refl))
+
+pub tied_tally_refused : Sole contradicting-said.tally_refused.ended contradicting.tally_refused.Reads.Asked contradicting.tally_refused.Reads.Post
+tied_tally_refused = sole (λ κs a. tt) (λ κs a r r' ws ws' p q. (same p q, refl))

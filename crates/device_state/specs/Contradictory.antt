@@ -148,3 +148,15 @@ contradictory s f es r values =
 -- 13: row 0, row 9, above 15, or not kept [refused-13]
 abbrev pub row_refused : ℕ → ℕ → Bool
 row_refused mask row = (eqb row 0 || eqb row 9) || (ltb 15 row || not (kept mask row))
+
+-- so many events of a row; none of no row is refused
+abbrev pub amount_refused : ℕ → ℕ → ℕ → Bool
+amount_refused mask row amount = not (eqb amount 0) && row_refused mask row
+
+-- of one row
+abbrev pub amount_refused_at : ℕ → List ℕ → ℕ → Bool
+amount_refused_at mask amounts row = amount_refused mask row (get_or amounts row 0)
+
+-- 13: of some row [refused-13] [link-tally]
+unfoldable pub tally_refused : ℕ → List ℕ → Bool
+tally_refused mask amounts = some_below 16 (amount_refused_at mask amounts)

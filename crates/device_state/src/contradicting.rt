@@ -2,7 +2,7 @@
 ghost use Rattle.std.specs.Prelude.{◌≡◌};
 ghost use Rattle.bits.specs.Bit.{bit_in};
 ghost use Rattle.device_state.specs.UnderWay.{open_for};
-ghost use Rattle.device_state.specs.Contradictory.{settings_out, moved_bad, busy_bad, idle_bad, entry_bad, table_bad, status_bad, record_bad, row_bad, rows_bad, contradictory, row_refused};
+ghost use Rattle.device_state.specs.Contradictory.{settings_out, moved_bad, busy_bad, idle_bad, entry_bad, table_bad, status_bad, record_bad, row_bad, rows_bad, contradictory, row_refused, amount_refused, tally_refused};
 
 use crate::{Entries, Entry, ErrorRecord, Settings, Status};
 use counters::{COMRESET_ROW, Counters, INTERFACE_CRC_ROW};
@@ -121,9 +121,34 @@ pub fn contradicts(
         || rows_bad(settings.mask, values)
 }
 
+// Of a place that may be no row.
+fn is_refused(mask: u16, row: usize) -> bool
+    ensures { result ≡ row_refused mask row }
+{
+    row == usize::from(INTERFACE_CRC_ROW)
+        || row == usize::from(COMRESET_ROW)
+        || !counters::is_kept(mask, row)
+}
+
 /// Row 0, row 9, above 15, or not kept.
 pub fn row_refused(mask: u16, row: u8) -> bool
     ensures { result ≡ row_refused mask row }
 {
-    row == INTERFACE_CRC_ROW || row == COMRESET_ROW || !counters::is_kept(mask, usize::from(row))
+    is_refused(mask, usize::from(row))
+}
+
+fn amount_refused(mask: u16, row: usize, amount: u32) -> bool
+    ensures { result ≡ amount_refused mask row amount }
+{
+    amount != 0 && is_refused(mask, row)
+}
+
+/// Sixteen amounts, of which some is not 0 and stands at a row that `row_refused` names.
+pub fn tally_refused(mask: u16, amounts: &Counters) -> bool
+    ensures { result ≡ tally_refused mask amounts.now }
+{
+    amounts
+        .iter()
+        .enumerate()
+        .any(|(row, &amount)| amount_refused(mask, row, amount))
 }

@@ -9,7 +9,7 @@ mod shapes;
 mod status;
 mod table;
 
-pub use contradicting::{contradicts, row_refused, settings_out};
+pub use contradicting::{contradicts, row_refused, settings_out, tally_refused};
 pub use placing::{SECTOR_SIZE, place, store};
 pub use progress::Progress;
 pub use ranges::Sectors;

@@ -9,7 +9,7 @@ use Rattle.device.specs.declared.state.Outcome.{Outcome}
 use Rattle.device.proofs.state.Device as calls
 use Rattle.device.specs.contracts.state.Device as said
 use Rattle.rules.specs.Call.{host_frame, happens}
-use Rattle.rules.specs.declared.event.DeviceEvent.TheVariants.{OpenPhase, SendData, FinishTags, MediaError, LinkEvent, Comreset}
+use Rattle.rules.specs.declared.event.DeviceEvent.TheVariants.{OpenPhase, SendData, FinishTags, MediaError, LinkEvent, LinkTally, Comreset}
 use Rattle.device.specs.Lent.{Lent, lent, Gave, gave}
 use Rattle.history.specs.Run.{Done}
 use Rattle.history.specs.Follows.{FollowsBy}
@@ -29,6 +29,8 @@ pub data Allowed (d : Device) : Lent → Gave → Type 0 where
       → Allows said.media_error.ended calls.media_error.Reads.Post κs (d, (t, (e, (s, (b, tt))))) r (tt, (tt, (tt, (tt, (b', tt))))) → Allowed d (lent (happens (MediaError t e s)) m b.now) (gave r m b')
   linked : (row : ℕ) (r : Outcome) (m b : List ℕ)
       → Allows said.link_event.ended calls.link_event.Reads.Post tt (d, (row, tt)) r (tt, (tt, tt)) → Allowed d (lent (happens (LinkEvent row)) m b) (gave r m b)
+  tallied : (ns : List ℕ) (r : Outcome) (m b : List ℕ)
+      → Allows said.link_tally.ended calls.link_tally.Reads.Post tt (d, (ns, tt)) r (tt, (tt, tt)) → Allowed d (lent (happens (LinkTally ns)) m b) (gave r m b)
   reset : (κs : Lfts 1) (b : MutBor (List ℕ)) (r : Outcome) (m b' : List ℕ)
       → Allows said.comreset.ended calls.comreset.Reads.Post κs (d, (b, tt)) r (tt, (b', tt)) → Allowed d (lent (happens Comreset) m b.now) (gave r m b')
 

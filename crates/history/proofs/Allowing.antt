@@ -8,7 +8,7 @@ use Rattle.replies.specs.Replies.{sent_all}
 use Rattle.rules.specs.Handed.{handed}
 use Rattle.rules.specs.Medium.{Touch, kept_by}
 use Rattle.rules.specs.Call.{Call, host_frame, happens}
-use Rattle.rules.specs.declared.event.DeviceEvent.TheVariants.{OpenPhase, SendData, FinishTags, MediaError, LinkEvent, Comreset}
+use Rattle.rules.specs.declared.event.DeviceEvent.TheVariants.{OpenPhase, SendData, FinishTags, MediaError, LinkEvent, LinkTally, Comreset}
 use Rattle.device_state.specs.declared.shapes.Settings.{Settings}
 use Rattle.device.specs.Device.{power_on}
 use Rattle.device.specs.Step.{Step, step, Given}
@@ -19,7 +19,7 @@ use Rattle.device.proofs.Doing.{event_left}
 use Rattle.device.proofs.Lending.{Unlent, act_leaves, silent_frames}
 use Rattle.history.specs.Run.{Done, done, result}
 use Rattle.history.specs.Follows.{FollowsBy, lents}
-use Rattle.history.proofs.Allowed.{Allowed, hosted, opened, sent, finished, failed, linked, reset, BeganCode}
+use Rattle.history.proofs.Allowed.{Allowed, hosted, opened, sent, finished, failed, linked, tallied, reset, BeganCode}
 
 -- bytes as they are lent
 abbrev lent_to : List ℕ → Bor (List ℕ)
@@ -60,6 +60,7 @@ allowed_some d (happens SendData) m b = (_, sent ([], ([], tt)) (lent_to m) (len
 allowed_some d (happens (FinishTags s)) m b = (_, finished ([], tt) s (lent_for b) _ m _ (bare d (happens (FinishTags s)) b refl))
 allowed_some d (happens (MediaError t e s)) m b = (_, failed ([], tt) t e s (lent_for b) _ m _ (bare d (happens (MediaError t e s)) b refl))
 allowed_some d (happens (LinkEvent r)) m b = (_, linked r _ m b (nowhere d (happens (LinkEvent r)) refl refl))
+allowed_some d (happens (LinkTally ns)) m b = (_, tallied ns _ m b (nowhere d (happens (LinkTally ns)) refl refl))
 allowed_some d (happens Comreset) m b = (_, reset ([], tt) (lent_for b) _ m _ (bare d (happens Comreset) b refl))
 
 -- and so is every sequence of calls

@@ -2,7 +2,7 @@
 use Rattle.std.proofs.Common.{Option, Result, ◌≡◌, refl, sym, ap, subst, ◌∙◌, List, [], ◌∷◌, map, ℕ}
 use Rattle.device_state.specs.declared.shapes.Settings.{Settings}
 use Rattle.rules.specs.Call.{happens}
-use Rattle.rules.specs.declared.event.DeviceEvent.TheVariants.{OpenPhase, FinishTags, MediaError, LinkEvent, Comreset}
+use Rattle.rules.specs.declared.event.DeviceEvent.TheVariants.{OpenPhase, FinishTags, MediaError, LinkEvent, LinkTally, Comreset}
 use Rattle.device.specs.Step.{Given}
 use Rattle.device.proofs.Lending.{unlent, unlent_both}
 use Rattle.device.specs.declared.state.Device.{Device}
@@ -13,7 +13,7 @@ use Rattle.history.specs.Run.{result, Done, done, event, Run, run, run_from, his
 use Rattle.device.specs.Counter.{CounterGiven, CountGiven}
 use Rattle.refusals.specs.declared.reasons.Refusal.{Refusal}
 use Rattle.history.specs.Follows.{FollowsBy, newest_first, final, lents, history_of, Began}
-use Rattle.history.proofs.Allowed.{Allowed, hosted, opened, sent, finished, failed, linked, reset, BeganCode, CounterCode, counted, CountCode, summed}
+use Rattle.history.proofs.Allowed.{Allowed, hosted, opened, sent, finished, failed, linked, tallied, reset, BeganCode, CounterCode, counted, CountCode, summed}
 
 same_gave : {d d' : Device} {n n' : Option Refusal} {l l' : ℕ} {m m' b b' : List ℕ} → d ≡ d' → n ≡ n' → l ≡ l' → m ≡ m' → b ≡ b'
     → ◌≡◌ {A = Gave} (record { outcome = record { state = d; refusal = n; len = l }; medium = m; buffer = b }) (record { outcome = record { state = d'; refusal = n'; len = l' }; medium = m'; buffer = b' })
@@ -31,6 +31,7 @@ allowed_given {d} (sent κs m b r b' p) = p
 allowed_given {d} (finished κs s b r m b' p) = unlent d (happens (FinishTags s)) m b.now b' r refl p
 allowed_given {d} (failed κs t e s b r m b' p) = unlent d (happens (MediaError t e s)) m b.now b' r refl p
 allowed_given {d} (linked row r m b p) = unlent_both d (happens (LinkEvent row)) m b r refl refl p
+allowed_given {d} (tallied ns r m b p) = unlent_both d (happens (LinkTally ns)) m b r refl refl p
 allowed_given {d} (reset κs b r m b' p) = unlent d (happens Comreset) m b.now b' r refl p
 
 -- a sequence that the contracts allow is one of results as the one contract promises them

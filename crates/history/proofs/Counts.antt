@@ -1,6 +1,5 @@
 -- Over every call the counters go on telling the events since their zeroing. Assumes nothing.
-use Rattle.std.proofs.Common.{Ok, Err, ◌≡◌, refl, sym, ap, Bool, false, List, ◌∷◌, ℕ, arith, length, ne_eqb}
-use mathlib.Core.Path.{subst⁻¹}
+use Rattle.std.proofs.Common.{Ok, Err, ◌≡◌, refl, ap, Bool, false, List, ◌∷◌, length}
 use Rattle.bits.specs.Laid.{overlay}
 use Rattle.rules.specs.Call.{Call}
 use Rattle.rules.specs.Medium.{part_of}
@@ -12,13 +11,13 @@ use Rattle.device.specs.FactsOf.{facts_of}
 use Rattle.device.specs.Step.{Step, state_shown, step_by, step, bytes_of}
 use Rattle.device.specs.declared.state.Device.{Device}
 use Rattle.history.specs.Event.{Event}
-use Rattle.history.specs.Reading.{row_raised, call_zeroes}
+use Rattle.history.specs.Reading.{uncounted, call_raises, call_zeroes}
 use Rattle.history.specs.Replied.{some, is_pio, paged}
 use Rattle.history.specs.Run.{result, done, event}
 use Rattle.history.proofs.Frames.{Read, read_frames}
 use Rattle.history.proofs.Decided.{by_decided}
-use Rattle.history.proofs.Tally.{ValuesTell, Counting, tells}
-use Rattle.history.proofs.Impact.{Reckons}
+use Rattle.history.proofs.Tally.{Counting, tells}
+use Rattle.history.proofs.Impact.{Reckons, unchanged}
 use Rattle.history.proofs.Hearing.{pio_in}
 use Rattle.history.proofs.Hosted.{host_goes}
 use Rattle.history.proofs.Own.{own_goes}
@@ -44,12 +43,11 @@ ruled_reckons d m b (by.own o) = (own_goes d m b o).reckons
 pub counting_step : (d : Device) (l : Lent) (h : List Event) → Replies d l → Counting d h → Counting (step d l).state (event_of d l ∷ h)
 counting_step d l h q i =
     by_decided d l (λ (s : Step). Read (event_by l s) s.frames → Counting s.state (event_by l s ∷ h))
-    (λ r _. tells d.values (event_by l (step_by d l (Err r))) h i false 16 (record { zeroed = refl; raised = λ k u. sym (ne_eqb 16 k (λ z. omega (arith, u, z))) }))
+    (λ r _. tells d.values (event_by l (step_by d l (Err r))) h i false uncounted d.values (record { zeroed = refl; raised = λ k u. refl }) (unchanged d.values))
     (λ a y p.
     let s : Step = step_by d l (Ok a) in
     let e : Event = event_by l s in
     let same : paged e ≡ pio_in s.frames = ap (some is_pio) (read_frames e s.frames p) in
     let k : Reckons d l.call (pio_in s.frames) a = ruled_reckons d l.medium l.buffer y in
-    subst⁻¹ (λ (v : List ℕ). ValuesTell v (e ∷ h)) k
-    (tells d.values e h i (call_zeroes (pio_in s.frames) l.call) (row_raised l.call) (record { zeroed = ap (λ (b : Bool). call_zeroes b l.call) same; raised = λ r u. refl })))
+    tells d.values e h i (call_zeroes (pio_in s.frames) l.call) (λ r. call_raises r l.call) s.state.values (record { zeroed = ap (λ (b : Bool). call_zeroes b l.call) same; raised = λ r u. refl }) k)
     q

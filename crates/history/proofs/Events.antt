@@ -5,6 +5,7 @@ use borrow.Author.Tests.{eqb-false}
 use Rattle.bits.specs.Bit.{bit_in}
 use Rattle.bits.proofs.Picks.{by_test}
 use Rattle.frames.specs.declared.shapes.DmaSetup.{DmaSetup}
+use Rattle.counters.specs.Counts.{single}
 use Rattle.device_state.specs.State.{whole_of}
 use Rattle.device_state.specs.Table.{entry_of}
 use Rattle.device_state.specs.declared.shapes.Entry.{Entry}
@@ -17,7 +18,7 @@ use Rattle.rules.specs.declared.acts.Act.{Act}
 use Rattle.rules.specs.declared.acts.Act.TheVariants.{Open, Send, Finish, Media, Count, Renew}
 use Rattle.replies.specs.Replies.{replies_of}
 use Rattle.device.specs.Device.{contradictory_device}
-use Rattle.device.specs.After.{with_value, renewed_device, after_of, halt_with, failed_by, opened_for, finished_by, reset_held, released_device}
+use Rattle.device.specs.After.{counted_by, renewed_device, after_of, halt_with, failed_by, opened_for, finished_by, reset_held, released_device}
 use Rattle.device.specs.DataDue.{phase_entry}
 use Rattle.device.specs.FactsOf.{medium_wrong}
 use Rattle.device.specs.Step.{state_shown}
@@ -121,23 +122,23 @@ finished_comes d part set g l shut some ready =
       others = λ t u b. cleared_other d.entries set t u b;
     })
 
--- one more at a row changes nothing else
-value_same : (d : Device) (row : ℕ) → Same d (with_value d row)
-unfolding with_value
-value_same d row = record { settings = refl; outstanding = refl; phase = refl; halted = refl; entries = refl }
+-- counting changes nothing else
+value_same : (d : Device) (ns : List ℕ) → Same d (counted_by d ns)
+unfolding counted_by
+value_same d ns = record { settings = refl; outstanding = refl; phase = refl; halted = refl; entries = refl }
 
 -- a media error
 pub failed_comes : (d : Device) (part : List ℕ) (f : Fault) → d.status.halted ≡ false → Happens d part (Media f)
 unfolding replies_of after_of failed_by halt_with
 failed_comes d part f x =
-    halts false false true (is_failed _ refl refl) (bits_unbegun quiet _) (λ q. absurd (true≢false (sym q))) x refl (record { settings = by_test (λ (y : Device). y.settings ≡ d.settings) (bit_in 8 f.error 7) (with_value d 0) d (λ _. (value_same d 0).settings) (λ _. refl); outstanding = refl; phase = refl; halted = refl })
+    halts false false true (is_failed _ refl refl) (bits_unbegun quiet _) (λ q. absurd (true≢false (sym q))) x refl (record { settings = by_test (λ (y : Device). y.settings ≡ d.settings) (bit_in 8 f.error 7) (counted_by d (single 0)) d (λ _. (value_same d (single 0)).settings) (λ _. refl); outstanding = refl; phase = refl; halted = refl })
 
 -- COMRESET
 pub renewed_comes : (d : Device) (part : List ℕ) → Class d (view reset_asks (replies_of (state_shown d) part Renew)) (after_of d Renew)
-unfolding replies_of after_of renewed_device reset_held released_device with_value
+unfolding replies_of after_of renewed_device reset_held released_device counted_by
 renewed_comes d part = resets (is_reset _ refl) (answer_unbegun reset_asks _) (record { settings = refl; outstanding = refl; phase = refl; halted = refl })
 
--- link event
-pub counted_comes : (d : Device) (part : List ℕ) (row : ℕ) → Happens d part (Count row)
+-- link events
+pub counted_comes : (d : Device) (part ns : List ℕ) → Happens d part (Count ns)
 unfolding replies_of after_of
-counted_comes d part row = plain (is_silent quiet refl) (silent_unbegun quiet) (value_same d row)
+counted_comes d part ns = plain (is_silent quiet refl) (silent_unbegun quiet) (value_same d ns)

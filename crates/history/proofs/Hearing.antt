@@ -1,5 +1,5 @@
 -- What the history reads of a host frame is what its act does to the counters; and only page 11h is read as such. Assumes nothing.
-use Rattle.std.proofs.Common.{Ok, ◌≡◌, refl, sym, ap, ◌∙◌, Bool, true, false, ◌&&◌, List, [], ℕ, ◌%◌, arith}
+use Rattle.std.proofs.Common.{Ok, ◌≡◌, refl, sym, ap, subst, ◌∙◌, Bool, true, false, ◌&&◌, List, [], ℕ, ◌%◌, arith}
 use mathlib.Core.Bool.{false≢true, and-false}
 use Rattle.bits.specs.Bit.{bit_in}
 use Rattle.frames.specs.declared.shared.Task.{Task}
@@ -20,9 +20,10 @@ use Rattle.device.specs.declared.state.Device.{Device}
 use Rattle.history.specs.Replied.{FrameRead, some, is_pio}
 use Rattle.history.specs.Logs.{reads_log}
 use Rattle.history.specs.FrameReading.{frame_asks, frame_zeroes}
+use Rattle.history.specs.Reading.{uncounted}
 use Rattle.history.proofs.Views.{read_in}
-use Rattle.history.proofs.Tally.{counted}
-use Rattle.history.proofs.Impact.{zeroed_values}
+use Rattle.history.proofs.Tally.{Counted}
+use Rattle.history.proofs.Impact.{unchanged, zeroed_values}
 
 -- some frame of these is a 5Fh
 abbrev pub pio_in : List FrameValue → Bool
@@ -35,7 +36,7 @@ pub record Logs (a : Act) : Type 0 where
 
 -- of a frame that is read as f: the counters after its act are zero if it zeroes them, and else as they were; and a page that answers a read of 11h is page 11h
 pub record Hears (d : Device) (f : FrameRead) (paged : Bool) (a : Act) : Type 0 where
-  pub values : (after_of d a).values ≡ counted (frame_zeroes paged f) 16 d.values
+  pub values : Counted (frame_zeroes paged f) uncounted d.values (after_of d a).values
   pub shown : paged ≡ true → (frame_asks f).reads 0x11 ≡ true → Logs a
 
 -- ---- the page that a command names
@@ -65,7 +66,7 @@ reads_ten h p = let b = first_byte h.task in grind arith
 module _ (d : Device) where
   -- a frame that is answered with no page, and zeroes nothing
   pub none_heard : (f : FrameRead) (a : Act) → frame_zeroes false f ≡ false → (after_of d a).values ≡ d.values → Hears d f false a
-  none_heard f a z v = record { values = v ∙ ap (λ (b : Bool). counted b 16 d.values) (sym z); shown = λ p _. absurd (false≢true p) }
+  none_heard f a z v = record { values = rw (z, v) (unchanged d.values); shown = λ p _. absurd (false≢true p) }
 
   -- of an act, with the replies that it sends
   abbrev pub HeardBy : FrameRead → Act → Type 0
@@ -74,13 +75,13 @@ module _ (d : Device) where
   -- host data, whatever follows it
   pub data_heard : (n : ℕ) (m : Move) → HeardBy (Ok (fs.Data n)) (Store m)
   unfolding after_of moved_by
-  data_heard n m = record { values = refl; shown = λ _ q. absurd (false≢true q) }
+  data_heard n m = record { values = unchanged d.values; shown = λ _ q. absurd (false≢true q) }
 
   -- page 10h
   pub ten_heard : (h : HostReg) → asks_errors (page_asked h) ≡ true → HeardBy (Ok (fs.Host h)) (Log10 h.task)
   unfolding after_of unhalted_device
   ten_heard h t = record {
-    values = rw (reads_ten h t, and-false (pio_in (replies_of (state_shown d) [] (Log10 h.task)))) refl;
+    values = rw (reads_ten h t, and-false (pio_in (replies_of (state_shown d) [] (Log10 h.task)))) (unchanged d.values);
     shown = λ _ q. absurd (false≢true (sym (reads_ten h t) ∙ q));
   }
 
@@ -88,11 +89,11 @@ module _ (d : Device) where
   pub eleven_heard : (h : HostReg) → h.command_bit ≡ true → asks_counters (page_asked h) ≡ true → HeardBy (Ok (fs.Host h)) (Log11 (record { zero = bit_in 8 h.features 0; task = h.task }))
   unfolding after_of replies_of some
   eleven_heard h c t = record {
-    values = zeroed_values d (bit_in 8 h.features 0) ∙ ap (λ (b : Bool). counted (b && bit_in 8 h.features 0) 16 d.values) (sym (reads_counters h c t));
+    values = subst (λ (b : Bool). Counted (b && bit_in 8 h.features 0) uncounted d.values (zeroed_if d (bit_in 8 h.features 0)).values) (sym (reads_counters h c t)) (zeroed_values d (bit_in 8 h.features 0));
     shown = λ _ _. record { log = record { zero = bit_in 8 h.features 0; task = h.task }; is = refl };
   }
 
   -- BIST
   pub bist_heard : HeardBy (Ok fs.Bist) ZeroCounters
-  unfolding after_of zeroed_if
-  bist_heard = record { values = refl; shown = λ _ q. absurd (false≢true q) }
+  unfolding after_of
+  bist_heard = record { values = zeroed_values d true; shown = λ _ q. absurd (false≢true q) }

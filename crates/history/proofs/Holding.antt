@@ -12,7 +12,7 @@ use Rattle.rules.proofs.Ruled as by
 use Rattle.device.specs.Device.{contradictory_device, power_on, fresh_device}
 use Rattle.device_state.specs.declared.shapes.Settings.{Settings}
 use Rattle.device.specs.Lent.{Lent, lent}
-use Rattle.device.specs.After.{after_of, halt_with, reset_held, released_device, accepted_by, unhalted_device, zeroed_if, moved_by, opened_for, finished_by, failed_by, renewed_device, with_value}
+use Rattle.device.specs.After.{after_of, halt_with, reset_held, released_device, accepted_by, unhalted_device, zeroed_if, moved_by, opened_for, finished_by, failed_by, renewed_device, counted_by}
 use Rattle.device.specs.FactsOf.{facts_of}
 use Rattle.device.specs.Step.{Step, step}
 use Rattle.device.specs.declared.state.Device.{Device}
@@ -62,7 +62,7 @@ heard_holds d v e (by.bist y) = refl
 
 -- a device event that is taken
 own_holds : (d : Device) (m b : List ℕ) {c : Call} {a : Act} → by.Own (facts_of d (lent c m b)) c a → next (frees c) (call_asks c).resets d.status.held ≡ (after_of d a).status.held
-unfolding after_of opened_for moved_by finished_by failed_by halt_with renewed_device released_device reset_held with_value move_of
+unfolding after_of opened_for moved_by finished_by failed_by halt_with renewed_device released_device reset_held counted_by move_of
 own_holds d m b (by.failed t e x g s o y w) = busy_free d g t o
 own_holds d m b _ = refl
 

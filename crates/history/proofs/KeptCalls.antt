@@ -15,7 +15,7 @@ use Rattle.device.proofs.Lending.{unlent, unlent_both}
 use Rattle.device.proofs.Kept.{answered_state}
 use Rattle.rules.specs.Call.{host_frame, happens}
 use Rattle.rules.specs.declared.event.DeviceEvent.{DeviceEvent}
-use Rattle.rules.specs.declared.event.DeviceEvent.TheVariants.{OpenPhase, SendData, FinishTags, MediaError, LinkEvent, Comreset}
+use Rattle.rules.specs.declared.event.DeviceEvent.TheVariants.{OpenPhase, SendData, FinishTags, MediaError, LinkEvent, LinkTally, Comreset}
 use Rattle.device.specs.Lent.{Lent, lent, Gave, gave, answered}
 use Rattle.history.specs.Run.{Done, done, AllTyped}
 use Rattle.history.specs.Follows.{FollowsBy, final, lents, history_of, Began}
@@ -36,6 +36,8 @@ pub data Keeps : Sealed → Lent → Gave → Sealed → Type 0 where
       → Allows said.media_error.ended calls.media_error.Reads.Post κs (k, (t, (e, (s, (b, tt))))) r (k', (tt, (tt, (tt, (b', tt))))) → Keeps k.now (lent (happens (MediaError t e s)) m b.now) (gave (answered k'.device r) m b') k'
   linked : (κs : Lfts 1) (k : MutBor Sealed) (row : ℕ) (r : Result ℕ Refusal) (k' : Sealed) (m b : List ℕ)
       → Allows said.link_event.ended calls.link_event.Reads.Post κs (k, (row, tt)) r (k', (tt, tt)) → Keeps k.now (lent (happens (LinkEvent row)) m b) (gave (answered k'.device r) m b) k'
+  tallied : (κs : Lfts 1) (k : MutBor Sealed) (ns : List ℕ) (r : Result ℕ Refusal) (k' : Sealed) (m b : List ℕ)
+      → Allows said.link_tally.ended calls.link_tally.Reads.Post κs (k, (ns, tt)) r (k', (tt, tt)) → Keeps k.now (lent (happens (LinkTally ns)) m b) (gave (answered k'.device r) m b) k'
   reset : (κs : Lfts 2) (k : MutBor Sealed) (b : MutBor (List ℕ)) (r : Result ℕ Refusal) (k' : Sealed) (m b' : List ℕ)
       → Allows said.comreset.ended calls.comreset.Reads.Post κs (k, (b, tt)) r (k', (b', tt)) → Keeps k.now (lent (happens Comreset) m b.now) (gave (answered k'.device r) m b') k'
   -- any device event, as an event file names it
@@ -59,6 +61,7 @@ keeps_given (sent κs k m b r k' b' p) = (p, answered_state k'.device r)
 keeps_given (finished κs k s b r k' m b' p) = (unlent k.now.device (happens (FinishTags s)) m b.now b' (answered k'.device r) refl p, answered_state k'.device r)
 keeps_given (failed κs k t e s b r k' m b' p) = (unlent k.now.device (happens (MediaError t e s)) m b.now b' (answered k'.device r) refl p, answered_state k'.device r)
 keeps_given (linked κs k row r k' m b p) = (unlent_both k.now.device (happens (LinkEvent row)) m b (answered k'.device r) refl refl p, answered_state k'.device r)
+keeps_given (tallied κs k ns r k' m b p) = (unlent_both k.now.device (happens (LinkTally ns)) m b (answered k'.device r) refl refl p, answered_state k'.device r)
 keeps_given (reset κs k b r k' m b' p) = (unlent k.now.device (happens Comreset) m b.now b' (answered k'.device r) refl p, answered_state k'.device r)
 keeps_given (happened κs k e m b r k' b' p) = (p, answered_state k'.device r)
 

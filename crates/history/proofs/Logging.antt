@@ -21,7 +21,7 @@ use Rattle.rules.proofs.Ruled as by
 use Rattle.replies.specs.Replies.{page10_of, log_of, setup_reply, log_replies, activate_if, replies_of}
 use Rattle.device.specs.Device.{contradictory_device, power_on, fresh_device}
 use Rattle.device.specs.Lent.{Lent, lent, Typed}
-use Rattle.device.specs.After.{after_of, halt_with, reset_held, released_device, accepted_by, unhalted_device, zeroed_if, moved_by, opened_for, finished_by, failed_by, renewed_device, with_value}
+use Rattle.device.specs.After.{after_of, halt_with, reset_held, released_device, accepted_by, unhalted_device, zeroed_if, moved_by, opened_for, finished_by, failed_by, renewed_device, counted_by}
 use Rattle.device.specs.DataDue.{phase_entry}
 use Rattle.device.specs.FactsOf.{facts_of}
 use Rattle.device.specs.Step.{Step, state_shown, step_by, step}
@@ -106,7 +106,7 @@ module _ (d : Device) (h : List Event) (w : waits (map seen h) ≡ d.status.halt
   -- a device event that is taken
   own_logged : (m b : List ℕ) {c : Call} {a : Act} → by.Own (facts_of d (lent c m b)) c a
       → Next (call_asks c) (replies_of (state_shown d) (part_of a m) a) (call_log (error_of (replies_of (state_shown d) (part_of a m) a)) h c) ≡ log_of (after_of d a).errors
-  unfolding view some collect replies_of after_of opened_for moved_by finished_by failed_by halt_with renewed_device released_device reset_held with_value move_of
+  unfolding view some collect replies_of after_of opened_for moved_by finished_by failed_by halt_with renewed_device released_device reset_held counted_by move_of
   own_logged m b (by.opened t g s o p e) = setup_logged (record { tag = t; entry = entry_of d.entries t }) _
   own_logged m b (by.failed t e x g s o y v) = rw (w, busy_calm d g t o, failing_task _ x _ (sector_small d t x g o v) (n t o)) refl
   own_logged m b (by.renewed g s) = refl

@@ -12,7 +12,7 @@ use Rattle.device_state.specs.declared.shapes.Settings.{Settings}
 use Rattle.replies.specs.Replies.{log_of, page10_of}
 use Rattle.device.proofs.Sized.{SizedRecord}
 use Rattle.device.specs.Device.{contradictory_device, fresh_device, power_on}
-use Rattle.device.specs.After.{with_value}
+use Rattle.device.specs.After.{counted_by}
 use Rattle.device.specs.declared.state.Device.{Device}
 use Rattle.device.proofs.Fitting.{record_fits}
 use Rattle.history.specs.Replied.{err_in}
@@ -22,10 +22,10 @@ use Rattle.history.specs.ReplyRules.{TellsError}
 abbrev pub Marked : Device → Type 0
 Marked d = d.status.halted ≡ true → d.errors.set ≡ true
 
--- one more event at a row
-pub raised_marked : (d : Device) (row : ℕ) → Marked d → Marked (with_value d row)
-unfolding with_value
-raised_marked d row k = k
+-- counting changes neither
+pub counted_marked : (d : Device) (ns : List ℕ) → Marked d → Marked (counted_by d ns)
+unfolding counted_by
+counted_marked d ns k = k
 
 -- power-on, refused or not
 pub marked_start : (s : Settings) → Marked (power_on s).state

@@ -24,7 +24,7 @@ use Rattle.rules.proofs.Ruled as by
 use Rattle.replies.specs.Replies.{setup_reply, activate_if, replies_of}
 use Rattle.device.specs.Device.{power_on, fresh_device}
 use Rattle.device.specs.Lent.{Lent, lent, Typed}
-use Rattle.device.specs.After.{after_of, halt_with, reset_held, released_device, accepted_by, unhalted_device, zeroed_if, moved_by, opened_for, finished_by, failed_by, renewed_device, with_value}
+use Rattle.device.specs.After.{after_of, halt_with, reset_held, released_device, accepted_by, unhalted_device, zeroed_if, moved_by, opened_for, finished_by, failed_by, renewed_device, counted_by}
 use Rattle.device.specs.DataDue.{phase_entry}
 use Rattle.device.specs.FactsOf.{facts_of}
 use Rattle.device.specs.Step.{Step, state_shown, step_by, step}
@@ -164,7 +164,7 @@ module _ (d : Device) (h : List Event) (n : Named d h) where
 
   -- a device event that is taken
   own_named : (m b : List ℕ) {c : Call} {a : Act} → Typed c → by.Own (facts_of d (lent c m b)) c a → Names (call_asks c) (replies_of (state_shown d) (part_of a m) a) (call_task c) (after_of d a)
-  unfolding view some collect replies_of after_of opened_for failed_by halt_with renewed_device released_device reset_held with_value
+  unfolding view some collect replies_of after_of opened_for failed_by halt_with renewed_device released_device reset_held counted_by
   own_named m b {c} {a} y (by.opened t g s o p e) = setup_named (record { tag = t; entry = entry_of d.entries t }) (call_task c) (after_of d a) same
   own_named m b {c} {a} y (by.sent g v s p r) = by_act (call_asks c) (part_of a m) (call_task c) a refl (moved_stay d 8192 p)
   own_named m b {c} {a} y (by.finished set g s p e r) = by_act (call_asks c) (part_of a m) (call_task c) a refl (finished_stay d set y.1)

@@ -1,8 +1,9 @@
 -- All that is proved of a device event that is taken: one row an event. Assumes nothing.
-use Rattle.std.proofs.Common.{Some, ◌≡◌, refl, Bool, true, false, List, [], ◌∷◌, inl, inr, ℕ}
+use Rattle.std.proofs.Common.{Some, ◌≡◌, refl, Bool, true, false, List, [], ◌∷◌, inl, inr, ℕ, get_or}
 use mathlib.Core.Bool.{false≢true}
 use Rattle.bits.specs.Bit.{bit_in}
 use Rattle.frames.specs.Write.{FrameValue}
+use Rattle.counters.specs.Counts.{single}
 use Rattle.device_state.specs.Table.{entry_of}
 use Rattle.rules.specs.Call.{Call, happens}
 use Rattle.rules.specs.declared.event.DeviceEvent.TheVariants.{OpenPhase}
@@ -21,14 +22,14 @@ use Rattle.device.specs.Step.{state_shown}
 use Rattle.device.specs.declared.state.Device.{Device}
 use Rattle.history.specs.Replied.{some, collect}
 use Rattle.history.specs.Shapes.{OneOf}
-use Rattle.history.specs.Reading.{call_asks, call_brings, call_says, call_replies}
+use Rattle.history.specs.Reading.{one_of, call_asks, call_brings, call_says, call_replies}
 use Rattle.history.proofs.Views.{sent_in, view, is_finish, is_failed}
 use Rattle.history.proofs.Changes.{busy_calm}
 use Rattle.history.proofs.Hosts.{Comes}
 use Rattle.history.proofs.Events.{opened_comes, send_comes, finished_comes, failed_comes, counted_comes, renewed_comes}
 use Rattle.history.proofs.Placed.{SentFrom, DataStands, sent_none, payload_sent, setup_none, nowhere_lies}
-use Rattle.history.proofs.Marked.{Marked, raised_marked}
-use Rattle.history.proofs.Impact.{Reckons, raised_values, renewed_values, failed_values}
+use Rattle.history.proofs.Marked.{Marked, counted_marked}
+use Rattle.history.proofs.Impact.{Reckons, unchanged, counted_values, one_is, renewed_values, failed_values}
 use Rattle.history.proofs.Hearing.{pio_in}
 use Rattle.history.proofs.Shaped.{kinds_of, erring, sends_faulty, CallShaped, unblamed}
 use Rattle.history.proofs.Speechless.{SpokenBy, Utters, none_finished_lem, event_utters}
@@ -71,7 +72,7 @@ own_goes d m b (by.opened t g s o p e) = record {
   lies = nowhere_lies _ m;
   sends = sent_none (place_of (phase_entry d)) m _ (setup_none (record { tag = t; entry = entry_of d.entries t }) (entry_of d.entries t).write);
   replies = setup_replies t (record { tag = t; entry = entry_of d.entries t }) (entry_of d.entries t).write;
-  reckons = refl;
+  reckons = unchanged d.values;
   marked = λ k. k;
   comes = λ _. opened_comes d [] t g o (none_open d.status.phase p) e;
 }
@@ -79,7 +80,7 @@ own_goes d m b (by.sent g w s p r) = record {
   lies = nowhere_lies _ m;
   sends = payload_sent (place_of (phase_entry d)) (move_of d.status (phase_entry d) 8192).size m;
   replies = own_replies _ _ refl (inl refl) refl refl refl (none_finished_lem _ _ refl);
-  reckons = refl;
+  reckons = unchanged d.values;
   marked = λ k. k;
   comes = λ _. send_comes d m g w p r;
 }
@@ -87,7 +88,7 @@ own_goes d m b (by.finished set g s p e r) = record {
   lies = nowhere_lies _ m;
   sends = refl;
   replies = own_replies _ _ refl (inl refl) refl refl refl ((is_finish _ refl).fails, (is_finish _ refl).finishes);
-  reckons = refl;
+  reckons = unchanged d.values;
   marked = λ k. k;
   comes = λ l. finished_comes d [] set g l.1 (none_open d.status.phase p) e r;
 }
@@ -103,15 +104,23 @@ own_goes d m b (by.linked r g x) = record {
   lies = nowhere_lies _ m;
   sends = refl;
   replies = own_replies _ [] refl (inl refl) refl refl refl (none_finished_lem _ _ refl);
-  reckons = raised_values d r;
-  marked = raised_marked d r;
-  comes = λ _. counted_comes d [] r;
+  reckons = counted_values d (single r) (one_of r) (one_is r);
+  marked = counted_marked d (single r);
+  comes = λ _. counted_comes d [] (single r);
+}
+own_goes d m b (by.tallied ns g x) = record {
+  lies = nowhere_lies _ m;
+  sends = refl;
+  replies = own_replies _ [] refl (inl refl) refl refl refl (none_finished_lem _ _ refl);
+  reckons = counted_values d ns (λ k. get_or ns k 0) (λ r u. refl);
+  marked = counted_marked d ns;
+  comes = λ _. counted_comes d [] ns;
 }
 own_goes d m b (by.renewed g s) = record {
   lies = nowhere_lies _ m;
   sends = refl;
   replies = own_replies _ _ refl (inl refl) refl refl refl (none_finished_lem _ _ refl);
   reckons = renewed_values d;
-  marked = λ _. raised_marked (released_device (reset_held d)) 9 (λ h. absurd (false≢true h));
+  marked = λ _. counted_marked (released_device (reset_held d)) (single 9) (λ h. absurd (false≢true h));
   comes = λ _. renewed_comes d [];
 }

@@ -1,5 +1,5 @@
 -- Each test of the table of refusals, by the history (Refused) and by the state. Assumes nothing.
-use Rattle.std.proofs.Common.{None, Ok, is_none, unwrap_or, ◌≡◌, refl, sym, ap, ap₂, ◌∙◌, Bool, true, false, not, ◌&&◌, ◌||◌, List, ℕ, zero, suc, ◌*◌, arith, eqb, ltb}
+use Rattle.std.proofs.Common.{None, Ok, is_none, unwrap_or, ◌≡◌, refl, sym, ap, ap₂, ◌∙◌, Bool, true, false, not, ◌&&◌, ◌||◌, List, ℕ, zero, suc, ◌*◌, arith, eqb, ltb, get_or}
 use mathlib.Core.Bool.{not-not, or_assoc, or_comm}
 use borrow.Author.Tests.{not-false}
 use Rattle.bits.specs.Bit.{bit_in}
@@ -8,7 +8,7 @@ use Rattle.refusals.specs.First.{first_of}
 use Rattle.device_state.specs.State.{whole_of}
 use Rattle.device_state.specs.Table.{some_below}
 use Rattle.device_state.specs.declared.shapes.Settings.{Settings}
-use Rattle.device_state.specs.Contradictory.{settings_out, row_refused}
+use Rattle.device_state.specs.Contradictory.{settings_out, row_refused, tally_refused}
 use Rattle.rules.specs.Call.{host_frame}
 use Rattle.rules.specs.Positions.{left_of}
 use Rattle.rules.specs.Tests.{wrong_time, wrong_size, all_moved, unready_at, some_unready, outside}
@@ -26,7 +26,7 @@ use Rattle.history.specs.Replied.{FrameRead}
 use Rattle.history.specs.Seen.{Transfer}
 use Rattle.history.specs.ByHistory.{is_out, outstanding_with, whole, covers, is_open, left_in_transfer}
 use Rattle.history.specs.Powered.{Powered}
-use Rattle.history.specs.Refused.{out_of_bounds, write_open, untimely, too_long, some_tag, unfit, no_row}
+use Rattle.history.specs.Refused.{out_of_bounds, write_open, untimely, too_long, some_tag, unfit, no_row, no_rows}
 use Rattle.history.proofs.Transfers.{transfer_of}
 use Rattle.history.proofs.Moving.{device_entry, busy_at}
 use Rattle.history.proofs.Knows.{Known}
@@ -87,6 +87,11 @@ some_same : (n : ℕ) (p q : ℕ → Bool) → ((t : ℕ) → p t ≡ q t) → s
 unfolding some_below some_tag
 some_same zero p q e = refl
 some_same (suc n) p q e = or_comm (some_below n p) (p n) ∙ ap₂ ◌||◌ (e n) (some_same n p q e)
+
+-- 13, of sixteen amounts
+pub rows_same : (mask : ℕ) (ns : List ℕ) → tally_refused mask ns ≡ no_rows mask ns
+unfolding tally_refused
+rows_same mask ns = some_same 16 _ _ (λ r. ap (λ (x : Bool). not (eqb (get_or ns r 0) 0) && x) (row_same mask r))
 
 module _ (d : Device) (h : List Event) (k : Known d h) where
   -- 5

@@ -6,7 +6,7 @@ use Rattle.refusals.specs.declared.reasons.Refusal.TheVariants.{Contradiction, M
 use Rattle.frames.specs.Read.{read_frame}
 use Rattle.device_state.specs.declared.shapes.Settings.{Settings}
 use Rattle.rules.specs.Call.{Call, host_frame, happens}
-use Rattle.rules.specs.declared.event.DeviceEvent.TheVariants.{OpenPhase, SendData, FinishTags, MediaError, LinkEvent, Comreset}
+use Rattle.rules.specs.declared.event.DeviceEvent.TheVariants.{OpenPhase, SendData, FinishTags, MediaError, LinkEvent, LinkTally, Comreset}
 use Rattle.rules.specs.Tests.{tests}
 use Rattle.device.specs.Device.{contradictory_device}
 use Rattle.device.specs.FactsOf.{facts_of}
@@ -23,7 +23,7 @@ use Rattle.history.specs.Refused.{out_of_bounds, own_tests}
 use Rattle.history.proofs.Soundness.{by_power, Sound}
 use Rattle.history.proofs.Knows.{Known}
 use Rattle.history.proofs.HeardKinds.{kind_same}
-use Rattle.history.proofs.RefusedTests.{power_taken, power_refused, row_same, open_same, reading_same, time_same, size_same, passed, moved_same, sector_same, set_same}
+use Rattle.history.proofs.RefusedTests.{power_taken, power_refused, row_same, rows_same, open_same, reading_same, time_same, size_same, passed, moved_same, sector_same, set_same}
 
 -- ---- rows of tests
 
@@ -56,6 +56,7 @@ module _ (d : Device) (h : List Event) (k : Known d h) (g : contradictory_device
       cons_same Contradiction _ _ g (λ _. cons_same ReplyShort _ _ refl (λ _. cons_same TagIdle _ _ (ap not (sym (k.out t)))
       (λ o. cons_same OutsideCommand _ _ (ap (λ (x : Bool). eqb e 0 || x) (sector_same d h k g t sector (passed d h k t o))) (λ _. refl))))
   row (happens (LinkEvent r)) = cons_same Contradiction _ _ g (λ _. cons_same NoRow _ _ (row_same d.settings.mask r) (λ _. refl))
+  row (happens (LinkTally ns)) = cons_same Contradiction _ _ g (λ _. cons_same NoRow _ _ (rows_same d.settings.mask ns) (λ _. refl))
   row (happens Comreset) = cons_same Contradiction _ _ g (λ _. cons_same ReplyShort _ _ refl (λ _. refl))
 
 -- what a call is turned down for, after a history

@@ -5,7 +5,7 @@ use lib.ListN.{length-replicate, get_or-eq_default}
 use borrow.Author.Tests.{eqb-false}
 use Rattle.bits.specs.Pick.{pick}
 use Rattle.bits.proofs.Picks.{by_test, tested}
-use Rattle.counters.specs.Counts.{next_count}
+use Rattle.counters.specs.Counts.{top, next_count}
 use Rattle.device_state.specs.declared.shapes.Settings.{Settings}
 use Rattle.device.specs.Device.{fresh_device, power_on}
 use Rattle.device.specs.declared.state.Device.{Device}
@@ -13,16 +13,17 @@ use Rattle.history.proofs.Soundness.{from_power}
 use Rattle.std.proofs.lemmas.List.{get_or-replicate}
 use Rattle.std.proofs.lemmas.Bool.{cases_lt}
 use Rattle.history.specs.Event.{Event}
-use Rattle.history.specs.Counted.{zeroes, raises_row, counted_in, row_count}
+use Rattle.history.specs.Counted.{zeroes, events_of, counted_in, row_count}
 
--- the values after an event that zeroes them, or else raises a row, which is one of the sixteen or none
-abbrev pub counted : Bool → ℕ → List ℕ → List ℕ
-counted zeroed row l = pick zeroed (replicate 16 0) (pick (ltb row 16) (set l row (next_count (get_or l row 0) 1)) l)
+-- the values after an event: zeros, or else so many more at each row
+pub record Counted (zeroed : Bool) (raises : ℕ → ℕ) (l l' : List ℕ) : Type 0 where
+  pub long : length l ≡ 16 → length l' ≡ 16
+  pub value : (r : ℕ) → r < 16 → length l ≡ 16 → get_or l' r 0 ≡ pick zeroed 0 (next_count (get_or l r 0) (raises r))
 
--- what the history reads of an event: whether it zeroes, and the row that it raises
-pub record Reads (e : Event) (z : Bool) (row : ℕ) : Type 0 where
+-- what the history reads of an event: whether it zeroes, and how many events of each row it is
+pub record Reads (e : Event) (z : Bool) (raises : ℕ → ℕ) : Type 0 where
   pub zeroed : zeroes e ≡ z
-  pub raised : (r : ℕ) → r < 16 → raises_row r e ≡ eqb row r
+  pub raised : (r : ℕ) → r < 16 → events_of r e ≡ raises r
 
 -- each of sixteen counters is its events since the last zeroing, held at the top
 pub record ValuesTell (values : List ℕ) (h : List Event) : Type 0 where
@@ -33,51 +34,18 @@ pub record ValuesTell (values : List ℕ) (h : List Event) : Type 0 where
 abbrev pub Counting : Device → List Event → Type 0
 Counting d h = ValuesTell d.values h
 
--- a further event that raises a row
-counted_more : (e : Event) (h : List Event) (r : ℕ) → zeroes e ≡ false → raises_row r e ≡ true → counted_in r (e ∷ h) ≡ 1 + counted_in r h
+-- so many more of what is held at the top
+next_told : (z : Bool) (v n k : ℕ) → v ≡ min top n → pick z 0 (next_count v k) ≡ min top (pick z 0 (k + n))
+next_told true v n k e = refl
+next_told false v n k e = grind arith
+
+-- values that changed as the history reads the event still tell it
+pub tells : (values : List ℕ) (e : Event) (h : List Event) → ValuesTell values h → (z : Bool) (raises : ℕ → ℕ) (l : List ℕ) → Reads e z raises → Counted z raises values l → ValuesTell l (e ∷ h)
 unfolding counted_in
-counted_more e h r z u = rw (z, u)
-
--- a further event that does not
-counted_same : (e : Event) (h : List Event) (r : ℕ) → zeroes e ≡ false → raises_row r e ≡ false → counted_in r (e ∷ h) ≡ counted_in r h
-unfolding counted_in
-counted_same e h r z u = rw (z, u) (omega arith)
-
-module _ (values : List ℕ) (e : Event) (h : List Event) (i : ValuesTell values h) where
-  -- an event of a row
-  row_tells : (k : ℕ) → k < 16 → Reads e false k → ValuesTell (set values k (next_count (get_or values k 0) 1)) (e ∷ h)
-  row_tells k w s = record {
-    long = length-set values k (next_count (get_or values k 0) 1) ∙ i.long;
-    value = λ r u.
-        ⊎_elim
-        (λ (t : eqb k r ≡ true).
-        let q : k ≡ r = eqb-true k r t in
-        let a = get_or-set_same values k (next_count (get_or values k 0) 1) 0 (subst⁻¹ (λ (x : ℕ). k < x) i.long w) in
-        let v = i.value k w in
-        rw (← q, a, counted_more e h k s.zeroed (s.raised k w ∙ eq-eqb k k refl)) (omega arith))
-        (λ (f : eqb k r ≡ false).
-        let q : k ≡ r → ⊥ = eqb-false k r f in
-        get_or-set_other values k r (next_count (get_or values k 0) 1) 0 (λ z. q (sym z)) ∙ i.value r u
-        ∙ ap (min 4294967295) (sym (counted_same e h r s.zeroed (s.raised r u ∙ f))))
-        (tested (eqb k r));
-  }
-
-  -- an event of none
-  none_tells : (k : ℕ) → 16 ≤ k → Reads e false k → ValuesTell values (e ∷ h)
-  none_tells k w s = record {
-    long = i.long;
-    value = λ r u. i.value r u ∙ ap (min 4294967295) (sym (counted_same e h r s.zeroed (s.raised r u ∙ ne_eqb k r (λ q. omega (arith, w, u, q)))));
-  }
-
-  -- values that changed as the history reads the event still tell it
-  pub tells : (z : Bool) (row : ℕ) → Reads e z row → ValuesTell (counted z row values) (e ∷ h)
-  unfolding counted_in
-  tells true row s = record {
-    long = length-replicate {A = ℕ} 16 0;
-    value = λ r u. rw s.zeroed (get_or-replicate 16 r 0 0 u);
-  }
-  tells false row s =
-      by_test (λ (l : List ℕ). ValuesTell l (e ∷ h)) (ltb row 16) (set values row (next_count (get_or values row 0) 1)) values (λ t. row_tells row (ltb-true row 16 t) s) (λ f. none_tells row (ltb-false row 16 f) s)
+tells values e h i z raises l s c = record {
+  long = c.long i.long;
+  value = λ r u. rw (s.zeroed, s.raised r u) (c.value r u i.long ∙ next_told z (get_or values r 0) (counted_in r h) (raises r) (i.value r u));
+}
 
 -- sixteen zeros tell an empty history
 pub tells_zeros : ValuesTell (replicate 16 0) []

@@ -12,7 +12,7 @@ use Rattle.frames.specs.declared.shapes.Frame.TheVariants.{Host, Data}
 use Rattle.pages.specs.Layout11.{page11}
 use Rattle.pages.specs.Page10.{page10}
 use Rattle.rules.specs.Call.{Call, host_frame, happens}
-use Rattle.rules.specs.declared.event.DeviceEvent.TheVariants.{OpenPhase, SendData, FinishTags, MediaError, LinkEvent, Comreset}
+use Rattle.rules.specs.declared.event.DeviceEvent.TheVariants.{OpenPhase, SendData, FinishTags, MediaError, LinkEvent, LinkTally, Comreset}
 use Rattle.history.specs.Event.{Event, taken}
 use Rattle.history.specs.Replied.{FrameRead}
 use Rattle.history.specs.Seen.{seen}
@@ -118,6 +118,7 @@ replies_by deep capacity mask h medium (happens SendData) = sent_reply h medium 
 replies_by deep capacity mask h medium (happens (FinishTags s)) = finished_reply s ∷ []
 replies_by deep capacity mask h medium (happens (MediaError t error sector)) = failed_reply error ∷ []
 replies_by deep capacity mask h medium (happens (LinkEvent r)) = []
+replies_by deep capacity mask h medium (happens (LinkTally ns)) = []
 replies_by deep capacity mask h medium (happens Comreset) = signature_reply ∷ []
 
 -- the bytes of an event's replies, one frame behind the other; a refused call has none

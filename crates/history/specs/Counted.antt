@@ -1,24 +1,24 @@
 -- The events that a counter has counted since its zeroing, from calls and replies alone. Assumes nothing.
-use Rattle.std.specs.Prelude.{Bool, ◌&&◌, List, [], ◌∷◌, map, ℕ, ◌+◌, min, eqb, Option, Some, None}
+use Rattle.std.specs.Prelude.{Bool, ◌&&◌, List, [], ◌∷◌, map, ℕ, ◌+◌, min, Option, Some, None}
 use Rattle.bits.specs.Pick.{pick}
 use Rattle.counters.specs.Rows.{kept, row_of}
 use Rattle.history.specs.Event.{Event, taken}
 use Rattle.history.specs.Replied.{paged}
 use Rattle.history.specs.Carried.{span}
-use Rattle.history.specs.Reading.{row_raised, call_zeroes}
+use Rattle.history.specs.Reading.{call_raises, call_zeroes}
 
 -- an event zeroes the counters: taken BIST, or a good read of page 11h with bit 0
 abbrev pub zeroes : Event → Bool
 zeroes e = taken e && call_zeroes (paged e) e.call
 
--- an event of a row
-abbrev pub raises_row : ℕ → Event → Bool
-raises_row r e = taken e && eqb (row_raised e.call) r
+-- how many events of a row it is
+abbrev pub events_of : ℕ → Event → ℕ
+events_of r e = pick (taken e) (call_raises r e.call) 0
 
 -- the events of a row since the last zeroing; the newest event stands first [counters-told]
 unfoldable pub counted_in : ℕ → List Event → ℕ
 counted_in r [] = 0
-counted_in r (e ∷ h) = pick (zeroes e) 0 (pick (raises_row r e) 1 0 + counted_in r h)
+counted_in r (e ∷ h) = pick (zeroes e) 0 (events_of r e + counted_in r h)
 
 -- held at the top
 abbrev pub row_count : ℕ → List Event → ℕ

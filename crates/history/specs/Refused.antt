@@ -7,7 +7,7 @@ use Rattle.refusals.specs.declared.reasons.Refusal.TheVariants.{Contradiction, M
 use Rattle.frames.specs.Read.{read_frame}
 use Rattle.frames.specs.declared.shapes.Frame.TheVariants.{Host, Data, Bist}
 use Rattle.rules.specs.Call.{Call, host_frame, happens}
-use Rattle.rules.specs.declared.event.DeviceEvent.TheVariants.{OpenPhase, SendData, FinishTags, MediaError, LinkEvent, Comreset}
+use Rattle.rules.specs.declared.event.DeviceEvent.TheVariants.{OpenPhase, SendData, FinishTags, MediaError, LinkEvent, LinkTally, Comreset}
 use Rattle.history.specs.Event.{Event}
 use Rattle.history.specs.Replied.{FrameRead}
 use Rattle.history.specs.Seen.{Transfer, no_transfer, under_way}
@@ -50,7 +50,7 @@ abbrev pub too_long : FrameRead → List Event → Bool
 too_long (Ok (Data n)) h = ltb (left_in_transfer false (under_way_after h)) n
 too_long _ h = false
 
--- some tag below n is so
+-- some tag, or row, below n is so
 unfoldable pub some_tag : ℕ → (ℕ → Bool) → Bool
 some_tag zero is = false
 some_tag (suc n) is = is n || some_tag n is
@@ -67,6 +67,10 @@ wrong_error t error sector h = eqb error 0 || not (outstanding_with t (covers se
 abbrev pub no_row : ℕ → ℕ → Bool
 no_row mask r = eqb r 0 || (eqb r 9 || (ltb 15 r || not (bit_in 16 mask r)))
 
+-- 13: of some row of sixteen amounts that has another than 0
+abbrev pub no_rows : ℕ → List ℕ → Bool
+no_rows mask ns = some_tag 16 (λ r. not (eqb (get_or ns r 0) 0) && no_row mask r)
+
 -- 2 to 13 of each call, in the order of their numbers, after a history h
 unfoldable pub own_tests : ℕ → ℕ → Event → List Event → Call → List Rung
 own_tests capacity mask e h (host_frame f) =
@@ -77,6 +81,7 @@ own_tests capacity mask e h (happens SendData) = rung MediumLength (wrong_medium
 own_tests capacity mask e h (happens (FinishTags s)) = rung ReplyShort (short_buffer e) ∷ rung PhaseOpen (is_open (under_way_after h)) ∷ rung SetUnready (unfit s h) ∷ []
 own_tests capacity mask e h (happens (MediaError t error sector)) = rung ReplyShort (short_buffer e) ∷ rung TagIdle (not (is_out t h)) ∷ rung OutsideCommand (wrong_error t error sector h) ∷ []
 own_tests capacity mask e h (happens (LinkEvent r)) = rung NoRow (no_row mask r) ∷ []
+own_tests capacity mask e h (happens (LinkTally ns)) = rung NoRow (no_rows mask ns) ∷ []
 own_tests capacity mask e h (happens Comreset) = rung ReplyShort (short_buffer e) ∷ []
 
 -- every event is refused with the first that holds, and taken where none does: so no event that should be heard is turned down [refused-exactly]

@@ -13,15 +13,16 @@ use Rattle.frames.specs.Read.{read_frame}
 use Rattle.frames.specs.declared.shapes.HostReg.{HostReg}
 use Rattle.frames.specs.declared.shapes.Frame.{Frame}
 use Rattle.frames.specs.declared.shapes.Frame.TheVariants.{Host, Data, Bist}
+use Rattle.counters.specs.Counts.{single}
 use Rattle.device_state.specs.Range.{too_far}
 use Rattle.rules.specs.QueuedRule.{tag_refused}
 use Rattle.rules.specs.OtherRule.{asks_errors, asks_counters}
 use Rattle.rules.specs.declared.command_rules.Bad as verdict
 use Rattle.rules.proofs.Rules.{by_page}
 use Rattle.device_state.specs.UnderWay.{link_busy}
-use Rattle.device_state.specs.Contradictory.{row_refused}
+use Rattle.device_state.specs.Contradictory.{row_refused, tally_refused}
 use Rattle.rules.specs.Call.{Call, host_frame, happens}
-use Rattle.rules.specs.declared.event.DeviceEvent.TheVariants.{OpenPhase, SendData, FinishTags, MediaError, LinkEvent, Comreset}
+use Rattle.rules.specs.declared.event.DeviceEvent.TheVariants.{OpenPhase, SendData, FinishTags, MediaError, LinkEvent, LinkTally, Comreset}
 use Rattle.rules.specs.Handed.{handed}
 use Rattle.rules.specs.Positions.{left_of, move_of}
 use Rattle.rules.specs.Tests.{wrong_kind, wrong_time, wrong_size, all_moved, outside, tests}
@@ -75,7 +76,8 @@ pub data Own (v : Facts) : Call → Act → Type 0 where
   finished : (s : ℕ) → v.contradicts ≡ false → v.reply_short ≡ false → link_busy v.status ≡ false → eqb s 0 ≡ false → v.some_unready ≡ false → Own v (happens (FinishTags s)) (Finish s)
   failed : (t e s : ℕ) → v.contradicts ≡ false → v.reply_short ≡ false → bit_in 32 v.status.outstanding t ≡ true → eqb e 0 ≡ false → outside v.entry s ≡ false
       → Own v (happens (MediaError t e s)) (Media (record { tag = Some t; error = e; echo = failing v.entry.echo s }))
-  linked : (r : ℕ) → v.contradicts ≡ false → row_refused v.settings.mask r ≡ false → Own v (happens (LinkEvent r)) (Count r)
+  linked : (r : ℕ) → v.contradicts ≡ false → row_refused v.settings.mask r ≡ false → Own v (happens (LinkEvent r)) (Count (single r))
+  tallied : (ns : List ℕ) → v.contradicts ≡ false → tally_refused v.settings.mask ns ≡ false → Own v (happens (LinkTally ns)) (Count ns)
   renewed : v.contradicts ≡ false → v.reply_short ≡ false → Own v (happens Comreset) Renew
 
 -- a call with what it comes to: refused, or taken; refusal 1 never holds of a taken one
@@ -180,6 +182,9 @@ module _ (v : Facts) where
   taken (happens (LinkEvent r)) z =
       let none = (firsts.first_exactly (tests v (happens (LinkEvent r))) tt).none.0 z in
       own (linked r (none 0 (lit< tt)) (none 1 (lit< tt)))
+  taken (happens (LinkTally ns)) z =
+      let none = (firsts.first_exactly (tests v (happens (LinkTally ns))) tt).none.0 z in
+      own (tallied ns (none 0 (lit< tt)) (none 1 (lit< tt)))
   taken (happens Comreset) z =
       let none = (firsts.first_exactly (tests v (happens Comreset)) tt).none.0 z in
       own (renewed (none 0 (lit< tt)) (none 1 (lit< tt)))

@@ -5,9 +5,10 @@ use Rattle.refusals.specs.First.{first_of, unless}
 use Rattle.refusals.specs.declared.reasons.Refusal.{Refusal}
 use Rattle.frames.specs.Read.{read_frame}
 use Rattle.frames.specs.declared.shapes.Frame.{Frame}
+use Rattle.counters.specs.Counts.{single}
 use Rattle.device_state.specs.declared.shapes.Echo.{Echo}
 use Rattle.rules.specs.Call.{Call, host_frame, happens}
-use Rattle.rules.specs.declared.event.DeviceEvent.TheVariants.{OpenPhase, SendData, FinishTags, MediaError, LinkEvent, Comreset}
+use Rattle.rules.specs.declared.event.DeviceEvent.TheVariants.{OpenPhase, SendData, FinishTags, MediaError, LinkEvent, LinkTally, Comreset}
 use Rattle.rules.specs.Positions.{move_of}
 use Rattle.rules.specs.Tests.{kind_tests, frame_tests, tests}
 use Rattle.rules.specs.Decide.{frame_act}
@@ -26,14 +27,15 @@ failing e sector = record e {
   b10 = byte_of sector 5;
 }
 
--- a call that is not turned down: a host frame by its rules; open a phase for a tag; send min(8,192, what is left) bytes; finish a set; media error; link event; COMRESET [data-size] [send]
+-- a call that is not turned down: a host frame by its rules; open a phase for a tag; send min(8,192, what is left) bytes; finish a set; media error; link event, which is a tally of one; link tally; COMRESET [data-size] [send] [link-event] [link-tally]
 unfoldable pub does : Facts → Call → Act
 does v (host_frame f) = frame_act v (read_frame f)
 does v (happens (OpenPhase t)) = Open (record { tag = t; entry = v.entry })
 does v (happens SendData) = Send (move_of v.status v.entry 8192)
 does v (happens (FinishTags s)) = Finish s
 does v (happens (MediaError t e s)) = Media (record { tag = Some t; error = e; echo = failing v.entry.echo s })
-does v (happens (LinkEvent r)) = Count r
+does v (happens (LinkEvent r)) = Count (single r)
+does v (happens (LinkTally ns)) = Count ns
 does v (happens Comreset) = Renew
 
 -- a refusal, lowest number first; otherwise the call is done [exactly]

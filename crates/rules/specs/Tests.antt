@@ -14,10 +14,10 @@ use Rattle.rules.specs.MoveRefusals.{longer, not_ready}
 use Rattle.device_state.specs.State.{whole_of}
 use Rattle.device_state.specs.Table.{some_below, entry_of}
 use Rattle.device_state.specs.UnderWay.{link_busy}
-use Rattle.device_state.specs.Contradictory.{row_refused}
+use Rattle.device_state.specs.Contradictory.{row_refused, tally_refused}
 use Rattle.device_state.specs.declared.shapes.Entry.{Entry}
 use Rattle.rules.specs.Call.{Call, host_frame, happens}
-use Rattle.rules.specs.declared.event.DeviceEvent.TheVariants.{OpenPhase, SendData, FinishTags, MediaError, LinkEvent, Comreset}
+use Rattle.rules.specs.declared.event.DeviceEvent.TheVariants.{OpenPhase, SendData, FinishTags, MediaError, LinkEvent, LinkTally, Comreset}
 use Rattle.rules.specs.Positions.{left_of}
 use Rattle.rules.specs.declared.facts.Facts.{Facts}
 
@@ -84,4 +84,5 @@ tests v (happens SendData) = send_ladder v.contradicts v.medium_wrong v.reply_sh
 tests v (happens (FinishTags s)) = finish_ladder v.contradicts v.reply_short (link_busy v.status) (eqb s 0 || v.some_unready)
 tests v (happens (MediaError t e s)) = media_ladder v.contradicts v.reply_short (idle_tag v t) (eqb e 0 || outside v.entry s)
 tests v (happens (LinkEvent r)) = link_ladder v.contradicts (row_refused v.settings.mask r)
+tests v (happens (LinkTally ns)) = link_ladder v.contradicts (tally_refused v.settings.mask ns)
 tests v (happens Comreset) = comreset_ladder v.contradicts v.reply_short

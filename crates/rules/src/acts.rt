@@ -2,6 +2,7 @@
 ghost use Rattle.std.specs.Prelude.{◌≡◌};
 ghost use Rattle.rules.specs.Record.{record_of};
 
+use counters::Counters;
 use device_state::{Echo, Entry, ErrorRecord};
 use frames::Task;
 
@@ -104,8 +105,8 @@ pub enum Act {
     Finish(u32),
     /// A media error is told, and halts the device.
     Media(Fault),
-    /// A link event adds one to its row's counter.
-    Count(u8),
+    /// Link events: so many more in the counter of each row.
+    Count(Counters),
     /// COMRESET: as SRST and release together, and one link reset more.
     Renew,
 }

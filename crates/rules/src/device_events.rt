@@ -92,6 +92,13 @@ impl Facts {
                     Refusal::NoRow,
                 ),
             ]),
+            DeviceEvent::LinkTally(amounts) => check(&[
+                (self.contradicts, Refusal::Contradiction),
+                (
+                    device_state::tally_refused(self.settings.mask, &amounts),
+                    Refusal::NoRow,
+                ),
+            ]),
             DeviceEvent::Comreset => check(&[
                 (self.contradicts, Refusal::Contradiction),
                 (self.reply_short, Refusal::ReplyShort),
@@ -118,7 +125,9 @@ impl Facts {
                 error,
                 echo: failing(entry.echo, sector),
             }),
-            DeviceEvent::LinkEvent(row) => Act::Count(row),
+            // a tally of one
+            DeviceEvent::LinkEvent(row) => Act::Count(counters::single(row)),
+            DeviceEvent::LinkTally(amounts) => Act::Count(amounts),
             DeviceEvent::Comreset => Act::Renew,
         }
     }
@@ -134,7 +143,7 @@ impl Facts {
     /// | send | `Contradiction` (1), `MediumLength` (2), `ReplyShort` (3), `NoReadPhase` (10) |
     /// | finish | `Contradiction` (1), `ReplyShort` (3), `PhaseOpen` (8), `SetUnready` (11) |
     /// | media error | `Contradiction` (1), `ReplyShort` (3), `TagIdle` (7), `OutsideCommand` (12: or the error byte is 0) |
-    /// | link event | `Contradiction` (1), `NoRow` (13) |
+    /// | link event, link tally | `Contradiction` (1), `NoRow` (13) |
     /// | COMRESET | `Contradiction` (1), `ReplyShort` (3) |
     #[tactic(auto, unfolding(crate::specs::Act::act))]
     pub fn event_act(&self, event: DeviceEvent) -> Result<Act, Refusal>

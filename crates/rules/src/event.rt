@@ -3,6 +3,8 @@ ghost use Rattle.std.specs.Prelude.{◌≡◌};
 ghost use Rattle.rules.specs.Call.{happens};
 ghost use Rattle.rules.specs.Handed.{handed};
 
+use counters::ROWS;
+
 /// A device event, with its arguments.
 #[derive(Clone, Copy, Debug, PartialEq, Eq)]
 pub enum DeviceEvent {
@@ -23,6 +25,8 @@ pub enum DeviceEvent {
     },
     /// One more in the counter of a row of page 11h.
     LinkEvent(u8),
+    /// So many more in the counter of each row: what as many link events do.
+    LinkTally([u32; ROWS]),
     /// COMRESET.
     Comreset,
 }
@@ -37,7 +41,10 @@ impl DeviceEvent {
                 Some(u32::from(tag))
             }
             DeviceEvent::SendData => phase,
-            DeviceEvent::FinishTags(_) | DeviceEvent::LinkEvent(_) | DeviceEvent::Comreset => None,
+            DeviceEvent::FinishTags(_)
+            | DeviceEvent::LinkEvent(_)
+            | DeviceEvent::LinkTally(_)
+            | DeviceEvent::Comreset => None,
         }
     }
 }

@@ -60,6 +60,7 @@ fn call(device: Device, event: Event, medium: &mut [u8], reply: &mut [u8]) -> Ou
             device.media_error(tag, error, sector, reply)
         }
         Event::OfDevice(DeviceEvent::LinkEvent(row)) => device.link_event(row),
+        Event::OfDevice(DeviceEvent::LinkTally(amounts)) => device.link_tally(amounts),
         Event::OfDevice(DeviceEvent::Comreset) => device.comreset(reply),
         Event::HostData(byte) => host_data(device, byte, medium, reply),
         Event::HostRegister(frame) => device.host_frame(&frame, medium, reply),

@@ -9,6 +9,7 @@ use Rattle.frames.specs.Size.{fixed_size, readable}
 use Rattle.frames.specs.Read.{frame_by_kind, read_frame}
 use Rattle.frames.specs.Write.{encode}
 use Rattle.pages.specs.Sum.{sum256, sealed_page}
+use Rattle.counters.specs.Counts.{tallied}
 use Rattle.counters.specs.Rows.{ids}
 use Rattle.pages.specs.Entries.{id_at, entries_from, entries}
 use Rattle.pages.specs.Page10.{page10, fits10}
@@ -26,7 +27,7 @@ use Rattle.rules.specs.Medium.{Touch, leaves, sends, stores, sent_by, touch_of}
 use Rattle.rules.specs.declared.acts.Act.{Act}
 use Rattle.replies.specs.Replies.{replies_of}
 use Rattle.device.specs.Device.{contradictory_device, fresh_device}
-use Rattle.device.specs.After.{with_value, halt_with, accepted_by, unhalted_device, moved_by, opened_for, finished_by, failed_by, after_of}
+use Rattle.device.specs.After.{counted_by, halt_with, accepted_by, unhalted_device, moved_by, opened_for, finished_by, failed_by, after_of}
 use Rattle.device.specs.Lent.{lent}
 use Rattle.device.specs.FactsOf.{medium_wrong, facts_with}
 use Rattle.device.specs.declared.state.Device.{Device}
@@ -35,7 +36,7 @@ use Rattle.device.specs.Step.{Step, state_shown, step_by, act_of, step}
 use Rattle.worked_examples.specs.Points.{Hold, examples as all, room, reply_to}
 
 pub examples : Hold all
-unfolding Hold all first_of joined_bytes register_bytes fixed_size readable frame_by_kind read_frame encode sum256 sealed_page ids id_at entries_from entries page10 fits10 damaged value_in read_counter counter_answer row_bytes rows_to open_to page11 task_in echo_of some_below tabulation table_with table_without settings_out busy_bad idle_bad entry_bad table_bad status_bad record_bad rows_bad contradictory advanced_by move_of queued_act log_page other_act control_act register_act frame_act wrong_kind wrong_time wrong_size tests does act some_unready failing touch_of act_of replies_of contradictory_device fresh_device with_value halt_with accepted_by unhalted_device moved_by opened_for finished_by failed_by after_of moved_bad
+unfolding Hold all first_of joined_bytes register_bytes fixed_size readable frame_by_kind read_frame encode sum256 sealed_page ids id_at entries_from entries page10 fits10 damaged value_in read_counter counter_answer row_bytes rows_to open_to page11 task_in echo_of some_below tabulation table_with table_without settings_out busy_bad idle_bad entry_bad table_bad status_bad record_bad rows_bad contradictory advanced_by move_of queued_act log_page other_act control_act register_act frame_act wrong_kind wrong_time wrong_size tests does act some_unready failing touch_of act_of replies_of contradictory_device fresh_device tallied counted_by halt_with accepted_by unhalted_device moved_by opened_for finished_by failed_by after_of moved_bad
 examples = (refl, (refl, (refl, (refl, (refl, (refl, (refl, (refl, (refl, (refl, (refl, (refl, (refl, (refl, (refl, tt)))))))))))))))
 
 -- what decides it there is what decides it with such a medium

@@ -14,6 +14,7 @@ use Rattle.pages.specs.Entries.{entries, entries_from, id_at}
 use Rattle.pages.specs.Layout11.{page11, open_to, rows_to, row_bytes}
 use Rattle.pages.specs.Page10.{fits10, page10}
 use Rattle.pages.specs.Read11.{read_counter, damaged, value_in}
+use Rattle.counters.specs.Counts.{tallied}
 use Rattle.counters.specs.Rows.{ids, row_of}
 use Rattle.pages.specs.Sum.{sealed_page, sum256}
 use Rattle.device_state.specs.Contradictory.{moved_bad, contradictory, status_bad, settings_out, record_bad, rows_bad, table_bad, entry_bad, busy_bad, idle_bad}
@@ -25,7 +26,7 @@ use Rattle.rules.specs.Act.{failing, does, act}
 use Rattle.rules.specs.Positions.{move_of, advanced_by}
 use Rattle.rules.specs.Medium.{touch_of, stored_medium}
 use Rattle.replies.specs.Replies.{sent_all, sent_bytes, replies_of}
-use Rattle.device.specs.After.{with_value, renewed_device, after_of, zeroed_if, reset_held, moved_by, unhalted_device, finished_by, failed_by, halt_with, released_device, opened_for, accepted_by}
+use Rattle.device.specs.After.{counted_by, renewed_device, after_of, zeroed_if, reset_held, moved_by, unhalted_device, finished_by, failed_by, halt_with, released_device, opened_for, accepted_by}
 use Rattle.device.specs.Step.{act_of}
 use Rattle.device.specs.Device.{contradictory_device, power_on, fresh_device}
 use Rattle.history.specs.Carried.{carried_at, span, transfer}
@@ -79,7 +80,7 @@ typed = all_typed calls refl
 
 -- the run: all four fates, an error that waits and is read, a tag used three times, a page that shows counters
 pub not_empty : ExampleShows
-unfolding first_of overlay_with_room joined_bytes cut cut_to first_length register_bytes readable fixed_size read_frame frame_by_kind fits encode entries entries_from id_at page11 open_to rows_to row_bytes fits10 page10 read_counter damaged value_in ids row_of sealed_page sum256 contradictory status_bad settings_out record_bad rows_bad table_bad entry_bad busy_bad idle_bad echo_of task_in some_below table_with tabulation table_without register_act queued_act other_act log_page failing some_unready move_of advanced_by stored_medium sent_all sent_bytes replies_of after_of zeroed_if reset_held moved_by unhalted_device finished_by failed_by halt_with released_device opened_for accepted_by contradictory_device power_on fresh_device with_value renewed_device carried_at span transfer counted_in story tags_from lines_of commands outstanding_at finished_at given_up_at dropped_at total total_with how_many collect some payloads run seen begun waits sactive before since HandedOn newest moved_bad wrong_kind wrong_time wrong_size tests frame_act does act touch_of act_of
+unfolding first_of overlay_with_room joined_bytes cut cut_to first_length register_bytes readable fixed_size read_frame frame_by_kind fits encode entries entries_from id_at page11 open_to rows_to row_bytes fits10 page10 read_counter damaged value_in ids row_of sealed_page sum256 contradictory status_bad settings_out record_bad rows_bad table_bad entry_bad busy_bad idle_bad echo_of task_in some_below table_with tabulation table_without register_act queued_act other_act log_page failing some_unready move_of advanced_by stored_medium sent_all sent_bytes replies_of after_of zeroed_if reset_held moved_by unhalted_device finished_by failed_by halt_with released_device opened_for accepted_by contradictory_device power_on fresh_device tallied counted_by renewed_device carried_at span transfer counted_in story tags_from lines_of commands outstanding_at finished_at given_up_at dropped_at total total_with how_many collect some payloads run seen begun waits sactive before since HandedOn newest moved_bad wrong_kind wrong_time wrong_size tests frame_act does act touch_of act_of
 not_empty = record {
   powered = refl;
   typed = typed;

@@ -90,6 +90,7 @@ impl Bench {
                 events::media_error(state, *tag, *error, *sector, reply)
             }
             Command::Link(row) => events::link_event(state, *row),
+            Command::Tally(amounts) => events::link_tally(state, amounts),
             Command::Comreset => events::comreset(state, reply),
             _ => unreachable!("no call"),
         }

@@ -26,6 +26,7 @@ pub enum Command {
         sector: u32,
     },
     Link(u8),
+    Tally([u32; 16]),
     Comreset,
     Counter(u16),
     Count,
@@ -84,7 +85,7 @@ impl Command {
         match self {
             Command::Power { .. } | Command::Frame(_) | Command::Open(_) | Command::Send => true,
             Command::Finish(_) | Command::MediaError { .. } | Command::Link(_) => true,
-            Command::Comreset => true,
+            Command::Tally(_) | Command::Comreset => true,
             _ => false,
         }
     }
@@ -112,6 +113,7 @@ fn named(name: &[u8], w: &mut Words) -> Option<Command> {
         b"finish" => Command::Finish(w.long()?),
         b"media" => Command::MediaError { tag: w.byte()?, error: w.byte()?, sector: w.long()? },
         b"link" => Command::Link(w.byte()?),
+        b"tally" => Command::Tally(amounts(w)?),
         b"comreset" => Command::Comreset,
         b"counter" => Command::Counter(w.short()?),
         b"count" => Command::Count,
@@ -125,6 +127,14 @@ fn named(name: &[u8], w: &mut Words) -> Option<Command> {
         b"write" => writing(w)?,
         _ => return None,
     })
+}
+
+fn amounts(w: &mut Words) -> Option<[u32; 16]> {
+    let mut amounts = [0; 16];
+    for amount in &mut amounts {
+        *amount = w.long()?;
+    }
+    Some(amounts)
 }
 
 /// A host data frame whose payload counts up.

@@ -129,6 +129,25 @@ fn check_link_event(state: &State, row: u8) -> Due {
     refuse_if(own || row > 15 || !state.keeps(row), refusals::BAD_ROW)
 }
 
+/// A link tally: in each row as many events as its amount says; all of them, or none if one row is refused.
+pub fn link_tally(state: &State, amounts: &[u32; 16]) -> Answer {
+    if let Err(number) = check_link_tally(state, amounts) {
+        return turned_down(state, number);
+    }
+    let mut next = state.clone();
+    for (row, &amount) in amounts.iter().enumerate() {
+        next.count_many(row, amount);
+    }
+    Answer { state: next, refusal: 0, length: 0 }
+}
+
+/// 1 13: each row with an amount is asked as a link event is.
+fn check_link_tally(state: &State, amounts: &[u32; 16]) -> Due {
+    refusals::check_state(state)?;
+    let rows = (0..16).filter(|&row| amounts[usize::from(row)] > 0);
+    rows.map(|row| check_link_event(state, row)).collect()
+}
+
 /// COMRESET: as SRST and release together, counter 00Ah + 1, signature.
 pub fn comreset(state: &State, reply: &mut [u8]) -> Answer {
     let due = refusals::check_state(state).and_then(|_| refusals::check_room(reply));

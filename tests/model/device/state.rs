@@ -176,6 +176,12 @@ impl State {
         self.counters[row] = self.counters[row].saturating_add(1);
     }
 
+    /// As many events at once, in numbers that have room for the sum.
+    pub fn count_many(&mut self, row: usize, amount: u32) {
+        let sum = u64::from(self.counters[row]) + u64::from(amount);
+        self.counters[row] = sum.min(0xFFFF_FFFF) as u32;
+    }
+
     /// The value of a counter by its number, or `None` if it has no row or the
     /// row is not kept: absent, never zero.
     pub fn counter(&self, number: u16) -> Option<u32> {

@@ -24,7 +24,8 @@ pub fn next(s: &mut Script) {
         28..=30 => pages::line(s),
         31..=32 => texts::nonsense(s),
         33..=36 => odd_frame(s),
-        37..=46 => short_data(s),
+        37..=44 => short_data(s),
+        45..=46 => tally(s),
         _ => call(s),
     }
 }
@@ -130,6 +131,23 @@ fn short_data(s: &mut Script) {
     s.line(&format!("data {size:x} {first:x}"));
 }
 
+/// A link tally: mostly of rows that are counted, a few of them or all, up to the top and above; at times one that is not.
+fn tally(s: &mut Script) {
+    let mask = s.bench.state.mask;
+    let r = &mut s.random;
+    let some = r.one_of(&[0, 5, 30, 100]);
+    let odd = if r.percent(15) { r.below(16) } else { 16 };
+    let mut line = "tally".to_string();
+    for row in 0..16 {
+        let counted = row != 0 && row != 9 && mask >> row & 1 == 1;
+        let any = r.word() as u32;
+        let amount = r.one_of(&[1, 3, 0xFFFF, 0x8000_0000, 0xFFFF_FFFF, any]);
+        let has = row == odd || counted && r.percent(some);
+        write!(line, " {:x}", if has { amount } else { 0 }).expect("a string takes all");
+    }
+    s.line(&line);
+}
+
 /// A call that most states take; in a state that contradicts itself any call.
 fn call(s: &mut Script) {
     if s.contradicts() {
@@ -172,6 +190,7 @@ pub fn any_call(s: &mut Script) {
         format!("finish {:x}", 1u64 << (tag % 32)),
         format!("media {tag:x} {byte:x} {sector:x}"),
         format!("link {:x}", 1 + tag % 15),
+        format!("tally 0 {byte:x}{}", " 0".repeat(14)),
         "comreset".to_string(),
         format!("counter {:x}", 1 + tag),
         "count".to_string(),
