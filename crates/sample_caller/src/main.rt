@@ -1,9 +1,10 @@
-// A worked caller of the device (docs/DEVICE.md): power-on, one queued read of one sector, what each call answers, and a refusal.
+// A worked caller of the device (docs/DEVICE.md): power-on, a queued read and a queued write of one sector each, what each call
+// answers, and a refusal.
 #![tactic(auto)]
 
 use device::{Device, Sealed};
 use device_state::Settings;
-use frames::frames_of;
+use frames::{DATA_FRAME_LIMIT, HostReg, Task, frames_of, write_data, write_host};
 use refusals::Refusal;
 use std::alloc::Global;
 use std::io::{self, Write};
@@ -56,10 +57,49 @@ fn tell<W: Write>(
     }
 }
 
+// A queued write of one sector to sector 2, with tag 3.
+const WRITE: HostReg = HostReg {
+    command_bit: true,
+    command: 0x61,
+    features: 1,
+    task: Task {
+        lba: 2,
+        device: 0x40,
+        count: 3 << 3,
+    },
+    features_high: 0,
+    control: 0,
+};
+
+// A write: the frame of the command, and behind the Setup one with the data that are due.
+fn write_sector<W: Write>(
+    out: &mut W,
+    device: &mut Sealed,
+    medium: &mut [u8],
+    reply: &mut [u8],
+    frame: &mut [u8],
+) -> anyhow::Result<()> {
+    let length = write_host(frame, WRITE)?;
+    let answer = device.host_frame(frame.get(..length).unwrap_or_default(), medium, reply);
+    tell(out, "write", answer, reply)?;
+    let answer = device.open(3, reply);
+    tell(out, "open", answer, reply)?;
+    let due = device.device.data_due().unwrap_or_default();
+    writeln!(out, "due: {due}")?;
+    let data = [0xA5u8; 512];
+    let length = write_data(frame, data.get(..due).unwrap_or_default())?;
+    let answer = device.host_frame(frame.get(..length).unwrap_or_default(), medium, reply);
+    tell(out, "data", answer, reply)?;
+    let answer = device.finish(1 << 3, reply);
+    tell(out, "finish", answer, reply)?;
+    Ok(())
+}
+
 // The calls in their order, over a medium and a reply buffer that are lent to each.
 fn serve<W: Write>(alloc: Global, out: &mut W, mut device: Sealed) -> anyhow::Result<()> {
     let mut medium = vec![in alloc; 0u8; device.device.settings.medium_size()]?;
     let mut reply = vec![in alloc; 0u8; Device::REPLY_SIZE]?;
+    let mut frame = vec![in alloc; 0u8; DATA_FRAME_LIMIT]?;
     let answer = device.host_frame(&READ, &mut medium, &mut reply);
     tell(out, "read", answer, &reply)?;
     let answer = device.open(5, &mut reply);
@@ -70,6 +110,7 @@ fn serve<W: Write>(alloc: Global, out: &mut W, mut device: Sealed) -> anyhow::Re
     tell(out, "finish", answer, &reply)?;
     let answer = device.finish(1 << 5, &mut reply);
     tell(out, "finish again", answer, &reply)?;
+    write_sector(out, &mut device, &mut medium, &mut reply, &mut frame)?;
     match device.device.counter(0x00A) {
         Ok(Some(value)) => writeln!(out, "00Ah: {value}")?,
         Ok(None) => writeln!(out, "00Ah: absent")?,
