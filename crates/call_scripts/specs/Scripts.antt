@@ -1,6 +1,6 @@
 -- What a run of a script writes for what it reads, for each way in which it may end. Assumes nothing.
 use Rattle.std.specs.Prelude.{◌≡◌, ℕ, eqb, List, [], ◌∷◌, ◌++◌, ◌⊎◌, length, replicate, codes, Option, Some, None, Result, Ok, Err, IfSome}
-use Rattle.std.specs.Io.KnownBytes.{Appends, Consumes, IsAtEnd}
+use Rattle.std.specs.Io.KnownBytes.{Appends, Consumes}
 use Rattle.bits.specs.Pick.{pick}
 use Rattle.streams.specs.Fronts.{AppendsFront}
 use Rattle.device.specs.Device.{zero_device}
@@ -10,11 +10,6 @@ use Rattle.events.specs.declared.errors.RunError.{RunError}
 use Rattle.events.specs.declared.errors.RunError.TheVariants.{Input, Output, Memory, TooMany}
 use Rattle.call_scripts.specs.Bench.{Kept, kept}
 use Rattle.call_scripts.specs.Lines.{line_text, after_line, line_with, IsLost}
-
--- one byte was read, or the input is at its end
-abbrev pub ReadByte : Option (List ℕ) → Option ℕ → Option (List ℕ) → Type 0
-ReadByte old (Some byte) new = Consumes old new (byte ∷ [])
-ReadByte old None new = Consumes old new [] × IsAtEnd new
 
 -- a byte behind a line so far: LF ends it, and then it is printed what it asks for
 abbrev pub byte_text : Kept → List ℕ → ℕ → List ℕ

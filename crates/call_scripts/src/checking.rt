@@ -2,11 +2,11 @@
 use crate::MEDIUM_SIZE;
 use crate::bench::Bench;
 use crate::lines::{LINE_LIMIT, answer_line, grow};
-use crate::running::read_byte;
 use events::{PIECE, RunError};
 use std::alloc::{AllocError, Global};
 use std::io;
 use std::io::{BufReader, Read, Write};
+use streams::read_byte;
 
 /// What a check found.
 #[derive(Clone, Copy, Debug, Default, PartialEq, Eq)]
