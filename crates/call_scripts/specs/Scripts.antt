@@ -82,3 +82,11 @@ fresh size = kept zero_device (replicate size 0) None
 -- a run of this input from there, whatever was left of it, and what was said of it [script-broken]
 abbrev pub HasRun : (known old new errors errors' : Option (List ℕ)) → Ended → Type 0
 HasRun known old new errors errors' ended = (left : Option (List ℕ)) × Ran (fresh 262144) known left old new ended.run × Said (said_of ended.run) errors errors' ended.said
+
+-- one input has one text: outputs that an end of the input allows are equal [script-run]
+abbrev pub OneText : Type 0
+OneText = (k : Kept) (input old : List ℕ) (left left' new new' : Option (List ℕ)) → Ran k (Some input) left (Some old) new (Ok tt) → Ran k (Some input) left' (Some old) new' (Ok tt) → new ≡ new'
+
+-- and so are those that a failed read allows, for the same bytes read [script-broken]
+abbrev pub OneBroken : Type 0
+OneBroken = (k : Kept) (input left old : List ℕ) (new new' : Option (List ℕ)) → Broken k (Some input) (Some left) (Some old) new → Broken k (Some input) (Some left) (Some old) new' → new ≡ new'

@@ -3,7 +3,8 @@ ghost use Rattle.std.specs.Prelude.{◌≡◌, IfErr, OnOk};
 ghost use Rattle.std.specs.Io.KnownBytes.{Appends};
 ghost use Rattle.streams.specs.Fronts.{AppendsFront};
 ghost use Rattle.call_scripts.specs.Lines.{IsLost};
-ghost use Rattle.call_scripts.specs.Scripts.{byte_text, byte_bench, byte_line, Finishes, Stops, Ran};
+ghost use Rattle.call_scripts.specs.Scripts.{byte_text, byte_bench, byte_line, Finishes, Stops, Ran, OneText, OneBroken};
+ghost use Rattle.call_scripts.specs.Checks.{OneFound};
 
 use crate::bench::Bench;
 use crate::lines::{end_line, grow};
@@ -80,3 +81,10 @@ pub(crate) fn run<R: Read, W: Write>(
     }
     stop(out, RunError::TooMany)
 }
+
+/// Of a script two outputs that one ending allows for the same bytes read are equal, and so is what two checks of it write and find.
+pub fn a_script_has_one_text()
+    ensures over { OneText }
+    ensures broken { OneBroken }
+    ensures checked { OneFound }
+{}

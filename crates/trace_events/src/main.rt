@@ -2,9 +2,33 @@
 #![tactic(auto)]
 
 use events::{Format, PIECE, run_in_pieces};
+use std::env;
 use std::process::ExitCode;
+use version::VERSION;
 
-fn main(rt: HostRuntime) -> ExitCode {
+// The exit statuses where the words of the command line ask for nothing that is known, and where the version could not be written.
+const USAGE: u8 = 2;
+
+const LINES_MISSING: u8 = 4;
+
+// What the words of the command line ask for.
+enum Asked {
+    // a run
+    Run,
+    // the version
+    Version,
+}
+
+// What they ask for; `None` where that is nothing that is known, or they cannot be read.
+fn asked(rt: &HostRuntime) -> Option<Asked> {
+    let mut words = env::args(rt).ok()?.skip(1);
+    let Some(word) = words.next() else {
+        return Some(Asked::Run);
+    };
+    (word.as_str() == "--version" && words.next().is_none()).then_some(Asked::Version)
+}
+
+fn run(rt: HostRuntime) -> u8 {
     let format = Format {
         alloc: rt.alloc(),
         traced: true,
@@ -16,5 +40,23 @@ fn main(rt: HostRuntime) -> ExitCode {
         &mut rt.stdout(),
         &mut rt.stderr(),
     );
-    ExitCode::from(ended.exit_status())
+    ended.exit_status()
+}
+
+fn status(rt: HostRuntime) -> u8 {
+    match asked(&rt) {
+        Some(Asked::Run) => run(rt),
+        Some(Asked::Version) => match println!(rt; "trace_events {VERSION}") {
+            Ok(()) => 0,
+            Err(_) => LINES_MISSING,
+        },
+        None => {
+            let _ = eprintln!(rt; "usage: trace_events <EVENTS");
+            USAGE
+        }
+    }
+}
+
+fn main(rt: HostRuntime) -> ExitCode {
+    ExitCode::from(status(rt))
 }

@@ -1,0 +1,21 @@
+-- What is told of a line that prints something else than it is to. Assumes nothing.
+use Rattle.std.specs.Prelude.{ℕ, eqb, List, [], ◌∷◌, ◌++◌, flat_map, decimal, codes}
+use Rattle.std.specs.Str.{bytes_eq}
+use Rattle.bits.specs.Pick.{pick}
+
+-- lines stand in one with ` / ` between them
+abbrev pub in_line : ℕ → List ℕ
+in_line byte = pick (eqb byte 10) (codes " / ") (byte ∷ [])
+
+-- a text in one line [script-check]
+unfoldable pub one_line : List ℕ → List ℕ
+one_line text = flat_map in_line text
+
+-- name and number of the line, what it is to print, and what it prints [script-check]
+abbrev pub difference_text : List ℕ → ℕ → List ℕ → List ℕ → List ℕ
+difference_text name number wanted printed =
+    name ++ codes ":" ++ decimal number ++ codes ":\n  asked " ++ wanted ++ codes "\n  got   " ++ printed ++ codes "\n"
+
+-- of a line that prints what it is to, nothing is told
+abbrev pub told : List ℕ → ℕ → List ℕ → List ℕ → List ℕ
+told name number wanted printed = pick (bytes_eq wanted printed) [] (difference_text name number wanted printed)
