@@ -25,9 +25,10 @@ fn push_in_line(line: &mut Vec<u8>, byte: u8) -> Result<(), AllocError>
     ensures { OnOk result (line.new.items ≡ line.old.items ++ in_line byte) }
 {
     match byte {
-        b'\n' => line.extend_from_slice(b" / "),
-        _ => line.push(byte),
+        b'\n' => line.extend_from_slice(b" / ")?,
+        _ => line.push(byte)?,
     }
+    Ok(())
 }
 
 // Lines in one, with ` / ` between them.

@@ -21,6 +21,7 @@ impl<'a> Read for Source<'a> {
 }
 
 /// Bytes, and behind them reads that a signal breaks off.
+#[derive(Drop)]
 pub(crate) struct Signalled<'a> {
     pub(crate) bytes: &'a [u8],
 }

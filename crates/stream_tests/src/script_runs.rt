@@ -50,7 +50,7 @@ fn signals(rt: HostRuntime) {
     };
     let ended = run_script(rt.alloc(), reader, &mut out, &mut errors);
     assert_eq!(rt; ended.exit_status(), 3);
-    assert_eq!(rt; out.bytes.as_slice(), b"0 0\nstop\n");
+    assert_eq!(rt; out.bytes.as_slice(), b"0 0\nstop\n".as_slice());
     let mut out = Sink::new(rt.alloc(), 1);
     out.failure = ErrorKind::Interrupted;
     assert_eq!(rt; run(rt.alloc(), SCRIPT, false, &mut out, &mut errors), 0);
@@ -113,7 +113,11 @@ fn checks(rt: HostRuntime) {
     let mut out = Sink::new(rt.alloc(), u64::MAX);
     assert!(rt; matches!(check(rt.alloc(), true, &mut out), Err(RunError::Input(_))));
     assert!(rt; out.bytes.is_empty());
-    for (before_failure, front) in [(0, ""), (1, "s:2:\n  "), (4, "s:2:\n  asked 1\n  got   0\n")] {
+    for (before_failure, front) in [
+        (0, ""),
+        (1, "s:2:\n  "),
+        (4, "s:2:\n  asked 1\n  got   0\n"),
+    ] {
         let mut out = Sink::new(rt.alloc(), before_failure);
         assert!(rt; matches!(check(rt.alloc(), false, &mut out), Err(RunError::Output(_))));
         assert_eq!(rt; out.bytes.as_slice(), front.as_bytes());
