@@ -12,7 +12,8 @@ const USAGE: u8 = 2;
 const LINES_MISSING: u8 = 4;
 
 // What the words of the command line ask for.
-enum Asked {
+#[derive(Clone, Copy)]
+enum Request {
     // a run, with the bytes of each reply or without
     Run { traced: bool },
     // the version
@@ -20,17 +21,17 @@ enum Asked {
 }
 
 // What they ask for; `None` where that is nothing that is known, or they cannot be read.
-fn asked(rt: &HostRuntime) -> Option<Asked> {
+fn asked(rt: &HostRuntime) -> Option<Request> {
     let mut words = env::args(rt).ok()?.skip(1);
     let Some(word) = words.next() else {
-        return Some(Asked::Run { traced: false });
+        return Some(Request::Run { traced: false });
     };
     if words.next().is_some() {
         return None;
     }
     match word.as_str() {
-        "trace" => Some(Asked::Run { traced: true }),
-        "--version" => Some(Asked::Version),
+        "trace" => Some(Request::Run { traced: true }),
+        "--version" => Some(Request::Version),
         _ => None,
     }
 }
@@ -52,8 +53,8 @@ fn run(rt: HostRuntime, traced: bool) -> u8 {
 
 fn status(rt: HostRuntime) -> u8 {
     match asked(&rt) {
-        Some(Asked::Run { traced }) => run(rt, traced),
-        Some(Asked::Version) => match println!(rt; "run_events {VERSION}") {
+        Some(Request::Run { traced }) => run(rt, traced),
+        Some(Request::Version) => match println!(rt; "run_events {VERSION}") {
             Ok(()) => 0,
             Err(_) => LINES_MISSING,
         },

@@ -11,21 +11,14 @@ const USAGE: u8 = 2;
 
 const LINES_MISSING: u8 = 4;
 
-// What the words of the command line ask for.
-enum Asked {
-    // a run
-    Run,
-    // the version
-    Version,
-}
-
-// What they ask for; `None` where that is nothing that is known, or they cannot be read.
-fn asked(rt: &HostRuntime) -> Option<Asked> {
+// Whether the words of the command line ask for the version, and not for a run; `None` where they ask for nothing that is known, or cannot
+// be read.
+fn asks_version(rt: &HostRuntime) -> Option<bool> {
     let mut words = env::args(rt).ok()?.skip(1);
     let Some(word) = words.next() else {
-        return Some(Asked::Run);
+        return Some(false);
     };
-    (word.as_str() == "--version" && words.next().is_none()).then_some(Asked::Version)
+    (word.as_str() == "--version" && words.next().is_none()).then_some(true)
 }
 
 fn run(rt: HostRuntime) -> u8 {
@@ -44,9 +37,9 @@ fn run(rt: HostRuntime) -> u8 {
 }
 
 fn status(rt: HostRuntime) -> u8 {
-    match asked(&rt) {
-        Some(Asked::Run) => run(rt),
-        Some(Asked::Version) => match println!(rt; "trace_events {VERSION}") {
+    match asks_version(&rt) {
+        Some(false) => run(rt),
+        Some(true) => match println!(rt; "trace_events {VERSION}") {
             Ok(()) => 0,
             Err(_) => LINES_MISSING,
         },
