@@ -1,5 +1,6 @@
 -- Where a check of a script stands behind the lines that it has run, and how it ends. Assumes nothing.
-use Rattle.std.proofs.Common.{◌≡◌, ℕ, ◌<◌, List, [], ◌∷◌, ◌++◌, length, append-nil, append_assoc, Option, Some, None, Result, Ok, Err, IsErr, IsErrAnd, IfSome, refl, sym, subst, ap, ap₂, ◌∙◌}
+use Rattle.std.proofs.Common.{◌≡◌, ℕ, ◌<◌, Bool, true, false, List, [], ◌∷◌, ◌++◌, length, append-nil, append_assoc, Option, Some, None, Result, Ok, Err, IsErr, IsErrAnd, IfSome, refl, sym, subst, ap, ap₂, ◌∙◌, arith}
+use Rattle.std.specs.Bool.{◌==◌}
 use mathlib.Core.Bool.{false≢true}
 use Rattle.std.specs.Io.KnownBytes.{Appends, Keeps}
 use Rattle.std.proofs.KnownBytes.{Appends-nil, Appends-trans}
@@ -16,6 +17,15 @@ use Rattle.call_scripts.specs.Checks.{line_told, line_check, differences, found_
 use Rattle.call_scripts.specs.declared.found.Found.{Found}
 use Rattle.call_scripts.specs.declared.checking.Check.{Check}
 use Rattle.call_scripts.proofs.PartLaws.{lines_first}
+
+-- lines are left, or none
+pub some_left : (empty : Bool) (rest : List ℕ) → empty ≡ (length rest == 0) → empty ≡ false → 0 < length rest
+some_left empty [] e f = absurd (false≢true (sym f ∙ e))
+some_left empty (c ∷ cs) e f = omega arith
+
+pub none_left : (empty : Bool) (rest : List ℕ) → empty ≡ (length rest == 0) → empty ≡ true → rest ≡ []
+none_left empty [] e t = refl
+none_left empty (c ∷ cs) e t = absurd (false≢true (sym e ∙ t))
 
 -- so much is written, and the bench and what is found are left, from which the rest goes on
 pub record Stands (name : List ℕ) (first : Kept) (script : List ℕ) (old new : Option (List ℕ)) (k : Kept) (check : Check) (rest : List ℕ) : Type 0 where
@@ -74,7 +84,12 @@ check_lost name first script old new (Err x) e i h o a = (subst IsLost (sym h) o
 pub check_none : (name : List ℕ) (first : Kept) (script : List ℕ) (old : Option (List ℕ)) → Checked name first script old old (Err Memory)
 check_none name first script old = (tt, (0, Appends-nil old))
 
--- the script is what was read
+-- a script is what was read, where that is known
+pub known_as : (known : Option (List ℕ)) (script bytes : List ℕ) → script ≡ bytes → IfSome known (λ input. bytes ≡ input) → IfSome known (λ input. script ≡ input)
+known_as None script bytes e k = tt
+known_as (Some input) script bytes e k = e ∙ k
+
+-- the check is that of the script
 pub check_read : (name : List ℕ) (known old new : Option (List ℕ)) (script : List ℕ) (r : Result Found RunError) → IfSome known (λ input. script ≡ input) → Checked name (fresh 262144) script old new r → HasChecked name known old new r
 check_read name None old new script (Ok f) e c = tt
 check_read name None old new script (Err (Input x)) e c = absurd c.0

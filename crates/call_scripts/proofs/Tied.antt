@@ -33,7 +33,7 @@ pub tied_a_script_has_one_text : Tied running-said.a_script_has_one_text.ended r
 tied_a_script_has_one_text = by (say (λ κs a. tt) (λ κs a r ws p. (p.0, p.1.0, p.1.1))) (λ κs a r r' ws ws' p q. (refl, refl))
 
 pub tied_add : Sole found-said.Found.add.ended found.Found.add.Reads.Asked found.Found.add.Reads.Post
-tied_add = sole (λ κs a. tt) (λ κs a r r' ws ws' p q. (refl, λ i. (same p q, (tt, tt))))
+tied_add = sole (λ κs a. tt) (λ κs a r r' ws ws' p q. (refl, λ i. (same p q i, (tt, tt))))
 
 pub tied_check_script : (R W : RattleType) (l : Laws R) (m : Laws W) (g : Reader.Ghosts R.Denot) (d : Dict) (h : Writer.Ghosts W.Denot) (e : Dict)
     → SaysOver (checking-said.check_script.ended R W g d h e) (checking.check_script.Reads.Asked R W l m g d h e) (checking.check_script.Reads.Post R W l m g d h e)

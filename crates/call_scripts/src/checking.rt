@@ -5,7 +5,7 @@ ghost use Rattle.streams.specs.Fronts.{AppendsFront};
 ghost use Rattle.events.specs.declared.errors.RunError.TheVariants.{Memory};
 ghost use Rattle.call_scripts.specs.Lines.{after_line, IsLost};
 ghost use Rattle.call_scripts.specs.Scripts.{fresh};
-ghost use Rattle.call_scripts.specs.Told.{in_line, one_line, difference_text};
+ghost use Rattle.call_scripts.specs.Told.{in_line, one_line, place_text, labelled, difference_text};
 ghost use Rattle.call_scripts.specs.Checks.{told_by, check_by, line_told, line_check, Checked, HasChecked};
 
 use crate::MEDIUM_SIZE;
@@ -43,6 +43,24 @@ fn one_line(alloc: Global, text: &[u8]) -> Result<Vec<u8>, AllocError>
     Ok(line)
 }
 
+// Where a line stands.
+#[tactic(auto, unfolding(crate::specs::Told::place_text))]
+fn write_place<W: Write>(out: &mut W, name: &str, number: u64) -> io::Result<()>
+    ensures { OnOk result (Appends (W.contents out.old) (W.contents out.new) (place_text name.now number)) }
+{
+    out.write_all(name.as_bytes())?;
+    writeln!(out, ":{number}:")
+}
+
+#[tactic(auto, unfolding(crate::specs::Told::labelled))]
+fn write_labelled<W: Write>(out: &mut W, label: &[u8], text: &[u8]) -> io::Result<()>
+    ensures { OnOk result (Appends (W.contents out.old) (W.contents out.new) (labelled label.now text.now)) }
+{
+    out.write_all(label)?;
+    out.write_all(text)?;
+    out.write_all(b"\n")
+}
+
 // What is told of a line that prints something else than it is to.
 fn write_difference<W: Write>(
     out: &mut W,
@@ -53,12 +71,9 @@ fn write_difference<W: Write>(
 ) -> io::Result<()>
     ensures { OnOk result (Appends (W.contents out.old) (W.contents out.new) (difference_text name.now number wanted.now printed.now)) }
 {
-    out.write_all(name.as_bytes())?;
-    write!(out, ":{number}:\n  asked ")?;
-    out.write_all(wanted)?;
-    out.write_all(b"\n  got   ")?;
-    out.write_all(printed)?;
-    out.write_all(b"\n")
+    write_place(out, name, number)?;
+    write_labelled(out, b"  asked ", wanted)?;
+    write_labelled(out, b"  got   ", printed)
 }
 
 /// How far a check is: the number of the line that was last, and what was found until there.
