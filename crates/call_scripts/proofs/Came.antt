@@ -3,7 +3,7 @@ use Rattle.std.proofs.Common.{◌≡◌, ℕ, List, [], ◌∷◌, ◌++◌, app
 use mathlib.Core.Bool.{false≢true}
 use Rattle.std.specs.Io.KnownBytes.{Appends, Consumes}
 use Rattle.std.proofs.KnownBytes.{Appends-nil, Appends-trans, Consumes-nil, Consumes-trans, Consumes-whole}
-use Rattle.streams.specs.Fronts.{AppendsFront}
+use Rattle.streams.specs.Fronts.{AppendsFront, ReadByte}
 use Rattle.streams.proofs.Fronts.{front_of, front_then}
 use Rattle.events.proofs.Fronts.{front_first}
 use Rattle.events.proofs.Runs.{begins}
@@ -11,7 +11,7 @@ use Rattle.events.specs.declared.errors.RunError.{RunError}
 use Rattle.events.specs.declared.errors.RunError.TheVariants.{Input, Output, Memory, TooMany}
 use Rattle.call_scripts.specs.Bench.{Kept}
 use Rattle.call_scripts.specs.Lines.{IsLost}
-use Rattle.call_scripts.specs.Scripts.{ReadByte, byte_text, byte_bench, byte_line, text_from, ended, unended, script_text, whole_text, stop_text, Lost, Broken, Ran, Finishes, Stops}
+use Rattle.call_scripts.specs.Scripts.{byte_text, byte_bench, byte_line, text_from, ended, unended, script_text, whole_text, stop_text, Lost, Broken, Ran, Finishes, Stops}
 
 -- `stop` is written
 pub stopped : (a b : Option (List ℕ)) (e : RunError) → Appends a b stop_text → Stops e a b (Err e)

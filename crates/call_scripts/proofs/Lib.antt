@@ -1,9 +1,12 @@
 pub mod NumberLaws
 pub mod WordLaws
+pub mod PartLaws
 pub mod NameLaws
 pub mod BytesLaws
 pub mod CallLaws
 pub mod RowLaws
 pub mod AnswerLaws
 pub mod Came
+pub mod CheckLaws
+pub mod OneText
 pub mod Tied

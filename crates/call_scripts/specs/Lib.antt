@@ -15,3 +15,7 @@ pub mod Answers
 pub mod Answering
 pub mod Lines
 pub mod Scripts
+pub mod Parts
+pub mod Wanted
+pub mod Told
+pub mod Checks

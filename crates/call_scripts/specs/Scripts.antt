@@ -1,6 +1,6 @@
 -- What a run of a script writes for what it reads, for each way in which it may end. Assumes nothing.
 use Rattle.std.specs.Prelude.{◌≡◌, ℕ, eqb, List, [], ◌∷◌, ◌++◌, ◌⊎◌, length, replicate, codes, Option, Some, None, Result, Ok, Err, IfSome}
-use Rattle.std.specs.Io.KnownBytes.{Appends, Consumes, IsAtEnd}
+use Rattle.std.specs.Io.KnownBytes.{Appends, Consumes}
 use Rattle.bits.specs.Pick.{pick}
 use Rattle.streams.specs.Fronts.{AppendsFront}
 use Rattle.device.specs.Device.{zero_device}
@@ -10,11 +10,6 @@ use Rattle.events.specs.declared.errors.RunError.{RunError}
 use Rattle.events.specs.declared.errors.RunError.TheVariants.{Input, Output, Memory, TooMany}
 use Rattle.call_scripts.specs.Bench.{Kept, kept}
 use Rattle.call_scripts.specs.Lines.{line_text, after_line, line_with, IsLost}
-
--- one byte was read, or the input is at its end
-abbrev pub ReadByte : Option (List ℕ) → Option ℕ → Option (List ℕ) → Type 0
-ReadByte old (Some byte) new = Consumes old new (byte ∷ [])
-ReadByte old None new = Consumes old new [] × IsAtEnd new
 
 -- a byte behind a line so far: LF ends it, and then it is printed what it asks for
 abbrev pub byte_text : Kept → List ℕ → ℕ → List ℕ
@@ -87,3 +82,11 @@ fresh size = kept zero_device (replicate size 0) None
 -- a run of this input from there, whatever was left of it, and what was said of it [script-broken]
 abbrev pub HasRun : (known old new errors errors' : Option (List ℕ)) → Ended → Type 0
 HasRun known old new errors errors' ended = (left : Option (List ℕ)) × Ran (fresh 262144) known left old new ended.run × Said (said_of ended.run) errors errors' ended.said
+
+-- one input has one text: outputs that an end of the input allows are equal [script-run]
+abbrev pub OneText : Type 0
+OneText = (k : Kept) (input old : List ℕ) (left left' new new' : Option (List ℕ)) → Ran k (Some input) left (Some old) new (Ok tt) → Ran k (Some input) left' (Some old) new' (Ok tt) → new ≡ new'
+
+-- and so are those that a failed read allows, for the same bytes read [script-broken]
+abbrev pub OneBroken : Type 0
+OneBroken = (k : Kept) (input left old : List ℕ) (new new' : Option (List ℕ)) → Broken k (Some input) (Some left) (Some old) new → Broken k (Some input) (Some left) (Some old) new' → new ≡ new'

@@ -12,21 +12,26 @@ mod checking;
 mod commands;
 mod counting;
 mod data_frames;
+mod found;
 mod lines;
 mod loans;
 mod names;
 mod numbers;
+mod parts;
 mod pieces;
 mod rows;
 mod running;
 mod verbs;
+mod wanted;
 mod words;
 
 pub use bytes::Bytes;
 pub use changes::Change;
-pub use checking::{Found, check_script};
+pub use checking::check_script;
 pub use commands::Command;
+pub use found::Found;
 pub use pieces::run_script;
+pub use running::a_script_has_one_text;
 
 // The bytes of the medium of a bench; a call is lent a front of it.
 const MEDIUM_SIZE: usize = 0x40000;

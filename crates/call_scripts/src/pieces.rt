@@ -9,7 +9,8 @@ use events::{Ended, PIECE, RunError, say};
 use std::alloc::{AllocError, Global};
 use std::io::{BufReader, Read, Write};
 
-fn zeros(alloc: Global, size: usize) -> Result<Vec<u8>, AllocError>
+/// So many zeros.
+pub(crate) fn zeros(alloc: Global, size: usize) -> Result<Vec<u8>, AllocError>
     ensures { IfOk result (λ zeros. zeros.items ≡ replicate size 0) }
 {
     vec![in alloc; 0; size]

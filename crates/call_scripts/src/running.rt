@@ -1,29 +1,17 @@
 // The run of a script, byte for byte.
-ghost use Rattle.std.specs.Prelude.{◌≡◌, [], IfOk, IfErr, OnOk, OnErr};
-ghost use Rattle.std.specs.Io.KnownBytes.{Appends, Consumes};
+ghost use Rattle.std.specs.Prelude.{◌≡◌, IfErr, OnOk};
+ghost use Rattle.std.specs.Io.KnownBytes.{Appends};
 ghost use Rattle.streams.specs.Fronts.{AppendsFront};
 ghost use Rattle.call_scripts.specs.Lines.{IsLost};
-ghost use Rattle.call_scripts.specs.Scripts.{ReadByte, byte_text, byte_bench, byte_line, Finishes, Stops, Ran};
+ghost use Rattle.call_scripts.specs.Scripts.{byte_text, byte_bench, byte_line, Finishes, Stops, Ran, OneText, OneBroken};
+ghost use Rattle.call_scripts.specs.Checks.{OneFound};
 
 use crate::bench::Bench;
 use crate::lines::{end_line, grow};
 use events::RunError;
 use std::alloc::Global;
-use std::io;
 use std::io::{Read, Write};
-use streams::{fill, put};
-
-/// The next byte; none at the input's end.
-pub(crate) fn read_byte<R: Read>(reader: &mut R) -> io::Result<Option<u8>>
-    ensures ok { IfOk result (λ byte. ReadByte (R.remaining reader.old) byte (R.remaining reader.new)) }
-    ensures err { OnErr result (Consumes (R.remaining reader.old) (R.remaining reader.new) []) }
-{
-    let mut byte = [0u8; 1];
-    if fill(reader, &mut byte)? == 0 {
-        return Ok(None);
-    }
-    Ok(Some(byte[0]))
-}
+use streams::{put, read_byte};
 
 // A byte behind a line so far: LF ends it.
 fn take_byte<W: Write>(
@@ -93,3 +81,10 @@ pub(crate) fn run<R: Read, W: Write>(
     }
     stop(out, RunError::TooMany)
 }
+
+/// Of a script two outputs that one ending allows for the same bytes read are equal, and so is what two checks of it write and find.
+pub fn a_script_has_one_text()
+    ensures over { OneText }
+    ensures broken { OneBroken }
+    ensures checked { OneFound }
+{}

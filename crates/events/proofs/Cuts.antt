@@ -75,7 +75,8 @@ cut_once input (s ∷ es) (s' ∷ es') r r' c c' =
     in
     (cc (front.0, more.0), more.1)
 
-appended : (o t t' : List ℕ) (w w' : Option (List ℕ)) → t ≡ t' → Appends (Some o) w t → Appends (Some o) w' t' → w ≡ w'
+-- what is written behind the same bytes is the same
+pub appended : (o t t' : List ℕ) (w w' : Option (List ℕ)) → t ≡ t' → Appends (Some o) w t → Appends (Some o) w' t' → w ≡ w'
 appended o t t' None w' e p p' = absurd p
 appended o t t' (Some x) None e p p' = absurd p'
 appended o t t' (Some x) (Some y) e p p' = ap Some (p ∙ ap (λ (l : List ℕ). o ++ l) e ∙ sym p')

@@ -2,17 +2,12 @@
 use Rattle.std.specs.Prelude.{◌≡◌, ◌≤◌, Bool, false, not, List, [], ◌∷◌, ℕ, length, take, IfSome, Option, Some, None, Result, Ok, Err}
 use Rattle.std.specs.Bool.{then_some}
 use Rattle.std.specs.Borrow.{Bor}
-use Rattle.std.specs.Io.KnownBytes.{Consumes, Keeps, IsAtEnd}
+use Rattle.std.specs.Io.KnownBytes.{Consumes, Keeps}
 use Rattle.events.specs.declared.kinds.InputEnd.{InputEnd}
 use Rattle.events.specs.declared.kinds.Kind.{Kind}
 use Rattle.events.specs.Kinds.{misplaced, next_of}
 use Rattle.events.specs.Asked.{event_of}
 use Rattle.events.specs.declared.asked.Event.{Event}
-
--- one byte was read, or the input is at its end
-abbrev pub ReadKind : Option (List ℕ) → Option ℕ → Option (List ℕ) → Type 0
-ReadKind old (Some kind) new = Consumes old new (kind ∷ [])
-ReadKind old None new = Consumes old new [] × IsAtEnd new
 
 -- the kind that was named, if an event of that kind may stand here; `first` says that nothing was before it
 unfoldable pub placed_kind : Bool → Option Kind → Option Kind

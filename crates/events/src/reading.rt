@@ -1,15 +1,15 @@
 // What is read of an input: the next event.
 ghost use Rattle.std.specs.Prelude.{◌≡◌, ◌<◌, false, [], Err, IfSome, IfOk, OnErr, length, drop, slice_get};
-ghost use Rattle.std.specs.Io.KnownBytes.{Consumes, Keeps};
+ghost use Rattle.std.specs.Io.KnownBytes.{Keeps};
 ghost use Rattle.events.specs.Kinds.{kind_named, next_of};
 ghost use Rattle.streams.specs.Fronts.{Filled, StuckBefore};
-ghost use Rattle.events.specs.Reading.{ReadKind, placed_kind, ReadEvent, BeginsWith, ReadNext, ReadAhead, BreaksIn};
+ghost use Rattle.events.specs.Reading.{placed_kind, ReadEvent, BeginsWith, ReadNext, ReadAhead, BreaksIn};
 
 use crate::asked::event_by_kind;
 use crate::{EVENT_LIMIT, Event, InputEnd, Kind, event_of};
 use std::io;
 use std::io::{BufRead, Read};
-use streams::fill;
+use streams::{fill, read_byte};
 
 // How an input ends that has no bytes left; `first` says that it had none at all.
 #[tactic(auto, unfolding(crate::specs::Kinds::next_of))]
@@ -21,18 +21,6 @@ fn empty_end(first: bool) -> InputEnd
     } else {
         InputEnd::Clean
     }
-}
-
-// The byte that the next event begins with; none at the input's end.
-fn read_byte<R: Read>(reader: &mut R) -> io::Result<Option<u8>>
-    ensures ok { IfOk result (λ byte. ReadKind (R.remaining reader.old) byte (R.remaining reader.new)) }
-    ensures err { OnErr result (Consumes (R.remaining reader.old) (R.remaining reader.new) []) }
-{
-    let mut byte = [0u8; 1];
-    if fill(reader, &mut byte)? == 0 {
-        return Ok(None);
-    }
-    Ok(Some(byte[0]))
 }
 
 // The kind that a byte names, if an event of that kind may stand here; `first` says that nothing was before it.

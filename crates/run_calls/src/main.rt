@@ -3,11 +3,12 @@
 #![tactic(auto)]
 
 use call_scripts::{Found, check_script, run_script};
-use events::RunError;
+use events::{Ended, RunError};
 use std::process::ExitCode;
 use std::{env, fs, io};
+use version::VERSION;
 
-// Some line differs; the command line is no use of the program, or a script could not be run; lines are missing.
+// Some line differs; the command line asks for nothing that is known; lines are missing.
 const DIFFERING: u8 = 1;
 
 const USAGE: u8 = 2;
@@ -15,8 +16,8 @@ const USAGE: u8 = 2;
 const LINES_MISSING: u8 = 4;
 
 fn check_file(rt: HostRuntime, path: &str) -> Result<Found, RunError> {
-    let file = fs::open(&rt, path).map_err(RunError::Input)?;
-    check_script(rt.alloc(), path, file, &mut rt.stdout())
+    let mut file = fs::open(&rt, path).map_err(RunError::Input)?;
+    check_script(rt.alloc(), path, &mut file, &mut rt.stdout())
 }
 
 // The last line of a check, and its status.
@@ -25,31 +26,47 @@ fn tell(rt: HostRuntime, all: Found) -> io::Result<u8> {
     Ok(if all.differing == 0 { 0 } else { DIFFERING })
 }
 
-// The scripts that are named; the first that could not be run ends it.
+// The scripts that are named; the first that could not be read, or whose differences could not be written, ends it.
 fn check_files(rt: HostRuntime) -> io::Result<u8> {
     let mut all = Found::default();
     for path in env::args(&rt)?.skip(2) {
         match check_file(rt, &path) {
             Ok(found) => all.add(found),
             Err(error) => {
-                eprintln!(rt; "run_calls: {path}: {error}")?;
-                return Ok(USAGE);
+                let said = eprintln!(rt; "run_calls: {path}: {error}");
+                let run = Err(error);
+                return Ok(Ended { run, said }.exit_status());
             }
         }
     }
     tell(rt, all)
 }
 
+fn usage(rt: HostRuntime) -> io::Result<u8> {
+    eprintln!(rt; "usage: run_calls < SCRIPT, or run_calls --check SCRIPT..")?;
+    Ok(USAGE)
+}
+
+fn tell_version(rt: HostRuntime) -> io::Result<u8> {
+    println!(rt; "run_calls {VERSION}")?;
+    Ok(0)
+}
+
 fn status(rt: HostRuntime) -> io::Result<u8> {
-    let Some(word) = env::args(&rt)?.nth(1) else {
+    let Ok(words) = env::args(&rt) else {
+        return usage(rt);
+    };
+    let mut words = words.skip(1);
+    let Some(word) = words.next() else {
         let ended = run_script(rt.alloc(), rt.stdin(), &mut rt.stdout(), &mut rt.stderr());
         return Ok(ended.exit_status());
     };
-    if word.as_str() == "--check" {
-        return check_files(rt);
+    let more = words.next().is_some();
+    match word.as_str() {
+        "--check" if more => check_files(rt),
+        "--version" if !more => tell_version(rt),
+        _ => usage(rt),
     }
-    eprintln!(rt; "usage: run_calls < SCRIPT, or run_calls --check SCRIPT..")?;
-    Ok(USAGE)
 }
 
 fn main(rt: HostRuntime) -> ExitCode {

@@ -4,24 +4,39 @@
 use events::{Format, PIECE, run_in_pieces};
 use std::env;
 use std::process::ExitCode;
+use version::VERSION;
 
-// The exit status where the words of the command line ask for nothing that is known.
+// The exit statuses where the words of the command line ask for nothing that is known, and where the version could not be written.
 const USAGE: u8 = 2;
 
-// Whether the words ask for the bytes of each reply; `None` where they are others, or cannot be read.
-fn is_traced(rt: &HostRuntime) -> Option<bool> {
-    let mut words = env::args(rt).ok()?.skip(1);
-    let Some(word) = words.next() else {
-        return Some(false);
-    };
-    (word.as_str() == "trace" && words.next().is_none()).then_some(true)
+const LINES_MISSING: u8 = 4;
+
+// What the words of the command line ask for.
+#[derive(Clone, Copy)]
+enum Request {
+    // a run, with the bytes of each reply or without
+    Run { traced: bool },
+    // the version
+    Version,
 }
 
-fn main(rt: HostRuntime) -> ExitCode {
-    let Some(traced) = is_traced(&rt) else {
-        let _ = eprintln!(rt; "usage: run_events [trace] <EVENTS");
-        return ExitCode::from(USAGE);
+// What they ask for; `None` where that is nothing that is known, or they cannot be read.
+fn asked(rt: &HostRuntime) -> Option<Request> {
+    let mut words = env::args(rt).ok()?.skip(1);
+    let Some(word) = words.next() else {
+        return Some(Request::Run { traced: false });
     };
+    if words.next().is_some() {
+        return None;
+    }
+    match word.as_str() {
+        "trace" => Some(Request::Run { traced: true }),
+        "--version" => Some(Request::Version),
+        _ => None,
+    }
+}
+
+fn run(rt: HostRuntime, traced: bool) -> u8 {
     let format = Format {
         alloc: rt.alloc(),
         traced,
@@ -33,5 +48,23 @@ fn main(rt: HostRuntime) -> ExitCode {
         &mut rt.stdout(),
         &mut rt.stderr(),
     );
-    ExitCode::from(ended.exit_status())
+    ended.exit_status()
+}
+
+fn status(rt: HostRuntime) -> u8 {
+    match asked(&rt) {
+        Some(Request::Run { traced }) => run(rt, traced),
+        Some(Request::Version) => match println!(rt; "run_events {VERSION}") {
+            Ok(()) => 0,
+            Err(_) => LINES_MISSING,
+        },
+        None => {
+            let _ = eprintln!(rt; "usage: run_events [trace] <EVENTS");
+            USAGE
+        }
+    }
+}
+
+fn main(rt: HostRuntime) -> ExitCode {
+    ExitCode::from(status(rt))
 }

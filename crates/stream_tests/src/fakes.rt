@@ -20,10 +20,27 @@ impl<'a> Read for Source<'a> {
     }
 }
 
-/// A writer that takes seven bytes a write. Behind so many writes one fails, and those behind that go on.
+/// Bytes, and behind them reads that a signal breaks off.
+#[derive(Drop)]
+pub(crate) struct Signalled<'a> {
+    pub(crate) bytes: &'a [u8],
+}
+
+impl<'a> Read for Signalled<'a> {
+    fn read(&mut self, buf: &mut [u8]) -> io::Result<usize> {
+        if self.bytes.is_empty() {
+            return Err(Error::from(ErrorKind::Interrupted));
+        }
+        self.bytes.read(buf)
+    }
+}
+
+/// A writer that takes so many bytes a write. Behind so many writes one fails, and those behind that go on.
 #[derive(Drop)]
 pub(crate) struct Sink {
     pub(crate) bytes: Vec<u8>,
+    pub(crate) most: usize,
+    pub(crate) failure: ErrorKind,
     before_failure: u64,
 }
 
@@ -31,6 +48,8 @@ impl Sink {
     pub(crate) fn new(alloc: Global, before_failure: u64) -> Sink {
         Sink {
             bytes: Vec::new(alloc),
+            most: 7,
+            failure: ErrorKind::Other,
             before_failure,
         }
     }
@@ -41,9 +60,9 @@ impl Write for Sink {
         let fails = self.before_failure == 0;
         self.before_failure = self.before_failure.wrapping_sub(1);
         if fails {
-            return Err(Error::from(ErrorKind::Other));
+            return Err(Error::from(self.failure));
         }
-        let taken = buf.len().min(7);
+        let taken = buf.len().min(self.most);
         self.bytes.extend_from_slice(&buf[..taken])?;
         Ok(taken)
     }

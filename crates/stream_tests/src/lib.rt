@@ -1,4 +1,4 @@
-// Runs of both programs over streams that fail in mid-course: no fault may read as good news. The streams are fakes, and all that a run is
+// Runs of the programs over streams that fail in mid-course: no fault may read as good news. The streams are fakes, and all that a run is
 // to write is written out by hand here.
 #![tactic(auto)]
 
@@ -8,3 +8,5 @@ mod event_runs;
 mod fakes;
 #[cfg(test)]
 mod page_runs;
+#[cfg(test)]
+mod script_runs;

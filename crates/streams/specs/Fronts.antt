@@ -1,5 +1,5 @@
 -- What is written of a text, and what is read into a buffer. Assumes nothing.
-use Rattle.std.specs.Prelude.{ℕ, ◌<◌, ◌≤◌, List, length, take, Option}
+use Rattle.std.specs.Prelude.{ℕ, ◌<◌, ◌≤◌, List, [], ◌∷◌, length, take, Option, Some, None}
 use Rattle.std.specs.Io.KnownBytes.{Appends, Consumes, IsAtEnd}
 
 -- a front of the text was written [event-lost]
@@ -17,3 +17,8 @@ pub record StuckBefore (old new : Option (List ℕ)) (buffer : List ℕ) : Type 
   pub n : ℕ
   pub short : n < length buffer
   pub bytes : Consumes old new (take n buffer)
+
+-- one byte was read, or the input is at its end [fill-once]
+abbrev pub ReadByte : Option (List ℕ) → Option ℕ → Option (List ℕ) → Type 0
+ReadByte old (Some byte) new = Consumes old new (byte ∷ [])
+ReadByte old None new = Consumes old new [] × IsAtEnd new

@@ -1,6 +1,7 @@
-// Input in one piece.
-ghost use Rattle.std.specs.Prelude.{◌≡◌, length, IfOk, OnErr};
-ghost use Rattle.streams.specs.Fronts.{Filled, StuckBefore};
+// Input in one piece, or a byte of it.
+ghost use Rattle.std.specs.Prelude.{◌≡◌, [], length, IfOk, OnErr};
+ghost use Rattle.std.specs.Io.KnownBytes.{Consumes};
+ghost use Rattle.streams.specs.Fronts.{Filled, StuckBefore, ReadByte};
 
 use std::io;
 use std::io::Read;
@@ -26,4 +27,19 @@ pub fn fill<R: Read>(reader: &mut R, buffer: &mut [u8]) -> io::Result<usize>
         filled += n;
     }
     Ok(filled)
+}
+
+/// The next byte; none at the input's end.
+///
+/// # Errors
+/// Those of [`fill`]: no byte was read then.
+pub fn read_byte<R: Read>(reader: &mut R) -> io::Result<Option<u8>>
+    ensures ok { IfOk result (λ byte. ReadByte (R.remaining reader.old) byte (R.remaining reader.new)) }
+    ensures err { OnErr result (Consumes (R.remaining reader.old) (R.remaining reader.new) []) }
+{
+    let mut byte = [0u8; 1];
+    if fill(reader, &mut byte)? == 0 {
+        return Ok(None);
+    }
+    Ok(Some(byte[0]))
 }

@@ -8,6 +8,7 @@ mod by_value;
 use events::{Format, PIECE, run_in_pieces};
 use std::io::{Read, Write};
 use std::{env, fs, io};
+use version::VERSION;
 
 // A file that cannot be opened is told from one whose run stops.
 fn run_file(rt: HostRuntime, path: &str, traced: bool, piece: usize) -> io::Result<()> {
@@ -53,7 +54,19 @@ fn count_file(rt: HostRuntime, path: &str) -> io::Result<()> {
     )
 }
 
+// Whether the words of the command line ask for the version, and for nothing else.
+fn asks_version(rt: &HostRuntime) -> io::Result<bool> {
+    let mut words = env::args(rt)?.skip(1);
+    let Some(word) = words.next() else {
+        return Ok(false);
+    };
+    Ok(word.as_str() == "--version" && words.next().is_none())
+}
+
 fn main(rt: HostRuntime) -> io::Result<()> {
+    if asks_version(&rt)? {
+        return println!(rt; "test_events {VERSION}");
+    }
     let mut counting = false;
     for path in env::args(&rt)?.skip(1) {
         if path.as_str() == "--by-value" {

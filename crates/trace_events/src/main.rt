@@ -2,9 +2,26 @@
 #![tactic(auto)]
 
 use events::{Format, PIECE, run_in_pieces};
+use std::env;
 use std::process::ExitCode;
+use version::VERSION;
 
-fn main(rt: HostRuntime) -> ExitCode {
+// The exit statuses where the words of the command line ask for nothing that is known, and where the version could not be written.
+const USAGE: u8 = 2;
+
+const LINES_MISSING: u8 = 4;
+
+// Whether the words of the command line ask for the version, and not for a run; `None` where they ask for nothing that is known, or cannot
+// be read.
+fn asks_version(rt: &HostRuntime) -> Option<bool> {
+    let mut words = env::args(rt).ok()?.skip(1);
+    let Some(word) = words.next() else {
+        return Some(false);
+    };
+    (word.as_str() == "--version" && words.next().is_none()).then_some(true)
+}
+
+fn run(rt: HostRuntime) -> u8 {
     let format = Format {
         alloc: rt.alloc(),
         traced: true,
@@ -16,5 +33,23 @@ fn main(rt: HostRuntime) -> ExitCode {
         &mut rt.stdout(),
         &mut rt.stderr(),
     );
-    ExitCode::from(ended.exit_status())
+    ended.exit_status()
+}
+
+fn status(rt: HostRuntime) -> u8 {
+    match asks_version(&rt) {
+        Some(false) => run(rt),
+        Some(true) => match println!(rt; "trace_events {VERSION}") {
+            Ok(()) => 0,
+            Err(_) => LINES_MISSING,
+        },
+        None => {
+            let _ = eprintln!(rt; "usage: trace_events <EVENTS");
+            USAGE
+        }
+    }
+}
+
+fn main(rt: HostRuntime) -> ExitCode {
+    ExitCode::from(status(rt))
 }

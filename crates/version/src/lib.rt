@@ -1,4 +1,4 @@
-// The version of the repository: this one place. `read_page` prints it with `--version`; `docs/CHANGES.md` says what each brought.
+// The version of the repository: this one place. Programs print it with `--version`; `docs/CHANGES.md` says what each brought.
 #![tactic(auto)]
 
 /// The version, as `docs/CHANGES.md` has it.

@@ -1,0 +1,103 @@
+-- Where a check of a script stands behind the lines that it has run, and how it ends. Assumes nothing.
+use Rattle.std.proofs.Common.{◌≡◌, ℕ, ◌<◌, Bool, true, false, List, [], ◌∷◌, ◌++◌, length, append-nil, append_assoc, Option, Some, None, Result, Ok, Err, IsErr, IsErrAnd, IfSome, refl, sym, subst, ap, ap₂, ◌∙◌, arith}
+use Rattle.std.specs.Bool.{◌==◌}
+use mathlib.Core.Bool.{false≢true}
+use Rattle.std.specs.Io.KnownBytes.{Appends, Keeps}
+use Rattle.std.proofs.KnownBytes.{Appends-nil, Appends-trans}
+use Rattle.streams.specs.Fronts.{AppendsFront}
+use Rattle.streams.proofs.Fronts.{front_then}
+use Rattle.events.proofs.Fronts.{front_first}
+use Rattle.events.specs.declared.errors.RunError.{RunError}
+use Rattle.events.specs.declared.errors.RunError.TheVariants.{Input, Output, Memory, TooMany}
+use Rattle.call_scripts.specs.Bench.{Kept}
+use Rattle.call_scripts.specs.Lines.{after_line, IsLost}
+use Rattle.call_scripts.specs.Parts.{before, behind, lines_of}
+use Rattle.call_scripts.specs.Scripts.{fresh}
+use Rattle.call_scripts.specs.Checks.{line_told, line_check, differences, found_of, unchecked, check_text, check_found, Checked, HasChecked}
+use Rattle.call_scripts.specs.declared.found.Found.{Found}
+use Rattle.call_scripts.specs.declared.checking.Check.{Check}
+use Rattle.call_scripts.proofs.PartLaws.{lines_first}
+
+-- lines are left, or none
+pub some_left : (empty : Bool) (rest : List ℕ) → empty ≡ (length rest == 0) → empty ≡ false → 0 < length rest
+some_left empty [] e f = absurd (false≢true (sym f ∙ e))
+some_left empty (c ∷ cs) e f = omega arith
+
+pub none_left : (empty : Bool) (rest : List ℕ) → empty ≡ (length rest == 0) → empty ≡ true → rest ≡ []
+none_left empty [] e t = refl
+none_left empty (c ∷ cs) e t = absurd (false≢true (sym e ∙ t))
+
+-- so much is written, and the bench and what is found are left, from which the rest goes on
+pub record Stands (name : List ℕ) (first : Kept) (script : List ℕ) (old new : Option (List ℕ)) (k : Kept) (check : Check) (rest : List ℕ) : Type 0 where
+  pub done : List ℕ
+  pub written : Appends old new done
+  pub text : check_text name first script ≡ done ++ differences name k check (lines_of rest)
+  pub found : found_of first unchecked (lines_of script) ≡ found_of k check (lines_of rest)
+
+-- before the first line
+pub none_checked : (name : List ℕ) (first : Kept) (script : List ℕ) (old : Option (List ℕ)) → Stands name first script old old first unchecked script
+none_checked name first script old = record { done = []; written = Appends-nil old; text = refl; found = refl }
+
+module _ {name : List ℕ} {first : Kept} {script : List ℕ} {old new : Option (List ℕ)} {k : Kept} {check : Check} {rest : List ℕ} (p : Stands name first script old new k check rest) where
+  left : (line others : List ℕ) → 0 < length rest → line ≡ before 10 rest → others ≡ behind 10 rest → lines_of rest ≡ line ∷ lines_of others
+  left line others h el eo = lines_first rest h ∙ sym (ap₂ (λ (a b : List ℕ). a ∷ lines_of b) el eo)
+
+  text_on : (line others : List ℕ) → 0 < length rest → line ≡ before 10 rest → others ≡ behind 10 rest
+      → check_text name first script ≡ p.done ++ (line_told name k check line ++ differences name (after_line k line) (line_check k check line) (lines_of others))
+  unfolding differences
+  text_on line others h el eo = p.text ∙ ap (λ (ls : List (List ℕ)). p.done ++ differences name k check ls) (left line others h el eo)
+
+  found_on : (line others : List ℕ) → 0 < length rest → line ≡ before 10 rest → others ≡ behind 10 rest
+      → found_of first unchecked (lines_of script) ≡ found_of (after_line k line) (line_check k check line) (lines_of others)
+  unfolding found_of
+  found_on line others h el eo = p.found ∙ ap (λ (ls : List (List ℕ)). found_of k check ls) (left line others h el eo)
+
+  -- one line more
+  pub line_more : {new' : Option (List ℕ)} {k' : Kept} {check' : Check} (line others : List ℕ) → 0 < length rest → line ≡ before 10 rest → others ≡ behind 10 rest → k' ≡ after_line k line → check' ≡ line_check k check line
+      → Appends new new' (line_told name k check line) → Stands name first script old new' k' check' others
+  line_more {new' = new'} line others h el eo ek ec a = rw (ek, ec) (record {
+    done = p.done ++ line_told name k check line;
+    written = Appends-trans old new new' p.done (line_told name k check line) p.written a;
+    text = text_on line others h el eo ∙ sym (append_assoc p.done (line_told name k check line) (differences name (after_line k line) (line_check k check line) (lines_of others)));
+    found = found_on line others h el eo;
+  })
+
+  -- what is told of it is lost
+  pub line_lost : (new' : Option (List ℕ)) (line others : List ℕ) → 0 < length rest → line ≡ before 10 rest → others ≡ behind 10 rest → AppendsFront new new' (line_told name k check line) → AppendsFront old new' (check_text name first script)
+  line_lost new' line others h el eo f = subst (AppendsFront old new') (sym (text_on line others h el eo)) (front_then old new new' p.done _ p.written (front_first new new' (line_told name k check line) _ f))
+
+  -- there are no more
+  pub all_checked : rest ≡ [] → Checked name first script old new (Ok check.found)
+  unfolding differences found_of lines_of
+  all_checked e = (
+    subst (Appends old new) (sym (p.text ∙ ap (λ (l : List ℕ). p.done ++ differences name k check (lines_of l)) e ∙ append-nil p.done)) p.written,
+    sym (ap (λ (c : Check). c.found) (p.found ∙ ap (λ (l : List ℕ). found_of k check (lines_of l)) e)),
+  )
+
+-- an error that is handed on
+pub check_lost : (name : List ℕ) (first : Kept) (script : List ℕ) (old new : Option (List ℕ)) (r : Result Found RunError) (e : RunError) → IsErr r → IsErrAnd r (λ x. x ≡ e) → IsLost e → AppendsFront old new (check_text name first script)
+    → Checked name first script old new r
+check_lost name first script old new (Ok f) e i h o a = absurd (false≢true i)
+check_lost name first script old new (Err x) e i h o a = (subst IsLost (sym h) o, a)
+
+-- nothing is written where there is no memory for a bench
+pub check_none : (name : List ℕ) (first : Kept) (script : List ℕ) (old : Option (List ℕ)) → Checked name first script old old (Err Memory)
+check_none name first script old = (tt, (0, Appends-nil old))
+
+-- a script is what was read, where that is known
+pub known_as : (known : Option (List ℕ)) (script bytes : List ℕ) → script ≡ bytes → IfSome known (λ input. bytes ≡ input) → IfSome known (λ input. script ≡ input)
+known_as None script bytes e k = tt
+known_as (Some input) script bytes e k = e ∙ k
+
+-- the check is that of the script
+pub check_read : (name : List ℕ) (known old new : Option (List ℕ)) (script : List ℕ) (r : Result Found RunError) → IfSome known (λ input. script ≡ input) → Checked name (fresh 262144) script old new r → HasChecked name known old new r
+check_read name None old new script (Ok f) e c = tt
+check_read name None old new script (Err (Input x)) e c = absurd c.0
+check_read name None old new script (Err (Output x)) e c = tt
+check_read name None old new script (Err Memory) e c = tt
+check_read name None old new script (Err TooMany) e c = c.0
+check_read name (Some input) old new script (Ok f) e c = subst (λ (s : List ℕ). Checked name (fresh 262144) s old new (Ok f)) e c
+check_read name (Some input) old new script (Err (Input x)) e c = absurd c.0
+check_read name (Some input) old new script (Err (Output x)) e c = subst (λ (s : List ℕ). AppendsFront old new (check_text name (fresh 262144) s)) e c.1
+check_read name (Some input) old new script (Err Memory) e c = subst (λ (s : List ℕ). AppendsFront old new (check_text name (fresh 262144) s)) e c.1
+check_read name (Some input) old new script (Err TooMany) e c = c.0

@@ -1,0 +1,28 @@
+-- What is told of a line that prints something else than it is to. Assumes nothing.
+use Rattle.std.specs.Prelude.{ℕ, eqb, List, [], ◌∷◌, ◌++◌, flat_map, decimal, codes}
+use Rattle.std.specs.Str.{bytes_eq}
+use Rattle.bits.specs.Pick.{pick}
+
+-- lines stand in one with ` / ` between them
+abbrev pub in_line : ℕ → List ℕ
+in_line byte = pick (eqb byte 10) (codes " / ") (byte ∷ [])
+
+-- a text in one line [script-check]
+unfoldable pub one_line : List ℕ → List ℕ
+one_line text = flat_map in_line text
+
+-- where a line stands: the script's name, and its number in it
+unfoldable pub place_text : List ℕ → ℕ → List ℕ
+place_text name number = name ++ codes ":" ++ decimal number ++ codes ":\n"
+
+-- a line of a label and a text
+unfoldable pub labelled : List ℕ → List ℕ → List ℕ
+labelled label text = label ++ text ++ 10 ∷ []
+
+-- where the line stands, what it is to print, and what it prints [script-check]
+abbrev pub difference_text : List ℕ → ℕ → List ℕ → List ℕ → List ℕ
+difference_text name number wanted printed = place_text name number ++ labelled (codes "  asked ") wanted ++ labelled (codes "  got   ") printed
+
+-- of a line that prints what it is to, nothing is told
+abbrev pub told : List ℕ → ℕ → List ℕ → List ℕ → List ℕ
+told name number wanted printed = pick (bytes_eq wanted printed) [] (difference_text name number wanted printed)
