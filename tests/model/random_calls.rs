@@ -62,7 +62,7 @@ impl Script {
     /// A line that the model is not asked about. Those that `run_calls` has not yet are left out: they change nothing.
     fn put(&mut self, line: &[u8]) {
         let word = line.split(u8::is_ascii_whitespace).find(|word| !word.is_empty());
-        if matches!(word, Some(b"read" | b"write" | b"judge")) {
+        if word == Some(b"write") {
             return;
         }
         self.text.extend(line);

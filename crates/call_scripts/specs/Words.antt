@@ -1,5 +1,5 @@
 -- The words of a line. Assumes nothing.
-use Rattle.std.specs.Prelude.{ℕ, ◌^◌, ◌-◌, Bool, not, ◌&&◌, ◌||◌, eqb, List, [], ◌∷◌, length, get_or, filter, slice_get, Option}
+use Rattle.std.specs.Prelude.{ℕ, ◌^◌, ◌-◌, Bool, true, not, ◌&&◌, ◌||◌, eqb, List, [], ◌∷◌, length, get_or, filter, slice_get, Option, Some, None}
 use Rattle.std.specs.Char.{is_ascii_whitespace}
 use Rattle.std.specs.List.{slice_split}
 use Rattle.std.specs.Option.{option_and_then, option_map}
@@ -42,3 +42,8 @@ byte_at words place = number_at words place (2 ^ 8 - 1)
 -- a flag's, which is 0 or 1
 abbrev pub flag_at : List (List ℕ) → ℕ → Option Bool
 flag_at words place = option_map (λ n. eqb n 1) (number_at words place 1)
+
+-- a line has so many words as it is to have, if that is fixed
+abbrev pub fits : Option ℕ → ℕ → Bool
+fits (Some count) have = eqb have count
+fits None have = true

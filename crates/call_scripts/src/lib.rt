@@ -12,11 +12,15 @@ mod checking;
 mod commands;
 mod counting;
 mod data_frames;
+mod frame_text;
+mod judging;
 mod lines;
 mod loans;
 mod names;
 mod numbers;
 mod pieces;
+mod read_lines;
+mod readings;
 mod rows;
 mod running;
 mod verbs;
@@ -27,6 +31,7 @@ pub use changes::Change;
 pub use checking::{Found, check_script};
 pub use commands::Command;
 pub use pieces::run_script;
+pub use readings::Reading;
 
 // The bytes of the medium of a bench; a call is lent a front of it.
 const MEDIUM_SIZE: usize = 0x40000;

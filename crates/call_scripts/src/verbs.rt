@@ -29,6 +29,8 @@ pub(crate) enum Verb {
     Counter,
     /// `count`: how many commands are outstanding.
     Count,
+    /// `judge`: what a queued command comes to.
+    Judge,
     /// `lend`: how much is lent to calls.
     Lend,
     /// `fill`: bytes for the medium.
@@ -39,9 +41,11 @@ pub(crate) enum Verb {
     Show,
     /// `medium`: bytes of the medium.
     Medium,
+    /// `read`: frames and pages, and parts of them.
+    Read,
 }
 
-const VERBS: [(&[u8], Verb); 16] = [
+const VERBS: [(&[u8], Verb); 18] = [
     (b"power", Verb::Power),
     (b"frame", Verb::Frame),
     (b"data", Verb::Data),
@@ -53,11 +57,13 @@ const VERBS: [(&[u8], Verb); 16] = [
     (b"comreset", Verb::Comreset),
     (b"counter", Verb::Counter),
     (b"count", Verb::Count),
+    (b"judge", Verb::Judge),
     (b"lend", Verb::Lend),
     (b"fill", Verb::Fill),
     (b"set", Verb::Set),
     (b"show", Verb::Show),
     (b"medium", Verb::Medium),
+    (b"read", Verb::Read),
 ];
 
 impl Verb {
@@ -73,7 +79,7 @@ impl Verb {
         ensures { result ≡ words_in self }
     {
         match self {
-            Verb::Frame | Verb::Set => None,
+            Verb::Frame | Verb::Judge | Verb::Set | Verb::Read => None,
             Verb::Send | Verb::Comreset | Verb::Count | Verb::Show => Some(1),
             Verb::Open | Verb::Finish | Verb::Link | Verb::Counter | Verb::Fill => Some(2),
             Verb::Data | Verb::Lend | Verb::Medium => Some(3),

@@ -1,7 +1,7 @@
 // The words of a line: the command's, and behind it those that it is given.
 ghost use Rattle.std.specs.Prelude.{◌≡◌, IfOk, length, drop, slice_get};
 ghost use Rattle.std.specs.Option.{option_map};
-ghost use Rattle.call_scripts.specs.Words.{asked_text, words_of, number_at, long_at, short_at, byte_at, flag_at};
+ghost use Rattle.call_scripts.specs.Words.{asked_text, words_of, number_at, long_at, short_at, byte_at, flag_at, fits};
 ghost use Rattle.call_scripts.specs.Bytes.{bytes_of};
 
 use crate::bytes::{Bytes, bytes_of};
@@ -116,14 +116,24 @@ impl<'a> Words<'a> {
         Some(self.number(place, 1)? == 1)
     }
 
-    /// The bytes that the words behind the first tell, each in pairs of hex digits.
-    #[tactic(auto, unfolding(crate::specs::Bytes::all_bytes))]
-    pub(crate) fn bytes(&self, alloc: Global) -> Result<Option<Bytes>, AllocError>
-        ensures { IfOk result (λ bytes. bytes ≡ bytes_of (drop 1 self.now)) }
+    /// The bytes that the words from a place on tell, each in pairs of hex digits.
+    #[tactic(auto, using(crate::proofs::WordLaws::drop_texts, std::proofs::lemmas::List::drop_all), unfolding(crate::specs::Bytes::all_bytes))]
+    pub(crate) fn bytes(&self, alloc: Global, place: usize) -> Result<Option<Bytes>, AllocError>
+        ensures { IfOk result (λ bytes. bytes ≡ bytes_of (drop place self.now)) }
     {
-        match self.words.split_first() {
-            Some((_, words)) => bytes_of(alloc, words),
+        match self.words.get(place..) {
+            Some(words) => bytes_of(alloc, words),
             None => Ok(Some(Bytes::new(alloc))),
+        }
+    }
+
+    /// Whether there are just so many words, if that is fixed.
+    pub(crate) fn fit(&self, count: Option<usize>) -> bool
+        ensures { result ≡ fits count (length self.now) }
+    {
+        match count {
+            Some(count) => self.len() == count,
+            None => true,
         }
     }
 }
