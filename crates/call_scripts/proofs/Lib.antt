@@ -6,6 +6,7 @@ pub mod BytesLaws
 pub mod CallLaws
 pub mod RowLaws
 pub mod AnswerLaws
+pub mod WriteLaws
 pub mod Came
 pub mod CheckLaws
 pub mod OneText

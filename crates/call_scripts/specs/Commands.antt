@@ -1,13 +1,16 @@
 -- What a line of a script asks for. Assumes nothing.
-use Rattle.std.specs.Prelude.{ℕ, Bool, true, eqb, List, [], ◌∷◌, length, drop, slice_get, Option, Some, None}
+use Rattle.std.specs.Prelude.{ℕ, List, [], ◌∷◌, length, drop, slice_get, Option, Some, None}
 use Rattle.bits.specs.Pick.{pick}
 use Rattle.device_state.specs.declared.shapes.Settings.{Settings}
 use Rattle.rules.specs.declared.event.DeviceEvent.{DeviceEvent}
 use Rattle.rules.specs.declared.event.DeviceEvent.TheVariants.{OpenPhase, SendData, FinishTags, MediaError, LinkEvent, LinkTally, Comreset}
 use Rattle.call_scripts.specs.Steps.{◌>>=◌}
-use Rattle.call_scripts.specs.Words.{asked_text, words_of, number_at, long_at, short_at, byte_at}
+use Rattle.call_scripts.specs.Words.{asked_text, words_of, number_at, long_at, short_at, byte_at, fits}
 use Rattle.call_scripts.specs.Bytes.{bytes_of}
 use Rattle.call_scripts.specs.Changes.{change_of}
+use Rattle.call_scripts.specs.Judging.{queued_command}
+use Rattle.call_scripts.specs.Readings.{reading_of}
+use Rattle.call_scripts.specs.Writings.{writing_of}
 use Rattle.call_scripts.specs.Verbs.{verb_of, words_in}
 use Rattle.call_scripts.specs.declared.verbs.Verb.{Verb}
 use Rattle.call_scripts.specs.declared.verbs.Verb as verb
@@ -51,10 +54,16 @@ amounts_at words = do
   n15 ← long_at words 16
   Some (n0 ∷ n1 ∷ n2 ∷ n3 ∷ n4 ∷ n5 ∷ n6 ∷ n7 ∷ n8 ∷ n9 ∷ n10 ∷ n11 ∷ n12 ∷ n13 ∷ n14 ∷ n15 ∷ [])
 
--- what a verb's words ask for, but for a frame
+-- what a verb's words ask for, but where they tell bytes
 abbrev pub command_at : List (List ℕ) → Verb → Option Command
 command_at words verb.TheVariants.Power = settings_at words >>= (λ s. Some (command.TheVariants.Power s))
 command_at words verb.TheVariants.Frame = None
+command_at words verb.TheVariants.Judge = None
+command_at words verb.TheVariants.Read = None
+command_at words verb.TheVariants.Write = do
+  room ← number_at words 2 16384
+  writing ← writing_of words
+  Some (command.TheVariants.Write room writing)
 command_at words verb.TheVariants.Data = do
   size ← number_at words 1 8196
   byte ← byte_at words 2
@@ -83,12 +92,12 @@ command_at words verb.TheVariants.Medium = do
 -- what a verb's words ask for
 abbrev pub asked_at : List (List ℕ) → Verb → Option Command
 asked_at words verb.TheVariants.Frame = bytes_of (drop 1 words) >>= (λ bytes. Some (command.TheVariants.Frame bytes))
+asked_at words verb.TheVariants.Judge = do
+  bytes ← bytes_of (drop 1 words)
+  host ← queued_command bytes
+  Some (command.TheVariants.Judge host)
+asked_at words verb.TheVariants.Read = reading_of words >>= (λ reading. Some (command.TheVariants.Read reading))
 asked_at words v = command_at words v
-
--- a line has so many words as its verb's has, if that is fixed
-abbrev pub fits : Option ℕ → ℕ → Bool
-fits (Some count) have = eqb have count
-fits None have = true
 
 -- what words ask for, by the first of them: none, for nothing
 abbrev pub asked_by : List (List ℕ) → Option (List ℕ) → Option Command

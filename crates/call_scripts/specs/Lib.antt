@@ -5,6 +5,9 @@ pub mod Verbs
 pub mod Steps
 pub mod Changes
 pub mod Bytes
+pub mod Readings
+pub mod Judging
+pub mod Writings
 pub mod Commands
 pub mod Bench
 pub mod Calls
@@ -12,6 +15,9 @@ pub mod Counting
 pub mod Applying
 pub mod Rows
 pub mod Answers
+pub mod FrameText
+pub mod ReadLines
+pub mod WriteLines
 pub mod Answering
 pub mod Lines
 pub mod Scripts

@@ -15,8 +15,11 @@ use crate::calls::Call;
 use crate::commands::Command;
 use crate::counting::count_up;
 use crate::data_frames::data_frame;
+use crate::judging::{judged, write_verdict};
 use crate::loans::Loan;
+use crate::read_lines::write_reading;
 use crate::rows::write_state;
+use crate::write_lines::write_writing;
 use crate::{REPLY_SIZE, UNTOUCHED};
 use device::Device;
 use device_state::Settings;
@@ -92,6 +95,7 @@ impl<'a> Bench<'a> {
             Command::Event(event) => self.call(alloc, out, Call::Event(*event)),
             Command::Counter(number) => write_counter(out, self.device.counter(*number)),
             Command::Count => write_count(out, self.device.outstanding_count()),
+            Command::Judge(host) => write_verdict(out, judged(&self.device, *host)),
             Command::Lend { medium, reply } => {
                 self.loan = Some(Loan {
                     medium: *medium as usize,
@@ -109,6 +113,8 @@ impl<'a> Bench<'a> {
             }
             Command::Show => write_state(out, &self.device),
             Command::Medium { at, size } => self.part(alloc, out, *at, *size),
+            Command::Read(reading) => write_reading(alloc, out, reading),
+            Command::Write { room, writing } => write_writing(alloc, out, *room, *writing),
         }
     }
 }

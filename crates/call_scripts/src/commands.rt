@@ -1,15 +1,18 @@
 // What a line of a script asks for.
-ghost use Rattle.std.specs.Prelude.{◌≡◌, IfOk, length};
-ghost use Rattle.call_scripts.specs.Verbs.{words_in};
-ghost use Rattle.call_scripts.specs.Commands.{settings_at, media_at, amounts_at, command_at, asked_at, fits, command_in, command_of};
+ghost use Rattle.std.specs.Prelude.{◌≡◌, IfOk};
+ghost use Rattle.call_scripts.specs.Commands.{settings_at, media_at, amounts_at, command_at, asked_at, command_in, command_of};
 
 use crate::bytes::Bytes;
 use crate::changes::Change;
+use crate::judging::queued_command;
+use crate::readings::Reading;
 use crate::verbs::Verb;
 use crate::words::{Words, asked_text};
+use crate::writings::Writing;
 use crate::{MEDIUM_SIZE, PAYLOAD_MOST, REPLY_SIZE};
 use counters::Counters;
 use device_state::Settings;
+use frames::HostReg;
 use rules::DeviceEvent;
 use std::alloc::{AllocError, Global};
 
@@ -35,6 +38,8 @@ pub enum Command {
     Counter(u16),
     /// How many commands are outstanding.
     Count,
+    /// What a queued command comes to.
+    Judge(HostReg),
     /// How much is lent from now on.
     Lend {
         /// Bytes of the medium.
@@ -54,6 +59,15 @@ pub enum Command {
         at: u32,
         /// How many.
         size: u32,
+    },
+    /// What is read.
+    Read(Reading),
+    /// What is written.
+    Write {
+        /// The bytes of the buffer.
+        room: u16,
+        /// What goes to it.
+        writing: Writing,
     },
 }
 
@@ -107,8 +121,8 @@ impl<'a> Words<'a> {
     {
         Some(match verb {
             Verb::Power => Command::Power(self.settings()?),
-            // its bytes need memory, and no other command does
-            Verb::Frame => return None,
+            // their bytes need memory, and no other command does
+            Verb::Frame | Verb::Judge | Verb::Read => return None,
             Verb::Data => Command::Data {
                 size: self.small(1, PAYLOAD_MOST)?,
                 byte: self.byte(2)?,
@@ -133,25 +147,30 @@ impl<'a> Words<'a> {
                 at: self.long(1)?,
                 size: self.long(2)?,
             },
+            Verb::Write => Command::Write {
+                room: self.small(2, REPLY_SIZE)?,
+                writing: self.asked_writing()?,
+            },
         })
+    }
+
+    fn judged(&self, alloc: Global) -> Result<Option<Command>, AllocError>
+        ensures { IfOk result (λ asked. asked ≡ asked_at self.now Verb.Judge) }
+    {
+        let Some(bytes) = self.bytes(alloc, 1)? else {
+            return Ok(None);
+        };
+        Ok(queued_command(bytes.as_slice()).map(Command::Judge))
     }
 
     fn asked(&self, alloc: Global, verb: Verb) -> Result<Option<Command>, AllocError>
         ensures { IfOk result (λ asked. asked ≡ asked_at self.now verb) }
     {
-        if verb != Verb::Frame {
-            return Ok(self.command(verb));
-        }
-        Ok(self.bytes(alloc)?.map(Command::Frame))
-    }
-
-    // Whether there are as many words as a verb's line has.
-    fn fit(&self, verb: Verb) -> bool
-        ensures { result ≡ fits (words_in verb) (length self.now) }
-    {
-        match verb.words() {
-            Some(count) => self.len() == count,
-            None => true,
+        match verb {
+            Verb::Frame => Ok(self.bytes(alloc, 1)?.map(Command::Frame)),
+            Verb::Judge => self.judged(alloc),
+            Verb::Read => Ok(self.asked_reading(alloc)?.map(Command::Read)),
+            _ => Ok(self.command(verb)),
         }
     }
 
@@ -162,7 +181,7 @@ impl<'a> Words<'a> {
             return Ok(Some(Command::Nothing));
         };
         match Verb::named(first) {
-            Some(verb) if self.fit(verb) => self.asked(alloc, verb),
+            Some(verb) if self.fit(verb.words()) => self.asked(alloc, verb),
             _ => Ok(None),
         }
     }

@@ -13,17 +13,23 @@ mod commands;
 mod counting;
 mod data_frames;
 mod found;
+mod frame_text;
+mod judging;
 mod lines;
 mod loans;
 mod names;
 mod numbers;
 mod parts;
 mod pieces;
+mod read_lines;
+mod readings;
 mod rows;
 mod running;
 mod verbs;
 mod wanted;
 mod words;
+mod write_lines;
+mod writings;
 
 pub use bytes::Bytes;
 pub use changes::Change;
@@ -32,6 +38,8 @@ pub use commands::Command;
 pub use found::Found;
 pub use pieces::run_script;
 pub use running::a_script_has_one_text;
+pub use readings::Reading;
+pub use writings::{FrameFields, Writing};
 
 // The bytes of the medium of a bench; a call is lent a front of it.
 const MEDIUM_SIZE: usize = 0x40000;

@@ -31,6 +31,8 @@ pub(crate) enum Verb {
     Counter,
     /// `count`: how many commands are outstanding.
     Count,
+    /// `judge`: what a queued command comes to.
+    Judge,
     /// `lend`: how much is lent to calls.
     Lend,
     /// `fill`: bytes for the medium.
@@ -41,9 +43,13 @@ pub(crate) enum Verb {
     Show,
     /// `medium`: bytes of the medium.
     Medium,
+    /// `read`: frames and pages, and parts of them.
+    Read,
+    /// `write`: a frame or a page.
+    Write,
 }
 
-const VERBS: [(&[u8], Verb); 17] = [
+const VERBS: [(&[u8], Verb); 20] = [
     (b"power", Verb::Power),
     (b"frame", Verb::Frame),
     (b"data", Verb::Data),
@@ -56,11 +62,14 @@ const VERBS: [(&[u8], Verb); 17] = [
     (b"comreset", Verb::Comreset),
     (b"counter", Verb::Counter),
     (b"count", Verb::Count),
+    (b"judge", Verb::Judge),
     (b"lend", Verb::Lend),
     (b"fill", Verb::Fill),
     (b"set", Verb::Set),
     (b"show", Verb::Show),
     (b"medium", Verb::Medium),
+    (b"read", Verb::Read),
+    (b"write", Verb::Write),
 ];
 
 impl Verb {
@@ -76,7 +85,7 @@ impl Verb {
         ensures { result ≡ words_in self }
     {
         match self {
-            Verb::Frame | Verb::Set => None,
+            Verb::Frame | Verb::Judge | Verb::Set | Verb::Read | Verb::Write => None,
             Verb::Send | Verb::Comreset | Verb::Count | Verb::Show => Some(1),
             Verb::Open | Verb::Finish | Verb::Link | Verb::Counter | Verb::Fill => Some(2),
             Verb::Data | Verb::Lend | Verb::Medium => Some(3),
