@@ -1,5 +1,5 @@
 -- Over every call the counters go on telling the events since their zeroing. Assumes nothing.
-use Rattle.std.proofs.Common.{Ok, Err, ◌≡◌, refl, ap, Bool, false, List, ◌∷◌, length}
+use Rattle.std.proofs.Common.{Ok, Err, ◌≡◌, refl, ap, Bool, false, List, ◌∷◌, ℕ, length}
 use Rattle.bits.specs.Laid.{overlay}
 use Rattle.rules.specs.Call.{Call}
 use Rattle.rules.specs.Medium.{part_of}
