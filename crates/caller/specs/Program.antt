@@ -83,4 +83,4 @@ pub record RunHistory (traced : Bool) (input : List ℕ) (old new : Option (List
   pub begins : input ≡ joined_bytes es ++ rest
   pub plays : Plays es
   pub history : OfHistory traced es
-  pub written : AppendsFront old new (run_lines traced es ++ ending (Err NoEvent))
+  pub written : AppendsFront old new (run_lines traced es ++ ending NoEvent)

@@ -1,17 +1,24 @@
 -- An input is events and a rest in one way, and what a run writes for it is one text. Assumes nothing.
-use Rattle.std.proofs.Common.{◌≡◌, ℕ, ◌≤◌, Bool, true, false, List, [], ◌∷◌, ◌++◌, length, take, Option, Some, None, length-append, refl, sym, ap, ap₂, subst, ◌∙◌, append_assoc, arith, Ok, Err}
+use Rattle.std.proofs.Common.{◌≡◌, ℕ, ◌≤◌, Bool, true, false, List, [], ◌∷◌, ◌++◌, length, take, Option, Some, None, length-append, refl, sym, ap, ap₂, subst, ◌∙◌, append_assoc, arith, Result, Ok, Err, IfSome}
 use Rattle.std.proofs.lemmas.List.{append_cancel_left, append_cancel_right}
 use lib.Seq.{take-append_seam}
-use Rattle.std.specs.Io.KnownBytes.{Appends}
+use Rattle.std.specs.Io.KnownBytes.{Appends, Consumes}
 use Rattle.bits.specs.Pick.{pick}
 use Rattle.frames.specs.Cut.{joined_bytes}
+use Rattle.events.specs.declared.kinds.InputEnd.{InputEnd}
 use Rattle.events.specs.declared.kinds.InputEnd.TheVariants.{Clean, NoEvent}
 use Rattle.events.specs.Kinds.{kind_named, next_whole, next_by, next_of}
 use Rattle.events.specs.declared.kinds.Kind.{Kind}
 use Rattle.events.specs.Reading.{IsEvent, Ends}
 use Rattle.events.specs.Running.{ReadsOn, AllEvents, Plays, refused, next_behind, run_lines, ending}
-use Rattle.events.specs.Runs.{IsCut, RunsOut, BreaksOff}
+use Rattle.events.specs.Runs.{OneText, OneBroken}
 use Rattle.events.proofs.Nexts.{some}
+
+-- an input is events (P) and a rest that begins with none (N)
+pub record IsCut (P : List (List ℕ) → Type 0) (N : List (List ℕ) → List ℕ → Result ℕ InputEnd) (input : List ℕ) (es : List (List ℕ)) (rest : List ℕ) : Type 0 where
+  pub whole : input ≡ joined_bytes es ++ rest
+  pub events : P es
+  pub ends : Ends (N es rest)
 
 kind_next : (first : Bool) (k : ℕ) (l : List ℕ) → next_of first (k ∷ l) ≡ next_by first (kind_named k) (length (k ∷ l))
 unfolding next_of
@@ -80,16 +87,38 @@ appended o t t' None w' e p p' = absurd p
 appended o t t' (Some x) None e p p' = absurd p'
 appended o t t' (Some x) (Some y) e p p' = ap Some (p ∙ ap (λ (l : List ℕ). o ++ l) e ∙ sym p')
 
+-- known bytes of which some were read
+rest_known : (input front : List ℕ) (now : Option (List ℕ)) → Consumes (Some input) now front → (rest : List ℕ) × (now ≡ Some rest) × (input ≡ front ++ rest)
+rest_known input front None c = absurd c
+rest_known input front (Some rest) c = (rest, refl, c)
+
+same_end : (r : Result ℕ InputEnd) (end end' : InputEnd) → r ≡ Err end → r ≡ Err end' → end ≡ end'
+same_end r end end' p q = cc
+
+cut_at : (input : List ℕ) (es : List (List ℕ)) (rest : List ℕ) (end : InputEnd) → input ≡ joined_bytes es ++ rest → Plays es → next_behind es rest ≡ Err end → IsCut Plays next_behind input es rest
+cut_at input es rest end w p n = record { whole = w; events = p; ends = rw n tt }
+
 -- so two outputs that the contract allows for an input are equal
-pub run_once : (traced : Bool) (input old : List ℕ) (new new' : Option (List ℕ)) → RunsOut Plays next_behind (run_lines traced) (Some old) new input → RunsOut Plays next_behind (run_lines traced) (Some old) new' input → new ≡ new'
-run_once traced input old new new' a b =
-    let same = cut_once input a.es b.es a.rest b.rest a.cut b.cut in
-    appended old _ _ new new' (ap₂ (λ (es : List (List ℕ)) (r : List ℕ). run_lines traced es ++ ending (next_behind es r)) same.0 same.1) a.written b.written
+pub run_once : OneText
+run_once traced input old left left' new new' (end, a) (end', b) =
+    let x = rest_known input (joined_bytes a.es) a.now a.read in
+    let y = rest_known input (joined_bytes b.es) b.now b.read in
+    let m : next_behind a.es x.0 ≡ Err end = subst (λ (o : Option (List ℕ)). IfSome o (λ rest. next_behind a.es rest ≡ Err end)) x.1 a.came in
+    let n : next_behind b.es y.0 ≡ Err end' = subst (λ (o : Option (List ℕ)). IfSome o (λ rest. next_behind b.es rest ≡ Err end')) y.1 b.came in
+    let same = cut_once input a.es b.es x.0 y.0 (cut_at input a.es x.0 end x.2 a.events m) (cut_at input b.es y.0 end' y.2 b.events n) in
+    let ends : end ≡ end' = same_end (next_behind a.es x.0) end end' m (ap₂ next_behind same.0 same.1 ∙ n) in
+    appended old _ _ new new' (ap₂ (λ (es : List (List ℕ)) (e : InputEnd). run_lines traced es ++ ending e) same.0 ends) a.written b.written
+
+-- what was read before a read failed
+part_known : (input left front part : List ℕ) (now : Option (List ℕ)) → Consumes (Some input) now front → Consumes now (Some left) part → input ≡ (front ++ part) ++ left
+part_known input left front part None c d = absurd c
+part_known input left front part (Some rest) c d = c ∙ ap (λ (l : List ℕ). front ++ l) d ∙ sym (append_assoc front part left)
 
 -- and where a read failed, two outputs for the same bytes read
-pub broken_once : (traced : Bool) (input left old : List ℕ) (new new' : Option (List ℕ)) → BreaksOff Plays ReadsOn next_behind (run_lines traced) (Some input) (Some left) (Some old) new
-    → BreaksOff Plays ReadsOn next_behind (run_lines traced) (Some input) (Some left) (Some old) new' → new ≡ new'
-broken_once traced input left old new new' a b =
-    let read = append_cancel_right (joined_bytes a.es ++ a.part) (joined_bytes b.es ++ b.part) left (sym a.read ∙ b.read) in
-    let same = cut_once (joined_bytes b.es ++ b.part) a.es b.es a.part b.part (record { whole = sym read; events = a.cut.events; ends = a.cut.ends }) b.cut in
-    appended old _ _ new new' (ap (λ (es : List (List ℕ)). run_lines traced es ++ ending (Err NoEvent)) same.0) a.written b.written
+pub broken_once : OneBroken
+broken_once traced input left old new new' e e' a b =
+    let x = part_known input left (joined_bytes a.es) a.came.1.0 a.now a.read a.came.1.1 in
+    let y = part_known input left (joined_bytes b.es) b.came.1.0 b.now b.read b.came.1.1 in
+    let read = append_cancel_right (joined_bytes a.es ++ a.came.1.0) (joined_bytes b.es ++ b.came.1.0) left (sym x ∙ y) in
+    let same = cut_once (joined_bytes b.es ++ b.came.1.0) a.es b.es a.came.1.0 b.came.1.0 (record { whole = sym read; events = a.events; ends = a.came.1.2 }) (record { whole = refl; events = b.events; ends = b.came.1.2 }) in
+    appended old _ _ new new' (ap (λ (es : List (List ℕ)). run_lines traced es ++ ending NoEvent) same.0) a.written b.written

@@ -12,10 +12,9 @@ use Rattle.events.specs.Reading.{IsEvent, ReadNext}
 use Rattle.events.specs.declared.asked.Event.{Event}
 use Rattle.events.proofs.Steps.{step_asked}
 use Rattle.events.specs.Running.{Kept, step_of, after_step, step_told, told, after, lines_from, kept_after, AllEvents}
-use Rattle.events.specs.Runs.{lines_on, later, always, PlayedOn}
+use Rattle.events.specs.Runs.{lines_on, later, always, CameTo, PlayedOn}
 use Rattle.streams.proofs.Fronts.{front_then}
-use Rattle.events.proofs.Fronts.{front_first}
-use Rattle.events.proofs.Runs.{joined_more, kept_more, events_more, text_more, text_passed, begins, CameTo, IsLost, told_lost, finished, finished_behind}
+use Rattle.events.proofs.Runs.{joined_more, kept_more, events_more, text_more, text_passed, IsLost, told_lost, finished, finished_behind}
 
 -- the events so far were read, and left k; their lines, and those that were left before (l), are written, but for the lines that are left; n is the next number
 pub record Played (traced : Bool) (first : Kept) (l : List ℕ) (known old now new : Option (List ℕ)) (k : Kept) (lines : List ℕ) (n : ℕ) : Type 0 where
@@ -71,13 +70,15 @@ module _ {traced : Bool} {first : Kept} {l : List ℕ} {known old now new : Opti
   pub lost : (known' new' : Option (List ℕ)) (r : Result Unit RunError) (e : RunError) → IsErr r → IsErrAnd r (λ x. x ≡ e) → IsLost e → AppendsFront new new' lines → PlayedOn traced first l known known' old new' r
   lost known' new' r e i h o front = told_lost AllEvents always later (lines_on traced first l) (2 ^ 64 - 2) known known' old new' r e i h o (record {
     es = p.es;
-    begins = begins known now (joined_bytes p.es) p.read;
+    now = now;
     events = p.events;
-    written = front_first old new' _ _ (subst (AppendsFront old new') (sym p.text) (front_then old new new' p.done lines p.written front));
+    read = p.read;
+    came = tt;
+    written = subst (AppendsFront old new') (sym p.text) (front_then old new new' p.done lines p.written front);
   })
 
   -- the run ends
-  pub ended : (known' new' : Option (List ℕ)) (end : Result InputEnd RunError) (r : Result Unit RunError) → CameTo always later (2 ^ 64 - 2) now known' p.es end → Finished end new new' lines r → PlayedOn traced first l known known' old new' r
+  pub ended : (known' new' : Option (List ℕ)) (end : Result InputEnd RunError) (r : Result Unit RunError) → CameTo always later (2 ^ 64 - 2) end p.es now known' → Finished end new new' lines r → PlayedOn traced first l known known' old new' r
   ended known' new' end r c f =
       finished AllEvents always later (lines_on traced first l) (2 ^ 64 - 2) known now known' old new' p.es p.events p.read end r c
       (finished_behind old new new' p.done lines (lines_on traced first l p.es) end r p.text p.written f)

@@ -64,11 +64,10 @@ unfoldable pub AllEvents : List (List ℕ) → Type 0
 AllEvents [] = Unit
 AllEvents (e ∷ es) = IsEvent false e × AllEvents es
 
--- what is written at the end
-unfoldable pub ending : Result ℕ InputEnd → List ℕ
-ending (Ok n) = []
-ending (Err NoEvent) = codes "stop\n"
-ending (Err Clean) = []
+-- what is written at the input's end [event-stop]
+unfoldable pub ending : InputEnd → List ℕ
+ending NoEvent = codes "stop\n"
+ending Clean = []
 
 -- the settings record is refused
 abbrev pub refused : List ℕ → Bool

@@ -1,9 +1,9 @@
 -- What a run writes for what it reads, for each way in which it may end. Assumes nothing.
-use Rattle.std.specs.Prelude.{◌≡◌, Bool, true, false, List, [], ◌++◌, ℕ, ◌-◌, ◌^◌, length, Option, Some, Result, Ok, Err, IfSome}
+use Rattle.std.specs.Prelude.{◌≡◌, Bool, true, false, List, [], ◌++◌, ◌⊎◌, ℕ, ◌-◌, ◌^◌, length, Option, Some, Result, Ok, Err, IfSome}
+use Rattle.std.specs.declared.io.Error.{Error}
 use Rattle.std.specs.Io.KnownBytes.{Appends, Consumes}
 use Rattle.frames.specs.Cut.{joined_bytes}
 use Rattle.events.specs.declared.kinds.InputEnd.{InputEnd}
-use Rattle.events.specs.declared.kinds.InputEnd.TheVariants.{NoEvent}
 use Rattle.events.specs.Kinds.{next_of}
 use Rattle.events.specs.declared.ended.Ended.{Ended}
 use Rattle.events.specs.declared.errors.RunError.{RunError}
@@ -11,52 +11,37 @@ use Rattle.events.specs.declared.errors.RunError.TheVariants.{Input, Output, Mem
 use Rattle.events.specs.Reading.{Ends, IsEvent}
 use Rattle.streams.specs.Fronts.{AppendsFront}
 use Rattle.streams.specs.Lost.{complaint}
-use Rattle.events.specs.Running.{Kept, lines_from, AllEvents, ending, run_lines, Plays, ReadsOn, next_behind}
+use Rattle.events.specs.Ends.{last_text}
+use Rattle.events.specs.Running.{Kept, lines_from, AllEvents, run_lines, Plays, ReadsOn, next_behind}
 
--- an input is events and a rest that begins with none; of events it is said which may be (P), and what follows them (N)
-pub record IsCut (P : List (List ℕ) → Type 0) (N : List (List ℕ) → List ℕ → Result ℕ InputEnd) (input : List ℕ) (es : List (List ℕ)) (rest : List ℕ) : Type 0 where
-  pub whole : input ≡ joined_bytes es ++ rest
+-- what a run came to behind events, by what was left of the input then (now) and what is left of it (left): its end; a read that failed, behind a part that is no event, where a run reads on (Q); or n events are played, and that is the last number [event-stop] [event-broken]
+abbrev pub CameTo : (Q : List (List ℕ) → Type 0) (N : List (List ℕ) → List ℕ → Result ℕ InputEnd) (n : ℕ) → Result InputEnd RunError → List (List ℕ) → (now left : Option (List ℕ)) → Type 0
+CameTo Q N n (Ok end) es now left = IfSome now (λ rest. N es rest ≡ Err end)
+CameTo Q N n (Err (Input e)) es now left = Q es × ((part : List ℕ) × Consumes now left part × Ends (N es part))
+CameTo Q N n (Err TooMany) es now left = (length es ≡ n) × (now ≡ left)
+CameTo Q N n (Err e) es now left = ⊥
+
+-- the input begins with events (P), behind which a run came so far (C), and of their lines (T) it is known what was written (W) [event-run]
+pub record Wrote (P : List (List ℕ) → Type 0) (T : List (List ℕ) → List ℕ) (known : Option (List ℕ)) (C : List (List ℕ) → Option (List ℕ) → Type 0) (W : List ℕ → Type 0) : Type 0 where
+  pub es : List (List ℕ)
+  pub now : Option (List ℕ)
   pub events : P es
-  pub ends : Ends (N es rest)
+  pub read : Consumes known now (joined_bytes es)
+  pub came : C es now
+  pub written : W (T es)
 
--- the input ended: the lines (T) of its events are written, and `stop` where the rest is no clean end [event-run]
-pub record RunsOut (P : List (List ℕ) → Type 0) (N : List (List ℕ) → List ℕ → Result ℕ InputEnd) (T : List (List ℕ) → List ℕ) (old new : Option (List ℕ)) (input : List ℕ) : Type 0 where
-  pub es : List (List ℕ)
-  pub rest : List ℕ
-  pub cut : IsCut P N input es rest
-  pub written : Appends old new (T es ++ ending (N es rest))
+-- lines are lost before a run came to an end: of the lines of events that were read a front is written, and nothing behind them [event-lost]
+abbrev pub Lost : (P : List (List ℕ) → Type 0) (T : List (List ℕ) → List ℕ) (known old new : Option (List ℕ)) → Type 0
+Lost P T known old new = Wrote P T known (λ es now. Unit) (AppendsFront old new)
 
--- a read failed: what was read is whole events, behind which a run reads on (Q), and a part that is none; their lines are written, and `stop` [event-broken] [event-lost]
-pub record BreaksOff (P Q : List (List ℕ) → Type 0) (N : List (List ℕ) → List ℕ → Result ℕ InputEnd) (T : List (List ℕ) → List ℕ) (known known' old new : Option (List ℕ)) : Type 0 where
-  pub es : List (List ℕ)
-  pub looked : Q es
-  pub part : List ℕ
-  pub read : Consumes known known' (joined_bytes es ++ part)
-  pub cut : IsCut P N (joined_bytes es ++ part) es part
-  pub written : Appends old new (T es ++ ending (Err NoEvent))
-
--- lines are lost: the input begins with events, and of their lines, and of `stop`, a front is written [event-broken] [event-lost]
-pub record Loses (P : List (List ℕ) → Type 0) (T : List (List ℕ) → List ℕ) (known old new : Option (List ℕ)) : Type 0 where
-  pub es : List (List ℕ)
-  pub begins : IfSome known (λ input. (rest : List ℕ) × (input ≡ joined_bytes es ++ rest))
-  pub events : P es
-  pub written : AppendsFront old new (T es ++ ending (Err NoEvent))
-
--- the last of n events is played: the lines are written, and `stop`
-pub record Tires (P : List (List ℕ) → Type 0) (T : List (List ℕ) → List ℕ) (n : ℕ) (known known' old new : Option (List ℕ)) : Type 0 where
-  pub es : List (List ℕ)
-  pub last : length es ≡ n
-  pub read : Consumes known known' (joined_bytes es)
-  pub events : P es
-  pub written : Appends old new (T es ++ ending (Err NoEvent))
-
--- what is told of a run by its result: it ran to the input's end; a read failed; a write failed; no memory for a line; n events are played, and that is the last number
-abbrev pub Told : (P Q : List (List ℕ) → Type 0) (N : List (List ℕ) → List ℕ → Result ℕ InputEnd) (T : List (List ℕ) → List ℕ) (n : ℕ) (known known' old new : Option (List ℕ)) → Result Unit RunError → Type 0
-Told P Q N T n known known' old new (Ok u) = IfSome known (RunsOut P N T old new)
-Told P Q N T n known known' old new (Err (Input e)) = BreaksOff P Q N T known known' old new
-Told P Q N T n known known' old new (Err (Output e)) = Loses P T known old new
-Told P Q N T n known known' old new (Err Memory) = Loses P T known old new
-Told P Q N T n known known' old new (Err TooMany) = Tires P T n known known' old new
+-- what is told of a run by its result: the lines and the last text are written, by what the run came to; where a write failed, a front of them, or it came to no end; and so where there is no memory for a line [event-broken] [event-lost]
+abbrev pub Told : (P Q : List (List ℕ) → Type 0) (N : List (List ℕ) → List ℕ → Result ℕ InputEnd) (T : List (List ℕ) → List ℕ) (n : ℕ) (known left old new : Option (List ℕ)) → Result Unit RunError → Type 0
+Told P Q N T n known left old new (Ok u) = (end : InputEnd) × Wrote P T known (λ es now. CameTo Q N n (Ok end) es now left) (λ lines. Appends old new (lines ++ last_text (Ok end)))
+Told P Q N T n known left old new (Err (Output e)) =
+    Lost P T known old new
+    ⊎ ((end : Result InputEnd RunError) × Wrote P T known (λ es now. CameTo Q N n end es now left) (λ lines. AppendsFront old new (lines ++ last_text end)))
+Told P Q N T n known left old new (Err Memory) = Lost P T known old new
+Told P Q N T n known left old new (Err e) = Wrote P T known (λ es now. CameTo Q N n (Err e) es now left) (λ lines. Appends old new (lines ++ last_text (Err e)))
 
 -- the whole run [event-run]
 abbrev pub Ran : Bool → (known known' old new : Option (List ℕ)) → Result Unit RunError → Type 0
@@ -110,8 +95,8 @@ StartedWith traced s known known' old new result = (before : Option (List ℕ)) 
 
 -- one input has one text: outputs that an end of the input allows for the same bytes read are equal [event-run]
 abbrev pub OneText : Type 0
-OneText = (traced : Bool) (input old : List ℕ) (new new' : Option (List ℕ)) → RunsOut Plays next_behind (run_lines traced) (Some old) new input → RunsOut Plays next_behind (run_lines traced) (Some old) new' input → new ≡ new'
+OneText = (traced : Bool) (input old : List ℕ) (left left' new new' : Option (List ℕ)) → Ran traced (Some input) left (Some old) new (Ok tt) → Ran traced (Some input) left' (Some old) new' (Ok tt) → new ≡ new'
 
 -- and so are those that a failed read allows
 abbrev pub OneBroken : Type 0
-OneBroken = (traced : Bool) (input left old : List ℕ) (new new' : Option (List ℕ)) → BreaksOff Plays ReadsOn next_behind (run_lines traced) (Some input) (Some left) (Some old) new → BreaksOff Plays ReadsOn next_behind (run_lines traced) (Some input) (Some left) (Some old) new' → new ≡ new'
+OneBroken = (traced : Bool) (input left old : List ℕ) (new new' : Option (List ℕ)) (e e' : Error) → Ran traced (Some input) (Some left) (Some old) new (Err (Input e)) → Ran traced (Some input) (Some left) (Some old) new' (Err (Input e')) → new ≡ new'

@@ -29,4 +29,4 @@ returns g c before i read =
     let on = sym (ap powered_of c.in-Ok.is) ∙ c.start-begun.ensures in
     let f = medium_fits c.args.settings.now c.start-begun.ensures c.in-Ok.is in
     let begun = c.new-bench.ensures ∙ started_is c.args.settings.now _ _ _ on _ c.medium_size-size.ensures (take-replicate _ 32768 0 (omega (arith, f, c.medium_size-size.ensures))) refl in
-    from_start c.args.format.traced c.args.settings.now _ _ before _ _ _ _ c.play_on.result (refused_no c.args.settings.now _ on) i read line begun c.play_on.ensures
+    from_start c.args.format.traced c.args.settings.now _ _ before _ (refused_no c.args.settings.now _ on) i read line begun _ _ _ c.play_on.result c.play_on.ensures
