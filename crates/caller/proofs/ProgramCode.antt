@@ -46,7 +46,7 @@ all_stop old new end lines a = front_stop old new end lines (front_of old new (l
 
 module _ (traced : Bool) (input : List ℕ) (old new : Option (List ℕ)) where
   -- events that an input begins with, of whose lines a front is written
-  shown : (C : List (List ℕ) → Option (List ℕ) → Type 0) (W : List ℕ → Type 0) → ((lines : List ℕ) → W lines → AppendsFront old new (lines ++ ending NoEvent)) → Wrote Plays (run_lines traced) (Some input) C W → Bytes input → RunHistory traced input old new
+  shown : (C : List (List ℕ) → Option (List ℕ) → Type 0) (W : List ℕ → Type 0) → ((lines : List ℕ) → W lines → AppendsFront old new (lines ++ ending NoEvent)) → Wrote traced (Some input) C W → Bytes input → RunHistory traced input old new
   shown C W f t w =
       let b = begins (Some input) t.now (joined_bytes t.es) t.read in
       record {
@@ -58,7 +58,7 @@ module _ (traced : Bool) (input : List ℕ) (old new : Option (List ℕ)) where
         written = f (run_lines traced t.es) t.written;
       }
 
-  lost : Lost Plays (run_lines traced) (Some input) old new → Bytes input → RunHistory traced input old new
+  lost : Lost traced (Some input) old new → Bytes input → RunHistory traced input old new
   lost t = shown _ _ (λ lines f. front_first old new lines (ending NoEvent) f) t
 
 pub program_history_code : (traced : Bool) (known known' old new : Option (List ℕ)) (r : Result Unit RunError) → Ran traced known known' old new r

@@ -14,11 +14,11 @@ use Rattle.events.specs.Running.{ReadsOn, AllEvents, Plays, refused, next_behind
 use Rattle.events.specs.Runs.{OneText, OneBroken}
 use Rattle.events.proofs.Nexts.{some}
 
--- an input is events (P) and a rest that begins with none (N)
-pub record IsCut (P : List (List ℕ) → Type 0) (N : List (List ℕ) → List ℕ → Result ℕ InputEnd) (input : List ℕ) (es : List (List ℕ)) (rest : List ℕ) : Type 0 where
+-- an input is events that a run plays, and a rest that begins with none
+pub record IsCut (input : List ℕ) (es : List (List ℕ)) (rest : List ℕ) : Type 0 where
   pub whole : input ≡ joined_bytes es ++ rest
-  pub events : P es
-  pub ends : Ends (N es rest)
+  pub events : Plays es
+  pub ends : Ends (next_behind es rest)
 
 kind_next : (first : Bool) (k : ℕ) (l : List ℕ) → next_of first (k ∷ l) ≡ next_by first (kind_named k) (length (k ∷ l))
 unfolding next_of
@@ -69,7 +69,7 @@ behind_once true es es' r r' f f' a a' n n' q =
     (f refl ∙ sym (f' refl), sym (ap (λ (x : List (List ℕ)). joined_bytes x ++ r) (f refl)) ∙ q ∙ ap (λ (x : List (List ℕ)). joined_bytes x ++ r') (f' refl))
 behind_once false es es' r r' f f' a a' n n' q = later_once es es' r r' a a' n n' q
 
-pub cut_once : (input : List ℕ) (es es' : List (List ℕ)) (r r' : List ℕ) → IsCut Plays next_behind input es r → IsCut Plays next_behind input es' r' → (es ≡ es') × (r ≡ r')
+pub cut_once : (input : List ℕ) (es es' : List (List ℕ)) (r r' : List ℕ) → IsCut input es r → IsCut input es' r' → (es ≡ es') × (r ≡ r')
 unfolding Plays next_behind joined_bytes
 cut_once input [] [] r r' c c' = (refl, sym c.whole ∙ c'.whole)
 cut_once input [] (s' ∷ es') r r' c c' = absurd (no_front true s' (joined_bytes es' ++ r') r c'.events.0 c.ends (sym c.whole ∙ c'.whole ∙ append_assoc s' (joined_bytes es') r'))
@@ -95,7 +95,7 @@ rest_known input front (Some rest) c = (rest, refl, c)
 same_end : (r : Result ℕ InputEnd) (end end' : InputEnd) → r ≡ Err end → r ≡ Err end' → end ≡ end'
 same_end r end end' p q = cc
 
-cut_at : (input : List ℕ) (es : List (List ℕ)) (rest : List ℕ) (end : InputEnd) → input ≡ joined_bytes es ++ rest → Plays es → next_behind es rest ≡ Err end → IsCut Plays next_behind input es rest
+cut_at : (input : List ℕ) (es : List (List ℕ)) (rest : List ℕ) (end : InputEnd) → input ≡ joined_bytes es ++ rest → Plays es → next_behind es rest ≡ Err end → IsCut input es rest
 cut_at input es rest end w p n = record { whole = w; events = p; ends = rw n tt }
 
 -- so two outputs that the contract allows for an input are equal

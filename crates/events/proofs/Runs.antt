@@ -1,7 +1,7 @@
 -- A run grows by one event. Assumes nothing.
 use Rattle.std.proofs.Common.{◌≡◌, ℕ, suc, ◌+◌, Bool, false, List, [], ◌∷◌, ◌++◌, length, Option, Some, None, IfSome, sym, refl, ap, ◌∙◌, append-nil, append_assoc, arith}
 use Rattle.events.specs.Reading.{IsEvent}
-use Rattle.events.specs.Running.{Kept, told, after, lines_from, kept_after, AllEvents}
+use Rattle.events.specs.Running.{Kept, told, after, lines_from, kept_after, AllEvents, Plays, run_lines}
 use Rattle.std.specs.Io.KnownBytes.{Appends, Consumes}
 use Rattle.events.specs.declared.kinds.InputEnd.{InputEnd}
 use Rattle.events.specs.declared.kinds.InputEnd.TheVariants.{NoEvent}
@@ -17,7 +17,7 @@ use Rattle.events.specs.Ends.{last_text, Finished}
 use Rattle.events.specs.Output.{IsOutput}
 use Rattle.streams.proofs.Fronts.{front_of}
 use Rattle.events.proofs.Fronts.{front_last, all_last}
-use Rattle.events.specs.Runs.{lines_on, CameTo, Wrote, Lost, Told}
+use Rattle.events.specs.Runs.{CameTo, Lost, EndsWith, Ran}
 
 pub joined_more : (es : List (List ℕ)) (e : List ℕ) → joined_bytes (es ++ e ∷ []) ≡ joined_bytes es ++ e
 unfolding joined_bytes
@@ -42,8 +42,8 @@ events_more [] e a i = (i, tt)
 events_more (x ∷ es) e a i = (a.0, events_more es e a.1 i)
 
 -- the line of one event more
-pub text_more : (traced : Bool) (k : Kept) (l : List ℕ) (es : List (List ℕ)) (e done lines lines' : List ℕ) → lines_on traced k l es ≡ done ++ lines → lines' ≡ lines ++ told traced (1 + length es) (kept_after k es) e
-    → lines_on traced k l (es ++ e ∷ []) ≡ done ++ lines'
+pub text_more : (traced : Bool) (k : Kept) (l : List ℕ) (es : List (List ℕ)) (e done lines lines' : List ℕ) → l ++ lines_from traced 1 k es ≡ done ++ lines → lines' ≡ lines ++ told traced (1 + length es) (kept_after k es) e
+    → l ++ lines_from traced 1 k (es ++ e ∷ []) ≡ done ++ lines'
 text_more traced k l es e done lines lines' p q = rw (lines_more traced 1 k es e, ← append_assoc l (lines_from traced 1 k es) (told traced (1 + length es) (kept_after k es) e), p, q) (append_assoc done lines _)
 
 -- some of the lines that are left are written
@@ -69,38 +69,36 @@ output_lost (Output x) o = tt
 output_lost Memory o = absurd o
 output_lost TooMany o = o
 
-lost_by : (P Q : List (List ℕ) → Type 0) (N : List (List ℕ) → List ℕ → Result ℕ InputEnd) (T : List (List ℕ) → List ℕ) (n : ℕ) (known known' w w' : Option (List ℕ)) (e : RunError)
-    → IsLost e → Lost P T known w w' → Told P Q N T n known known' w w' (Err e)
-lost_by P Q N T n known known' w w' (Input x) o l = absurd o
-lost_by P Q N T n known known' w w' (Output x) o l = inl l
-lost_by P Q N T n known known' w w' Memory o l = l
-lost_by P Q N T n known known' w w' TooMany o l = absurd o
+lost_by : (traced : Bool) (known left w w' : Option (List ℕ)) (e : RunError) → IsLost e → Lost traced known w w' → Ran traced known left w w' (Err e)
+lost_by traced known left w w' (Input x) o l = absurd o
+lost_by traced known left w w' (Output x) o l = inl l
+lost_by traced known left w w' Memory o l = l
+lost_by traced known left w w' TooMany o l = absurd o
 
 -- and that is handed on
-pub told_lost : (P Q : List (List ℕ) → Type 0) (N : List (List ℕ) → List ℕ → Result ℕ InputEnd) (T : List (List ℕ) → List ℕ) (n : ℕ) (known known' w w' : Option (List ℕ)) (r : Result Unit RunError) (e : RunError)
-    → IsErr r → IsErrAnd r (λ x. x ≡ e) → IsLost e → Lost P T known w w' → Told P Q N T n known known' w w' r
-told_lost P Q N T n known known' w w' (Ok u) e i h o l = absurd (false≢true i)
-told_lost P Q N T n known known' w w' (Err x) e i h o l = lost_by P Q N T n known known' w w' x (subst IsLost (sym h) o) l
+pub told_lost : (traced : Bool) (known left w w' : Option (List ℕ)) (r : Result Unit RunError) (e : RunError) → IsErr r → IsErrAnd r (λ x. x ≡ e) → IsLost e → Lost traced known w w' → Ran traced known left w w' r
+told_lost traced known left w w' (Ok u) e i h o l = absurd (false≢true i)
+told_lost traced known left w w' (Err x) e i h o l = lost_by traced known left w w' x (subst IsLost (sym h) o) l
 
 -- so it ends, where its lines and the last text could be written, and where they could not
-module _ (P Q : List (List ℕ) → Type 0) (N : List (List ℕ) → List ℕ → Result ℕ InputEnd) (T : List (List ℕ) → List ℕ) (n : ℕ) (known now known' w w' : Option (List ℕ)) (es : List (List ℕ)) (events : P es) (read : Consumes known now (joined_bytes es)) where
-  wrote : (end : Result InputEnd RunError) (W : List ℕ → Type 0) → CameTo Q N n end es now known' → W (T es) → Wrote P T known (λ es now. CameTo Q N n end es now known') W
-  wrote end W m f = record { es = es; now = now; events = events; read = read; came = m; written = f }
+module _ (traced : Bool) (known now left w w' : Option (List ℕ)) (es : List (List ℕ)) (events : Plays es) (read : Consumes known now (joined_bytes es)) where
+  ends : (end : Result InputEnd RunError) (W : List ℕ → Type 0) → CameTo end es now left → W (run_lines traced es ++ last_text end) → EndsWith traced known left end W
+  ends end W m f = record { es = es; now = now; events = events; read = read; came = m; written = f }
 
-  broken : (e : RunError) → CameTo Q N n (Err e) es now known' → Appends w w' (T es ++ last_text (Err e)) → Told P Q N T n known known' w w' (Err e)
-  broken (Input e) m a = wrote (Err (Input e)) _ m a
+  broken : (e : RunError) → CameTo (Err e) es now left → Appends w w' (run_lines traced es ++ last_text (Err e)) → Ran traced known left w w' (Err e)
+  broken (Input e) m a = ends (Err (Input e)) (Appends w w') m a
   broken (Output e) m a = absurd m
   broken Memory m a = absurd m
-  broken TooMany m a = wrote (Err TooMany) _ m a
+  broken TooMany m a = ends (Err TooMany) (Appends w w') m a
 
-  same_end : (end : Result InputEnd RunError) (e : RunError) → CameTo Q N n end es now known' → (end ≡ Err e) × Appends w w' (T es ++ last_text end) → Told P Q N T n known known' w w' (Err e)
-  same_end end e m f = broken e (subst (λ (x : Result InputEnd RunError). CameTo Q N n x es now known') f.0 m) (subst (λ (x : Result InputEnd RunError). Appends w w' (T es ++ last_text x)) f.0 f.1)
+  same_end : (end : Result InputEnd RunError) (e : RunError) → CameTo end es now left → (end ≡ Err e) × Appends w w' (run_lines traced es ++ last_text end) → Ran traced known left w w' (Err e)
+  same_end end e m f = broken e (subst (λ (x : Result InputEnd RunError). CameTo x es now left) f.0 m) (subst (λ (x : Result InputEnd RunError). Appends w w' (run_lines traced es ++ last_text x)) f.0 f.1)
 
-  pub finished : (end : Result InputEnd RunError) (r : Result Unit RunError) → CameTo Q N n end es now known' → Finished end w w' (T es) r → Told P Q N T n known known' w w' r
-  finished (Ok end) (Ok u) m f = (end, wrote (Ok end) _ m f.1)
+  pub finished : (end : Result InputEnd RunError) (r : Result Unit RunError) → CameTo end es now left → Finished end w w' (run_lines traced es) r → Ran traced known left w w' r
+  finished (Ok end) (Ok u) m f = (end, ends (Ok end) (Appends w w') m f.1)
   finished (Err e) (Ok u) m f = absurd (false≢true f.0)
   finished end (Err (Input x)) m f = same_end end (Input x) m f
-  finished end (Err (Output x)) m f = inr (end, wrote end _ m f)
+  finished end (Err (Output x)) m f = inr (end, ends end (AppendsFront w w') m f)
   finished end (Err Memory) m f = same_end end Memory m f
   finished end (Err TooMany) m f = same_end end TooMany m f
 

@@ -1,11 +1,10 @@
--- The whole run, from the run behind the settings. Assumes nothing.
-use Rattle.std.proofs.Common.{◌≡◌, ℕ, suc, Bool, true, false, List, [], ◌∷◌, ◌++◌, Option, Some, None, IfSome, Result, Ok, Err, subst, sym, refl, ap, ◌∙◌, append-nil, append_assoc, true≢false, length, take, length-take-le, ◌≤◌, arith, replicate, option_copied, Bor, inl, inr, ◌-◌, ◌^◌}
+-- What a run begins with: its settings, and power-on by these. Assumes nothing.
+use Rattle.std.proofs.Common.{◌≡◌, ℕ, Bool, true, false, List, [], ◌∷◌, ◌++◌, Option, Some, None, IfSome, Result, Ok, Err, subst, sym, refl, ap, ◌∙◌, append-nil, length, take, length-take-le, ◌≤◌, arith, replicate, option_copied, Bor}
 use Rattle.std.proofs.lemmas.Bool.Decides.{nat_tests}
-use Rattle.std.specs.Io.KnownBytes.{Appends, Consumes}
-use Rattle.std.proofs.KnownBytes.{Consumes-trans, Consumes-nil, Appends-nil}
+use Rattle.std.specs.Io.KnownBytes.{Consumes}
+use Rattle.std.proofs.KnownBytes.{Consumes-nil, Appends-nil}
 use Rattle.events.specs.declared.kinds.InputEnd.{InputEnd}
 use Rattle.events.specs.declared.kinds.InputEnd.TheVariants.{Clean}
-use Rattle.events.specs.Kinds.{next_of}
 use Rattle.events.specs.Start.{start_by, start_of}
 use Rattle.device.specs.declared.state.Outcome.{Outcome}
 use Rattle.events.specs.Lines.{line_of}
@@ -19,65 +18,17 @@ use Rattle.device.specs.Sealing.{powered_of}
 use Rattle.device.specs.declared.sealed.Sealed.{Sealed}
 use Rattle.frames.specs.Cut.{joined_bytes}
 use Rattle.events.specs.declared.errors.RunError.{RunError}
-use Rattle.events.specs.declared.errors.RunError.TheVariants.{Input, Output, Memory, TooMany}
-use Rattle.events.specs.Reading.{Ends, IsEvent}
-use Rattle.events.specs.Running.{Kept, AllEvents, lines_from, refused, started, start_line, run_lines, Plays, ReadsOn, next_behind}
-use Rattle.events.specs.Runs.{Ran, PlayedOn, lines_on, CameTo, Wrote, Lost, always, later}
+use Rattle.events.specs.Reading.{IsEvent}
+use Rattle.events.specs.Running.{AllEvents, lines_from, refused, started, start_line, run_lines, Plays, next_behind}
+use Rattle.events.specs.Runs.{Ran, Lost}
 use Rattle.events.specs.Ends.{Finished}
 use Rattle.events.proofs.Runs.{finished}
 use Rattle.events.proofs.Steps.{same_kept}
 
 -- nothing is known to be written yet, and no event is known to be read
-pub loses_all : (traced : Bool) (known w : Option (List ℕ)) → Lost Plays (run_lines traced) known w w
+pub loses_all : (traced : Bool) (known w : Option (List ℕ)) → Lost traced known w w
 unfolding Plays joined_bytes
 loses_all traced known w = record { es = []; now = known; events = tt; read = Consumes-nil known; came = tt; written = (0, Appends-nil w) }
-
-lines_same : (traced : Bool) (s lines : List ℕ) (k : Kept) (es : List (List ℕ)) → lines ≡ start_line traced s → k ≡ started s → lines_on traced k lines es ≡ run_lines traced (s ∷ es)
-unfolding run_lines
-lines_same traced s lines k es p q = rw (p, q) refl
-
-next_same : (s : List ℕ) (es : List (List ℕ)) (rest : List ℕ) → refused s ≡ false → next_of false rest ≡ next_behind (s ∷ es) rest
-unfolding next_behind
-next_same s es rest h = rw h refl
-
-plays_more : (s : List ℕ) (es : List (List ℕ)) → refused s ≡ false → IsEvent true s → AllEvents es → Plays (s ∷ es)
-unfolding Plays
-plays_more s es h i a = (i, a, λ t. absurd (true≢false (sym t ∙ h)))
-
-reads_on : (s : List ℕ) (es : List (List ℕ)) → refused s ≡ false → ReadsOn (s ∷ es)
-unfolding ReadsOn
-reads_on s es h = h
-
--- what a run came to behind the settings, the whole run came to
-came_on : (s : List ℕ) (es : List (List ℕ)) (now left : Option (List ℕ)) (end : Result InputEnd RunError) → refused s ≡ false → CameTo always later (2 ^ 64 - 2) end es now left → CameTo ReadsOn next_behind (2 ^ 64 - 1) end (s ∷ es) now left
-came_on s es None left (Ok end) h m = tt
-came_on s es (Some rest) left (Ok end) h m = sym (next_same s es rest h) ∙ m
-came_on s es now left (Err (Input e)) h m = (reads_on s es h, (m.1.0, m.1.1, subst Ends (next_same s es m.1.0 h) m.1.2))
-came_on s es now left (Err (Output e)) h m = m
-came_on s es now left (Err Memory) h m = m
-came_on s es now left (Err TooMany) h m = (ap suc m.0, m.1)
-
--- the events behind the settings are those of the whole run
-module _ (traced : Bool) (s lines : List ℕ) (k : Kept) (before known : Option (List ℕ)) (h : refused s ≡ false) (i : IsEvent true s) (c : Consumes before known s) (p : lines ≡ start_line traced s) (q : k ≡ started s) where
-  wrote_on : (C C' : List (List ℕ) → Option (List ℕ) → Type 0) (W : List ℕ → Type 0) → ((es : List (List ℕ)) (now : Option (List ℕ)) → C es now → C' (s ∷ es) now)
-      → Wrote AllEvents (lines_on traced k lines) known C W → Wrote Plays (run_lines traced) before C' W
-  unfolding joined_bytes
-  wrote_on C C' W f t = record {
-    es = s ∷ t.es;
-    now = t.now;
-    events = plays_more s t.es h i t.events;
-    read = Consumes-trans before known t.now s (joined_bytes t.es) c t.read;
-    came = f t.es t.now t.came;
-    written = subst W (lines_same traced s lines k t.es p q) t.written;
-  }
-
-  pub from_start : (left w w' : Option (List ℕ)) (r : Result Unit RunError) → PlayedOn traced k lines known left w w' r → Ran traced before left w w' r
-  from_start left w w' (Ok u) t = (t.0, wrote_on _ _ _ (λ es now. came_on s es now left (Ok t.0) h) t.1)
-  from_start left w w' (Err (Input e)) t = wrote_on _ _ _ (λ es now. came_on s es now left (Err (Input e)) h) t
-  from_start left w w' (Err (Output e)) (inl t) = inl (wrote_on _ _ _ (λ es now u. tt) t)
-  from_start left w w' (Err (Output e)) (inr t) = inr (t.0, wrote_on _ _ _ (λ es now. came_on s es now left t.0 h) t.1)
-  from_start left w w' (Err Memory) t = wrote_on _ _ _ (λ es now u. tt) t
-  from_start left w w' (Err TooMany) t = wrote_on _ _ _ (λ es now. came_on s es now left (Err TooMany) h) t
 
 -- refused settings end a run
 next_refused : (s : List ℕ) (rest : List ℕ) → refused s ≡ true → next_behind (s ∷ []) rest ≡ Err Clean
@@ -100,7 +51,7 @@ pub stays_refused : (traced : Bool) (s lines : List ℕ) (before known known' w 
     → Finished (Ok Clean) w w' lines r → Ran traced before known' w w' r
 unfolding joined_bytes
 stays_refused traced s lines before known known' w w' r h i c p f =
-    finished Plays ReadsOn next_behind (run_lines traced) _ before known known' w w' (s ∷ []) (plays_refused s i)
+    finished traced before known known' w w' (s ∷ []) (plays_refused s i)
     (subst (Consumes before known) (sym (append-nil s)) c)
     (Ok Clean) r
     (all_known known (λ rest. next_refused s rest h))

@@ -4,7 +4,6 @@ use Rattle.std.specs.declared.io.Error.{Error}
 use Rattle.std.specs.Io.KnownBytes.{Appends, Consumes}
 use Rattle.frames.specs.Cut.{joined_bytes}
 use Rattle.events.specs.declared.kinds.InputEnd.{InputEnd}
-use Rattle.events.specs.Kinds.{next_of}
 use Rattle.events.specs.declared.ended.Ended.{Ended}
 use Rattle.events.specs.declared.errors.RunError.{RunError}
 use Rattle.events.specs.declared.errors.RunError.TheVariants.{Input, Output, Memory, TooMany}
@@ -12,40 +11,38 @@ use Rattle.events.specs.Reading.{Ends, IsEvent}
 use Rattle.streams.specs.Fronts.{AppendsFront}
 use Rattle.streams.specs.Lost.{complaint}
 use Rattle.events.specs.Ends.{last_text}
-use Rattle.events.specs.Running.{Kept, lines_from, AllEvents, run_lines, Plays, ReadsOn, next_behind}
+use Rattle.events.specs.Running.{Kept, refused, started, start_line, run_lines, Plays, ReadsOn, next_behind}
 
--- what a run came to behind events, by what was left of the input then (now) and what is left of it (left): its end; a read that failed, behind a part that is no event, where a run reads on (Q); or n events are played, and that is the last number [event-stop] [event-broken]
-abbrev pub CameTo : (Q : List (List ℕ) → Type 0) (N : List (List ℕ) → List ℕ → Result ℕ InputEnd) (n : ℕ) → Result InputEnd RunError → List (List ℕ) → (now left : Option (List ℕ)) → Type 0
-CameTo Q N n (Ok end) es now left = IfSome now (λ rest. N es rest ≡ Err end)
-CameTo Q N n (Err (Input e)) es now left = Q es × ((part : List ℕ) × Consumes now left part × Ends (N es part))
-CameTo Q N n (Err TooMany) es now left = (length es ≡ n) × (now ≡ left)
-CameTo Q N n (Err e) es now left = ⊥
+-- what a run came to behind the events es, by what was left of the input then (now) and what is left of it (left): its end; a read that failed, behind a part that is no event; or the last number, so that the event which has it is the last [event-stop] [event-broken]
+abbrev pub CameTo : Result InputEnd RunError → List (List ℕ) → (now left : Option (List ℕ)) → Type 0
+CameTo (Ok end) es now left = IfSome now (λ rest. next_behind es rest ≡ Err end)
+CameTo (Err (Input e)) es now left = ReadsOn es × ((part : List ℕ) × Consumes now left part × Ends (next_behind es part))
+CameTo (Err TooMany) es now left = (length es ≡ 2 ^ 64 - 1) × (now ≡ left)
+CameTo (Err e) es now left = ⊥
 
--- the input begins with events (P), behind which a run came so far (C), and of their lines (T) it is known what was written (W) [event-run]
-pub record Wrote (P : List (List ℕ) → Type 0) (T : List (List ℕ) → List ℕ) (known : Option (List ℕ)) (C : List (List ℕ) → Option (List ℕ) → Type 0) (W : List ℕ → Type 0) : Type 0 where
+-- the input begins with events that a run plays, behind which it came so far (C), and of their lines it is known what was written (W) [event-run]
+pub record Wrote (traced : Bool) (known : Option (List ℕ)) (C : List (List ℕ) → Option (List ℕ) → Type 0) (W : List ℕ → Type 0) : Type 0 where
   pub es : List (List ℕ)
   pub now : Option (List ℕ)
-  pub events : P es
+  pub events : Plays es
   pub read : Consumes known now (joined_bytes es)
   pub came : C es now
-  pub written : W (T es)
+  pub written : W (run_lines traced es)
 
 -- lines are lost before a run came to an end: of the lines of events that were read a front is written, and nothing behind them [event-lost]
-abbrev pub Lost : (P : List (List ℕ) → Type 0) (T : List (List ℕ) → List ℕ) (known old new : Option (List ℕ)) → Type 0
-Lost P T known old new = Wrote P T known (λ es now. Unit) (AppendsFront old new)
+abbrev pub Lost : Bool → (known old new : Option (List ℕ)) → Type 0
+Lost traced known old new = Wrote traced known (λ es now. Unit) (AppendsFront old new)
 
--- what is told of a run by its result: the lines and the last text are written, by what the run came to; where a write failed, a front of them, or it came to no end; and so where there is no memory for a line [event-broken] [event-lost]
-abbrev pub Told : (P Q : List (List ℕ) → Type 0) (N : List (List ℕ) → List ℕ → Result ℕ InputEnd) (T : List (List ℕ) → List ℕ) (n : ℕ) (known left old new : Option (List ℕ)) → Result Unit RunError → Type 0
-Told P Q N T n known left old new (Ok u) = (end : InputEnd) × Wrote P T known (λ es now. CameTo Q N n (Ok end) es now left) (λ lines. Appends old new (lines ++ last_text (Ok end)))
-Told P Q N T n known left old new (Err (Output e)) =
-    Lost P T known old new
-    ⊎ ((end : Result InputEnd RunError) × Wrote P T known (λ es now. CameTo Q N n end es now left) (λ lines. AppendsFront old new (lines ++ last_text end)))
-Told P Q N T n known left old new (Err Memory) = Lost P T known old new
-Told P Q N T n known left old new (Err e) = Wrote P T known (λ es now. CameTo Q N n (Err e) es now left) (λ lines. Appends old new (lines ++ last_text (Err e)))
+-- a run came to an end, and of its lines and its last text it is known what was written (W) [event-run]
+abbrev pub EndsWith : Bool → (known left : Option (List ℕ)) → Result InputEnd RunError → (List ℕ → Type 0) → Type 0
+EndsWith traced known left end W = Wrote traced known (λ es now. CameTo end es now left) (λ lines. W (lines ++ last_text end))
 
--- the whole run [event-run]
-abbrev pub Ran : Bool → (known known' old new : Option (List ℕ)) → Result Unit RunError → Type 0
-Ran traced known known' old new result = Told Plays ReadsOn next_behind (run_lines traced) (2 ^ 64 - 1) known known' old new result
+-- the whole run by its result: it came to an end, and all is written; a write failed there, or before; or there is no memory for a line [event-run] [event-broken] [event-lost]
+abbrev pub Ran : Bool → (known left old new : Option (List ℕ)) → Result Unit RunError → Type 0
+Ran traced known left old new (Ok u) = (end : InputEnd) × EndsWith traced known left (Ok end) (Appends old new)
+Ran traced known left old new (Err (Output e)) = Lost traced known old new ⊎ ((end : Result InputEnd RunError) × EndsWith traced known left end (AppendsFront old new))
+Ran traced known left old new (Err Memory) = Lost traced known old new
+Ran traced known left old new (Err e) = EndsWith traced known left (Err e) (Appends old new)
 
 -- what is said aloud of a run by its result: that lines are missing [event-lost]
 abbrev pub said_of : Result Unit RunError → List ℕ
@@ -73,25 +70,13 @@ exit_status_of (Err (Output e)) = 4
 exit_status_of (Err Memory) = 4
 exit_status_of (Err TooMany) = 3
 
--- behind the settings a run reads on, whatever came
-abbrev pub always : List (List ℕ) → Type 0
-always es = Unit
-
--- and what follows is what the rest begins with
-abbrev pub later : List (List ℕ) → List ℕ → Result ℕ InputEnd
-later es rest = next_of false rest
-
--- the lines of events behind those that are not yet written
-abbrev pub lines_on : Bool → Kept → List ℕ → List (List ℕ) → List ℕ
-lines_on traced k lines es = lines ++ lines_from traced 1 k es
-
--- the run behind the settings, with lines that are not yet written
-abbrev pub PlayedOn : Bool → Kept → List ℕ → (known known' old new : Option (List ℕ)) → Result Unit RunError → Type 0
-PlayedOn traced k lines known known' old new result = Told AllEvents always later (lines_on traced k lines) (2 ^ 64 - 2) known known' old new result
-
 -- the run from its settings on: whatever began with these, it is the whole run of that
-abbrev pub StartedWith : Bool → List ℕ → (known known' old new : Option (List ℕ)) → Result Unit RunError → Type 0
-StartedWith traced s known known' old new result = (before : Option (List ℕ)) → IsEvent true s → Consumes before known s → Ran traced before known' old new result
+abbrev pub StartedWith : Bool → List ℕ → (known left old new : Option (List ℕ)) → Result Unit RunError → Type 0
+StartedWith traced s known left old new result = (before : Option (List ℕ)) → IsEvent true s → Consumes before known s → Ran traced before left old new result
+
+-- the run behind settings that were taken, with what is kept and a line that is not yet written: of whatever settings these are
+abbrev pub PlayedOn : Bool → Kept → List ℕ → (known left old new : Option (List ℕ)) → Result Unit RunError → Type 0
+PlayedOn traced k lines known left old new result = (s : List ℕ) → refused s ≡ false → k ≡ started s → lines ≡ start_line traced s → StartedWith traced s known left old new result
 
 -- one input has one text: outputs that an end of the input allows for the same bytes read are equal [event-run]
 abbrev pub OneText : Type 0

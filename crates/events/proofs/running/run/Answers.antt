@@ -10,9 +10,9 @@ use Rattle.events.proofs.running.run.Goals as goal
 pub returns-in-Ok-Err : goal.returns-in-Ok-Err
 unfolding Plays run_lines next_behind joined_bytes
 returns-in-Ok-Err g c =
-    finished Plays ReadsOn next_behind (run_lines c.args.format.traced) _ _ _ _ _ _ [] tt (Consumes-nil (g.R.Read.remaining c.args.reader.now)) (Ok c.in-Ok-Err.end) _ (rw c.in-Ok-Err.field-0-is at c.in-Ok-Err.ensures.ok) c.finish.ensures
+    finished c.args.format.traced _ _ _ _ _ [] tt (Consumes-nil (g.R.Read.remaining c.args.reader.now)) (Ok c.in-Ok-Err.end) _ (rw c.in-Ok-Err.field-0-is at c.in-Ok-Err.ensures.ok) c.finish.ensures
 
 pub returns-in-Err : goal.returns-in-Err
 unfolding Plays ReadsOn run_lines next_behind joined_bytes
 returns-in-Err g c =
-    finished Plays ReadsOn next_behind (run_lines c.args.format.traced) _ _ _ _ _ _ [] tt (Consumes-nil (g.R.Read.remaining c.args.reader.now)) (Err (Input _)) _ (tt, c.in-Err.ensures.err) c.finish-in-Err.ensures
+    finished c.args.format.traced _ _ _ _ _ [] tt (Consumes-nil (g.R.Read.remaining c.args.reader.now)) (Err (Input _)) _ (tt, c.in-Err.ensures.err) c.finish-in-Err.ensures
