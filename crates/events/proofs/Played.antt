@@ -12,6 +12,8 @@ use Rattle.events.specs.Kinds.{next_of}
 use Rattle.events.specs.declared.errors.RunError.TheVariants.{TooMany}
 use Rattle.events.specs.Reading.{IsEvent, Ends, BreaksIn, ReadNext}
 use Rattle.events.specs.declared.asked.Event.{Event}
+use Rattle.events.specs.Grammar.{event_bytes}
+use Rattle.events.proofs.Spelling.{read_back}
 use Rattle.events.proofs.Steps.{step_asked}
 use Rattle.events.specs.Running.{Kept, step_of, after_step, step_told, told, after, lines_from, kept_after, AllEvents, Plays, ReadsOn, run_lines, refused, started, start_line, next_behind}
 use Rattle.events.specs.Runs.{CameTo, Ran}
@@ -52,8 +54,9 @@ module _ {traced : Bool} {first : Kept} {l : List ℕ} {known old now new : Opti
   unfolding after told
   one_more {event = event} w came q t =
       let read = rw w at came in
-      let same = step_asked k read.0 event read.3 in
-      one_read read.0 _ _ _ read.1 read.2 (rw same q) (rw same t)
+      let back = read_back event read.0 in
+      let same = step_asked k (event_bytes event) event back.1 in
+      one_read (event_bytes event) _ _ _ back.0 read.1 (rw same q) (rw same t)
 
   -- some of the lines are written
   pub some_passed : (new' : Option (List ℕ)) (left : List ℕ) → PassedOn new new' lines left → Played traced first l known old now new' k left n
