@@ -1,7 +1,8 @@
 -- A run grows by one event. Assumes nothing.
-use Rattle.std.proofs.Common.{◌≡◌, ℕ, suc, ◌+◌, Bool, false, List, [], ◌∷◌, ◌++◌, length, Option, Some, None, IfSome, sym, refl, ap, ◌∙◌, append-nil, append_assoc, arith}
-use Rattle.events.specs.Reading.{IsEvent}
-use Rattle.events.specs.Running.{Kept, told, after, lines_from, kept_after, AllEvents, Plays, run_lines}
+use Rattle.std.proofs.Common.{◌≡◌, ℕ, suc, ◌+◌, Bool, false, List, [], ◌∷◌, ◌++◌, length, flat_map, Option, Some, None, IfSome, sym, refl, ap, ◌∙◌, append-nil, append_assoc, arith}
+use Rattle.events.specs.Grammar.{event_bytes, Fits}
+use Rattle.events.specs.declared.asked.Event.{Event}
+use Rattle.events.specs.Running.{Kept, told, after, lines_from, kept_after, AllFit, Read, bytes_read, Plays, run_lines}
 use Rattle.std.specs.Io.KnownBytes.{Appends, Consumes}
 use Rattle.events.specs.declared.kinds.InputEnd.{InputEnd}
 use Rattle.events.specs.declared.kinds.InputEnd.TheVariants.{NoEvent}
@@ -12,37 +13,35 @@ use Rattle.events.specs.declared.errors.RunError.{RunError}
 use Rattle.events.specs.declared.errors.RunError.TheVariants.{Input, Output, Memory, TooMany}
 use Rattle.std.proofs.KnownBytes.{Consumes-trans}
 use Rattle.streams.specs.Fronts.{AppendsFront}
-use Rattle.frames.specs.Cut.{joined_bytes}
 use Rattle.events.specs.Ends.{last_text, Finished}
 use Rattle.events.specs.Output.{IsOutput}
 use Rattle.streams.proofs.Fronts.{front_of}
 use Rattle.events.proofs.Fronts.{front_last, all_last}
 use Rattle.events.specs.Runs.{CameTo, Lost, EndsWith, Ran}
 
-pub joined_more : (es : List (List ℕ)) (e : List ℕ) → joined_bytes (es ++ e ∷ []) ≡ joined_bytes es ++ e
-unfolding joined_bytes
-joined_more [] e = append-nil e
-joined_more (d ∷ es) e = ap (λ (l : List ℕ). d ++ l) (joined_more es e) ∙ sym (append_assoc d (joined_bytes es) e)
+pub joined_more : (es : List Event) (e : Event) → flat_map event_bytes (es ++ e ∷ []) ≡ flat_map event_bytes es ++ event_bytes e
+joined_more [] e = append-nil (event_bytes e)
+joined_more (d ∷ es) e = ap (λ (l : List ℕ). event_bytes d ++ l) (joined_more es e) ∙ sym (append_assoc (event_bytes d) (flat_map event_bytes es) (event_bytes e))
 
-pub lines_more : (traced : Bool) (n : ℕ) (k : Kept) (es : List (List ℕ)) (e : List ℕ) → lines_from traced n k (es ++ e ∷ []) ≡ lines_from traced n k es ++ told traced (n + length es) (kept_after k es) e
+pub lines_more : (traced : Bool) (n : ℕ) (k : Kept) (es : List Event) (e : Event) → lines_from traced n k (es ++ e ∷ []) ≡ lines_from traced n k es ++ told traced (n + length es) (kept_after k es) e
 unfolding lines_from kept_after
 lines_more traced n k [] e = let z : n + 0 ≡ n = omega arith in rw z (append-nil (told traced n k e))
 lines_more traced n k (x ∷ es) e =
     let z : n + 1 + length es ≡ n + suc (length es) = omega arith in
     ap (λ (l : List ℕ). told traced n k x ++ l) (lines_more traced (n + 1) (after k x) es e ∙ rw z refl) ∙ sym (append_assoc (told traced n k x) _ _)
 
-pub kept_more : (k : Kept) (es : List (List ℕ)) (e : List ℕ) → kept_after k (es ++ e ∷ []) ≡ after (kept_after k es) e
+pub kept_more : (k : Kept) (es : List Event) (e : Event) → kept_after k (es ++ e ∷ []) ≡ after (kept_after k es) e
 unfolding kept_after
 kept_more k [] e = refl
 kept_more k (x ∷ es) e = kept_more (after k x) es e
 
-pub events_more : (es : List (List ℕ)) (e : List ℕ) → AllEvents es → IsEvent false e → AllEvents (es ++ e ∷ [])
-unfolding AllEvents
+pub events_more : (es : List Event) (e : Event) → AllFit es → Fits e → AllFit (es ++ e ∷ [])
+unfolding AllFit
 events_more [] e a i = (i, tt)
 events_more (x ∷ es) e a i = (a.0, events_more es e a.1 i)
 
 -- the line of one event more
-pub text_more : (traced : Bool) (k : Kept) (l : List ℕ) (es : List (List ℕ)) (e done lines lines' : List ℕ) → l ++ lines_from traced 1 k es ≡ done ++ lines → lines' ≡ lines ++ told traced (1 + length es) (kept_after k es) e
+pub text_more : (traced : Bool) (k : Kept) (l : List ℕ) (es : List Event) (e : Event) (done lines lines' : List ℕ) → l ++ lines_from traced 1 k es ≡ done ++ lines → lines' ≡ lines ++ told traced (1 + length es) (kept_after k es) e
     → l ++ lines_from traced 1 k (es ++ e ∷ []) ≡ done ++ lines'
 text_more traced k l es e done lines lines' p q = rw (lines_more traced 1 k es e, ← append_assoc l (lines_from traced 1 k es) (told traced (1 + length es) (kept_after k es) e), p, q) (append_assoc done lines _)
 
@@ -81,20 +80,20 @@ told_lost traced known left w w' (Ok u) e i h o l = absurd (false≢true i)
 told_lost traced known left w w' (Err x) e i h o l = lost_by traced known left w w' x (subst IsLost (sym h) o) l
 
 -- so it ends, where its lines and the last text could be written, and where they could not
-module _ (traced : Bool) (known now left w w' : Option (List ℕ)) (es : List (List ℕ)) (events : Plays es) (read : Consumes known now (joined_bytes es)) where
-  ends : (end : Result InputEnd RunError) (W : List ℕ → Type 0) → CameTo end es now left → W (run_lines traced es ++ last_text end) → EndsWith traced known left end W
-  ends end W m f = record { es = es; now = now; events = events; read = read; came = m; written = f }
+module _ (traced : Bool) (known now left w w' : Option (List ℕ)) (all : Read) (events : Plays all) (read : Consumes known now (bytes_read all)) where
+  ends : (end : Result InputEnd RunError) (W : List ℕ → Type 0) → CameTo end all now left → W (run_lines traced all ++ last_text end) → EndsWith traced known left end W
+  ends end W m f = record { all = all; now = now; events = events; read = read; came = m; written = f }
 
-  broken : (e : RunError) → CameTo (Err e) es now left → Appends w w' (run_lines traced es ++ last_text (Err e)) → Ran traced known left w w' (Err e)
+  broken : (e : RunError) → CameTo (Err e) all now left → Appends w w' (run_lines traced all ++ last_text (Err e)) → Ran traced known left w w' (Err e)
   broken (Input e) m a = ends (Err (Input e)) (Appends w w') m a
   broken (Output e) m a = absurd m
   broken Memory m a = absurd m
   broken TooMany m a = ends (Err TooMany) (Appends w w') m a
 
-  same_end : (end : Result InputEnd RunError) (e : RunError) → CameTo end es now left → (end ≡ Err e) × Appends w w' (run_lines traced es ++ last_text end) → Ran traced known left w w' (Err e)
-  same_end end e m f = broken e (subst (λ (x : Result InputEnd RunError). CameTo x es now left) f.0 m) (subst (λ (x : Result InputEnd RunError). Appends w w' (run_lines traced es ++ last_text x)) f.0 f.1)
+  same_end : (end : Result InputEnd RunError) (e : RunError) → CameTo end all now left → (end ≡ Err e) × Appends w w' (run_lines traced all ++ last_text end) → Ran traced known left w w' (Err e)
+  same_end end e m f = broken e (subst (λ (x : Result InputEnd RunError). CameTo x all now left) f.0 m) (subst (λ (x : Result InputEnd RunError). Appends w w' (run_lines traced all ++ last_text x)) f.0 f.1)
 
-  pub finished : (end : Result InputEnd RunError) (r : Result Unit RunError) → CameTo end es now left → Finished end w w' (run_lines traced es) r → Ran traced known left w w' r
+  pub finished : (end : Result InputEnd RunError) (r : Result Unit RunError) → CameTo end all now left → Finished end w w' (run_lines traced all) r → Ran traced known left w w' r
   finished (Ok end) (Ok u) m f = (end, ends (Ok end) (Appends w w') m f.1)
   finished (Err e) (Ok u) m f = absurd (false≢true f.0)
   finished end (Err (Input x)) m f = same_end end (Input x) m f

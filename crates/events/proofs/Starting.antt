@@ -16,10 +16,9 @@ use Rattle.device_state.specs.State.{medium_size}
 use Rattle.device.specs.Device.{fresh_device, power_on}
 use Rattle.device.specs.Sealing.{powered_of}
 use Rattle.device.specs.declared.sealed.Sealed.{Sealed}
-use Rattle.frames.specs.Cut.{joined_bytes}
 use Rattle.events.specs.declared.errors.RunError.{RunError}
 use Rattle.events.specs.Reading.{IsEvent}
-use Rattle.events.specs.Running.{AllEvents, lines_from, refused, started, start_line, run_lines, Plays, next_behind}
+use Rattle.events.specs.Running.{nothing, begun, AllFit, lines_from, refused, started, start_line, run_lines, Plays, next_behind}
 use Rattle.events.specs.Runs.{Ran, Lost}
 use Rattle.events.specs.Ends.{Finished}
 use Rattle.events.proofs.Runs.{finished}
@@ -27,19 +26,19 @@ use Rattle.events.proofs.Steps.{same_kept}
 
 -- nothing is known to be written yet, and no event is known to be read
 pub loses_all : (traced : Bool) (known w : Option (List ℕ)) → Lost traced known w w
-unfolding Plays joined_bytes
-loses_all traced known w = record { es = []; now = known; events = tt; read = Consumes-nil known; came = tt; written = (0, Appends-nil w) }
+unfolding Plays
+loses_all traced known w = record { all = nothing; now = known; events = tt; read = Consumes-nil known; came = tt; written = (0, Appends-nil w) }
 
 -- refused settings end a run
-next_refused : (s : List ℕ) (rest : List ℕ) → refused s ≡ true → next_behind (s ∷ []) rest ≡ Err Clean
+next_refused : (s : List ℕ) (rest : List ℕ) → refused s ≡ true → next_behind (begun s []) rest ≡ Err Clean
 unfolding next_behind
 next_refused s rest h = rw h refl
 
-plays_refused : (s : List ℕ) → IsEvent true s → Plays (s ∷ [])
-unfolding Plays AllEvents
+plays_refused : (s : List ℕ) → IsEvent true s → Plays (begun s [])
+unfolding Plays AllFit
 plays_refused s i = (i, tt, λ t. refl)
 
-line_refused : (traced : Bool) (s : List ℕ) → run_lines traced (s ∷ []) ≡ start_line traced s
+line_refused : (traced : Bool) (s : List ℕ) → run_lines traced (begun s []) ≡ start_line traced s
 unfolding run_lines lines_from
 line_refused traced s = append-nil (start_line traced s)
 
@@ -49,9 +48,8 @@ all_known (Some l) f = f l
 
 pub stays_refused : (traced : Bool) (s lines : List ℕ) (before known known' w w' : Option (List ℕ)) (r : Result Unit RunError) → refused s ≡ true → IsEvent true s → Consumes before known s → lines ≡ start_line traced s
     → Finished (Ok Clean) w w' lines r → Ran traced before known' w w' r
-unfolding joined_bytes
 stays_refused traced s lines before known known' w w' r h i c p f =
-    finished traced before known known' w w' (s ∷ []) (plays_refused s i)
+    finished traced before known known' w w' (begun s []) (plays_refused s i)
     (subst (Consumes before known) (sym (append-nil s)) c)
     (Ok Clean) r
     (all_known known (λ rest. next_refused s rest h))

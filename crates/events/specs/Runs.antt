@@ -1,8 +1,7 @@
 -- What a run writes for what it reads, for each way in which it may end. Assumes nothing.
-use Rattle.std.specs.Prelude.{◌≡◌, Bool, true, false, List, [], ◌++◌, ◌⊎◌, ℕ, ◌-◌, ◌^◌, length, Option, Some, Result, Ok, Err, IfSome}
+use Rattle.std.specs.Prelude.{◌≡◌, Bool, true, false, List, [], ◌++◌, ◌⊎◌, ℕ, ◌-◌, ◌^◌, Option, Some, Result, Ok, Err, IfSome}
 use Rattle.std.specs.declared.io.Error.{Error}
 use Rattle.std.specs.Io.KnownBytes.{Appends, Consumes}
-use Rattle.frames.specs.Cut.{joined_bytes}
 use Rattle.events.specs.declared.kinds.InputEnd.{InputEnd}
 use Rattle.events.specs.declared.ended.Ended.{Ended}
 use Rattle.events.specs.declared.errors.RunError.{RunError}
@@ -11,31 +10,31 @@ use Rattle.events.specs.Reading.{Ends, IsEvent}
 use Rattle.streams.specs.Fronts.{AppendsFront}
 use Rattle.streams.specs.Lost.{complaint}
 use Rattle.events.specs.Ends.{last_text}
-use Rattle.events.specs.Running.{Kept, refused, started, start_line, run_lines, Plays, ReadsOn, next_behind}
+use Rattle.events.specs.Running.{Kept, Read, bytes_read, count_read, refused, started, start_line, run_lines, Plays, ReadsOn, next_behind}
 
--- what a run came to behind the events es, by what was left of the input then (now) and what is left of it (left): its end; a read that failed, behind a part that is no event; or the last number, so that the event which has it is the last [event-stop] [event-broken]
-abbrev pub CameTo : Result InputEnd RunError → List (List ℕ) → (now left : Option (List ℕ)) → Type 0
-CameTo (Ok end) es now left = IfSome now (λ rest. next_behind es rest ≡ Err end)
-CameTo (Err (Input e)) es now left = ReadsOn es × ((part : List ℕ) × Consumes now left part × Ends (next_behind es part))
-CameTo (Err TooMany) es now left = (length es ≡ 2 ^ 64 - 1) × (now ≡ left)
-CameTo (Err e) es now left = ⊥
+-- what a run came to behind all that it read and played, by what was left of the input then (now) and what is left of it (left): its end; a read that failed, behind a part that is no event; or the last number, so that the event which has it is the last [event-stop] [event-broken]
+abbrev pub CameTo : Result InputEnd RunError → Read → (now left : Option (List ℕ)) → Type 0
+CameTo (Ok end) all now left = IfSome now (λ rest. next_behind all rest ≡ Err end)
+CameTo (Err (Input e)) all now left = ReadsOn all × ((part : List ℕ) × Consumes now left part × Ends (next_behind all part))
+CameTo (Err TooMany) all now left = (count_read all ≡ 2 ^ 64 - 1) × (now ≡ left)
+CameTo (Err e) all now left = ⊥
 
 -- the input begins with events that a run plays, behind which it came so far (C), and of their lines it is known what was written (W) [event-run]
-pub record Wrote (traced : Bool) (known : Option (List ℕ)) (C : List (List ℕ) → Option (List ℕ) → Type 0) (W : List ℕ → Type 0) : Type 0 where
-  pub es : List (List ℕ)
+pub record Wrote (traced : Bool) (known : Option (List ℕ)) (C : Read → Option (List ℕ) → Type 0) (W : List ℕ → Type 0) : Type 0 where
+  pub all : Read
   pub now : Option (List ℕ)
-  pub events : Plays es
-  pub read : Consumes known now (joined_bytes es)
-  pub came : C es now
-  pub written : W (run_lines traced es)
+  pub events : Plays all
+  pub read : Consumes known now (bytes_read all)
+  pub came : C all now
+  pub written : W (run_lines traced all)
 
 -- lines are lost before a run came to an end: of the lines of events that were read a front is written, and nothing behind them [event-lost]
 abbrev pub Lost : Bool → (known old new : Option (List ℕ)) → Type 0
-Lost traced known old new = Wrote traced known (λ es now. Unit) (AppendsFront old new)
+Lost traced known old new = Wrote traced known (λ all now. Unit) (AppendsFront old new)
 
 -- a run came to an end, and of its lines and its last text it is known what was written (W) [event-run]
 abbrev pub EndsWith : Bool → (known left : Option (List ℕ)) → Result InputEnd RunError → (List ℕ → Type 0) → Type 0
-EndsWith traced known left end W = Wrote traced known (λ es now. CameTo end es now left) (λ lines. W (lines ++ last_text end))
+EndsWith traced known left end W = Wrote traced known (λ all now. CameTo end all now left) (λ lines. W (lines ++ last_text end))
 
 -- the whole run by its result: it came to an end, and all is written; a write failed there, or before; or there is no memory for a line [event-run] [event-broken] [event-lost]
 abbrev pub Ran : Bool → (known left old new : Option (List ℕ)) → Result Unit RunError → Type 0
