@@ -34,7 +34,7 @@ call_is d e f = ap (option_map (call_of d)) (read_back e f).1
 
 -- an event is shown as it is told
 shows : (traced : Bool) (number : ℕ) (k : Kept) (e : Event) → Shows traced number k e (call_in k e)
-unfolding after told step_for
+unfolding after told
 shows traced number k e =
     let s = step k.device (lent (call_of k.device e) k.medium k.reply) in
     record { kept = refl; line = ap (line_of traced number s.refusal s.state.status.outstanding) (sym (take-append_seam (bytes_of s) (drop (length (bytes_of s)) k.reply))) }
@@ -51,7 +51,7 @@ AllBytes (e ∷ es) = Bytes (event_bytes e) × AllBytes es
 
 -- each is played as the contract promises
 played_in : (k : Kept) (e : Event) → Fits e → Bytes (event_bytes e) → PlayGiven k.device (play_in k e)
-unfolding after
+unfolding after step_for
 played_in k e f w = (
     w,
     subst (λ (c : Option Call). Gives (step_for k.device k.medium k.reply c) k.reply (play_in k e).gave) (sym (call_is k.device e f)) (record { state = refl; refusal = refl; len = refl; reply = refl; medium = refl }),
@@ -97,7 +97,7 @@ handed_newest m h (x ∷ xs) k l = handed_newest m (x ∷ h) xs (l.0, k) l.1
 
 -- so are those of a run
 handed_plays : (k : Kept) (es : List Event) → AllFit es → Handed k.medium (dones_all k.device (plays_in k es))
-unfolding AllFit Handed dones_all plays_in after step_for
+unfolding AllFit Handed dones_all plays_in after
 handed_plays k [] f = tt
 handed_plays k (e ∷ es) f =
     subst (λ (c : Option Call). Handed k.medium (option_to_list (option_map (λ x. done (lent x k.medium k.reply) (play_in k e).gave) c) ++ dones_all (after k e).device (plays_in (after k e) es))) (sym (call_is k.device e f.0))

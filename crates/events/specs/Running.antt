@@ -1,11 +1,11 @@
 -- What is written for the events of a run. Assumes nothing.
-use Rattle.std.specs.Prelude.{◌≡◌, Bool, true, false, List, [], ◌∷◌, ◌++◌, ℕ, suc, ◌+◌, length, flat_map, replicate, is_some, codes, Some, Result, Ok, Err}
+use Rattle.std.specs.Prelude.{◌≡◌, Bool, true, false, List, [], ◌∷◌, ◌++◌, ℕ, suc, ◌+◌, length, flat_map, replicate, is_some, codes, Result, Ok, Err}
 use Rattle.bits.specs.Pick.{pick}
 use Rattle.bits.specs.Laid.{overlay}
 use Rattle.device_state.specs.State.{medium_size}
-use Rattle.device.specs.Step.{Step, bytes_of}
+use Rattle.device.specs.Lent.{lent}
+use Rattle.device.specs.Step.{Step, step, bytes_of}
 use Rattle.device.specs.declared.state.Device.{Device}
-use Rattle.events.specs.Played.{step_for}
 use Rattle.events.specs.Grammar.{event_bytes, Fits}
 use Rattle.events.specs.Calls.{call_of}
 use Rattle.events.specs.declared.asked.Event.{Event}
@@ -28,7 +28,7 @@ kept d m b = record { device = d; medium = m; reply = b }
 
 -- the step of an event in what is kept
 abbrev pub step_of : Kept → Event → Step
-step_of k event = step_for k.device k.medium k.reply (Some (call_of k.device event))
+step_of k event = step k.device (lent (call_of k.device event) k.medium k.reply)
 
 -- what a step leaves behind
 abbrev pub after_step : Kept → Step → Kept
