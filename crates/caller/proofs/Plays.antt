@@ -28,7 +28,6 @@ use Rattle.events.specs.HostData.{data_frame, host_data_frame}
 use Rattle.events.specs.Start.{start_by, start_of}
 use Rattle.events.specs.Calls.{call_of, call_for}
 use Rattle.events.specs.Played.{step_for}
-use Rattle.events.specs.Running.{told}
 use Rattle.history.specs.Run.{Done, done}
 use Rattle.caller.specs.Continued.{Reached, Holds}
 use Rattle.caller.specs.Playing.{Play, BeginsBy, done_by, dones_all, end_state, ContinuesBy, PlayContinues, PlayGiven, EachPlay, PlaysContinue, GivenPlaysHold, EachTold, GivenPlaysTold, HeldBy}
@@ -111,7 +110,7 @@ pub plays_given : GivenPlaysHold
 plays_given d ps h = let e = each_continues d ps h in (e, plays_continue d ps e)
 
 pub plays_told : GivenPlaysTold
-unfolding EachPlay EachTold told
+unfolding EachPlay EachTold
 plays_told traced n d [] h = tt
 plays_told traced n d (p ∷ ps) h = (rw (h.0.1.refusal, h.0.1.state) refl, plays_told traced (n + 1) p.gave.outcome.state ps h.1)
 

@@ -14,7 +14,7 @@ use Rattle.device.specs.declared.state.Outcome.{Outcome}
 use Rattle.events.specs.Calls.{call_for}
 use Rattle.events.specs.Played.{event_step}
 use Rattle.events.specs.Lines.{line_of}
-use Rattle.events.specs.Running.{kept, told}
+use Rattle.events.specs.Running.{step_told}
 use Rattle.history.specs.Run.{Done, done}
 use Rattle.caller.specs.Continued.{Reached, Holds, Continues, Begins}
 
@@ -81,7 +81,7 @@ GivenPlaysHold = (d : Device) (ps : List Play) → EachPlay PlayGiven d ps → E
 -- the line of an event, as the event program tells it, also of one that a run does not come to and of any medium and reply buffer: the refusal, what is outstanding behind it, and the replies
 abbrev pub LineTold : Bool → ℕ → Device → Play → Type 0
 LineTold traced number d p =
-    told traced number (kept d p.medium p.buffer) p.event
+    step_told traced number (event_step d p.event p.medium p.buffer)
     ≡ line_of traced number p.gave.outcome.refusal p.gave.outcome.state.status.outstanding (bytes_of (event_step d p.event p.medium p.buffer))
 
 -- every event, numbered on

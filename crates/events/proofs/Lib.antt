@@ -1,4 +1,5 @@
 pub mod Asking
+pub mod Spelling
 pub mod Ahead
 pub mod ExactlyNext
 pub mod Recording

@@ -64,21 +64,3 @@ short_body k kind e = grind arith
 
 pub placed_short : (first : Bool) (k : ℕ) (kind : Kind) → placed_kind first (kind_named k) ≡ Some kind → body_of kind ≤ 19
 placed_short first k kind e = short_body k kind (placed_named first (kind_named k) kind e).0
-
--- the settings ask for nothing
-asked_later : (e : List ℕ) (kind : Kind) (event : Event) → event_by_kind e kind ≡ Some event → misplaced false kind ≡ false
-unfolding event_by_kind misplaced
-asked_later e kind event h = grind arith
-
--- bytes begin with the event of the kind that their first byte names, where all of it is there
-pub front_is : (l : List ℕ) (kind : Kind) (n : ℕ) (event : Event) → kind_named (get_or l 0 0) ≡ Some kind → n ≡ body_of kind + 1 → n ≤ length l → event_by_kind (take n l) kind ≡ Some event → BeginsWith l event n
-unfolding next_of next_by next_whole event_of event_kind is_event body_length fits_length
-front_is l kind n event named size there asked =
-    let later = asked_later (take n l) kind event asked in
-    let same : get_or (take n l) 0 0 ≡ get_or l 0 0 = get_or-take n l 0 0 (omega (arith, size)) in
-    let all : length (take n l) ≡ body_of kind + 1 = length-take-le n l there ∙ size in
-    record {
-      within = there;
-      whole = rw (same, named, later, all) (grind (arith, nat_tests));
-      asked = rw (same, named, all) (grind (arith, nat_tests, asked));
-    }

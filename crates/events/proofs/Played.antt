@@ -1,58 +1,54 @@
 -- Where a run stands behind the events that it has played. Assumes nothing.
-use Rattle.std.proofs.Common.{◌≡◌, ℕ, ◌+◌, ◌-◌, ◌^◌, Bool, false, List, [], ◌∷◌, ◌++◌, length, length-append, append-nil, Option, Result, IsErr, IsErrAnd, refl, sym, subst, ◌∙◌, arith, Ok}
+use Rattle.std.proofs.Common.{◌≡◌, ℕ, ◌+◌, ◌-◌, ◌^◌, Bool, true, false, true≢false, List, [], ◌∷◌, ◌++◌, flat_map, length, length-append, append-nil, Option, Some, None, IfSome, Result, IsErr, IsErrAnd, refl, sym, ap₂, subst, ◌∙◌, arith, Ok, Err}
 use Rattle.std.proofs.KnownBytes.{Appends-nil, Appends-trans, Consumes-nil, Consumes-trans}
 use Rattle.std.specs.Io.KnownBytes.{Appends, Consumes}
 use Rattle.streams.specs.Fronts.{AppendsFront}
 use Rattle.events.specs.declared.errors.RunError.{RunError}
 use Rattle.events.specs.declared.kinds.InputEnd.{InputEnd}
-use Rattle.frames.specs.Cut.{joined_bytes}
 use Rattle.events.specs.Ends.{Finished}
 use Rattle.events.specs.Output.{PassedOn}
-use Rattle.events.specs.Reading.{IsEvent, ReadNext}
+use Rattle.events.specs.Kinds.{next_of}
+use Rattle.events.specs.declared.errors.RunError.TheVariants.{TooMany}
+use Rattle.events.specs.Reading.{IsEvent, Ends, BreaksIn, ReadNext}
 use Rattle.events.specs.declared.asked.Event.{Event}
-use Rattle.events.proofs.Steps.{step_asked}
-use Rattle.events.specs.Running.{Kept, step_of, after_step, step_told, told, after, lines_from, kept_after, AllEvents}
-use Rattle.events.specs.Runs.{lines_on, later, always, PlayedOn}
+use Rattle.events.specs.Grammar.{event_bytes}
+use Rattle.events.specs.Running.{Kept, step_of, after_step, step_told, told, after, lines_from, kept_after, AllFit, begun, bytes_read, Plays, ReadsOn, run_lines, refused, started, start_line, next_behind}
+use Rattle.events.specs.Runs.{CameTo, Ran}
 use Rattle.streams.proofs.Fronts.{front_then}
-use Rattle.events.proofs.Fronts.{front_first}
-use Rattle.events.proofs.Runs.{joined_more, kept_more, events_more, text_more, text_passed, begins, CameTo, IsLost, told_lost, finished, finished_behind}
+use Rattle.events.proofs.Runs.{joined_more, kept_more, events_more, text_more, text_passed, IsLost, told_lost, finished, finished_behind}
 
 -- the events so far were read, and left k; their lines, and those that were left before (l), are written, but for the lines that are left; n is the next number
 pub record Played (traced : Bool) (first : Kept) (l : List ℕ) (known old now new : Option (List ℕ)) (k : Kept) (lines : List ℕ) (n : ℕ) : Type 0 where
-  pub es : List (List ℕ)
+  pub es : List Event
   pub done : List ℕ
   pub number : 1 + length es ≡ n
-  pub events : AllEvents es
+  pub events : AllFit es
   pub state : k ≡ kept_after first es
-  pub read : Consumes known now (joined_bytes es)
+  pub read : Consumes known now (flat_map event_bytes es)
   pub written : Appends old new done
-  pub text : lines_on traced first l es ≡ done ++ lines
+  pub text : l ++ lines_from traced 1 first es ≡ done ++ lines
 
 pub none_yet : (traced : Bool) (first : Kept) (l : List ℕ) (known old : Option (List ℕ)) → Played traced first l known old known old first l 1
-unfolding lines_from kept_after AllEvents joined_bytes
+unfolding lines_from kept_after AllFit
 none_yet traced first l known old = record { es = []; done = []; number = refl; events = tt; state = refl; read = Consumes-nil known; written = Appends-nil old; text = append-nil l }
 
 module _ {traced : Bool} {first : Kept} {l : List ℕ} {known old now new : Option (List ℕ)} {k : Kept} {lines : List ℕ} {n : ℕ} (p : Played traced first l known old now new k lines n) where
   -- one event more
-  one_read : (e : List ℕ) (now' : Option (List ℕ)) (k' : Kept) (lines' : List ℕ) → IsEvent false e → Consumes now now' e → k' ≡ after k e → lines' ≡ lines ++ told traced n k e → Played traced first l known old now' new k' lines' (n + 1)
-  one_read e now' k' lines' i c q t = record {
-    es = p.es ++ e ∷ [];
-    done = p.done;
-    number = omega (arith, p.number, length-append p.es (e ∷ []));
-    events = events_more p.es e p.events i;
-    state = rw p.state at q ∙ sym (kept_more first p.es e);
-    read = rw (joined_more p.es e) (Consumes-trans known now now' (joined_bytes p.es) e p.read c);
-    written = p.written;
-    text = text_more traced first l p.es e p.done lines lines' p.text (rw (p.state, sym p.number) at t);
-  }
-
   pub one_more : {next : Result Event InputEnd} {event : Event} {now' : Option (List ℕ)} {k' : Kept} {lines' : List ℕ} → next ≡ Ok event → ReadNext now next now' → k' ≡ after_step k (step_of k event) → lines' ≡ lines ++ step_told traced n (step_of k event)
       → Played traced first l known old now' new k' lines' (n + 1)
   unfolding after told
-  one_more {event = event} w came q t =
+  one_more {event = event} {now' = now'} {lines' = lines'} w came q t =
       let read = rw w at came in
-      let same = step_asked k read.0 event read.3 in
-      one_read read.0 _ _ _ read.1 read.2 (rw same q) (rw same t)
+      record {
+        es = p.es ++ event ∷ [];
+        done = p.done;
+        number = omega (arith, p.number, length-append p.es (event ∷ []));
+        events = events_more p.es event p.events read.0;
+        state = rw p.state at q ∙ sym (kept_more first p.es event);
+        read = rw (joined_more p.es event) (Consumes-trans known now now' (flat_map event_bytes p.es) (event_bytes event) p.read read.1);
+        written = p.written;
+        text = text_more traced first l p.es event p.done lines lines' p.text (rw (p.state, sym p.number) at t);
+      }
 
   -- some of the lines are written
   pub some_passed : (new' : Option (List ℕ)) (left : List ℕ) → PassedOn new new' lines left → Played traced first l known old now new' k left n
@@ -67,17 +63,41 @@ module _ {traced : Bool} {first : Kept} {l : List ℕ} {known old now new : Opti
     text = text_passed _ p.done lines passed.0 left p.text passed.2;
   }
 
-  -- lines are lost
-  pub lost : (known' new' : Option (List ℕ)) (r : Result Unit RunError) (e : RunError) → IsErr r → IsErrAnd r (λ x. x ≡ e) → IsLost e → AppendsFront new new' lines → PlayedOn traced first l known known' old new' r
-  lost known' new' r e i h o front = told_lost AllEvents always later (lines_on traced first l) (2 ^ 64 - 2) known known' old new' r e i h o (record {
-    es = p.es;
-    begins = begins known now (joined_bytes p.es) p.read;
-    events = p.events;
-    written = front_first old new' _ _ (subst (AppendsFront old new') (sym p.text) (front_then old new new' p.done lines p.written front));
-  })
+  -- behind settings that were taken
+  module _ (s : List ℕ) (taken : refused s ≡ false) (from : first ≡ started s) (line : l ≡ start_line traced s) (before : Option (List ℕ)) (i : IsEvent true s) (c : Consumes before known s) where
+    plays : Plays (begun s p.es)
+    unfolding Plays
+    plays = (i, p.events, λ t. absurd (true≢false (sym t ∙ taken)))
 
-  -- the run ends
-  pub ended : (known' new' : Option (List ℕ)) (end : Result InputEnd RunError) (r : Result Unit RunError) → CameTo always later (2 ^ 64 - 2) now known' p.es end → Finished end new new' lines r → PlayedOn traced first l known known' old new' r
-  ended known' new' end r c f =
-      finished AllEvents always later (lines_on traced first l) (2 ^ 64 - 2) known now known' old new' p.es p.events p.read end r c
-      (finished_behind old new new' p.done lines (lines_on traced first l p.es) end r p.text p.written f)
+    read : Consumes before now (bytes_read (begun s p.es))
+    read = Consumes-trans before known now s (flat_map event_bytes p.es) c p.read
+
+    text : run_lines traced (begun s p.es) ≡ p.done ++ lines
+    unfolding run_lines
+    text = ap₂ (λ (x : List ℕ) (k : Kept). x ++ lines_from traced 1 k p.es) (sym line) (sym from) ∙ p.text
+
+    -- lines are lost
+    pub lost : (left new' : Option (List ℕ)) (r : Result Unit RunError) (e : RunError) → IsErr r → IsErrAnd r (λ x. x ≡ e) → IsLost e → AppendsFront new new' lines → Ran traced before left old new' r
+    lost left new' r e i h o front =
+        told_lost traced before left old new' r e i h o (record { all = begun s p.es; now = now; events = plays; read = read; came = tt; written = subst (AppendsFront old new') (sym text) (front_then old new new' p.done lines p.written front) })
+
+    -- the run ends
+    pub ended : (left new' : Option (List ℕ)) (end : Result InputEnd RunError) (r : Result Unit RunError) → CameTo end (begun s p.es) now left → Finished end new new' lines r → Ran traced before left old new' r
+    ended left new' end r m f = finished traced before now left old new' (begun s p.es) plays read end r m (finished_behind old new new' p.done lines (run_lines traced (begun s p.es)) end r text p.written f)
+
+-- what a run comes to behind settings that were taken, and events: the end of the input, a read that failed, the last number
+module _ (s : List ℕ) (es : List Event) (taken : refused s ≡ false) where
+  next : (rest : List ℕ) → next_of false rest ≡ next_behind (begun s es) rest
+  unfolding next_behind
+  next rest = rw taken refl
+
+  pub at_end : (now : Option (List ℕ)) (end : InputEnd) → IfSome now (λ rest. next_of false rest ≡ Err end) → IfSome now (λ rest. next_behind (begun s es) rest ≡ Err end)
+  at_end None end m = tt
+  at_end (Some rest) end m = sym (next rest) ∙ m
+
+  pub at_failure : (now left : Option (List ℕ)) → BreaksIn false now left → ReadsOn (begun s es) × ((part : List ℕ) × Consumes now left part × Ends (next_behind (begun s es) part))
+  unfolding ReadsOn
+  at_failure now left m = (taken, (m.0, m.1, subst Ends (next m.0) m.2))
+
+  pub at_last : (now : Option (List ℕ)) (n : ℕ) → 1 + length es ≡ n → n ≡ 2 ^ 64 - 1 → CameTo (Err TooMany) (begun s es) now now
+  at_last now n e q = (omega (arith, e, q), refl)

@@ -1,50 +1,48 @@
 -- A run grows by one event. Assumes nothing.
-use Rattle.std.proofs.Common.{◌≡◌, ℕ, suc, ◌+◌, Bool, false, List, [], ◌∷◌, ◌++◌, length, Option, Some, None, IfSome, sym, refl, ap, ◌∙◌, append-nil, append_assoc, arith}
-use Rattle.events.specs.Reading.{IsEvent}
-use Rattle.events.specs.Running.{Kept, told, after, lines_from, kept_after, AllEvents}
+use Rattle.std.proofs.Common.{◌≡◌, ℕ, suc, ◌+◌, Bool, false, List, [], ◌∷◌, ◌++◌, length, flat_map, Option, Some, None, IfSome, sym, refl, ap, ◌∙◌, append-nil, append_assoc, arith}
+use Rattle.events.specs.Grammar.{event_bytes, Fits}
+use Rattle.events.specs.declared.asked.Event.{Event}
+use Rattle.events.specs.Running.{Kept, told, after, lines_from, kept_after, AllFit, Read, bytes_read, Plays, run_lines}
 use Rattle.std.specs.Io.KnownBytes.{Appends, Consumes}
 use Rattle.events.specs.declared.kinds.InputEnd.{InputEnd}
-use Rattle.events.specs.declared.kinds.InputEnd.TheVariants.{Clean, NoEvent}
-use Rattle.events.specs.Reading.{Ends}
+use Rattle.events.specs.declared.kinds.InputEnd.TheVariants.{NoEvent}
 use Rattle.events.specs.Running.{ending}
 use mathlib.Core.Bool.{false≢true}
-use Rattle.std.proofs.Common.{is_ok, Result, Ok, Err, IsErr, IsErrAnd, IfErr, MatchResult, subst}
+use Rattle.std.proofs.Common.{is_ok, Result, Ok, Err, IsErr, IsErrAnd, IfErr, MatchResult, subst, inl, inr}
 use Rattle.events.specs.declared.errors.RunError.{RunError}
 use Rattle.events.specs.declared.errors.RunError.TheVariants.{Input, Output, Memory, TooMany}
 use Rattle.std.proofs.KnownBytes.{Consumes-trans}
 use Rattle.streams.specs.Fronts.{AppendsFront}
-use Rattle.frames.specs.Cut.{joined_bytes}
 use Rattle.events.specs.Ends.{last_text, Finished}
 use Rattle.events.specs.Output.{IsOutput}
 use Rattle.streams.proofs.Fronts.{front_of}
-use Rattle.events.proofs.Fronts.{front_first, front_last, all_last}
-use Rattle.events.specs.Runs.{lines_on, RunsOut, Loses, Told}
+use Rattle.events.proofs.Fronts.{front_last, all_last}
+use Rattle.events.specs.Runs.{CameTo, Lost, EndsWith, Ran}
 
-pub joined_more : (es : List (List ℕ)) (e : List ℕ) → joined_bytes (es ++ e ∷ []) ≡ joined_bytes es ++ e
-unfolding joined_bytes
-joined_more [] e = append-nil e
-joined_more (d ∷ es) e = ap (λ (l : List ℕ). d ++ l) (joined_more es e) ∙ sym (append_assoc d (joined_bytes es) e)
+pub joined_more : (es : List Event) (e : Event) → flat_map event_bytes (es ++ e ∷ []) ≡ flat_map event_bytes es ++ event_bytes e
+joined_more [] e = append-nil (event_bytes e)
+joined_more (d ∷ es) e = ap (λ (l : List ℕ). event_bytes d ++ l) (joined_more es e) ∙ sym (append_assoc (event_bytes d) (flat_map event_bytes es) (event_bytes e))
 
-pub lines_more : (traced : Bool) (n : ℕ) (k : Kept) (es : List (List ℕ)) (e : List ℕ) → lines_from traced n k (es ++ e ∷ []) ≡ lines_from traced n k es ++ told traced (n + length es) (kept_after k es) e
+pub lines_more : (traced : Bool) (n : ℕ) (k : Kept) (es : List Event) (e : Event) → lines_from traced n k (es ++ e ∷ []) ≡ lines_from traced n k es ++ told traced (n + length es) (kept_after k es) e
 unfolding lines_from kept_after
 lines_more traced n k [] e = let z : n + 0 ≡ n = omega arith in rw z (append-nil (told traced n k e))
 lines_more traced n k (x ∷ es) e =
     let z : n + 1 + length es ≡ n + suc (length es) = omega arith in
     ap (λ (l : List ℕ). told traced n k x ++ l) (lines_more traced (n + 1) (after k x) es e ∙ rw z refl) ∙ sym (append_assoc (told traced n k x) _ _)
 
-pub kept_more : (k : Kept) (es : List (List ℕ)) (e : List ℕ) → kept_after k (es ++ e ∷ []) ≡ after (kept_after k es) e
+pub kept_more : (k : Kept) (es : List Event) (e : Event) → kept_after k (es ++ e ∷ []) ≡ after (kept_after k es) e
 unfolding kept_after
 kept_more k [] e = refl
 kept_more k (x ∷ es) e = kept_more (after k x) es e
 
-pub events_more : (es : List (List ℕ)) (e : List ℕ) → AllEvents es → IsEvent false e → AllEvents (es ++ e ∷ [])
-unfolding AllEvents
+pub events_more : (es : List Event) (e : Event) → AllFit es → Fits e → AllFit (es ++ e ∷ [])
+unfolding AllFit
 events_more [] e a i = (i, tt)
 events_more (x ∷ es) e a i = (a.0, events_more es e a.1 i)
 
 -- the line of one event more
-pub text_more : (traced : Bool) (k : Kept) (l : List ℕ) (es : List (List ℕ)) (e done lines lines' : List ℕ) → lines_on traced k l es ≡ done ++ lines → lines' ≡ lines ++ told traced (1 + length es) (kept_after k es) e
-    → lines_on traced k l (es ++ e ∷ []) ≡ done ++ lines'
+pub text_more : (traced : Bool) (k : Kept) (l : List ℕ) (es : List Event) (e : Event) (done lines lines' : List ℕ) → l ++ lines_from traced 1 k es ≡ done ++ lines → lines' ≡ lines ++ told traced (1 + length es) (kept_after k es) e
+    → l ++ lines_from traced 1 k (es ++ e ∷ []) ≡ done ++ lines'
 text_more traced k l es e done lines lines' p q = rw (lines_more traced 1 k es e, ← append_assoc l (lines_from traced 1 k es) (told traced (1 + length es) (kept_after k es) e), p, q) (append_assoc done lines _)
 
 -- some of the lines that are left are written
@@ -56,18 +54,6 @@ pub begins : (known now : Option (List ℕ)) (front : List ℕ) → Consumes kno
 begins None now front c = tt
 begins (Some xs) None front c = absurd c
 begins (Some xs) (Some ys) front c = (ys, c)
-
--- the run is over: of what was left it is known what it begins with
-pub over : (P : List (List ℕ) → Type 0) (N : List (List ℕ) → List ℕ → Result ℕ InputEnd) (T : List (List ℕ) → List ℕ) (known now w w' : Option (List ℕ)) (es : List (List ℕ)) (end : Result ℕ InputEnd)
-    → P es → Consumes known now (joined_bytes es) → IfSome now (λ rest. N es rest ≡ end) → Ends end → Appends w w' (T es ++ ending end) → IfSome known (RunsOut P N T w w')
-over P N T None now w w' es end p c n e a = tt
-over P N T (Some xs) None w w' es end p c n e a = absurd c
-over P N T (Some xs) (Some ys) w w' es end p c n e a = record {
-  es = es;
-  rest = ys;
-  cut = record { whole = c; events = p; ends = rw n e };
-  written = rw n a;
-}
 
 -- lines are lost where a write failed, and where there is no memory for one
 abbrev pub IsLost : RunError → Type 0
@@ -82,63 +68,43 @@ output_lost (Output x) o = tt
 output_lost Memory o = absurd o
 output_lost TooMany o = o
 
-lost_by : (P Q : List (List ℕ) → Type 0) (N : List (List ℕ) → List ℕ → Result ℕ InputEnd) (T : List (List ℕ) → List ℕ) (n : ℕ) (known known' w w' : Option (List ℕ)) (e : RunError)
-    → IsLost e → Loses P T known w w' → Told P Q N T n known known' w w' (Err e)
-lost_by P Q N T n known known' w w' (Input x) o l = absurd o
-lost_by P Q N T n known known' w w' (Output x) o l = l
-lost_by P Q N T n known known' w w' Memory o l = l
-lost_by P Q N T n known known' w w' TooMany o l = absurd o
+lost_by : (traced : Bool) (known left w w' : Option (List ℕ)) (e : RunError) → IsLost e → Lost traced known w w' → Ran traced known left w w' (Err e)
+lost_by traced known left w w' (Input x) o l = absurd o
+lost_by traced known left w w' (Output x) o l = inl l
+lost_by traced known left w w' Memory o l = l
+lost_by traced known left w w' TooMany o l = absurd o
 
 -- and that is handed on
-pub told_lost : (P Q : List (List ℕ) → Type 0) (N : List (List ℕ) → List ℕ → Result ℕ InputEnd) (T : List (List ℕ) → List ℕ) (n : ℕ) (known known' w w' : Option (List ℕ)) (r : Result Unit RunError) (e : RunError)
-    → IsErr r → IsErrAnd r (λ x. x ≡ e) → IsLost e → Loses P T known w w' → Told P Q N T n known known' w w' r
-told_lost P Q N T n known known' w w' (Ok u) e i h o l = absurd (false≢true i)
-told_lost P Q N T n known known' w w' (Err x) e i h o l = lost_by P Q N T n known known' w w' x (subst IsLost (sym h) o) l
-
--- what a run came to behind the events es: the end of the input, a read that failed behind a part that is no event, or the last number
-abbrev pub CameTo : (Q : List (List ℕ) → Type 0) (N : List (List ℕ) → List ℕ → Result ℕ InputEnd) (n : ℕ) (now known' : Option (List ℕ)) (es : List (List ℕ)) → Result InputEnd RunError → Type 0
-CameTo Q N n now known' es (Ok end) = IfSome now (λ rest. N es rest ≡ Err end)
-CameTo Q N n now known' es (Err (Input e)) = Q es × ((part : List ℕ) × Consumes now known' part × Ends (N es part))
-CameTo Q N n now known' es (Err TooMany) = (length es ≡ n) × (now ≡ known')
-CameTo Q N n now known' es (Err e) = ⊥
-
--- a front of the lines and of the last text is one of the lines and of `stop`
-front_stop : (w w' : Option (List ℕ)) (end : Result InputEnd RunError) (text : List ℕ) → AppendsFront w w' (text ++ last_text end) → AppendsFront w w' (text ++ ending (Err NoEvent))
-unfolding ending
-front_stop w w' (Ok Clean) text f = front_first w w' text (ending (Err NoEvent)) (rw (append-nil text) at f)
-front_stop w w' (Ok NoEvent) text f = f
-front_stop w w' (Err e) text f = f
+pub told_lost : (traced : Bool) (known left w w' : Option (List ℕ)) (r : Result Unit RunError) (e : RunError) → IsErr r → IsErrAnd r (λ x. x ≡ e) → IsLost e → Lost traced known w w' → Ran traced known left w w' r
+told_lost traced known left w w' (Ok u) e i h o l = absurd (false≢true i)
+told_lost traced known left w w' (Err x) e i h o l = lost_by traced known left w w' x (subst IsLost (sym h) o) l
 
 -- so it ends, where its lines and the last text could be written, and where they could not
-module _ (P Q : List (List ℕ) → Type 0) (N : List (List ℕ) → List ℕ → Result ℕ InputEnd) (T : List (List ℕ) → List ℕ) (n : ℕ) (known now known' w w' : Option (List ℕ)) (es : List (List ℕ)) (events : P es) (read : Consumes known now (joined_bytes es)) where
-  broken : (e : RunError) → CameTo Q N n now known' es (Err e) → Appends w w' (T es ++ ending (Err NoEvent)) → Told P Q N T n known known' w w' (Err e)
-  broken (Input e) m a = record {
-    es = es;
-    looked = m.0;
-    part = m.1.0;
-    read = Consumes-trans known now known' (joined_bytes es) m.1.0 read m.1.1;
-    cut = record { whole = refl; events = events; ends = m.1.2 };
-    written = a;
-  }
+module _ (traced : Bool) (known now left w w' : Option (List ℕ)) (all : Read) (events : Plays all) (read : Consumes known now (bytes_read all)) where
+  ends : (end : Result InputEnd RunError) (W : List ℕ → Type 0) → CameTo end all now left → W (run_lines traced all ++ last_text end) → EndsWith traced known left end W
+  ends end W m f = record { all = all; now = now; events = events; read = read; came = m; written = f }
+
+  broken : (e : RunError) → CameTo (Err e) all now left → Appends w w' (run_lines traced all ++ last_text (Err e)) → Ran traced known left w w' (Err e)
+  broken (Input e) m a = ends (Err (Input e)) (Appends w w') m a
   broken (Output e) m a = absurd m
   broken Memory m a = absurd m
-  broken TooMany m a = record { es = es; last = m.0; read = subst (λ (k : Option (List ℕ)). Consumes known k (joined_bytes es)) m.1 read; events = events; written = a }
+  broken TooMany m a = ends (Err TooMany) (Appends w w') m a
 
-  same_end : (end : Result InputEnd RunError) (e : RunError) → CameTo Q N n now known' es end → (end ≡ Err e) × Appends w w' (T es ++ last_text end) → Told P Q N T n known known' w w' (Err e)
-  same_end end e m f = broken e (subst (CameTo Q N n now known' es) f.0 m) (subst (λ (x : Result InputEnd RunError). Appends w w' (T es ++ last_text x)) f.0 f.1)
+  same_end : (end : Result InputEnd RunError) (e : RunError) → CameTo end all now left → (end ≡ Err e) × Appends w w' (run_lines traced all ++ last_text end) → Ran traced known left w w' (Err e)
+  same_end end e m f = broken e (subst (λ (x : Result InputEnd RunError). CameTo x all now left) f.0 m) (subst (λ (x : Result InputEnd RunError). Appends w w' (run_lines traced all ++ last_text x)) f.0 f.1)
 
-  pub finished : (end : Result InputEnd RunError) (r : Result Unit RunError) → CameTo Q N n now known' es end → Finished end w w' (T es) r → Told P Q N T n known known' w w' r
-  finished (Ok end) (Ok u) m f = over P N T known now w w' es (Err end) events read m tt f.1
+  pub finished : (end : Result InputEnd RunError) (r : Result Unit RunError) → CameTo end all now left → Finished end w w' (run_lines traced all) r → Ran traced known left w w' r
+  finished (Ok end) (Ok u) m f = (end, ends (Ok end) (Appends w w') m f.1)
   finished (Err e) (Ok u) m f = absurd (false≢true f.0)
   finished end (Err (Input x)) m f = same_end end (Input x) m f
-  finished end (Err (Output x)) m f = record { es = es; begins = begins known now (joined_bytes es) read; events = events; written = front_stop w w' end (T es) f }
+  finished end (Err (Output x)) m f = inr (end, ends end (AppendsFront w w') m f)
   finished end (Err Memory) m f = same_end end Memory m f
   finished end (Err TooMany) m f = same_end end TooMany m f
 
 -- all could be written
-written_broken : (w w' : Option (List ℕ)) (lines : List ℕ) (e : RunError) → Appends w w' (lines ++ ending (Err NoEvent)) → Finished (Err e) w w' lines (Err e)
+written_broken : (w w' : Option (List ℕ)) (lines : List ℕ) (e : RunError) → Appends w w' (lines ++ ending NoEvent) → Finished (Err e) w w' lines (Err e)
 written_broken w w' lines (Input x) a = (refl, a)
-written_broken w w' lines (Output x) a = front_of w w' _ [] _ (sym (append-nil (lines ++ ending (Err NoEvent)))) a
+written_broken w w' lines (Output x) a = front_of w w' _ [] _ (sym (append-nil (lines ++ ending NoEvent))) a
 written_broken w w' lines Memory a = (refl, a)
 written_broken w w' lines TooMany a = (refl, a)
 

@@ -1,5 +1,5 @@
 -- What the device gives for an event is what a run keeps and tells of it. Assumes nothing.
-use Rattle.std.proofs.Common.{◌≡◌, ℕ, Bool, List, length, take, drop, ap, ap₂, ◌∙◌, sym, Option, Some, option_map, Result, Ok, Err}
+use Rattle.std.proofs.Common.{◌≡◌, ℕ, Bool, List, length, take, drop, ap, ap₂, ◌∙◌, sym, Option, Result, Ok, Err}
 use lib.Seq.{take-append_seam}
 use Rattle.std.specs.Result.{result_err, result_unwrap_or}
 use Rattle.refusals.specs.declared.reasons.Refusal.{Refusal}
@@ -8,11 +8,7 @@ use Rattle.device.specs.Step.{Step, bytes_of, Gives}
 use Rattle.device.specs.declared.state.Device.{Device}
 use Rattle.device.proofs.Kept.{answered_state}
 use Rattle.events.specs.Lines.{line_of}
-use Rattle.events.specs.Running.{Kept, kept, step_in, step_of, after_step, step_told}
-use Rattle.events.specs.Asked.{event_of}
-use Rattle.events.specs.Calls.{call_of}
-use Rattle.events.specs.Played.{step_for}
-use Rattle.events.specs.declared.asked.Event.{Event}
+use Rattle.events.specs.Running.{Kept, kept, step_of, after_step, step_told}
 
 -- the same device, medium and reply buffer are kept alike
 pub same_kept : {d d' : Device} {m m' b b' : List ℕ} → d ≡ d' → m ≡ m' → b ≡ b' → kept d m b ≡ kept d' m' b'
@@ -36,7 +32,3 @@ told_answered traced n s old d (Err r) m b p = told_by traced n s old (gave (ans
 pub told_is : (traced : Bool) (n : ℕ) (s : Step) (old : List ℕ) (d : Device) (r : Result ℕ Refusal) (m b : List ℕ) (given : Option Refusal) (len : ℕ) → given ≡ result_err r → len ≡ result_unwrap_or r 0
     → Gives s old (gave (answered d r) m b) → line_of traced n given d.status.outstanding (take len b) ≡ step_told traced n s
 told_is traced n s old d r m b given len p q g = rw (p, q) (told_answered traced n s old d r m b g)
-
--- the step of an event's bytes is that of the event
-pub step_asked : (k : Kept) (e : List ℕ) (event : Event) → event_of e ≡ Some event → step_in k e ≡ step_of k event
-step_asked k e event q = ap (λ (o : Option Event). step_for k.device k.medium k.reply (option_map (call_of k.device) o)) q

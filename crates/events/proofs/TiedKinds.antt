@@ -22,7 +22,7 @@ pub tied_event_kind : Sole kinds-said.event_kind.ended kinds.event_kind.Reads.As
 tied_event_kind = sole (λ κs a. tt) (λ κs a r r' ws ws' p q. (same p q, refl))
 
 pub tied_event_of : Sole asked-said.event_of.ended asked.event_of.Reads.Asked asked.event_of.Reads.Post
-tied_event_of = sole (λ κs a. tt) (λ κs a r r' ws ws' p q. (same p q, refl))
+tied_event_of = sole (λ κs a. tt) (λ κs a r r' ws ws' p q. (same p.0 q.0, refl))
 
 pub tied_settings_asked : Sole settings-said.settings_asked.ended settings.settings_asked.Reads.Asked settings.settings_asked.Reads.Post
 tied_settings_asked = sole (λ κs a. tt) (λ κs a r r' ws ws' p q. (same p q, refl))

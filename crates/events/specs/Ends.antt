@@ -10,8 +10,8 @@ use Rattle.events.specs.declared.errors.RunError.TheVariants.{Output}
 
 -- nothing behind a clean end, and else `stop`
 abbrev pub last_text : Result InputEnd RunError → List ℕ
-last_text (Ok end) = ending (Err end)
-last_text (Err e) = ending (Err NoEvent)
+last_text (Ok end) = ending end
+last_text (Err e) = ending NoEvent
 
 -- the lines that were left and the last text are written, and an end of the input is no error; or a write failed, and a front of them is
 abbrev pub Finished : Result InputEnd RunError → Option (List ℕ) → Option (List ℕ) → List ℕ → Result Unit RunError → Type 0

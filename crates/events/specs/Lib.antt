@@ -1,5 +1,6 @@
 pub mod Kinds
 pub mod Asked
+pub mod Grammar
 pub mod Settings
 pub mod Stops
 pub mod Ends

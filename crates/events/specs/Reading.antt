@@ -6,7 +6,7 @@ use Rattle.std.specs.Io.KnownBytes.{Consumes, Keeps}
 use Rattle.events.specs.declared.kinds.InputEnd.{InputEnd}
 use Rattle.events.specs.declared.kinds.Kind.{Kind}
 use Rattle.events.specs.Kinds.{misplaced, next_of}
-use Rattle.events.specs.Asked.{event_of}
+use Rattle.events.specs.Grammar.{event_bytes, Fits, IsSpelt}
 use Rattle.events.specs.declared.asked.Event.{Event}
 
 -- the kind that was named, if an event of that kind may stand here; `first` says that nothing was before it
@@ -28,15 +28,14 @@ abbrev pub ReadEvent : Bool → Option (List ℕ) → Result (Bor (List ℕ)) In
 ReadEvent first old (Ok event) new = IsEvent first event.now × Consumes old new event.now
 ReadEvent first old (Err end) new = IfSome old (λ input. next_of first input ≡ Err end)
 
--- the first n of some bytes are one event, which asks for that [event-reads]
+-- the first n of some bytes are those of the event [event-reads]
 pub record BeginsWith (l : List ℕ) (event : Event) (n : ℕ) : Type 0 where
   pub within : n ≤ length l
-  pub whole : IsEvent false (take n l)
-  pub asked : event_of (take n l) ≡ Some event
+  pub spelt : IsSpelt event (take n l)
 
 -- the bytes of an event were read, and no more; or of the bytes that were left, whatever they are, it is known what they begin with [event-reads]
 abbrev pub ReadNext : Option (List ℕ) → Result Event InputEnd → Option (List ℕ) → Type 0
-ReadNext old (Ok event) new = (e : List ℕ) × IsEvent false e × Consumes old new e × (event_of e ≡ Some event)
+ReadNext old (Ok event) new = Fits event × Consumes old new (event_bytes event)
 ReadNext old (Err end) new = IfSome old (λ input. next_of false input ≡ Err end)
 
 -- so is an event that lies whole in the reader's buffer; of another nothing is read

@@ -1,11 +1,12 @@
 -- What is written for the events of a run. Assumes nothing.
-use Rattle.std.specs.Prelude.{◌≡◌, Bool, true, false, List, [], ◌∷◌, ◌++◌, ℕ, ◌+◌, replicate, is_some, codes, Some, Result, Ok, Err}
+use Rattle.std.specs.Prelude.{◌≡◌, Bool, true, false, List, [], ◌∷◌, ◌++◌, ℕ, suc, ◌+◌, length, flat_map, replicate, is_some, codes, Result, Ok, Err}
 use Rattle.bits.specs.Pick.{pick}
 use Rattle.bits.specs.Laid.{overlay}
 use Rattle.device_state.specs.State.{medium_size}
-use Rattle.device.specs.Step.{Step, bytes_of}
+use Rattle.device.specs.Lent.{lent}
+use Rattle.device.specs.Step.{Step, step, bytes_of}
 use Rattle.device.specs.declared.state.Device.{Device}
-use Rattle.events.specs.Played.{step_for, event_step}
+use Rattle.events.specs.Grammar.{event_bytes, Fits}
 use Rattle.events.specs.Calls.{call_of}
 use Rattle.events.specs.declared.asked.Event.{Event}
 use Rattle.events.specs.Start.{start_of}
@@ -27,11 +28,7 @@ kept d m b = record { device = d; medium = m; reply = b }
 
 -- the step of an event in what is kept
 abbrev pub step_of : Kept → Event → Step
-step_of k event = step_for k.device k.medium k.reply (Some (call_of k.device event))
-
--- and of an event's bytes
-abbrev pub step_in : Kept → List ℕ → Step
-step_in k e = event_step k.device e k.medium k.reply
+step_of k event = step k.device (lent (call_of k.device event) k.medium k.reply)
 
 -- what a step leaves behind
 abbrev pub after_step : Kept → Step → Kept
@@ -42,33 +39,47 @@ abbrev pub step_told : Bool → ℕ → Step → List ℕ
 step_told traced number s = line_of traced number s.refusal s.state.status.outstanding (bytes_of s)
 
 -- what an event leaves behind [event-run]
-unfoldable pub after : Kept → List ℕ → Kept
-after k e = after_step k (step_in k e)
+unfoldable pub after : Kept → Event → Kept
+after k event = after_step k (step_of k event)
 
 -- its line [event-lines]
-unfoldable pub told : Bool → ℕ → Kept → List ℕ → List ℕ
-told traced number k e = step_told traced number (step_in k e)
+unfoldable pub told : Bool → ℕ → Kept → Event → List ℕ
+told traced number k event = step_told traced number (step_of k event)
 
 -- the lines of events, numbered on, each played in what the last one left [event-lines]
-unfoldable pub lines_from : Bool → ℕ → Kept → List (List ℕ) → List ℕ
+unfoldable pub lines_from : Bool → ℕ → Kept → List Event → List ℕ
 lines_from traced n k [] = []
 lines_from traced n k (e ∷ es) = told traced n k e ++ lines_from traced (n + 1) (after k e) es
 
 -- what is kept behind all of them
-unfoldable pub kept_after : Kept → List (List ℕ) → Kept
+unfoldable pub kept_after : Kept → List Event → Kept
 kept_after k [] = k
 kept_after k (e ∷ es) = kept_after (after k e) es
 
--- each is one event behind the settings
-unfoldable pub AllEvents : List (List ℕ) → Type 0
-AllEvents [] = Unit
-AllEvents (e ∷ es) = IsEvent false e × AllEvents es
+-- each is of its widths
+unfoldable pub AllFit : List Event → Type 0
+AllFit [] = Unit
+AllFit (e ∷ es) = Fits e × AllFit es
 
--- what is written at the end
-unfoldable pub ending : Result ℕ InputEnd → List ℕ
-ending (Ok n) = []
-ending (Err NoEvent) = codes "stop\n"
-ending (Err Clean) = []
+-- what a run has read: nothing yet, or the bytes of the settings record and the events behind it
+pub data Read : Type 0 where
+  nothing : Read
+  begun : List ℕ → List Event → Read
+
+-- their bytes [event-reads]
+abbrev pub bytes_read : Read → List ℕ
+bytes_read nothing = []
+bytes_read (begun s es) = s ++ flat_map event_bytes es
+
+-- how many events they are, the settings among them
+abbrev pub count_read : Read → ℕ
+count_read nothing = 0
+count_read (begun s es) = suc (length es)
+
+-- what is written at the input's end [event-stop]
+unfoldable pub ending : InputEnd → List ℕ
+ending NoEvent = codes "stop\n"
+ending Clean = []
 
 -- the settings record is refused
 abbrev pub refused : List ℕ → Bool
@@ -83,21 +94,21 @@ abbrev pub start_line : Bool → List ℕ → List ℕ
 start_line traced s = line_of traced 0 (start_of s).refusal (start_of s).state.status.outstanding []
 
 -- the lines of a run, of which the first event is the settings [event-refused]
-unfoldable pub run_lines : Bool → List (List ℕ) → List ℕ
-run_lines traced [] = []
-run_lines traced (s ∷ es) = start_line traced s ++ lines_from traced 1 (started s) es
+unfoldable pub run_lines : Bool → Read → List ℕ
+run_lines traced nothing = []
+run_lines traced (begun s es) = start_line traced s ++ lines_from traced 1 (started s) es
 
--- the events that a run plays: behind refused settings none [event-refused]
-unfoldable pub Plays : List (List ℕ) → Type 0
-Plays [] = Unit
-Plays (s ∷ es) = IsEvent true s × AllEvents es × (refused s ≡ true → es ≡ [])
+-- what a run reads and plays: behind refused settings no events [event-refused]
+unfoldable pub Plays : Read → Type 0
+Plays nothing = Unit
+Plays (begun s es) = IsEvent true s × AllFit es × (refused s ≡ true → es ≡ [])
 
 -- behind these a run reads on: not behind refused settings
-unfoldable pub ReadsOn : List (List ℕ) → Type 0
-ReadsOn [] = Unit
-ReadsOn (s ∷ es) = refused s ≡ false
+unfoldable pub ReadsOn : Read → Type 0
+ReadsOn nothing = Unit
+ReadsOn (begun s es) = refused s ≡ false
 
--- what follows the events: behind refused settings nothing is looked at
-unfoldable pub next_behind : List (List ℕ) → List ℕ → Result ℕ InputEnd
-next_behind [] rest = next_of true rest
-next_behind (s ∷ es) rest = pick (refused s) (Err Clean) (next_of false rest)
+-- what follows: behind refused settings nothing is looked at
+unfoldable pub next_behind : Read → List ℕ → Result ℕ InputEnd
+next_behind nothing rest = next_of true rest
+next_behind (begun s es) rest = pick (refused s) (Err Clean) (next_of false rest)

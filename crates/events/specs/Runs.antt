@@ -1,66 +1,47 @@
 -- What a run writes for what it reads, for each way in which it may end. Assumes nothing.
-use Rattle.std.specs.Prelude.{◌≡◌, Bool, true, false, List, [], ◌++◌, ℕ, ◌-◌, ◌^◌, length, Option, Some, Result, Ok, Err, IfSome}
+use Rattle.std.specs.Prelude.{◌≡◌, Bool, true, false, List, [], ◌++◌, ◌⊎◌, ℕ, ◌-◌, ◌^◌, Option, Some, Result, Ok, Err, IfSome}
+use Rattle.std.specs.declared.io.Error.{Error}
 use Rattle.std.specs.Io.KnownBytes.{Appends, Consumes}
-use Rattle.frames.specs.Cut.{joined_bytes}
 use Rattle.events.specs.declared.kinds.InputEnd.{InputEnd}
-use Rattle.events.specs.declared.kinds.InputEnd.TheVariants.{NoEvent}
-use Rattle.events.specs.Kinds.{next_of}
 use Rattle.events.specs.declared.ended.Ended.{Ended}
 use Rattle.events.specs.declared.errors.RunError.{RunError}
 use Rattle.events.specs.declared.errors.RunError.TheVariants.{Input, Output, Memory, TooMany}
 use Rattle.events.specs.Reading.{Ends, IsEvent}
 use Rattle.streams.specs.Fronts.{AppendsFront}
 use Rattle.streams.specs.Lost.{complaint}
-use Rattle.events.specs.Running.{Kept, lines_from, AllEvents, ending, run_lines, Plays, ReadsOn, next_behind}
+use Rattle.events.specs.Ends.{last_text}
+use Rattle.events.specs.Running.{Kept, Read, bytes_read, count_read, refused, started, start_line, run_lines, Plays, ReadsOn, next_behind}
 
--- an input is events and a rest that begins with none; of events it is said which may be (P), and what follows them (N)
-pub record IsCut (P : List (List ℕ) → Type 0) (N : List (List ℕ) → List ℕ → Result ℕ InputEnd) (input : List ℕ) (es : List (List ℕ)) (rest : List ℕ) : Type 0 where
-  pub whole : input ≡ joined_bytes es ++ rest
-  pub events : P es
-  pub ends : Ends (N es rest)
+-- what a run came to behind all that it read and played, by what was left of the input then (now) and what is left of it (left): its end; a read that failed, behind a part that is no event; or the last number, so that the event which has it is the last [event-stop] [event-broken]
+abbrev pub CameTo : Result InputEnd RunError → Read → (now left : Option (List ℕ)) → Type 0
+CameTo (Ok end) all now left = IfSome now (λ rest. next_behind all rest ≡ Err end)
+CameTo (Err (Input e)) all now left = ReadsOn all × ((part : List ℕ) × Consumes now left part × Ends (next_behind all part))
+CameTo (Err TooMany) all now left = (count_read all ≡ 2 ^ 64 - 1) × (now ≡ left)
+CameTo (Err e) all now left = ⊥
 
--- the input ended: the lines (T) of its events are written, and `stop` where the rest is no clean end [event-run]
-pub record RunsOut (P : List (List ℕ) → Type 0) (N : List (List ℕ) → List ℕ → Result ℕ InputEnd) (T : List (List ℕ) → List ℕ) (old new : Option (List ℕ)) (input : List ℕ) : Type 0 where
-  pub es : List (List ℕ)
-  pub rest : List ℕ
-  pub cut : IsCut P N input es rest
-  pub written : Appends old new (T es ++ ending (N es rest))
+-- the input begins with events that a run plays, behind which it came so far (C), and of their lines it is known what was written (W) [event-run]
+pub record Wrote (traced : Bool) (known : Option (List ℕ)) (C : Read → Option (List ℕ) → Type 0) (W : List ℕ → Type 0) : Type 0 where
+  pub all : Read
+  pub now : Option (List ℕ)
+  pub events : Plays all
+  pub read : Consumes known now (bytes_read all)
+  pub came : C all now
+  pub written : W (run_lines traced all)
 
--- a read failed: what was read is whole events, behind which a run reads on (Q), and a part that is none; their lines are written, and `stop` [event-broken] [event-lost]
-pub record BreaksOff (P Q : List (List ℕ) → Type 0) (N : List (List ℕ) → List ℕ → Result ℕ InputEnd) (T : List (List ℕ) → List ℕ) (known known' old new : Option (List ℕ)) : Type 0 where
-  pub es : List (List ℕ)
-  pub looked : Q es
-  pub part : List ℕ
-  pub read : Consumes known known' (joined_bytes es ++ part)
-  pub cut : IsCut P N (joined_bytes es ++ part) es part
-  pub written : Appends old new (T es ++ ending (Err NoEvent))
+-- lines are lost before a run came to an end: of the lines of events that were read a front is written, and nothing behind them [event-lost]
+abbrev pub Lost : Bool → (known old new : Option (List ℕ)) → Type 0
+Lost traced known old new = Wrote traced known (λ all now. Unit) (AppendsFront old new)
 
--- lines are lost: the input begins with events, and of their lines, and of `stop`, a front is written [event-lost]
-pub record Loses (P : List (List ℕ) → Type 0) (T : List (List ℕ) → List ℕ) (known old new : Option (List ℕ)) : Type 0 where
-  pub es : List (List ℕ)
-  pub begins : IfSome known (λ input. (rest : List ℕ) × (input ≡ joined_bytes es ++ rest))
-  pub events : P es
-  pub written : AppendsFront old new (T es ++ ending (Err NoEvent))
+-- a run came to an end, and of its lines and its last text it is known what was written (W) [event-run]
+abbrev pub EndsWith : Bool → (known left : Option (List ℕ)) → Result InputEnd RunError → (List ℕ → Type 0) → Type 0
+EndsWith traced known left end W = Wrote traced known (λ all now. CameTo end all now left) (λ lines. W (lines ++ last_text end))
 
--- the last of n events is played: the lines are written, and `stop`
-pub record Tires (P : List (List ℕ) → Type 0) (T : List (List ℕ) → List ℕ) (n : ℕ) (known known' old new : Option (List ℕ)) : Type 0 where
-  pub es : List (List ℕ)
-  pub last : length es ≡ n
-  pub read : Consumes known known' (joined_bytes es)
-  pub events : P es
-  pub written : Appends old new (T es ++ ending (Err NoEvent))
-
--- what is told of a run by its result: it ran to the input's end; a read failed; a write failed; no memory for a line; n events are played, and that is the last number
-abbrev pub Told : (P Q : List (List ℕ) → Type 0) (N : List (List ℕ) → List ℕ → Result ℕ InputEnd) (T : List (List ℕ) → List ℕ) (n : ℕ) (known known' old new : Option (List ℕ)) → Result Unit RunError → Type 0
-Told P Q N T n known known' old new (Ok u) = IfSome known (RunsOut P N T old new)
-Told P Q N T n known known' old new (Err (Input e)) = BreaksOff P Q N T known known' old new
-Told P Q N T n known known' old new (Err (Output e)) = Loses P T known old new
-Told P Q N T n known known' old new (Err Memory) = Loses P T known old new
-Told P Q N T n known known' old new (Err TooMany) = Tires P T n known known' old new
-
--- the whole run [event-run]
-abbrev pub Ran : Bool → (known known' old new : Option (List ℕ)) → Result Unit RunError → Type 0
-Ran traced known known' old new result = Told Plays ReadsOn next_behind (run_lines traced) (2 ^ 64 - 1) known known' old new result
+-- the whole run by its result: it came to an end, and all is written; a write failed there, or before; or there is no memory for a line [event-run] [event-broken] [event-lost]
+abbrev pub Ran : Bool → (known left old new : Option (List ℕ)) → Result Unit RunError → Type 0
+Ran traced known left old new (Ok u) = (end : InputEnd) × EndsWith traced known left (Ok end) (Appends old new)
+Ran traced known left old new (Err (Output e)) = Lost traced known old new ⊎ ((end : Result InputEnd RunError) × EndsWith traced known left end (AppendsFront old new))
+Ran traced known left old new (Err Memory) = Lost traced known old new
+Ran traced known left old new (Err e) = EndsWith traced known left (Err e) (Appends old new)
 
 -- what is said aloud of a run by its result: that lines are missing [event-lost]
 abbrev pub said_of : Result Unit RunError → List ℕ
@@ -88,30 +69,18 @@ exit_status_of (Err (Output e)) = 4
 exit_status_of (Err Memory) = 4
 exit_status_of (Err TooMany) = 3
 
--- behind the settings a run reads on, whatever came
-abbrev pub always : List (List ℕ) → Type 0
-always es = Unit
-
--- and what follows is what the rest begins with
-abbrev pub later : List (List ℕ) → List ℕ → Result ℕ InputEnd
-later es rest = next_of false rest
-
--- the lines of events behind those that are not yet written
-abbrev pub lines_on : Bool → Kept → List ℕ → List (List ℕ) → List ℕ
-lines_on traced k lines es = lines ++ lines_from traced 1 k es
-
--- the run behind the settings, with lines that are not yet written
-abbrev pub PlayedOn : Bool → Kept → List ℕ → (known known' old new : Option (List ℕ)) → Result Unit RunError → Type 0
-PlayedOn traced k lines known known' old new result = Told AllEvents always later (lines_on traced k lines) (2 ^ 64 - 2) known known' old new result
-
 -- the run from its settings on: whatever began with these, it is the whole run of that
-abbrev pub StartedWith : Bool → List ℕ → (known known' old new : Option (List ℕ)) → Result Unit RunError → Type 0
-StartedWith traced s known known' old new result = (before : Option (List ℕ)) → IsEvent true s → Consumes before known s → Ran traced before known' old new result
+abbrev pub StartedWith : Bool → List ℕ → (known left old new : Option (List ℕ)) → Result Unit RunError → Type 0
+StartedWith traced s known left old new result = (before : Option (List ℕ)) → IsEvent true s → Consumes before known s → Ran traced before left old new result
+
+-- the run behind settings that were taken, with what is kept and a line that is not yet written: of whatever settings these are
+abbrev pub PlayedOn : Bool → Kept → List ℕ → (known left old new : Option (List ℕ)) → Result Unit RunError → Type 0
+PlayedOn traced k lines known left old new result = (s : List ℕ) → refused s ≡ false → k ≡ started s → lines ≡ start_line traced s → StartedWith traced s known left old new result
 
 -- one input has one text: outputs that an end of the input allows for the same bytes read are equal [event-run]
 abbrev pub OneText : Type 0
-OneText = (traced : Bool) (input old : List ℕ) (new new' : Option (List ℕ)) → RunsOut Plays next_behind (run_lines traced) (Some old) new input → RunsOut Plays next_behind (run_lines traced) (Some old) new' input → new ≡ new'
+OneText = (traced : Bool) (input old : List ℕ) (left left' new new' : Option (List ℕ)) → Ran traced (Some input) left (Some old) new (Ok tt) → Ran traced (Some input) left' (Some old) new' (Ok tt) → new ≡ new'
 
 -- and so are those that a failed read allows
 abbrev pub OneBroken : Type 0
-OneBroken = (traced : Bool) (input left old : List ℕ) (new new' : Option (List ℕ)) → BreaksOff Plays ReadsOn next_behind (run_lines traced) (Some input) (Some left) (Some old) new → BreaksOff Plays ReadsOn next_behind (run_lines traced) (Some input) (Some left) (Some old) new' → new ≡ new'
+OneBroken = (traced : Bool) (input left old : List ℕ) (new new' : Option (List ℕ)) (e e' : Error) → Ran traced (Some input) (Some left) (Some old) new (Err (Input e)) → Ran traced (Some input) (Some left) (Some old) new' (Err (Input e')) → new ≡ new'

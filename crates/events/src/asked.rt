@@ -1,7 +1,8 @@
 // What an event asks for, read from its bytes once.
-ghost use Rattle.std.specs.Prelude.{◌≡◌, ◌+◌, length};
+ghost use Rattle.std.specs.Prelude.{◌≡◌, ◌+◌, IfSome, length};
 ghost use Rattle.events.specs.Kinds.{body_of};
 ghost use Rattle.events.specs.Asked.{event_by_kind, event_of};
+ghost use Rattle.events.specs.Grammar.{IsSpelt};
 
 use crate::kinds::{Kind, event_kind};
 use frames::byte_of;
@@ -49,7 +50,8 @@ pub(crate) fn event_by_kind(kind: Kind, event: &[u8]) -> Option<Event>
 /// What the bytes of an event ask for; `None` for what is no event, and for settings.
 #[tactic(auto, unfolding(crate::specs::Asked::event_of), using(crate::proofs::Recording::kind_length))]
 pub fn event_of(event: &[u8]) -> Option<Event>
-    ensures { result ≡ event_of event.now }
+    ensures value { result ≡ event_of event.now }
+    ensures spelt { IfSome result (λ asked. IsSpelt asked event.now) }
 {
     event_by_kind(event_kind(event)?, event)
 }

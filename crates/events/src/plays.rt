@@ -1,9 +1,8 @@
 // One event to its call.
-ghost use Rattle.std.specs.Prelude.{Some};
-ghost use Rattle.device.specs.Lent.{gave, answered};
-ghost use Rattle.device.specs.Step.{Gives};
+ghost use Rattle.device.specs.Lent.{lent, gave, answered};
+ghost use Rattle.device.specs.Step.{step, Gives};
 ghost use Rattle.events.specs.Calls.{call_of};
-ghost use Rattle.events.specs.Played.{step_for, event_step};
+ghost use Rattle.events.specs.Played.{event_step};
 
 use crate::host_data::host_data;
 use crate::{Event, event_of};
@@ -12,7 +11,7 @@ use frames::DATA_FRAME_LIMIT;
 use refusals::Refusal;
 
 /// An event to its call; `room` is where the frame of host data is laid.
-#[tactic(auto, unfolding(crate::specs::Calls::call_of, crate::specs::Played::step_for))]
+#[tactic(auto, unfolding(crate::specs::Calls::call_of))]
 pub(crate) fn make_call(
     sealed: &mut Sealed,
     event: Event,
@@ -20,7 +19,7 @@ pub(crate) fn make_call(
     medium: &mut [u8],
     reply: &mut [u8],
 ) -> Result<usize, Refusal>
-    ensures { Gives (step_for sealed.old.device medium.old reply.old (Some (call_of sealed.old.device event))) reply.old (gave (answered sealed.new.device result) medium.new reply.new) }
+    ensures { Gives (step sealed.old.device (lent (call_of sealed.old.device event) medium.old reply.old)) reply.old (gave (answered sealed.new.device result) medium.new reply.new) }
 {
     match event {
         Event::OfDevice(event) => sealed.event(event, medium, reply),

@@ -1,4 +1,5 @@
-use Rattle.std.proofs.Common.{take, subst}
+use Rattle.std.proofs.Common.{subst}
+use Rattle.std.specs.Io.KnownBytes.{Consumes}
 use Rattle.std.specs.Io.BufRead.{FillKeeps}
 use Rattle.std.proofs.BufReadLemmas.{Consumes_shown}
 use Rattle.events.proofs.reading.read_ahead.Goals as goal
@@ -11,4 +12,4 @@ returns-clause-ok g c =
     let rested = c.fill_buf.follows.lender-at-none in
     let filled = subst (FillKeeps _ (g.R.Read.remaining rested) (g.R.BufRead.consumable_len rested)) c.in_ok-fill_buf.was c.fill_buf.follows.holds-at-none in
     let moved = Consumes_shown _ _ _ _ shown c.in-Some.size found.within c.in_ok-fill_buf.ensures.front c.in_ok-fill_buf.ensures.end filled.0 filled.1 c.consume.ensures.bytes in
-    (take c.in-Some.size shown, found.whole, moved.0, found.asked)
+    (found.spelt.0, subst (Consumes _ _) found.spelt.1 moved.0)

@@ -1,9 +1,8 @@
 use Rattle.std.proofs.Common.{refl, ◌∙◌, ap, sym, arith}
 use Rattle.device.specs.Sealing.{powered_of}
 use Rattle.std.proofs.lemmas.List.{take-replicate}
-use Rattle.events.proofs.Starting.{loses_all, from_start, stays_refused, refused_yes, refused_no, first_line, started_is, medium_fits, room_is}
+use Rattle.events.proofs.Starting.{loses_all, stays_refused, refused_yes, refused_no, first_line, started_is, medium_fits, room_is}
 use Rattle.events.specs.declared.errors.RunError.TheVariants.{Memory}
-use Rattle.events.specs.Running.{Plays, ReadsOn, next_behind, run_lines}
 use Rattle.events.proofs.Runs.{told_lost}
 use Rattle.events.proofs.running.start_with.Goals as goal
 
@@ -15,7 +14,7 @@ slice_bounds-new-end g c = room_is c.args.settings.now _ c.in-Ok.sealed c.start-
 
 pub returns-in_err-push_line : goal.returns-in_err-push_line
 returns-in_err-push_line g c before i read =
-    told_lost Plays ReadsOn next_behind (run_lines c.args.format.traced) _ _ _ _ _ c.from_residual.result Memory c.from_residual.ensures.0 c.from_residual.ensures.1 tt (loses_all c.args.format.traced before _)
+    told_lost c.args.format.traced before _ _ _ c.from_residual.result Memory c.from_residual.ensures.0 c.from_residual.ensures.1 tt (loses_all c.args.format.traced before _)
 
 pub returns-in_default : goal.returns-in_default
 returns-in_default g c before i read =
@@ -29,4 +28,4 @@ returns g c before i read =
     let on = sym (ap powered_of c.in-Ok.is) ∙ c.start-begun.ensures in
     let f = medium_fits c.args.settings.now c.start-begun.ensures c.in-Ok.is in
     let begun = c.new-bench.ensures ∙ started_is c.args.settings.now _ _ _ on _ c.medium_size-size.ensures (take-replicate _ 32768 0 (omega (arith, f, c.medium_size-size.ensures))) refl in
-    from_start c.args.format.traced c.args.settings.now _ _ before _ _ _ _ c.play_on.result (refused_no c.args.settings.now _ on) i read line begun c.play_on.ensures
+    c.play_on.ensures c.args.settings.now (refused_no c.args.settings.now _ on) begun line before i read

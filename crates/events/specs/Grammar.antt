@@ -1,0 +1,39 @@
+-- The bytes of an event behind the settings, in the direction in which they are written. Assumes nothing.
+use Rattle.std.specs.Prelude.{◌≡◌, ◌<◌, ◌^◌, List, [], ◌∷◌, ℕ, length, get_or}
+use Rattle.bits.specs.Little.{Bytes, le_bytes}
+use Rattle.events.specs.declared.asked.Event.{Event}
+use Rattle.events.specs.declared.asked.Event.TheVariants.{OfDevice, HostData, HostRegister, Bist}
+use Rattle.rules.specs.declared.event.DeviceEvent.TheVariants.{OpenPhase, SendData, FinishTags, MediaError, LinkEvent, Comreset}
+
+-- its kind, and the fields of its body in their order; the kind of a frame is its type [event-kinds]
+unfoldable pub event_bytes : Event → List ℕ
+event_bytes (OfDevice (OpenPhase tag)) = 0x01 ∷ tag ∷ []
+event_bytes (OfDevice SendData) = 0x02 ∷ []
+event_bytes (OfDevice (FinishTags tags)) = 0x03 ∷ le_bytes 4 tags
+event_bytes (OfDevice (MediaError tag error sector)) = 0x04 ∷ tag ∷ error ∷ le_bytes 4 sector
+event_bytes (OfDevice (LinkEvent row)) = 0x05 ∷ row ∷ []
+event_bytes (OfDevice Comreset) = 0x06 ∷ []
+event_bytes (HostData byte) = 0x07 ∷ byte ∷ []
+event_bytes (HostRegister frame) = frame
+event_bytes (Bist frame) = frame
+
+-- a frame from the host of this type and length
+pub record IsFrame (type n : ℕ) (frame : List ℕ) : Type 0 where
+  pub bytes : Bytes frame
+  pub long : length frame ≡ n
+  pub typed : get_or frame 0 0 ≡ type
+
+-- its fields are of their widths, and a frame is of its type [event-kinds]
+unfoldable pub Fits : Event → Type 0
+Fits (OfDevice (OpenPhase tag)) = tag < 256
+Fits (OfDevice (FinishTags tags)) = tags < 2 ^ 32
+Fits (OfDevice (MediaError tag error sector)) = (tag < 256) × (error < 256) × (sector < 2 ^ 32)
+Fits (OfDevice (LinkEvent row)) = row < 256
+Fits (OfDevice event) = Unit
+Fits (HostData byte) = byte < 256
+Fits (HostRegister frame) = IsFrame 0x27 20 frame
+Fits (Bist frame) = IsFrame 0x58 12 frame
+
+-- these are the bytes of that event [event-reads]
+abbrev pub IsSpelt : Event → List ℕ → Type 0
+IsSpelt event e = Fits event × (e ≡ event_bytes event)
