@@ -5,7 +5,7 @@ use Rattle.std.proofs.lemmas.Bool.Decides.{nat_tests}
 use Rattle.std.proofs.lemmas.List.{get_or-take, get_or_past}
 use Rattle.bits.specs.Little.{Bytes, byte_of, le_at, le_bytes}
 use Rattle.bits.proofs.Littles.{le_le_bytes, le_lt, byte_le}
-use Rattle.rules.specs.declared.event.DeviceEvent.TheVariants.{OpenPhase, SendData, FinishTags, MediaError, LinkEvent, Comreset}
+use Rattle.rules.specs.declared.event.DeviceEvent.TheVariants.{OpenPhase, SendData, FinishTags, MediaError, LinkEvent, LinkTally, Comreset}
 use Rattle.events.specs.Kinds.{kind_named, body_of, body_length, misplaced, next_whole, next_by, next_of, fits_length, is_event, event_kind}
 use Rattle.events.specs.declared.kinds.Kind.{Kind}
 use Rattle.events.specs.declared.kinds.Kind.TheVariants as kinds
@@ -114,6 +114,7 @@ read_back (OfDevice SendData) f = (refl, refl)
 read_back (OfDevice (FinishTags tags)) f = (refl, ap (λ (n : ℕ). Some (OfDevice (FinishTags n))) (le_le_bytes 4 f))
 read_back (OfDevice (MediaError tag error sector)) f = (refl, ap (λ (n : ℕ). Some (OfDevice (MediaError tag error n))) (le_le_bytes 4 f.2))
 read_back (OfDevice (LinkEvent row)) f = (refl, refl)
+read_back (OfDevice (LinkTally amounts)) f = absurd f
 read_back (OfDevice Comreset) f = (refl, refl)
 read_back (HostData byte) f = (refl, refl)
 read_back (HostRegister frame) f =

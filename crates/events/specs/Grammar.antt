@@ -3,15 +3,16 @@ use Rattle.std.specs.Prelude.{◌≡◌, ◌<◌, ◌^◌, List, [], ◌∷◌, 
 use Rattle.bits.specs.Little.{Bytes, le_bytes}
 use Rattle.events.specs.declared.asked.Event.{Event}
 use Rattle.events.specs.declared.asked.Event.TheVariants.{OfDevice, HostData, HostRegister, Bist}
-use Rattle.rules.specs.declared.event.DeviceEvent.TheVariants.{OpenPhase, SendData, FinishTags, MediaError, LinkEvent, Comreset}
+use Rattle.rules.specs.declared.event.DeviceEvent.TheVariants.{OpenPhase, SendData, FinishTags, MediaError, LinkEvent, LinkTally, Comreset}
 
--- its kind, and the fields of its body in their order; the kind of a frame is its type [event-kinds]
+-- its kind, and the fields of its body in their order; the kind of a frame is its type; a tally has no kind, and stands in no event file [event-kinds]
 unfoldable pub event_bytes : Event → List ℕ
 event_bytes (OfDevice (OpenPhase tag)) = 0x01 ∷ tag ∷ []
 event_bytes (OfDevice SendData) = 0x02 ∷ []
 event_bytes (OfDevice (FinishTags tags)) = 0x03 ∷ le_bytes 4 tags
 event_bytes (OfDevice (MediaError tag error sector)) = 0x04 ∷ tag ∷ error ∷ le_bytes 4 sector
 event_bytes (OfDevice (LinkEvent row)) = 0x05 ∷ row ∷ []
+event_bytes (OfDevice (LinkTally amounts)) = []
 event_bytes (OfDevice Comreset) = 0x06 ∷ []
 event_bytes (HostData byte) = 0x07 ∷ byte ∷ []
 event_bytes (HostRegister frame) = frame
@@ -29,6 +30,7 @@ Fits (OfDevice (OpenPhase tag)) = tag < 256
 Fits (OfDevice (FinishTags tags)) = tags < 2 ^ 32
 Fits (OfDevice (MediaError tag error sector)) = (tag < 256) × (error < 256) × (sector < 2 ^ 32)
 Fits (OfDevice (LinkEvent row)) = row < 256
+Fits (OfDevice (LinkTally amounts)) = ⊥
 Fits (OfDevice event) = Unit
 Fits (HostData byte) = byte < 256
 Fits (HostRegister frame) = IsFrame 0x27 20 frame
