@@ -25,7 +25,7 @@ some_left empty (c ∷ cs) e f = omega arith
 
 pub none_left : (empty : Bool) (rest : List ℕ) → empty ≡ (length rest == 0) → empty ≡ true → rest ≡ []
 none_left empty [] e t = refl
-none_left empty (c ∷ cs) e t = absurd (false≢true (sym e ∙ t))
+none_left empty (c ∷ cs) e t = grind (arith, e, t)
 
 -- so much is written, and the bench and what is found are left, from which the rest goes on
 pub record Stands (name : List ℕ) (first : Kept) (script : List ℕ) (old new : Option (List ℕ)) (k : Kept) (check : Check) (rest : List ℕ) : Type 0 where
