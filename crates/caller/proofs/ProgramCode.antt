@@ -1,43 +1,19 @@
 -- What the contract of the run allows is a history, however the run ended. Assumes nothing.
-use Rattle.std.proofs.Common.{◌≡◌, ℕ, ◌+◌, ◌<◌, ◌≤◌, Bool, Option, Some, None, IfSome, Result, Ok, Err, List, [], ◌∷◌, ◌++◌, flat_map, length, sym, ap, ◌∙◌, subst, append-nil, append_assoc, arith, ⊎_elim, get_or-append-add, inl, inr}
-use Rattle.std.proofs.lemmas.Bool.{cases_lt}
-use lib.ListN.{get_or-append}
-use Rattle.std.proofs.lemmas.List.{get_or_past}
-use Rattle.std.specs.Io.KnownBytes.{Appends, Consumes}
-use Rattle.bits.specs.Little.{Bytes}
+use Rattle.std.proofs.Common.{ℕ, Bool, Option, Some, None, IfSome, Result, Ok, Err, List, [], ◌++◌, sym, append-nil, inl, inr}
+use Rattle.std.specs.Io.KnownBytes.{Appends}
 use Rattle.events.specs.declared.kinds.InputEnd.{InputEnd}
 use Rattle.events.specs.declared.kinds.InputEnd.TheVariants.{Clean, NoEvent}
 use Rattle.events.specs.declared.errors.RunError.{RunError}
 use Rattle.events.specs.declared.errors.RunError.TheVariants.{Input, Output, Memory, TooMany}
 use Rattle.streams.specs.Fronts.{AppendsFront}
-use Rattle.events.specs.Running.{Read, nothing, begun, bytes_read, run_lines, ending}
+use Rattle.events.specs.Running.{Read, bytes_read, run_lines, ending}
 use Rattle.events.specs.Ends.{last_text}
 use Rattle.events.specs.Runs.{Wrote, Lost, Ran}
-use Rattle.events.specs.Grammar.{event_bytes}
-use Rattle.events.specs.declared.asked.Event.{Event}
 use Rattle.streams.proofs.Fronts.{front_of}
 use Rattle.events.proofs.Runs.{begins}
 use Rattle.events.proofs.Fronts.{front_first}
 use Rattle.caller.specs.Program.{RunHistory}
-use Rattle.caller.proofs.Programs.{AllBytes, OfBytes, program_history}
-
--- what begins or ends a text of bytes is of bytes
-first_bytes : (a b : List ℕ) → Bytes (a ++ b) → Bytes a
-first_bytes a b w i = ⊎_elim (λ (h : i < length a). subst (λ (x : ℕ). x < 256) (get_or-append a b 0 i h) (w i)) (λ (h : length a ≤ i). rw (get_or_past a i 0 h) (omega arith)) (cases_lt i (length a))
-
-rest_bytes : (a b : List ℕ) → Bytes (a ++ b) → Bytes b
-rest_bytes a b w i = subst (λ (x : ℕ). x < 256) (get_or-append-add a b i 0) (w (length a + i))
-
-all_bytes : (es : List Event) (rest : List ℕ) → Bytes (flat_map event_bytes es ++ rest) → AllBytes es
-unfolding AllBytes
-all_bytes [] rest w = tt
-all_bytes (e ∷ es) rest w =
-    let all : Bytes (event_bytes e ++ (flat_map event_bytes es ++ rest)) = subst Bytes (append_assoc (event_bytes e) (flat_map event_bytes es) rest) w in
-    (first_bytes (event_bytes e) (flat_map event_bytes es ++ rest) all, all_bytes es rest (rest_bytes (event_bytes e) (flat_map event_bytes es ++ rest) all))
-
-of_bytes : (all : Read) (rest : List ℕ) → Bytes (bytes_read all ++ rest) → OfBytes all
-of_bytes nothing rest w = tt
-of_bytes (begun s es) rest w = all_bytes es rest (rest_bytes s (flat_map event_bytes es ++ rest) (subst Bytes (append_assoc s (flat_map event_bytes es) rest) w))
+use Rattle.caller.proofs.Programs.{program_history}
 
 -- the last text is `stop`, or nothing
 front_stop : (old new : Option (List ℕ)) (end : Result InputEnd RunError) (lines : List ℕ) → AppendsFront old new (lines ++ last_text end) → AppendsFront old new (lines ++ ending NoEvent)
@@ -51,23 +27,23 @@ all_stop old new end lines a = front_stop old new end lines (front_of old new (l
 
 module _ (traced : Bool) (input : List ℕ) (old new : Option (List ℕ)) where
   -- what an input begins with, of whose lines a front is written
-  shown : (C : Read → Option (List ℕ) → Type 0) (W : List ℕ → Type 0) → ((lines : List ℕ) → W lines → AppendsFront old new (lines ++ ending NoEvent)) → Wrote traced (Some input) C W → Bytes input → RunHistory traced input old new
-  shown C W f t w =
+  shown : (C : Read → Option (List ℕ) → Type 0) (W : List ℕ → Type 0) → ((lines : List ℕ) → W lines → AppendsFront old new (lines ++ ending NoEvent)) → Wrote traced (Some input) C W → RunHistory traced input old new
+  shown C W f t =
       let b = begins (Some input) t.now (bytes_read t.all) t.read in
       record {
         all = t.all;
         rest = b.0;
         begins = b.1;
         plays = t.events;
-        history = program_history traced t.all (of_bytes t.all b.0 (subst Bytes b.1 w)) t.events;
+        history = program_history traced t.all t.events;
         written = f (run_lines traced t.all) t.written;
       }
 
-  lost : Lost traced (Some input) old new → Bytes input → RunHistory traced input old new
+  lost : Lost traced (Some input) old new → RunHistory traced input old new
   lost t = shown _ _ (λ lines f. front_first old new lines (ending NoEvent) f) t
 
 pub program_history_code : (traced : Bool) (known known' old new : Option (List ℕ)) (r : Result Unit RunError) → Ran traced known known' old new r
-    → IfSome known (λ input. Bytes input → RunHistory traced input old new)
+    → IfSome known (λ input. RunHistory traced input old new)
 program_history_code traced None known' old new r t = tt
 program_history_code traced (Some input) known' old new (Ok u) t = shown traced input old new _ _ (all_stop old new (Ok t.0)) t.1
 program_history_code traced (Some input) known' old new (Err (Input e)) t = shown traced input old new _ _ (all_stop old new (Err (Input e))) t

@@ -1,7 +1,6 @@
 -- What the event program plays is a faithful history. Assumes nothing.
 use Rattle.std.proofs.Common.{◌≡◌, refl, sym, ap, subst, ◌∙◌, Bool, true, List, [], ◌∷◌, ◌++◌, map, option_to_list, ℕ, ◌+◌, length, drop, Option, Some, None, option_map}
 use lib.Seq.{take-append_seam}
-use Rattle.bits.specs.Little.{Bytes}
 use Rattle.rules.specs.Call.{Call}
 use Rattle.device_state.specs.declared.shapes.Settings.{Settings}
 use Rattle.device.specs.Device.{fresh_device, power_on}
@@ -44,23 +43,18 @@ unfolding EachShown
 shown_run traced n k [] = tt
 shown_run traced n k (e ∷ es) = (shows traced n k e, shown_run traced (n + 1) (after k e) es)
 
--- each event is of bytes
-unfoldable pub AllBytes : List Event → Type 0
-AllBytes [] = Unit
-AllBytes (e ∷ es) = Bytes (event_bytes e) × AllBytes es
-
 -- each is played as the contract promises
-played_in : (k : Kept) (e : Event) → Fits e → Bytes (event_bytes e) → PlayGiven k.device (play_in k e)
+played_in : (k : Kept) (e : Event) → Fits e → PlayGiven k.device (play_in k e)
 unfolding after step_for
-played_in k e f w = (
-    w,
-    subst (λ (c : Option Call). Gives (step_for k.device k.medium k.reply c) k.reply (play_in k e).gave) (sym (call_is k.device e f)) (record { state = refl; refusal = refl; len = refl; reply = refl; medium = refl }),
+played_in k e f = (
+  f.1,
+  subst (λ (c : Option Call). Gives (step_for k.device k.medium k.reply c) k.reply (play_in k e).gave) (sym (call_is k.device e f)) (record { state = refl; refusal = refl; len = refl; reply = refl; medium = refl }),
 )
 
-each_played : (k : Kept) (es : List Event) → AllFit es → AllBytes es → EachPlay PlayGiven k.device (plays_in k es)
-unfolding AllFit AllBytes EachPlay plays_in
-each_played k [] f w = tt
-each_played k (e ∷ es) f w = (played_in k e f.0 w.0, each_played (after k e) es f.1 w.1)
+each_played : (k : Kept) (es : List Event) → AllFit es → EachPlay PlayGiven k.device (plays_in k es)
+unfolding AllFit EachPlay plays_in
+each_played k [] f = tt
+each_played k (e ∷ es) f = (played_in k e f.0, each_played (after k e) es f.1)
 
 -- and the run keeps the state that they end with
 end_kept : (k : Kept) (es : List Event) → end_state k.device (plays_in k es) ≡ (kept_after k es).device
@@ -73,14 +67,14 @@ powered : (traced : Bool) (s : List ℕ) (asked : Settings) → start_of s ≡ p
 unfolding started
 powered traced s asked b = record { state = ap (λ (o : Outcome). o.state) b; line = ap (λ (o : Outcome). line_of traced 0 o.refusal o.state.status.outstanding []) b }
 
-held : (s : List ℕ) (asked : Settings) (es : List Event) → start_of s ≡ power_on asked → AllFit es → AllBytes es
+held : (s : List ℕ) (asked : Settings) (es : List Event) → start_of s ≡ power_on asked → AllFit es
     → Holds asked (power_on asked) (dones_all (started s).device (plays_in (started s) es)) (kept_after (started s) es).device
 unfolding started start_by
-held s asked es b f w =
+held s asked es b f =
     let ps = plays_in (started s) es in
     let xs = dones_all (started s).device ps in
     subst (λ (d : Device). Holds asked (power_on asked) xs d) (end_kept (started s) es)
-    (subst (λ (r : Outcome). Holds asked r xs (end_state (started s).device ps)) b (held_by (Some asked) (start_of s) ps b (each_played (started s) es f w)))
+    (subst (λ (r : Outcome). Holds asked r xs (end_state (started s).device ps)) b (held_by (Some asked) (start_of s) ps b (each_played (started s) es f)))
 
 -- ---- one medium
 
@@ -112,11 +106,11 @@ media s asked es f h =
     h.promised.lasting (started s).medium (handed_newest (started s).medium [] xs tt (handed_plays (started s) es f))
 
 -- the events behind a settings record
-behind_settings : (traced : Bool) (s : List ℕ) (asked : Settings) (es : List Event) → asked_of s ≡ Some asked → AllBytes es → AllFit es → IsHistory traced s asked es
+behind_settings : (traced : Bool) (s : List ℕ) (asked : Settings) (es : List Event) → asked_of s ≡ Some asked → AllFit es → IsHistory traced s asked es
 unfolding start_of start_by
-behind_settings traced s asked es a w f =
+behind_settings traced s asked es a f =
     let b : start_of s ≡ power_on asked = ap start_by a in
-    let h = held s asked es b f w in
+    let h = held s asked es b f in
     record { begins = powered traced s asked b; shown = shown_run traced 1 (started s) es; holds = h; media = media s asked es f h }
 
 -- where it asks for none, there are no events
@@ -124,20 +118,15 @@ none_starts : (traced : Bool) (s : List ℕ) (es : List Event) → asked_of s �
 unfolding start_of start_by started powered_of fresh_device
 none_starts traced s es a f = record { state = rw a refl; line = rw a refl; none = f (rw a refl) }
 
-by_asked : (traced : Bool) (s : List ℕ) (es : List Event) (asked : Option Settings) → asked_of s ≡ asked → AllBytes es → AllFit es → (refused s ≡ true → es ≡ []) → ByAsked traced s es asked
-by_asked traced s es (Some asked) a w q f = behind_settings traced s asked es a w q
-by_asked traced s es None a w q f = none_starts traced s es a f
-
--- of all that was read the events are of bytes
-abbrev pub OfBytes : Read → Type 0
-OfBytes nothing = Unit
-OfBytes (begun s es) = AllBytes es
+by_asked : (traced : Bool) (s : List ℕ) (es : List Event) (asked : Option Settings) → asked_of s ≡ asked → AllFit es → (refused s ≡ true → es ≡ []) → ByAsked traced s es asked
+by_asked traced s es (Some asked) a q f = behind_settings traced s asked es a q
+by_asked traced s es None a q f = none_starts traced s es a f
 
 -- all that a run plays, whatever it is
-pub program_history : (traced : Bool) (all : Read) → OfBytes all → Plays all → OfHistory traced all
+pub program_history : (traced : Bool) (all : Read) → Plays all → OfHistory traced all
 unfolding Plays OfHistory
-program_history traced nothing w q = tt
-program_history traced (begun s es) w q = by_asked traced s es (asked_of s) refl w q.1 q.2
+program_history traced nothing q = tt
+program_history traced (begun s es) q = by_asked traced s es (asked_of s) refl q.1 q.2
 
 -- and the calls of a history are a run of the definitions
 pub program_run : (traced : Bool) (s : List ℕ) (asked : Settings) (es : List Event) → IsHistory traced s asked es

@@ -7,7 +7,6 @@ use Rattle.rules.specs.declared.event.DeviceEvent.TheVariants.{OpenPhase, SendDa
 use Rattle.device.specs.Lent.{lent, gave, answered}
 use Rattle.device.specs.Sealing.{powered_of}
 use Rattle.events.specs.Settings.{asked_of}
-use Rattle.bits.specs.Little.{Bytes}
 use denote.RattleType.{RattleType}
 use denote.Param.Laws.{Laws}
 use mir.Syntax.{Dict}
@@ -61,7 +60,7 @@ tied_first_link = say (λ κs a. tt) (λ κs a r ws p. p)
 -- the event program's run, by any reader to any writer
 pub tied_run : (R W : RattleType) (l : Laws R) (m : Laws W) (b : Buffered.Ghosts R.Denot) (c : Dict) (g : Reader.Ghosts R.Denot) (d : Dict) (h : Writer.Ghosts W.Denot) (e : Dict)
     → SaysOver (running-said.run.ended R W b c g d h e) (running.run.Reads.Asked R W l m b c g d h e) (running.run.Reads.Post R W l m b c g d h e)
-    (λ κs a r ws. IfSome (g.remaining a.1.0.now) (λ input. Bytes input → RunHistory a.0.traced input (h.contents a.1.1.0.now) (h.contents ws.1.1.0)))
+    (λ κs a r ws. IfSome (g.remaining a.1.0.now) (λ input. RunHistory a.0.traced input (h.contents a.1.1.0.now) (h.contents ws.1.1.0)))
 tied_run R W l m b c g d h e = record { same = λ κs a b h. h; some = (([], ([], (R.lives, (W.lives, tt)))), λ a. ((λ x h. h), (λ x h. h))); says = λ κs a r ws p. p }
 
 -- ---- of a kept device

@@ -1,18 +1,17 @@
 // The event program's run, from its contract alone: what it wrote is the lines of a history.
 ghost use Rattle.std.specs.Prelude.{IfSome};
-ghost use Rattle.bits.specs.Little.{Bytes};
 ghost use Rattle.caller.specs.Program.{RunHistory};
 
 use events::{Format, RunError};
 use std::io::{BufRead, Write};
 
-/// The run of an event file. An input is of bytes, as what stands in a slice of them always is.
+/// The run of an event file.
 pub fn run<R: BufRead, W: Write>(
     format: Format,
     reader: &mut R,
     out: &mut W,
 ) -> Result<(), RunError>
-    ensures { IfSome (R.remaining reader.old) (λ input. Bytes input → RunHistory format.traced input (W.contents out.old) (W.contents out.new)) }
+    ensures { IfSome (R.remaining reader.old) (λ input. RunHistory format.traced input (W.contents out.old) (W.contents out.new)) }
 {
     events::run(format, reader, out)
 }

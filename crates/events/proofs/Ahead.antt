@@ -1,5 +1,5 @@
 -- What was read ahead, and what is read where that was nothing. Assumes nothing.
-use Rattle.std.proofs.Common.{◌≡◌, false, true≢false, sym, ap, ◌∙◌, List, ℕ, [], Option, Some, None, IfSome, is_none, Result, Ok, Err, subst}
+use Rattle.std.proofs.Common.{◌≡◌, false, true≢false, ap, ◌∙◌, List, ℕ, [], Option, Some, None, IfSome, is_none, Result, Ok, Err, subst}
 use Rattle.std.proofs.KnownBytes.{Consumes-kept, Consumes-nil}
 use Rattle.std.specs.Io.KnownBytes.{Consumes, Keeps}
 use Rattle.events.specs.declared.asked.Event.{Event}

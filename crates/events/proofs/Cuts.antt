@@ -13,7 +13,7 @@ use Rattle.events.specs.declared.kinds.InputEnd.TheVariants.{Clean, NoEvent}
 use Rattle.events.specs.Kinds.{kind_named, next_whole, next_by, next_of}
 use Rattle.events.specs.declared.kinds.Kind.{Kind}
 use Rattle.events.specs.Reading.{IsEvent, Ends}
-use Rattle.events.specs.Running.{ReadsOn, Read, nothing, begun, bytes_read, AllFit, Plays, refused, next_behind, run_lines, ending}
+use Rattle.events.specs.Running.{Read, nothing, begun, bytes_read, AllFit, Plays, refused, next_behind, run_lines, ending}
 use Rattle.events.specs.Runs.{OneText, OneBroken}
 use Rattle.events.proofs.Nexts.{some}
 

@@ -1,16 +1,13 @@
 -- What the known bytes begin with, by what was read of them. Assumes nothing.
-use Rattle.std.proofs.Common.{◌≡◌, ℕ, ◌+◌, ◌<◌, Bool, true, false, List, [], ◌∷◌, ◌++◌, length, length-take-le, take, get_or, Option, Some, None, IfSome, refl, ap, ◌∙◌, append-nil, arith, ◌≤◌, ne_eqb, eqb, Result, Ok, Err}
+use Rattle.std.proofs.Common.{◌≡◌, ℕ, ◌+◌, ◌<◌, Bool, true, false, List, [], ◌∷◌, ◌++◌, length, Option, Some, None, IfSome, refl, ap, ◌∙◌, append-nil, arith, ◌≤◌, ne_eqb, eqb, Result, Ok, Err}
 use Rattle.std.proofs.lemmas.Bool.Decides.{nat_tests}
 use Rattle.std.specs.Io.KnownBytes.{Consumes, IsAtEnd}
 use Rattle.events.specs.declared.kinds.InputEnd.{InputEnd}
 use Rattle.events.specs.declared.kinds.InputEnd.TheVariants.{NoEvent}
-use Rattle.events.specs.Kinds.{kind_named, body_of, body_length, misplaced, next_whole, next_by, next_of, fits_length, is_event, event_kind}
+use Rattle.events.specs.Kinds.{kind_named, body_of, misplaced, next_whole, next_by, next_of}
 use Rattle.events.specs.declared.kinds.Kind.{Kind}
 use borrow.Author.Tests.{lt-leb}
-use Rattle.events.specs.Reading.{Ends, placed_kind, BeginsWith}
-use Rattle.events.specs.declared.asked.Event.{Event}
-use Rattle.events.specs.Asked.{event_by_kind, event_of}
-use Rattle.std.proofs.lemmas.List.{get_or-take}
+use Rattle.events.specs.Reading.{Ends, placed_kind}
 
 -- what holds of all bytes that begin so holds of the known ones
 pub begun : (P : List ℕ → Type 0) (u v : Option (List ℕ)) (a : List ℕ) → Consumes u v a → ((more : List ℕ) → P (a ++ more)) → IfSome u P

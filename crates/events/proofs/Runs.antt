@@ -1,5 +1,5 @@
 -- A run grows by one event. Assumes nothing.
-use Rattle.std.proofs.Common.{◌≡◌, ℕ, suc, ◌+◌, Bool, false, List, [], ◌∷◌, ◌++◌, length, flat_map, Option, Some, None, IfSome, sym, refl, ap, ◌∙◌, append-nil, append_assoc, arith}
+use Rattle.std.proofs.Common.{◌≡◌, ℕ, suc, ◌+◌, Bool, List, [], ◌∷◌, ◌++◌, length, flat_map, Option, Some, None, IfSome, sym, refl, ap, ◌∙◌, append-nil, append_assoc, arith}
 use Rattle.events.specs.Grammar.{event_bytes, Fits}
 use Rattle.events.specs.declared.asked.Event.{Event}
 use Rattle.events.specs.Running.{Kept, told, after, lines_from, kept_after, AllFit, Read, bytes_read, Plays, run_lines}
@@ -11,7 +11,6 @@ use mathlib.Core.Bool.{false≢true}
 use Rattle.std.proofs.Common.{is_ok, Result, Ok, Err, IsErr, IsErrAnd, IfErr, MatchResult, subst, inl, inr}
 use Rattle.events.specs.declared.errors.RunError.{RunError}
 use Rattle.events.specs.declared.errors.RunError.TheVariants.{Input, Output, Memory, TooMany}
-use Rattle.std.proofs.KnownBytes.{Consumes-trans}
 use Rattle.streams.specs.Fronts.{AppendsFront}
 use Rattle.events.specs.Ends.{last_text, Finished}
 use Rattle.events.specs.Output.{IsOutput}

@@ -1,5 +1,5 @@
 -- What is read and what is written of an event are one: its bytes are read as it, and what is read are its bytes. Assumes nothing.
-use Rattle.std.proofs.Common.{◌≡◌, ℕ, zero, suc, ◌+◌, ◌<◌, ◌≤◌, ◌^◌, false, List, [], ◌∷◌, ◌++◌, length, take, drop, drop-cons, length-take, length-take-le, length-drop, get_or, Option, Some, None, IfSome, refl, sym, ap, ◌∙◌, subst, arith, ⊎_elim, Ok}
+use Rattle.std.proofs.Common.{◌≡◌, ℕ, zero, suc, ◌+◌, ◌<◌, ◌≤◌, false, List, [], ◌∷◌, length, take, drop, drop-cons, length-take, length-take-le, length-drop, get_or, Option, Some, None, IfSome, refl, sym, ap, ◌∙◌, subst, arith, ⊎_elim}
 use Rattle.std.proofs.lemmas.Bool.{cases_lt}
 use Rattle.std.proofs.lemmas.Bool.Decides.{nat_tests}
 use Rattle.std.proofs.lemmas.List.{get_or-take, get_or_past}
@@ -13,7 +13,7 @@ use Rattle.std.specs.Option.{option_and_then}
 use Rattle.events.specs.Asked.{event_by_kind, event_of}
 use Rattle.events.specs.declared.asked.Event.{Event}
 use Rattle.events.specs.declared.asked.Event.TheVariants.{OfDevice, HostData, HostRegister, Bist}
-use Rattle.events.specs.Grammar.{event_bytes, IsFrame, Fits, IsSpelt}
+use Rattle.events.specs.Grammar.{event_bytes, IsShaped, Fits, IsSpelt}
 use Rattle.events.specs.Reading.{IsEvent, BeginsWith}
 
 -- ---- bytes one by one
@@ -63,22 +63,21 @@ byte_named k kind h = grind (arith, nat_tests)
 
 -- ---- what is read are the event's bytes
 module _ (e : List ℕ) (w : Bytes e) where
-  being : {x y : Event} → Some x ≡ Some y → IsSpelt x e → IsSpelt y e
-  being {x = x} {y = y} q s = let p : x ≡ y = cc in subst (λ (z : Event). IsSpelt z e) p s
+  being : {x y : Event} → Some x ≡ Some y → IsShaped x → e ≡ event_bytes x → IsSpelt y e
+  being {x = x} {y = y} q f s = let p : x ≡ y = cc in subst (λ (z : Event). IsSpelt z e) p ((f, subst Bytes s w), s)
 
   by_kind : (kind : Kind) (x : Event) → get_or e 0 0 ≡ kind_byte kind → length e ≡ body_of kind + 1 → event_by_kind e kind ≡ Some x → IsSpelt x e
-  unfolding event_by_kind body_of event_bytes Fits
+  unfolding event_by_kind body_of event_bytes IsShaped
   by_kind kinds.Settings x k n q = absurd (cc q)
-  by_kind kinds.OpenPhase x k n q = being q (w 1, all e 2 n ∙ ap (λ (b : ℕ). b ∷ get_or e 1 0 ∷ []) k)
-  by_kind kinds.SendData x k n q = being q (tt, all e 1 n ∙ ap (λ (b : ℕ). b ∷ []) k)
-  by_kind kinds.FinishTags x k n q = being q (le_lt e w 1 4, all e 5 n ∙ ap (λ (b : ℕ). b ∷ listed e 1 4) k ∙ ap (λ (l : List ℕ). 0x03 ∷ l) (sym (four e w 1)))
-  by_kind kinds.MediaError x k n q =
-      being q ((w 1, w 2, le_lt e w 3 4), all e 7 n ∙ ap (λ (b : ℕ). b ∷ listed e 1 6) k ∙ ap (λ (l : List ℕ). 0x04 ∷ get_or e 1 0 ∷ get_or e 2 0 ∷ l) (sym (four e w 3)))
-  by_kind kinds.LinkEvent x k n q = being q (w 1, all e 2 n ∙ ap (λ (b : ℕ). b ∷ get_or e 1 0 ∷ []) k)
-  by_kind kinds.Comreset x k n q = being q (tt, all e 1 n ∙ ap (λ (b : ℕ). b ∷ []) k)
-  by_kind kinds.HostData x k n q = being q (w 1, all e 2 n ∙ ap (λ (b : ℕ). b ∷ get_or e 1 0 ∷ []) k)
-  by_kind kinds.HostRegister x k n q = being q (record { bytes = w; long = n; typed = k }, refl)
-  by_kind kinds.Bist x k n q = being q (record { bytes = w; long = n; typed = k }, refl)
+  by_kind kinds.OpenPhase x k n q = being q tt (all e 2 n ∙ ap (λ (b : ℕ). b ∷ get_or e 1 0 ∷ []) k)
+  by_kind kinds.SendData x k n q = being q tt (all e 1 n ∙ ap (λ (b : ℕ). b ∷ []) k)
+  by_kind kinds.FinishTags x k n q = being q (le_lt e w 1 4) (all e 5 n ∙ ap (λ (b : ℕ). b ∷ listed e 1 4) k ∙ ap (λ (l : List ℕ). 0x03 ∷ l) (sym (four e w 1)))
+  by_kind kinds.MediaError x k n q = being q (le_lt e w 3 4) (all e 7 n ∙ ap (λ (b : ℕ). b ∷ listed e 1 6) k ∙ ap (λ (l : List ℕ). 0x04 ∷ get_or e 1 0 ∷ get_or e 2 0 ∷ l) (sym (four e w 3)))
+  by_kind kinds.LinkEvent x k n q = being q tt (all e 2 n ∙ ap (λ (b : ℕ). b ∷ get_or e 1 0 ∷ []) k)
+  by_kind kinds.Comreset x k n q = being q tt (all e 1 n ∙ ap (λ (b : ℕ). b ∷ []) k)
+  by_kind kinds.HostData x k n q = being q tt (all e 2 n ∙ ap (λ (b : ℕ). b ∷ get_or e 1 0 ∷ []) k)
+  by_kind kinds.HostRegister x k n q = being q (n, k) refl
+  by_kind kinds.Bist x k n q = being q (n, k) refl
 
 -- an event that is read by its kind
 pub spelt : (e : List ℕ) → Bytes e → (kind : Kind) (o : Option Event) → kind_named (get_or e 0 0) ≡ Some kind → length e ≡ body_of kind + 1 → o ≡ event_by_kind e kind → IfSome o (λ x. IsSpelt x e)
@@ -100,26 +99,25 @@ unfolding event_kind
 named_kind e kind h = grind arith
 
 -- ---- and its bytes are read as it
-frame_read : (type n : ℕ) (frame : List ℕ) (kind : Kind) → IsFrame type n frame → kind_named type ≡ Some kind → misplaced false kind ≡ false → n ≡ body_of kind + 1 → IsEvent false frame × (event_kind frame ≡ Some kind)
+frame_read : (type n : ℕ) (frame : List ℕ) (kind : Kind) → (length frame ≡ n) × (get_or frame 0 0 ≡ type) → kind_named type ≡ Some kind → misplaced false kind ≡ false → n ≡ body_of kind + 1 → IsEvent false frame × (event_kind frame ≡ Some kind)
 unfolding next_of next_by next_whole event_kind is_event body_length fits_length
 frame_read type n frame kind f k m s =
-    let first = f.typed in
-    let long : length frame ≡ body_of kind + 1 = f.long ∙ s in
+    let first = f.1 in
+    let long : length frame ≡ body_of kind + 1 = f.0 ∙ s in
     (rw (first, k, m, long) (grind (arith, nat_tests)), rw (first, k, long) (grind (arith, nat_tests)))
 
+shape_back : (x : Event) → IsShaped x → IsEvent false (event_bytes x) × (event_of (event_bytes x) ≡ Some x)
+unfolding event_bytes IsShaped next_of next_by next_whole misplaced kind_named body_of event_of event_kind is_event body_length fits_length event_by_kind
+shape_back (OfDevice (OpenPhase tag)) f = (refl, refl)
+shape_back (OfDevice SendData) f = (refl, refl)
+shape_back (OfDevice (FinishTags tags)) f = (refl, ap (λ (n : ℕ). Some (OfDevice (FinishTags n))) (le_le_bytes 4 f))
+shape_back (OfDevice (MediaError tag error sector)) f = (refl, ap (λ (n : ℕ). Some (OfDevice (MediaError tag error n))) (le_le_bytes 4 f))
+shape_back (OfDevice (LinkEvent row)) f = (refl, refl)
+shape_back (OfDevice (LinkTally amounts)) f = absurd f
+shape_back (OfDevice Comreset) f = (refl, refl)
+shape_back (HostData byte) f = (refl, refl)
+shape_back (HostRegister frame) f = let r = frame_read 0x27 20 frame kinds.HostRegister f refl refl refl in (r.0, ap (option_and_then (event_by_kind frame)) r.1)
+shape_back (Bist frame) f = let r = frame_read 0x58 12 frame kinds.Bist f refl refl refl in (r.0, ap (option_and_then (event_by_kind frame)) r.1)
+
 pub read_back : (x : Event) → Fits x → IsEvent false (event_bytes x) × (event_of (event_bytes x) ≡ Some x)
-unfolding event_bytes Fits next_of next_by next_whole misplaced kind_named body_of event_of event_kind is_event body_length fits_length event_by_kind
-read_back (OfDevice (OpenPhase tag)) f = (refl, refl)
-read_back (OfDevice SendData) f = (refl, refl)
-read_back (OfDevice (FinishTags tags)) f = (refl, ap (λ (n : ℕ). Some (OfDevice (FinishTags n))) (le_le_bytes 4 f))
-read_back (OfDevice (MediaError tag error sector)) f = (refl, ap (λ (n : ℕ). Some (OfDevice (MediaError tag error n))) (le_le_bytes 4 f.2))
-read_back (OfDevice (LinkEvent row)) f = (refl, refl)
-read_back (OfDevice (LinkTally amounts)) f = absurd f
-read_back (OfDevice Comreset) f = (refl, refl)
-read_back (HostData byte) f = (refl, refl)
-read_back (HostRegister frame) f =
-    let r = frame_read 0x27 20 frame kinds.HostRegister f refl refl refl in
-    (r.0, ap (option_and_then (event_by_kind frame)) r.1)
-read_back (Bist frame) f =
-    let r = frame_read 0x58 12 frame kinds.Bist f refl refl refl in
-    (r.0, ap (option_and_then (event_by_kind frame)) r.1)
+read_back x f = shape_back x f.0

@@ -1,9 +1,8 @@
 -- What a run begins with: its settings, and power-on by these. Assumes nothing.
-use Rattle.std.proofs.Common.{◌≡◌, ℕ, Bool, true, false, List, [], ◌∷◌, ◌++◌, Option, Some, None, IfSome, Result, Ok, Err, subst, sym, refl, ap, ◌∙◌, append-nil, length, take, length-take-le, ◌≤◌, arith, replicate, option_copied, Bor}
+use Rattle.std.proofs.Common.{◌≡◌, ℕ, Bool, true, false, List, [], ◌++◌, Option, Some, None, IfSome, Result, Ok, Err, subst, sym, refl, ap, ◌∙◌, append-nil, length, take, length-take-le, ◌≤◌, arith, replicate, option_copied, Bor}
 use Rattle.std.proofs.lemmas.Bool.Decides.{nat_tests}
 use Rattle.std.specs.Io.KnownBytes.{Consumes}
 use Rattle.std.proofs.KnownBytes.{Consumes-nil, Appends-nil}
-use Rattle.events.specs.declared.kinds.InputEnd.{InputEnd}
 use Rattle.events.specs.declared.kinds.InputEnd.TheVariants.{Clean}
 use Rattle.events.specs.Start.{start_by, start_of}
 use Rattle.device.specs.declared.state.Outcome.{Outcome}

@@ -1,5 +1,5 @@
 -- What the device gives for an event is what a run keeps and tells of it. Assumes nothing.
-use Rattle.std.proofs.Common.{◌≡◌, ℕ, Bool, List, length, take, drop, ap, ap₂, ◌∙◌, sym, Option, Result, Ok, Err}
+use Rattle.std.proofs.Common.{◌≡◌, ℕ, Bool, List, length, take, drop, ap₂, ◌∙◌, sym, Option, Result, Ok, Err}
 use lib.Seq.{take-append_seam}
 use Rattle.std.specs.Result.{result_err, result_unwrap_or}
 use Rattle.refusals.specs.declared.reasons.Refusal.{Refusal}
@@ -8,7 +8,7 @@ use Rattle.device.specs.Step.{Step, bytes_of, Gives}
 use Rattle.device.specs.declared.state.Device.{Device}
 use Rattle.device.proofs.Kept.{answered_state}
 use Rattle.events.specs.Lines.{line_of}
-use Rattle.events.specs.Running.{Kept, kept, step_of, after_step, step_told}
+use Rattle.events.specs.Running.{Kept, kept, after_step, step_told}
 
 -- the same device, medium and reply buffer are kept alike
 pub same_kept : {d d' : Device} {m m' b b' : List ℕ} → d ≡ d' → m ≡ m' → b ≡ b' → kept d m b ≡ kept d' m' b'

@@ -18,23 +18,19 @@ event_bytes (HostData byte) = 0x07 ∷ byte ∷ []
 event_bytes (HostRegister frame) = frame
 event_bytes (Bist frame) = frame
 
--- a frame from the host of this type and length
-pub record IsFrame (type n : ℕ) (frame : List ℕ) : Type 0 where
-  pub bytes : Bytes frame
-  pub long : length frame ≡ n
-  pub typed : get_or frame 0 0 ≡ type
+-- a number of four bytes is below 2^32, and a frame is of its type and length [event-kinds]
+unfoldable pub IsShaped : Event → Type 0
+IsShaped (OfDevice (FinishTags tags)) = tags < 2 ^ 32
+IsShaped (OfDevice (MediaError tag error sector)) = sector < 2 ^ 32
+IsShaped (OfDevice (LinkTally amounts)) = ⊥
+IsShaped (OfDevice event) = Unit
+IsShaped (HostData byte) = Unit
+IsShaped (HostRegister frame) = (length frame ≡ 20) × (get_or frame 0 0 ≡ 0x27)
+IsShaped (Bist frame) = (length frame ≡ 12) × (get_or frame 0 0 ≡ 0x58)
 
--- its fields are of their widths, and a frame is of its type [event-kinds]
-unfoldable pub Fits : Event → Type 0
-Fits (OfDevice (OpenPhase tag)) = tag < 256
-Fits (OfDevice (FinishTags tags)) = tags < 2 ^ 32
-Fits (OfDevice (MediaError tag error sector)) = (tag < 256) × (error < 256) × (sector < 2 ^ 32)
-Fits (OfDevice (LinkEvent row)) = row < 256
-Fits (OfDevice (LinkTally amounts)) = ⊥
-Fits (OfDevice event) = Unit
-Fits (HostData byte) = byte < 256
-Fits (HostRegister frame) = IsFrame 0x27 20 frame
-Fits (Bist frame) = IsFrame 0x58 12 frame
+-- so its fields fit, and its bytes are bytes
+abbrev pub Fits : Event → Type 0
+Fits event = IsShaped event × Bytes (event_bytes event)
 
 -- these are the bytes of that event [event-reads]
 abbrev pub IsSpelt : Event → List ℕ → Type 0
