@@ -59,12 +59,8 @@ impl Script {
         self.put(dressed.as_bytes());
     }
 
-    /// A line that the model is not asked about. Those that `run_calls` has not yet are left out: they change nothing.
+    /// A line that the model is not asked about.
     fn put(&mut self, line: &[u8]) {
-        let word = line.split(u8::is_ascii_whitespace).find(|word| !word.is_empty());
-        if word == Some(b"write") {
-            return;
-        }
         self.text.extend(line);
         self.text.push(b'\n');
     }

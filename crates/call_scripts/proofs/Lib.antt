@@ -5,5 +5,6 @@ pub mod BytesLaws
 pub mod CallLaws
 pub mod RowLaws
 pub mod AnswerLaws
+pub mod WriteLaws
 pub mod Came
 pub mod Tied

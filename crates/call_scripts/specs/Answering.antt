@@ -1,24 +1,25 @@
 -- What a bench answers to a command, and what that leaves behind. Assumes nothing.
-use Rattle.std.specs.Prelude.{ℕ, List, [], length, take, replicate, Some}
+use Rattle.std.specs.Prelude.{ℕ, List, [], length, Some}
 use Rattle.bits.specs.Laid.{overlay}
 use Rattle.device_state.specs.declared.shapes.Settings.{Settings}
 use Rattle.rules.specs.Call.{Call, host_frame, happens}
 use Rattle.device.specs.Counter.{counter_of, count_of}
 use Rattle.device.specs.Device.{power_on}
 use Rattle.device.specs.Step.{Step, bytes_of}
-use Rattle.call_scripts.specs.Answers.{outcome_text, counter_text, count_text, part_text}
+use Rattle.call_scripts.specs.Answers.{room_of, outcome_text, counter_text, count_text, part_text}
 use Rattle.call_scripts.specs.Applying.{changed}
 use Rattle.call_scripts.specs.Bench.{Kept, loan_of, called, after_call}
 use Rattle.call_scripts.specs.Counting.{counted, data_frame}
 use Rattle.call_scripts.specs.Judging.{judged, verdict_text}
 use Rattle.call_scripts.specs.ReadLines.{reading_text}
 use Rattle.call_scripts.specs.Rows.{state_text}
+use Rattle.call_scripts.specs.WriteLines.{writing_text}
 use Rattle.call_scripts.specs.declared.commands.Command.{Command}
-use Rattle.call_scripts.specs.declared.commands.Command.TheVariants.{Nothing, Power, Frame, Data, Event, Counter, Count, Judge, Lend, Fill, Set, Show, Medium, Read}
+use Rattle.call_scripts.specs.declared.commands.Command.TheVariants.{Nothing, Power, Frame, Data, Event, Counter, Count, Judge, Lend, Fill, Set, Show, Medium, Read, Write}
 
--- the reply buffer that a call is lent: of 4000h bytes EEh so many as are lent [script-call]
+-- the reply buffer that a call is lent: as many bytes as are lent [script-call]
 abbrev pub buffer_of : Kept → List ℕ
-buffer_of k = take (loan_of k).reply (replicate 16384 0xEE)
+buffer_of k = room_of (loan_of k).reply
 
 -- what is printed of a step in a reply buffer b
 abbrev pub step_text : Step → List ℕ → List ℕ
@@ -48,6 +49,7 @@ after k (Set change) = record k { device = changed k.device change }
 after k Show = k
 after k (Medium at size) = k
 after k (Read reading) = k
+after k (Write room writing) = k
 
 -- what is printed of it
 unfoldable pub answer_of : Kept → Command → List ℕ
@@ -65,3 +67,4 @@ answer_of k (Set change) = []
 answer_of k Show = state_text k.device
 answer_of k (Medium at size) = part_text k.medium at size
 answer_of k (Read reading) = reading_text reading
+answer_of k (Write room writing) = writing_text room writing

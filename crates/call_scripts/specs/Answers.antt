@@ -1,5 +1,5 @@
 -- What is printed of an answer. Assumes nothing.
-use Rattle.std.specs.Prelude.{ℕ, ◌+◌, Bool, true, not, eqb, leb, List, [], ◌∷◌, ◌++◌, length, take, drop, decimal, codes, Option, Some, None, Result, Ok, Err}
+use Rattle.std.specs.Prelude.{ℕ, ◌+◌, Bool, true, not, eqb, leb, List, [], ◌∷◌, ◌++◌, length, take, drop, replicate, decimal, codes, Option, Some, None, Result, Ok, Err}
 use Rattle.std.specs.List.{list_any}
 use Rattle.bits.specs.Pick.{pick}
 use Rattle.refusals.specs.Number.{number, number_told}
@@ -8,7 +8,11 @@ use Rattle.frames.specs.Cut.{cut}
 use Rattle.hex.specs.Hex.{encode_lower}
 use Rattle.events.specs.Lines.{fields_of}
 
--- some byte is not what every byte of the reply buffer is before a call: EEh
+-- a buffer before it is written to: of 4000h bytes EEh so many as it has
+abbrev pub room_of : ℕ → List ℕ
+room_of room = take room (replicate 16384 0xEE)
+
+-- some byte is not what every byte of a buffer is before
 abbrev pub touched : List ℕ → Bool
 touched behind = list_any (λ byte. not (eqb byte 0xEE)) behind
 

@@ -10,6 +10,7 @@ use Rattle.call_scripts.specs.Bytes.{bytes_of}
 use Rattle.call_scripts.specs.Changes.{change_of}
 use Rattle.call_scripts.specs.Judging.{queued_command}
 use Rattle.call_scripts.specs.Readings.{reading_of}
+use Rattle.call_scripts.specs.Writings.{writing_of}
 use Rattle.call_scripts.specs.Verbs.{verb_of, words_in}
 use Rattle.call_scripts.specs.declared.verbs.Verb.{Verb}
 use Rattle.call_scripts.specs.declared.verbs.Verb as verb
@@ -38,6 +39,10 @@ command_at words verb.TheVariants.Power = settings_at words >>= (λ s. Some (com
 command_at words verb.TheVariants.Frame = None
 command_at words verb.TheVariants.Judge = None
 command_at words verb.TheVariants.Read = None
+command_at words verb.TheVariants.Write = do
+  room ← number_at words 2 16384
+  writing ← writing_of words
+  Some (command.TheVariants.Write room writing)
 command_at words verb.TheVariants.Data = do
   size ← number_at words 1 8196
   byte ← byte_at words 2

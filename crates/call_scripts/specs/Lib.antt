@@ -7,6 +7,7 @@ pub mod Changes
 pub mod Bytes
 pub mod Readings
 pub mod Judging
+pub mod Writings
 pub mod Commands
 pub mod Bench
 pub mod Calls
@@ -16,6 +17,7 @@ pub mod Rows
 pub mod Answers
 pub mod FrameText
 pub mod ReadLines
+pub mod WriteLines
 pub mod Answering
 pub mod Lines
 pub mod Scripts

@@ -2,7 +2,7 @@
 use Rattle.std.specs.Prelude.{ℕ, List, [], ◌∷◌, codes, Option, Some, None}
 use Rattle.call_scripts.specs.Names.{named_in}
 use Rattle.call_scripts.specs.declared.verbs.Verb.{Verb}
-use Rattle.call_scripts.specs.declared.verbs.Verb.TheVariants.{Power, Frame, Data, Open, Send, Finish, Media, Link, Comreset, Counter, Count, Judge, Lend, Fill, Set, Show, Medium, Read}
+use Rattle.call_scripts.specs.declared.verbs.Verb.TheVariants.{Power, Frame, Data, Open, Send, Finish, Media, Link, Comreset, Counter, Count, Judge, Lend, Fill, Set, Show, Medium, Read, Write}
 
 -- each verb by its word
 abbrev pub verbs : List (List ℕ × Verb)
@@ -25,17 +25,19 @@ verbs =
     (codes "show", Show) ∷
     (codes "medium", Medium) ∷
     (codes "read", Read) ∷
+    (codes "write", Write) ∷
     []
 
 -- what a word names [script-line]
 abbrev pub verb_of : List ℕ → Option Verb
 verb_of word = named_in verbs word
 
--- how many words a verb's line has, itself among them; frames have any number of bytes, and of `set` and `read` the second word says it
+-- how many words a verb's line has, itself among them; frames have any number of bytes, and of `set`, `read` and `write` the second word says it
 abbrev pub words_in : Verb → Option ℕ
 words_in Frame = None
 words_in Judge = None
 words_in Read = None
+words_in Write = None
 words_in Set = None
 words_in Send = Some 1
 words_in Comreset = Some 1

@@ -1,8 +1,9 @@
 -- The words of a line. Assumes nothing.
-use Rattle.std.specs.Prelude.{ℕ, ◌^◌, ◌-◌, Bool, true, not, ◌&&◌, ◌||◌, eqb, List, [], ◌∷◌, length, get_or, filter, slice_get, Option, Some, None}
+use Rattle.std.specs.Prelude.{ℕ, ◌^◌, ◌-◌, Bool, true, not, ◌&&◌, ◌||◌, eqb, List, [], ◌∷◌, length, take, drop, get_or, filter, slice_get, Option, Some, None}
 use Rattle.std.specs.Char.{is_ascii_whitespace}
 use Rattle.std.specs.List.{slice_split}
 use Rattle.std.specs.Option.{option_and_then, option_map}
+use Rattle.std.specs.Str.{bytes_eq}
 use Rattle.bits.specs.Pick.{pick}
 use Rattle.call_scripts.specs.Numbers.{number_within}
 
@@ -47,3 +48,11 @@ flag_at words place = option_map (λ n. eqb n 1) (number_at words place 1)
 abbrev pub fits : Option ℕ → ℕ → Bool
 fits (Some count) have = eqb have count
 fits None have = true
+
+-- the number that stands behind a name, as `lba=5`, if it is at most so large
+abbrev pub named_number : List ℕ → ℕ → List ℕ → Option ℕ
+named_number name most word = pick (bytes_eq (take (length name) word) name) (number_within most (drop (length name) word)) None
+
+-- that of the word in a place
+abbrev pub named_at : List (List ℕ) → ℕ → List ℕ → ℕ → Option ℕ
+named_at words place name most = option_and_then (named_number name most) (slice_get words place)

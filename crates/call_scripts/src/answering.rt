@@ -19,6 +19,7 @@ use crate::judging::{judged, write_verdict};
 use crate::loans::Loan;
 use crate::read_lines::write_reading;
 use crate::rows::write_state;
+use crate::write_lines::write_writing;
 use crate::{REPLY_SIZE, UNTOUCHED};
 use device::Device;
 use device_state::Settings;
@@ -113,6 +114,7 @@ impl<'a> Bench<'a> {
             Command::Show => write_state(out, &self.device),
             Command::Medium { at, size } => self.part(alloc, out, *at, *size),
             Command::Read(reading) => write_reading(alloc, out, reading),
+            Command::Write { room, writing } => write_writing(alloc, out, *room, *writing),
         }
     }
 }

@@ -1,7 +1,7 @@
 // What the device answers to a call, as a line of text.
 ghost use Rattle.std.specs.Prelude.{◌≡◌, OnOk};
 ghost use Rattle.std.specs.Io.KnownBytes.{Appends};
-ghost use Rattle.call_scripts.specs.Answers.{touched, outcome_text, counter_text, count_text, part_text};
+ghost use Rattle.call_scripts.specs.Answers.{touched, tail_of, outcome_text, counter_text, count_text, part_text};
 
 use crate::UNTOUCHED;
 use device::Outcome;
@@ -16,6 +16,16 @@ fn is_touched(behind: &[u8]) -> bool
     ensures { result ≡ touched behind.now }
 {
     behind.iter().any(|byte| *byte != UNTOUCHED)
+}
+
+/// Whether a byte behind what was written has changed.
+pub(crate) fn write_tail<W: Write>(out: &mut W, behind: &[u8]) -> io::Result<()>
+    ensures { OnOk result (Appends (W.contents out.old) (W.contents out.new) (tail_of behind.now)) }
+{
+    if is_touched(behind) {
+        return out.write_all(b" tail");
+    }
+    Ok(())
 }
 
 /// The refusal, the length of the replies, each of them, and whether a byte behind them has changed.
@@ -37,9 +47,7 @@ pub(crate) fn write_outcome<W: Write>(
     let mut fields = Vec::new(alloc);
     format.push_fields(&mut fields, replies)?;
     out.write_all(&fields)?;
-    if is_touched(behind) {
-        out.write_all(b" tail")?;
-    }
+    write_tail(out, behind)?;
     out.write_all(b"\n")
 }
 

@@ -1,6 +1,5 @@
 // What a line of a script asks for.
 ghost use Rattle.std.specs.Prelude.{◌≡◌, IfOk};
-ghost use Rattle.call_scripts.specs.declared.verbs.Verb.TheVariants as Verb;
 ghost use Rattle.call_scripts.specs.Commands.{settings_at, media_at, command_at, asked_at, command_in, command_of};
 
 use crate::bytes::Bytes;
@@ -9,6 +8,7 @@ use crate::judging::queued_command;
 use crate::readings::Reading;
 use crate::verbs::Verb;
 use crate::words::{Words, asked_text};
+use crate::writings::Writing;
 use crate::{MEDIUM_SIZE, PAYLOAD_MOST, REPLY_SIZE};
 use device_state::Settings;
 use frames::HostReg;
@@ -61,6 +61,13 @@ pub enum Command {
     },
     /// What is read.
     Read(Reading),
+    /// What is written.
+    Write {
+        /// The bytes of the buffer.
+        room: u16,
+        /// What goes to it.
+        writing: Writing,
+    },
 }
 
 impl<'a> Words<'a> {
@@ -113,6 +120,10 @@ impl<'a> Words<'a> {
             Verb::Medium => Command::Medium {
                 at: self.long(1)?,
                 size: self.long(2)?,
+            },
+            Verb::Write => Command::Write {
+                room: self.small(2, REPLY_SIZE)?,
+                writing: self.asked_writing()?,
             },
         })
     }

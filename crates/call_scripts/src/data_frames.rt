@@ -6,7 +6,8 @@ use crate::counting::count_up;
 use frames::DATA_HEAD;
 use std::alloc::{AllocError, Global};
 
-fn payload(alloc: Global, size: u16, byte: u8) -> Result<Vec<u8>, AllocError>
+/// So many bytes, the first of them given, each of the others one more.
+pub(crate) fn payload(alloc: Global, size: u16, byte: u8) -> Result<Vec<u8>, AllocError>
     ensures { IfOk result (λ payload. payload.items ≡ counted 256 byte size) }
 {
     let mut payload = vec![in alloc; 0; usize::from(size)]?;

@@ -25,6 +25,8 @@ mod rows;
 mod running;
 mod verbs;
 mod words;
+mod write_lines;
+mod writings;
 
 pub use bytes::Bytes;
 pub use changes::Change;
@@ -32,6 +34,7 @@ pub use checking::{Found, check_script};
 pub use commands::Command;
 pub use pieces::run_script;
 pub use readings::Reading;
+pub use writings::{FrameFields, Writing};
 
 // The bytes of the medium of a bench; a call is lent a front of it.
 const MEDIUM_SIZE: usize = 0x40000;

@@ -43,9 +43,11 @@ pub(crate) enum Verb {
     Medium,
     /// `read`: frames and pages, and parts of them.
     Read,
+    /// `write`: a frame or a page.
+    Write,
 }
 
-const VERBS: [(&[u8], Verb); 18] = [
+const VERBS: [(&[u8], Verb); 19] = [
     (b"power", Verb::Power),
     (b"frame", Verb::Frame),
     (b"data", Verb::Data),
@@ -64,6 +66,7 @@ const VERBS: [(&[u8], Verb); 18] = [
     (b"show", Verb::Show),
     (b"medium", Verb::Medium),
     (b"read", Verb::Read),
+    (b"write", Verb::Write),
 ];
 
 impl Verb {
@@ -79,7 +82,7 @@ impl Verb {
         ensures { result ≡ words_in self }
     {
         match self {
-            Verb::Frame | Verb::Judge | Verb::Set | Verb::Read => None,
+            Verb::Frame | Verb::Judge | Verb::Set | Verb::Read | Verb::Write => None,
             Verb::Send | Verb::Comreset | Verb::Count | Verb::Show => Some(1),
             Verb::Open | Verb::Finish | Verb::Link | Verb::Counter | Verb::Fill => Some(2),
             Verb::Data | Verb::Lend | Verb::Medium => Some(3),

@@ -1,11 +1,11 @@
 // The words of a line: the command's, and behind it those that it is given.
 ghost use Rattle.std.specs.Prelude.{◌≡◌, IfOk, length, drop, slice_get};
 ghost use Rattle.std.specs.Option.{option_map};
-ghost use Rattle.call_scripts.specs.Words.{asked_text, words_of, number_at, long_at, short_at, byte_at, flag_at, fits};
+ghost use Rattle.call_scripts.specs.Words.{asked_text, words_of, number_at, long_at, short_at, byte_at, flag_at, named_number, named_at, fits};
 ghost use Rattle.call_scripts.specs.Bytes.{bytes_of};
 
 use crate::bytes::{Bytes, bytes_of};
-use crate::numbers::number_within;
+use crate::numbers::{number_within, wide_within};
 use std::alloc::{AllocError, Global};
 use std::marker::Model;
 
@@ -20,6 +20,17 @@ pub(crate) fn asked_text(line: &[u8]) -> &[u8]
         }
     }
     line
+}
+
+// The number behind a name in one word.
+fn named_number(word: &[u8], name: &[u8], most: u64) -> Option<u64>
+    ensures { result ≡ named_number name.now most word.now }
+{
+    let (front, number) = word.split_at(name.len().min(word.len()));
+    if front != name {
+        return None;
+    }
+    wide_within(number, most)
 }
 
 /// The words of a text, which blanks separate.
@@ -116,15 +127,20 @@ impl<'a> Words<'a> {
         Some(self.number(place, 1)? == 1)
     }
 
+    /// The number behind a name in the word in a place, of at most so much; the name ends in `=`.
+    pub(crate) fn named(&self, place: usize, name: &[u8], most: u64) -> Option<u64>
+        ensures { result ≡ named_at self.now place name.now most }
+    {
+        named_number(self.word(place)?, name, most)
+    }
+
     /// The bytes that the words from a place on tell, each in pairs of hex digits.
-    #[tactic(auto, using(crate::proofs::WordLaws::drop_texts, std::proofs::lemmas::List::drop_all), unfolding(crate::specs::Bytes::all_bytes))]
+    #[tactic(auto, using(crate::proofs::WordLaws::texts_behind))]
     pub(crate) fn bytes(&self, alloc: Global, place: usize) -> Result<Option<Bytes>, AllocError>
         ensures { IfOk result (λ bytes. bytes ≡ bytes_of (drop place self.now)) }
     {
-        match self.words.get(place..) {
-            Some(words) => bytes_of(alloc, words),
-            None => Ok(Some(Bytes::new(alloc))),
-        }
+        let (_, words) = self.words.split_at(place.min(self.words.len()));
+        bytes_of(alloc, words)
     }
 
     /// Whether there are just so many words, if that is fixed.
