@@ -1,6 +1,6 @@
 -- What a line asks for. Assumes nothing.
-use Rattle.std.proofs.Common.{◌≡◌, ℕ, ◌+◌, ◌<◌, List, [], ◌∷◌, drop, drop-cons, length, get_or, refl, add-one, map}
-use Rattle.std.proofs.lemmas.List.{drop-map}
+use Rattle.std.proofs.Common.{◌≡◌, ℕ, ◌+◌, ◌<◌, List, [], ◌∷◌, drop, drop-cons, length, get_or, refl, sym, ap, ◌∙◌, add-one, map, min}
+use Rattle.std.proofs.lemmas.List.{drop-map, drop_min}
 use Rattle.bits.specs.Pick.{pick}
 use Rattle.call_scripts.specs.Words.{asked_text, ends_at}
 
@@ -10,5 +10,5 @@ unfolding asked_text
 text_next i l h = rw (add-one i, drop-cons l i 0 h) refl
 
 -- the words behind a place, as texts
-pub drop_texts : {X Y : Type 0} (f : X → Y) (n : ℕ) (xs : List X) → drop n (map f xs) ≡ map f (drop n xs)
-drop_texts f n xs = drop-map f n xs
+pub texts_behind : {X : Type 0} (f : X → List ℕ) (n : ℕ) (xs : List X) → map f (drop (min n (length xs)) xs) ≡ drop n (map f xs)
+texts_behind f n xs = ap (λ l. map f l) (drop_min n xs) ∙ sym (drop-map f n xs)

@@ -14,7 +14,7 @@ use Rattle.call_scripts.specs.Answers.{refused_text}
 use Rattle.call_scripts.specs.Rows.{hex_text}
 
 -- behind a blank a field's name, and its number in hex
-abbrev pub field_text : List ℕ → ℕ → List ℕ
+unfoldable pub field_text : List ℕ → ℕ → List ℕ
 field_text name value = 32 ∷ name ++ 61 ∷ hex_text value
 
 -- the fields of a command's bytes

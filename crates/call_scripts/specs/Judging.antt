@@ -10,6 +10,7 @@ use Rattle.rules.specs.Act.{heard_act}
 use Rattle.rules.specs.Decide.{is_queued}
 use Rattle.rules.specs.declared.acts.Act.{Act}
 use Rattle.rules.specs.declared.acts.Act.TheVariants.{Accept, Bad, BadAndHalt}
+use Rattle.rules.specs.declared.facts.Facts.{Facts}
 use Rattle.device.specs.FactsOf.{facts_with}
 use Rattle.device.specs.declared.state.Device.{Device}
 use Rattle.call_scripts.specs.Answers.{refused_text, what_text}
@@ -24,9 +25,13 @@ queued_in _ = None
 abbrev pub queued_command : List ℕ → Option HostReg
 queued_command bytes = queued_in (read_frame bytes)
 
--- what it makes the device do, which is lent all that a call may want [script-judge]
+-- what is looked at where all is lent that a call may want
+unfoldable pub facts_all_lent : Device → Facts
+facts_all_lent d = facts_with d None false false 8196
+
+-- what the command makes the device do then [script-judge]
 abbrev pub judged : Device → HostReg → Result Act Refusal
-judged d h = heard_act (facts_with d None false false 8196) (Ok (Host h))
+judged d h = heard_act (facts_all_lent d) (Ok (Host h))
 
 -- good, or bad with the error byte, and whether the device halts for it, or the refusal; it comes to nothing else [script-judge]
 abbrev pub verdict_text : Result Act Refusal → List ℕ

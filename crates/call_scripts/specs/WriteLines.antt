@@ -42,9 +42,13 @@ writing_bytes (writing.Frame f) = encode (frame_value f)
 writing_bytes (writing.ErrorPage log) = page10 log
 writing_bytes (writing.Counters mask values) = page11 mask values
 
--- the refusal, or 0; the length and the bytes of what was written, and whether a byte behind them has changed [script-write]
+-- 0, the length and the bytes of what was written, and whether a byte behind them has changed [script-write]
+abbrev pub taken_text : ℕ → List ℕ → List ℕ
+taken_text len buffer = codes "0 " ++ decimal len ++ 32 ∷ encode_lower (take len buffer) ++ tail_of (drop len buffer) ++ 10 ∷ []
+
+-- or the refusal, and whether a byte has changed [script-write]
 abbrev pub written_text : Result ℕ Refusal → List ℕ → List ℕ
-written_text (Ok len) buffer = codes "0 " ++ decimal len ++ 32 ∷ encode_lower (take len buffer) ++ tail_of (drop len buffer) ++ 10 ∷ []
+written_text (Ok len) buffer = taken_text len buffer
 written_text (Err refusal) buffer = decimal (number refusal) ++ codes " 0" ++ tail_of buffer ++ 10 ∷ []
 
 -- the line of bytes that are written to a buffer d [script-write]

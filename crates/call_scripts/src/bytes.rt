@@ -1,5 +1,5 @@
 // Bytes as words tell them: in pairs of hex digits, or one pair so many times.
-ghost use Rattle.std.specs.Prelude.{◌≡◌, [], IfOk, length, map};
+ghost use Rattle.std.specs.Prelude.{◌≡◌, IfOk, length, map};
 ghost use Rattle.call_scripts.specs.Bytes.{decoded, repeated, word_bytes, bytes_of};
 
 use crate::BYTES_MOST;
@@ -23,15 +23,6 @@ impl Model for Bytes {
 }
 
 impl Bytes {
-    /// No bytes.
-    pub(crate) fn new(alloc: Global) -> Bytes
-        ensures { result ≡ [] }
-    {
-        Bytes {
-            bytes: Vec::new(alloc),
-        }
-    }
-
     /// All of them.
     pub(crate) fn as_slice(&self) -> &[u8]
         ensures { result.now ≡ self.now }

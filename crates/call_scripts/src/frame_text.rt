@@ -9,6 +9,7 @@ use std::io;
 use std::io::Write;
 
 /// A field's name and its number, behind a blank.
+#[tactic(auto, unfolding(crate::specs::FrameText::field_text))]
 pub(crate) fn write_field<W: Write>(out: &mut W, name: &str, value: u64) -> io::Result<()>
     ensures { OnOk result (Appends (W.contents out.old) (W.contents out.new) (field_text name.now value)) }
 {
@@ -150,10 +151,7 @@ fn write_fields<W: Write>(out: &mut W, frame: Frame) -> io::Result<()>
 }
 
 /// The kind of a frame and its fields, or the refusal.
-pub(crate) fn write_frame<W: Write>(
-    out: &mut W,
-    answer: Result<Frame, Refusal>,
-) -> io::Result<()>
+pub(crate) fn write_frame<W: Write>(out: &mut W, answer: Result<Frame, Refusal>) -> io::Result<()>
     ensures { OnOk result (Appends (W.contents out.old) (W.contents out.new) (frame_text answer)) }
 {
     match answer {

@@ -2,7 +2,7 @@
 ghost use Rattle.std.specs.Prelude.{◌≡◌, OnOk};
 ghost use Rattle.std.specs.Io.KnownBytes.{Appends};
 ghost use Rattle.rules.specs.Decide.{is_queued};
-ghost use Rattle.call_scripts.specs.Judging.{queued_command, judged, verdict_text};
+ghost use Rattle.call_scripts.specs.Judging.{queued_command, facts_all_lent, judged, verdict_text};
 
 use device::Device;
 use device_state::Entry;
@@ -29,11 +29,12 @@ pub(crate) fn queued_command(bytes: &[u8]) -> Option<HostReg>
     (host.command_bit && is_queued(host)).then_some(host)
 }
 
-/// What a queued command makes the device do, which is lent all that a call may want.
-pub(crate) fn judged(device: &Device, host: HostReg) -> Result<Act, Refusal>
-    ensures { result ≡ judged device.now host }
+// What is looked at where all is lent that a call may want.
+#[tactic(auto, unfolding(crate::specs::Judging::facts_all_lent))]
+fn facts_of(device: &Device) -> Facts
+    ensures { result ≡ facts_all_lent device.now }
 {
-    let facts = Facts {
+    Facts {
         contradicts: device.contradicts(),
         medium_wrong: false,
         reply_short: false,
@@ -41,15 +42,18 @@ pub(crate) fn judged(device: &Device, host: HostReg) -> Result<Act, Refusal>
         status: device.status,
         entry: Entry::default(),
         some_unready: false,
-    };
-    facts.frame_act(Ok(Frame::Host(host)))
+    }
+}
+
+/// What a queued command makes the device do.
+pub(crate) fn judged(device: &Device, host: HostReg) -> Result<Act, Refusal>
+    ensures { result ≡ judged device.now host }
+{
+    facts_of(device).frame_act(Ok(Frame::Host(host)))
 }
 
 /// Whether the command is good, and its error byte if it is not, or the refusal.
-pub(crate) fn write_verdict<W: Write>(
-    out: &mut W,
-    judged: Result<Act, Refusal>,
-) -> io::Result<()>
+pub(crate) fn write_verdict<W: Write>(out: &mut W, judged: Result<Act, Refusal>) -> io::Result<()>
     ensures { OnOk result (Appends (W.contents out.old) (W.contents out.new) (verdict_text judged)) }
 {
     match judged {

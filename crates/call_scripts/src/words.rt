@@ -135,14 +135,12 @@ impl<'a> Words<'a> {
     }
 
     /// The bytes that the words from a place on tell, each in pairs of hex digits.
-    #[tactic(auto, using(crate::proofs::WordLaws::drop_texts, std::proofs::lemmas::List::drop_all), unfolding(crate::specs::Bytes::all_bytes))]
+    #[tactic(auto, using(crate::proofs::WordLaws::texts_behind))]
     pub(crate) fn bytes(&self, alloc: Global, place: usize) -> Result<Option<Bytes>, AllocError>
         ensures { IfOk result (λ bytes. bytes ≡ bytes_of (drop place self.now)) }
     {
-        match self.words.get(place..) {
-            Some(words) => bytes_of(alloc, words),
-            None => Ok(Some(Bytes::new(alloc))),
-        }
+        let (_, words) = self.words.split_at(place.min(self.words.len()));
+        bytes_of(alloc, words)
     }
 
     /// Whether there are just so many words, if that is fixed.

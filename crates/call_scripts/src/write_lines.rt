@@ -3,7 +3,7 @@ ghost use Rattle.std.specs.Prelude.{◌≡◌, IfOk, OnOk};
 ghost use Rattle.std.specs.Io.KnownBytes.{Appends};
 ghost use Rattle.frames.specs.Emit.{WriteGiven};
 ghost use Rattle.frames.specs.Write.{FrameWriteGiven};
-ghost use Rattle.call_scripts.specs.WriteLines.{frame_value, writing_fits, writing_bytes, written_text, writing_text};
+ghost use Rattle.call_scripts.specs.WriteLines.{frame_value, writing_fits, writing_bytes, taken_text, written_text, writing_text};
 
 use crate::answers::write_tail;
 use crate::data_frames::payload;
@@ -59,6 +59,16 @@ fn write_to(
     }
 }
 
+fn write_taken<W: Write>(alloc: Global, out: &mut W, len: usize, buffer: &[u8]) -> io::Result<()>
+    ensures { OnOk result (Appends (W.contents out.old) (W.contents out.new) (taken_text len buffer.now)) }
+{
+    let (written, behind) = buffer.split_at(len.min(buffer.len()));
+    write!(out, "0 {len} ")?;
+    out.write_all(hex::encode(alloc, written)?.as_bytes())?;
+    write_tail(out, behind)?;
+    out.write_all(b"\n")
+}
+
 fn write_written<W: Write>(
     alloc: Global,
     out: &mut W,
@@ -68,18 +78,13 @@ fn write_written<W: Write>(
     ensures { OnOk result (Appends (W.contents out.old) (W.contents out.new) (written_text answer buffer.now)) }
 {
     match answer {
-        Ok(len) => {
-            let (written, behind) = buffer.split_at(len.min(buffer.len()));
-            write!(out, "0 {len} ")?;
-            out.write_all(hex::encode(alloc, written)?.as_bytes())?;
-            write_tail(out, behind)?;
-        }
+        Ok(len) => write_taken(alloc, out, len, buffer),
         Err(refusal) => {
             write!(out, "{refusal} 0")?;
             write_tail(out, buffer)?;
+            out.write_all(b"\n")
         }
     }
-    out.write_all(b"\n")
 }
 
 /// What comes of a write to a buffer of so many bytes.
