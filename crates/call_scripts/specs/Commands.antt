@@ -1,5 +1,5 @@
 -- What a line of a script asks for. Assumes nothing.
-use Rattle.std.specs.Prelude.{ℕ, List, [], ◌∷◌, length, drop, slice_get, Option, Some, None}
+use Rattle.std.specs.Prelude.{ℕ, List, length, drop, slice_get, Option, Some, None}
 use Rattle.bits.specs.Pick.{pick}
 use Rattle.device_state.specs.declared.shapes.Settings.{Settings}
 use Rattle.rules.specs.declared.event.DeviceEvent.{DeviceEvent}
@@ -10,7 +10,7 @@ use Rattle.call_scripts.specs.Bytes.{bytes_of}
 use Rattle.call_scripts.specs.Changes.{change_of}
 use Rattle.call_scripts.specs.Judging.{queued_command}
 use Rattle.call_scripts.specs.Readings.{reading_of}
-use Rattle.call_scripts.specs.Writings.{writing_of}
+use Rattle.call_scripts.specs.Writings.{values_at, writing_of}
 use Rattle.call_scripts.specs.Verbs.{verb_of, words_in}
 use Rattle.call_scripts.specs.declared.verbs.Verb.{Verb}
 use Rattle.call_scripts.specs.declared.verbs.Verb as verb
@@ -33,27 +33,6 @@ media_at words = do
   sector ← long_at words 3
   Some (MediaError tag error sector)
 
--- "tally N0 .. N15": an amount for each row
-abbrev pub amounts_at : List (List ℕ) → Option (List ℕ)
-amounts_at words = do
-  n0 ← long_at words 1
-  n1 ← long_at words 2
-  n2 ← long_at words 3
-  n3 ← long_at words 4
-  n4 ← long_at words 5
-  n5 ← long_at words 6
-  n6 ← long_at words 7
-  n7 ← long_at words 8
-  n8 ← long_at words 9
-  n9 ← long_at words 10
-  n10 ← long_at words 11
-  n11 ← long_at words 12
-  n12 ← long_at words 13
-  n13 ← long_at words 14
-  n14 ← long_at words 15
-  n15 ← long_at words 16
-  Some (n0 ∷ n1 ∷ n2 ∷ n3 ∷ n4 ∷ n5 ∷ n6 ∷ n7 ∷ n8 ∷ n9 ∷ n10 ∷ n11 ∷ n12 ∷ n13 ∷ n14 ∷ n15 ∷ [])
-
 -- what a verb's words ask for, but where they tell bytes
 abbrev pub command_at : List (List ℕ) → Verb → Option Command
 command_at words verb.TheVariants.Power = settings_at words >>= (λ s. Some (command.TheVariants.Power s))
@@ -73,7 +52,7 @@ command_at words verb.TheVariants.Send = Some (command.TheVariants.Event SendDat
 command_at words verb.TheVariants.Finish = long_at words 1 >>= (λ set. Some (command.TheVariants.Event (FinishTags set)))
 command_at words verb.TheVariants.Media = media_at words >>= (λ event. Some (command.TheVariants.Event event))
 command_at words verb.TheVariants.Link = byte_at words 1 >>= (λ row. Some (command.TheVariants.Event (LinkEvent row)))
-command_at words verb.TheVariants.Tally = amounts_at words >>= (λ ns. Some (command.TheVariants.Event (LinkTally ns)))
+command_at words verb.TheVariants.Tally = values_at words 1 16 >>= (λ ns. Some (command.TheVariants.Event (LinkTally ns)))
 command_at words verb.TheVariants.Comreset = Some (command.TheVariants.Event Comreset)
 command_at words verb.TheVariants.Counter = short_at words 1 >>= (λ number. Some (command.TheVariants.Counter number))
 command_at words verb.TheVariants.Count = Some command.TheVariants.Count

@@ -30,12 +30,12 @@ unfoldable pub command_text : HostReg → List ℕ
 command_text f = field_text (codes "c") (bit_number f.command_bit) ++ field_text (codes "command") f.command ++ field_text (codes "features") f.features
 
 -- and behind its LBA and device
-unfoldable pub count_text : HostReg → List ℕ
-count_text f = field_text (codes "features_high") f.features_high ++ field_text (codes "count") f.task.count ++ field_text (codes "control") f.control
+unfoldable pub count_text : ℕ → ℕ → ℕ → List ℕ
+count_text high count control = field_text (codes "features_high") high ++ field_text (codes "count") count ++ field_text (codes "control") control
 
 -- 27h
 unfoldable pub host_text : HostReg → List ℕ
-host_text f = command_text f ++ field_text (codes "lba") f.task.lba ++ field_text (codes "device") f.task.device ++ count_text f
+host_text f = command_text f ++ field_text (codes "lba") f.task.lba ++ field_text (codes "device") f.task.device ++ count_text f.features_high f.task.count f.control
 
 -- 34h
 unfoldable pub device_text : DevReg → List ℕ

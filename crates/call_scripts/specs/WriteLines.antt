@@ -31,13 +31,13 @@ frame_value fields.Bist = bist
 frame_value (fields.Pio f) = pio f
 
 -- no value is too large for its place
-abbrev pub writing_fits : Writing → Bool
+unfoldable pub writing_fits : Writing → Bool
 writing_fits (writing.Frame f) = fits (frame_value f)
 writing_fits (writing.ErrorPage log) = fits10 log
 writing_fits (writing.Counters mask values) = keeps_both mask
 
 -- what is written
-abbrev pub writing_bytes : Writing → List ℕ
+unfoldable pub writing_bytes : Writing → List ℕ
 writing_bytes (writing.Frame f) = encode (frame_value f)
 writing_bytes (writing.ErrorPage log) = page10 log
 writing_bytes (writing.Counters mask values) = page11 mask values
@@ -52,7 +52,7 @@ written_text (Ok len) buffer = taken_text len buffer
 written_text (Err refusal) buffer = decimal (number refusal) ++ codes " 0" ++ tail_of buffer ++ 10 ∷ []
 
 -- the line of bytes that are written to a buffer d [script-write]
-abbrev pub emit_text : Bool → List ℕ → List ℕ → List ℕ
+unfoldable pub emit_text : Bool → List ℕ → List ℕ → List ℕ
 emit_text fit s d = written_text (unless (write_refusal fit (length s) (length d)) (length s)) (pick (is_none (write_refusal fit (length s) (length d))) (overlay s d) d)
 
 -- the line of a `write` [script-write]

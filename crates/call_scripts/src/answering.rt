@@ -114,7 +114,9 @@ impl<'a> Bench<'a> {
             Command::Show => write_state(out, &self.device),
             Command::Medium { at, size } => self.part(alloc, out, *at, *size),
             Command::Read(reading) => write_reading(alloc, out, reading),
-            Command::Write { room, writing } => write_writing(alloc, out, *room, *writing),
+            Command::Write { room, writing } => {
+                write_writing(alloc, out, usize::from(*room), *writing)
+            }
         }
     }
 }

@@ -1,6 +1,6 @@
 // What a line of a script asks for.
 ghost use Rattle.std.specs.Prelude.{◌≡◌, IfOk};
-ghost use Rattle.call_scripts.specs.Commands.{settings_at, media_at, amounts_at, command_at, asked_at, command_in, command_of};
+ghost use Rattle.call_scripts.specs.Commands.{settings_at, media_at, command_at, asked_at, command_in, command_of};
 
 use crate::bytes::Bytes;
 use crate::changes::Change;
@@ -10,7 +10,6 @@ use crate::verbs::Verb;
 use crate::words::{Words, asked_text};
 use crate::writings::Writing;
 use crate::{MEDIUM_SIZE, PAYLOAD_MOST, REPLY_SIZE};
-use counters::Counters;
 use device_state::Settings;
 use frames::HostReg;
 use rules::DeviceEvent;
@@ -93,29 +92,6 @@ impl<'a> Words<'a> {
     }
 
     // An amount for each row.
-    fn amounts(&self) -> Option<Counters>
-        ensures { result ≡ amounts_at self.now }
-    {
-        Some([
-            self.long(1)?,
-            self.long(2)?,
-            self.long(3)?,
-            self.long(4)?,
-            self.long(5)?,
-            self.long(6)?,
-            self.long(7)?,
-            self.long(8)?,
-            self.long(9)?,
-            self.long(10)?,
-            self.long(11)?,
-            self.long(12)?,
-            self.long(13)?,
-            self.long(14)?,
-            self.long(15)?,
-            self.long(16)?,
-        ])
-    }
-
     fn command(&self, verb: Verb) -> Option<Command>
         ensures { result ≡ command_at self.now verb }
     {
@@ -132,7 +108,7 @@ impl<'a> Words<'a> {
             Verb::Finish => Command::Event(DeviceEvent::FinishTags(self.long(1)?)),
             Verb::Media => Command::Event(self.media_error()?),
             Verb::Link => Command::Event(DeviceEvent::LinkEvent(self.byte(1)?)),
-            Verb::Tally => Command::Event(DeviceEvent::LinkTally(self.amounts()?)),
+            Verb::Tally => Command::Event(DeviceEvent::LinkTally(self.values(1)?)),
             Verb::Comreset => Command::Event(DeviceEvent::Comreset),
             Verb::Counter => Command::Counter(self.short(1)?),
             Verb::Count => Command::Count,

@@ -45,12 +45,17 @@ fn write_command<W: Write>(out: &mut W, frame: HostReg) -> io::Result<()>
 }
 
 #[tactic(auto, unfolding(crate::specs::FrameText::count_text))]
-fn write_count<W: Write>(out: &mut W, frame: HostReg) -> io::Result<()>
-    ensures { OnOk result (Appends (W.contents out.old) (W.contents out.new) (count_text frame)) }
+fn write_count<W: Write>(
+    out: &mut W,
+    features_high: u8,
+    count: u16,
+    control: u8,
+) -> io::Result<()>
+    ensures { OnOk result (Appends (W.contents out.old) (W.contents out.new) (count_text features_high count control)) }
 {
-    write_field(out, "features_high", frame.features_high.into())?;
-    write_field(out, "count", frame.task.count.into())?;
-    write_field(out, "control", frame.control.into())
+    write_field(out, "features_high", features_high.into())?;
+    write_field(out, "count", count.into())?;
+    write_field(out, "control", control.into())
 }
 
 #[tactic(auto, unfolding(crate::specs::FrameText::host_text))]
@@ -60,7 +65,7 @@ fn write_host<W: Write>(out: &mut W, frame: HostReg) -> io::Result<()>
     write_command(out, frame)?;
     write_field(out, "lba", frame.task.lba)?;
     write_field(out, "device", frame.task.device.into())?;
-    write_count(out, frame)
+    write_count(out, frame.features_high, frame.task.count, frame.control)
 }
 
 #[tactic(auto, unfolding(crate::specs::FrameText::device_text))]

@@ -3,7 +3,7 @@ ghost use Rattle.std.specs.Prelude.{◌≡◌, IfOk, OnOk};
 ghost use Rattle.std.specs.Io.KnownBytes.{Appends};
 ghost use Rattle.frames.specs.Emit.{WriteGiven};
 ghost use Rattle.frames.specs.Write.{FrameWriteGiven};
-ghost use Rattle.call_scripts.specs.WriteLines.{frame_value, writing_fits, writing_bytes, taken_text, written_text, writing_text};
+ghost use Rattle.call_scripts.specs.WriteLines.{frame_value, writing_fits, writing_bytes, taken_text, written_text, emit_text, writing_text};
 
 use crate::answers::write_tail;
 use crate::data_frames::payload;
@@ -45,6 +45,7 @@ fn write_frame(
     }
 }
 
+#[tactic(auto, unfolding(crate::specs::WriteLines::writing_fits, crate::specs::WriteLines::writing_bytes))]
 fn write_to(
     alloc: Global,
     buffer: &mut [u8],
@@ -87,19 +88,30 @@ fn write_written<W: Write>(
     }
 }
 
+// What comes of a write to a buffer.
+#[tactic(auto, using(crate::proofs::WriteLaws::written_is))]
+fn write_line<W: Write>(
+    alloc: Global,
+    out: &mut W,
+    buffer: &mut [u8],
+    writing: Writing,
+) -> io::Result<()>
+    ensures { OnOk result (Appends (W.contents out.old) (W.contents out.new) (emit_text (writing_fits writing) (writing_bytes writing) buffer.old)) }
+{
+    let answer = write_to(alloc, buffer, writing)?;
+    write_written(alloc, out, answer, buffer)
+}
+
 /// What comes of a write to a buffer of so many bytes.
-#[tactic(auto, using(crate::proofs::AnswerLaws::room_is, crate::proofs::WriteLaws::written_is))]
 pub(crate) fn write_writing<W: Write>(
     alloc: Global,
     out: &mut W,
-    room: u16,
+    room: usize,
     writing: Writing,
 ) -> io::Result<()>
     ensures { OnOk result (Appends (W.contents out.old) (W.contents out.new) (writing_text room writing)) }
 {
     let mut whole = [UNTOUCHED; REPLY_SIZE as usize];
-    let size = usize::from(room).min(whole.len());
-    let buffer = &mut whole[..size];
-    let answer = write_to(alloc, buffer, writing)?;
-    write_written(alloc, out, answer, buffer)
+    let size = room.min(whole.len());
+    write_line(alloc, out, &mut whole[..size], writing)
 }

@@ -236,12 +236,13 @@ impl<'a> Words<'a> {
     }
 
     #[tactic(auto, using(crate::proofs::WriteLaws::values_more, crate::proofs::WriteLaws::values_none, crate::proofs::WriteLaws::values_all), unfolding(crate::specs::Writings::values_at))]
-    fn values(&self) -> Option<Counters>
-        ensures { result ≡ values_at self.now 4 16 }
+    /// The values of all rows, from a word on.
+    pub(crate) fn values(&self, place: u8) -> Option<Counters>
+        ensures { result ≡ values_at self.now place 16 }
     {
         let mut values = [0; ROWS];
         for row in 0..ROWS {
-            values[row] = self.long(4 + row)?;
+            values[row] = self.long(usize::from(place) + row)?;
         }
         Some(values)
     }
@@ -251,7 +252,7 @@ impl<'a> Words<'a> {
     {
         Some(Writing::Counters {
             mask: self.short(3)?,
-            values: self.values()?,
+            values: self.values(4)?,
         })
     }
 
