@@ -29,13 +29,21 @@ status_text status error = field_text (codes "status") status ++ field_text (cod
 unfoldable pub command_text : HostReg → List ℕ
 command_text f = field_text (codes "c") (bit_number f.command_bit) ++ field_text (codes "command") f.command ++ field_text (codes "features") f.features
 
--- and behind its LBA and device
-unfoldable pub count_text : ℕ → ℕ → ℕ → List ℕ
-count_text high count control = field_text (codes "features_high") high ++ field_text (codes "count") count ++ field_text (codes "control") control
+-- its sector and device
+unfoldable pub place_text : ℕ → ℕ → List ℕ
+place_text lba device = field_text (codes "lba") lba ++ field_text (codes "device") device
+
+-- the byte that stands behind them
+unfoldable pub high_text : ℕ → List ℕ
+high_text high = field_text (codes "features_high") high
+
+-- and the count
+unfoldable pub count_text : ℕ → ℕ → List ℕ
+count_text high count = high_text high ++ field_text (codes "count") count
 
 -- 27h
 unfoldable pub host_text : HostReg → List ℕ
-host_text f = command_text f ++ field_text (codes "lba") f.task.lba ++ field_text (codes "device") f.task.device ++ count_text f.features_high f.task.count f.control
+host_text f = command_text f ++ place_text f.task.lba f.task.device ++ count_text f.features_high f.task.count ++ field_text (codes "control") f.control
 
 -- 34h
 unfoldable pub device_text : DevReg → List ℕ

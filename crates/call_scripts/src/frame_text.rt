@@ -1,7 +1,7 @@
 // The fields of a frame that was read, as text.
 ghost use Rattle.std.specs.Prelude.{◌≡◌, OnOk};
 ghost use Rattle.std.specs.Io.KnownBytes.{Appends};
-ghost use Rattle.call_scripts.specs.FrameText.{field_text, task_text, status_text, command_text, count_text, host_text, device_text, bits_text, flags_text, setup_text, ending_text, pio_text, fields_text, frame_text};
+ghost use Rattle.call_scripts.specs.FrameText.{field_text, task_text, status_text, command_text, high_text, count_text, place_text, host_text, device_text, bits_text, flags_text, setup_text, ending_text, pio_text, fields_text, frame_text};
 
 use frames::{DevReg, DmaSetup, Frame, HostReg, PioSetup, SetBits, Task};
 use refusals::Refusal;
@@ -44,18 +44,27 @@ fn write_command<W: Write>(out: &mut W, frame: HostReg) -> io::Result<()>
     write_field(out, "features", frame.features.into())
 }
 
-#[tactic(auto, unfolding(crate::specs::FrameText::count_text))]
-fn write_count<W: Write>(
-    out: &mut W,
-    features_high: u8,
-    count: u16,
-    control: u8,
-) -> io::Result<()>
-    ensures { OnOk result (Appends (W.contents out.old) (W.contents out.new) (count_text features_high count control)) }
+#[tactic(auto, unfolding(crate::specs::FrameText::place_text))]
+fn write_place<W: Write>(out: &mut W, lba: u64, device: u8) -> io::Result<()>
+    ensures { OnOk result (Appends (W.contents out.old) (W.contents out.new) (place_text lba device)) }
 {
-    write_field(out, "features_high", features_high.into())?;
-    write_field(out, "count", count.into())?;
-    write_field(out, "control", control.into())
+    write_field(out, "lba", lba)?;
+    write_field(out, "device", device.into())
+}
+
+#[tactic(auto, unfolding(crate::specs::FrameText::high_text))]
+fn write_high<W: Write>(out: &mut W, high: u8) -> io::Result<()>
+    ensures { OnOk result (Appends (W.contents out.old) (W.contents out.new) (high_text high)) }
+{
+    write_field(out, "features_high", high.into())
+}
+
+#[tactic(auto, unfolding(crate::specs::FrameText::count_text))]
+fn write_count<W: Write>(out: &mut W, features_high: u8, count: u16) -> io::Result<()>
+    ensures { OnOk result (Appends (W.contents out.old) (W.contents out.new) (count_text features_high count)) }
+{
+    write_high(out, features_high)?;
+    write_field(out, "count", count.into())
 }
 
 #[tactic(auto, unfolding(crate::specs::FrameText::host_text))]
@@ -63,9 +72,9 @@ fn write_host<W: Write>(out: &mut W, frame: HostReg) -> io::Result<()>
     ensures { OnOk result (Appends (W.contents out.old) (W.contents out.new) (host_text frame)) }
 {
     write_command(out, frame)?;
-    write_field(out, "lba", frame.task.lba)?;
-    write_field(out, "device", frame.task.device.into())?;
-    write_count(out, frame.features_high, frame.task.count, frame.control)
+    write_place(out, frame.task.lba, frame.task.device)?;
+    write_count(out, frame.features_high, frame.task.count)?;
+    write_field(out, "control", frame.control.into())
 }
 
 #[tactic(auto, unfolding(crate::specs::FrameText::device_text))]

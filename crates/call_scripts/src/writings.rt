@@ -235,7 +235,7 @@ impl<'a> Words<'a> {
         })
     }
 
-    #[tactic(auto, using(crate::proofs::WriteLaws::values_more, crate::proofs::WriteLaws::values_none, crate::proofs::WriteLaws::values_all), unfolding(crate::specs::Writings::values_at))]
+    #[tactic(auto, using(crate::proofs::WriteLaws::values_more), unfolding(crate::specs::Writings::values_at))]
     /// The values of all rows, from a word on.
     pub(crate) fn values(&self, place: u8) -> Option<Counters>
         ensures { result ≡ values_at self.now place 16 }
