@@ -37,8 +37,8 @@ pub use checking::check_script;
 pub use commands::Command;
 pub use found::Found;
 pub use pieces::run_script;
-pub use running::a_script_has_one_text;
 pub use readings::Reading;
+pub use running::a_script_has_one_text;
 pub use writings::{FrameFields, Writing};
 
 // The bytes of the medium of a bench; a call is lent a front of it.
