@@ -8,7 +8,7 @@ use std::process::ExitCode;
 use std::{env, fs, io};
 use version::VERSION;
 
-// Some line differs; the command line asks for nothing that is known; lines are missing.
+// Some line differs; the command line, or its scripts, ask for nothing; lines are missing.
 const DIFFERING: u8 = 1;
 
 const USAGE: u8 = 2;
@@ -23,7 +23,12 @@ fn check_file(rt: HostRuntime, path: &str) -> Result<Found, RunError> {
 // The last line of a check, and its status.
 fn tell(rt: HostRuntime, all: Found) -> io::Result<u8> {
     println!(rt; "{} lines asked for, {} differ", all.asked, all.differing)?;
-    Ok(if all.differing == 0 { 0 } else { DIFFERING })
+    Ok(match (all.asked, all.differing) {
+        // nothing was compared, which is no good news
+        (0, _) => USAGE,
+        (_, 0) => 0,
+        _ => DIFFERING,
+    })
 }
 
 // The scripts that are named; the first that could not be read, or whose differences could not be written, ends it.
