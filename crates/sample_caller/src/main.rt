@@ -7,7 +7,9 @@ use device_state::Settings;
 use frames::{DATA_FRAME_LIMIT, HostReg, Task, frames_of, write_data, write_host};
 use refusals::Refusal;
 use std::alloc::Global;
+use std::env;
 use std::io::{self, Write};
+use version::VERSION;
 
 // A queued read of one sector from sector 1 on, with tag 5.
 const READ: [u8; 20] = [
@@ -119,7 +121,19 @@ fn serve<W: Write>(alloc: Global, out: &mut W, mut device: Sealed) -> anyhow::Re
     Ok(())
 }
 
+fn asks_version(rt: HostRuntime) -> io::Result<bool> {
+    let mut words = env::args(&rt)?.skip(1);
+    Ok(match words.next() {
+        Some(word) => word.as_str() == "--version",
+        None => false,
+    })
+}
+
 fn main(rt: HostRuntime) -> anyhow::Result<()> {
+    if asks_version(rt)? {
+        println!(rt; "sample_caller {VERSION}")?;
+        return Ok(());
+    }
     let settings = Settings {
         depth: 32,
         capacity: 4,
