@@ -30,7 +30,7 @@ pub(crate) fn command<'a>(alloc: Global) -> Result<Command<'a>, AllocError> {
         .version(VERSION)
         .about("Tells a log page of 512 bytes in words")
         .after_help(
-            "Exit status: 0 told in full, 1 refused, 2 usage, 3 unread, 4 lines are missing; of several files the greatest.",
+            "Exit status: 0 told in full (not that the device is well, nor that the page is its own), 1 refused, 2 usage, 3 unread, 4 lines are missing; of several files the greatest.",
         )
         .arg(page)?
         .arg(hex)?
