@@ -2,22 +2,14 @@
 use Rattle.std.proofs.Common.{◌≡◌, refl, ap, ap₂, ◌∙◌, true, List, [], ◌∷◌, ◌++◌, map, append-nil, ℕ, zero, suc, ◌≤◌, ◌<◌, arith, length, take, drop, length-append, take_at, drop_at}
 use Rattle.frames.specs.Size.{fixed_size}
 use Rattle.frames.specs.Cut.{first_length, cut_to, cut, joined_bytes}
-use Rattle.frames.proofs.CutLaws.{cut_none, cut_one, fixed, unfixed}
-use Rattle.frames.specs.Write.{FrameValue, host, device, set_bits, setup, activate, payload, bist, pio, encode}
+use Rattle.frames.proofs.CutLaws.{cut_none, cut_one}
+use Rattle.frames.specs.Write.{FrameValue, encode}
 use Rattle.frames.specs.DataLast.{is_payload, DataLast}
 
 -- a frame in front is cut off whole
 pub first_length_of : (f : FrameValue) (rest : List ℕ) → (is_payload f ≡ true → rest ≡ []) → first_length (encode f ++ rest) ≡ length (encode f)
-unfolding encode fixed_size
-first_length_of (host f) rest h = fixed 0x27 20 _ refl refl (omega arith)
-first_length_of (device f) rest h = fixed 0x34 20 _ refl refl (omega arith)
-first_length_of (set_bits f) rest h = fixed 0xA1 8 _ refl refl (omega arith)
-first_length_of (setup f) rest h = fixed 0x41 28 _ refl refl (omega arith)
-first_length_of activate rest h = fixed 0x39 4 _ refl refl (omega arith)
-first_length_of (payload p) rest h =
-    unfixed 0x46 (encode (payload p) ++ rest) refl refl ∙ ap length (ap (λ (x : List ℕ). encode (payload p) ++ x) (h refl) ∙ append-nil (encode (payload p)))
-first_length_of bist rest h = fixed 0x58 12 _ refl refl (omega arith)
-first_length_of (pio f) rest h = fixed 0x5F 20 _ refl refl (omega arith)
+unfolding first_length encode fixed_size
+first_length_of f rest h = grind (arith, append-nil)
 
 -- no frame is empty
 pub encode_some : (f : FrameValue) → 0 < length (encode f)

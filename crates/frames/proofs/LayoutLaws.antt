@@ -1,5 +1,5 @@
 -- There and back, for every layout. Assumes nothing.
-use Rattle.std.proofs.Common.{◌≡◌, refl, sym, ap, ◌∙◌, Bool, true, false, List, [], ◌∷◌, ◌++◌, ℕ, zero, suc, ◌+◌, ◌*◌, ◌^◌, ◌<◌, ◌≤◌, arith, length, get_or, take, drop, replicate, append_assoc, length-append, length-drop, take_at, drop_at, mod-eq_of_lt, eqb, eqb-true, ltb-true, lt-ltb, bit_and}
+use Rattle.std.proofs.Common.{◌≡◌, refl, sym, ap, ◌∙◌, true, List, [], ◌∷◌, ◌++◌, ℕ, zero, suc, ◌+◌, ◌*◌, ◌^◌, ◌<◌, ◌≤◌, arith, length, get_or, take, drop, replicate, append_assoc, length-append, length-drop, take_at, drop_at, mod-eq_of_lt, eqb, eqb-true, ltb-true, lt-ltb, bit_and}
 use native.Mathlib.Nat.{mod-one}
 use lib.Bits.{and_mask}
 use Rattle.std.specs.Int.Bits.{and_self}
@@ -45,26 +45,13 @@ pub got_written : (ps : List Piece) (vs f r : List ℕ) → all_hold ps vs ≡ t
 got_written [] [] f r h at = refl
 got_written [] (v ∷ vs) f r h at = cc
 got_written (p ∷ ps) [] f r h at = cc
-got_written (p ∷ ps) (v ∷ vs) f r h at = go (λ e. rw (← next, there) (got_written ps vs (f ++ put p v) r (and_right (holds p v) (all_hold ps vs) h) at)) (eqb (length f) at) refl
-  where
-    all : List ℕ
-    all = f ++ ((put p v ++ bytes_of ps vs) ++ r)
-
-    here : all ≡ f ++ (put p v ++ (bytes_of ps vs ++ r))
-    here = ap (λ (x : List ℕ). f ++ x) (append_assoc (put p v) (bytes_of ps vs) r)
-
-    there : all ≡ (f ++ put p v) ++ (bytes_of ps vs ++ r)
-    there = here ∙ sym (append_assoc f (put p v) (bytes_of ps vs ++ r))
-
-    next : length (f ++ put p v) ≡ length f + length (mask p)
-    next = rw (length-append f (put p v), length_put p v)
-
-    go : (eqb (length f) at ≡ false → got (piece_at ps (length f + length (mask p)) at) all at ≡ value_at ps vs (length f + length (mask p)) at) → (t : Bool) → eqb (length f) at ≡ t
-        → got (pick t p (piece_at ps (length f + length (mask p)) at)) all at ≡ pick t v (value_at ps vs (length f + length (mask p)) at)
-    go other true e =
-        let a : at ≡ length f = sym (eqb-true (length f) at e) in
-        rw (a, here) (got_put p v f (bytes_of ps vs ++ r) (and_left (holds p v) (all_hold ps vs) h))
-    go other false e = other e
+got_written (p ∷ ps) (v ∷ vs) f r h at =
+    let here : f ++ ((put p v ++ bytes_of ps vs) ++ r) ≡ f ++ (put p v ++ (bytes_of ps vs ++ r)) = ap (λ (x : List ℕ). f ++ x) (append_assoc (put p v) (bytes_of ps vs) r) in
+    let there = here ∙ sym (append_assoc f (put p v) (bytes_of ps vs ++ r)) in
+    let next : length (f ++ put p v) ≡ length f + length (mask p) = rw (length-append f (put p v), length_put p v) in
+    let this = got_put p v f (bytes_of ps vs ++ r) (and_left (holds p v) (all_hold ps vs) h) in
+    let others = got_written ps vs (f ++ put p v) r (and_right (holds p v) (all_hold ps vs) h) at in
+    grind (arith, here, there, next, this, others)
 
 -- ---- what was read is written again, with its dropped bits zeroed
 

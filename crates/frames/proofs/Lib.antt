@@ -4,6 +4,7 @@ pub mod TaskLaws
 pub mod Defaults
 pub mod LayoutLaws
 pub mod FitLaws
+pub mod HalvesLaws
 pub mod QueuedLaws
 pub mod EmitLaws
 pub mod CutLaws

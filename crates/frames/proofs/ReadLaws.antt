@@ -1,5 +1,5 @@
 -- Laws of the reader. Assumes nothing.
-use Rattle.std.proofs.Common.{◌≡◌, refl, true, false, List, ℕ, ◌-◌, length, get_or, Option, Some, None, Result, Ok, Err}
+use Rattle.std.proofs.Common.{rules, ◌≡◌, refl, true, false, List, ℕ, ◌-◌, length, get_or, Option, Some, None, Result, Ok, Err}
 use Rattle.std.specs.Option.{option_map_or}
 use Rattle.bits.specs.Pick.{pick}
 use Rattle.bits.proofs.Picks.{by_test}
@@ -38,11 +38,5 @@ pub read_data : (l : List ℕ) → DataRead (get_or l 0 0) l (read_frame l)
 read_data l = by_kind (DataRead (get_or l 0 0) l) l tt of_kind
   where
     of_kind : (kind : FrameKind) → kind_named (get_or l 0 0) ≡ Some kind → allows kind (length l) ≡ true → DataRead (get_or l 0 0) l (Ok (frame_of kind l))
-    of_kind kinds.HostRegister e a = tt
-    of_kind kinds.DeviceRegister e a = tt
-    of_kind kinds.SetDeviceBits e a = tt
-    of_kind kinds.DmaSetup e a = tt
-    of_kind kinds.DmaActivate e a = tt
-    of_kind kinds.BistActivate e a = tt
-    of_kind kinds.PioSetup e a = tt
     of_kind kinds.Data e a = (named_byte (get_or l 0 0) kinds.Data e, (refl, a))
+    of_kind kind e a = search rules

@@ -1,5 +1,5 @@
 -- Laws of the pieces that frames share. Assumes nothing.
-use Rattle.std.proofs.Common.{◌≡◌, refl, sym, ◌∙◌, Bool, true, false, ◌&&◌, ⊎_elim, ℕ, ◌*◌, ◌/◌, ◌^◌, ◌≤◌, ◌<◌, div-lt_iff_lt-mul, arith, eqb, ltb, pow_pos, eq-eqb, ne_eqb, lt-ltb, le-ltb, bit_and}
+use Rattle.std.proofs.Common.{◌≡◌, refl, sym, ◌∙◌, Bool, false, ◌&&◌, ⊎_elim, ℕ, ◌*◌, ◌/◌, ◌^◌, ◌≤◌, ◌<◌, div-lt_iff_lt-mul, arith, eqb, ltb, pow_pos, eq-eqb, ne_eqb, lt-ltb, le-ltb, bit_and}
 use native.Mathlib.Nat.{div-eq_of_lt}
 use Rattle.std.proofs.lemmas.Nat.Bits.{bit_at_above, bit_at_and}
 use Rattle.bits.specs.Bit.{bit_in}
@@ -26,18 +26,15 @@ bit_of_byte b k h =
     none : (t : Bool) → t && false ≡ false
     none t = grind arith
 
--- a bit that a mask names stays under it
-named_bit : (b m k : ℕ) → bit_in 8 m k ≡ true → bit_in 8 (bit_and b m) k ≡ bit_in 8 b k
-named_bit b m k h = grind (arith, bit_at_and b m k)
-
+-- a flag that a mask names stays under it
 pub flag_40 : (b : ℕ) → bit_in 8 (bit_and b 0x40) 6 ≡ bit_in 8 b 6
-flag_40 b = named_bit b 0x40 6 refl
+flag_40 b = grind (arith, bit_at_and b 0x40 6)
 
 pub flag_60 : (b : ℕ) → bit_in 8 (bit_and b 0x60) 6 ≡ bit_in 8 b 6
-flag_60 b = named_bit b 0x60 6 refl
+flag_60 b = grind (arith, bit_at_and b 0x60 6)
 
 pub flag_60_5 : (b : ℕ) → bit_in 8 (bit_and b 0x60) 5 ≡ bit_in 8 b 5
-flag_60_5 b = named_bit b 0x60 5 refl
+flag_60_5 b = grind (arith, bit_at_and b 0x60 5)
 
 -- what the check needs of it
 pub ruleset named_flags = (flag_40, flag_60, flag_60_5)

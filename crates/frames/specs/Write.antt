@@ -47,6 +47,10 @@ values_of (payload p) = 0x46 ∷ 0 ∷ []
 values_of bist = 0x58 ∷ 0 ∷ []
 values_of (pio f) = register_values (record { kind = 0x5F; flags = flags_of false f.interrupt f.to_host; second = f.status; third = f.error; task = f.task; eleven = 0; fifteen = f.ending; bytes = f.bytes })
 
+-- an A1h with another status
+abbrev pub with_status : SetBits → ℕ → SetBits
+with_status f v = record f { status = v }
+
 -- what stands behind the layout
 abbrev pub payload_in : FrameValue → List ℕ
 payload_in (payload p) = p

@@ -5,7 +5,7 @@ ghost use Rattle.std.specs.Prelude.{◌≡◌, eqb};
 ghost use Rattle.std.specs.Int.Bits.{bit_and};
 ghost use Rattle.frames.specs.Emit.{WriteGiven};
 ghost use Rattle.frames.specs.Shared.{register_bytes, task_fits};
-ghost use Rattle.frames.specs.Write.{encode, FrameWriteGiven};
+ghost use Rattle.frames.specs.Write.{encode, with_status, FrameWriteGiven};
 ghost use Rattle.frames.specs.Write.FrameValue.{host, device, set_bits, setup, activate, payload, bist, pio};
 
 use crate::shapes::{DevReg, DmaSetup, HostReg, PioSetup, SetBits};
@@ -81,13 +81,14 @@ pub fn write_pio(buf: &mut [u8], frame: PioSetup) -> Result<usize, Refusal>
 }
 
 impl SetBits {
+    // Of the status what has a place; `fits` says whether that is all of it.
     fn to_bytes(&self) -> [u8; 8]
-        ensures { result ≡ encode (set_bits self.now) }
+        ensures { result ≡ encode (set_bits (with_status self.now (bit_and self.now.status 0x77))) }
     {
         let kind = FrameKind::SetDeviceBits as u8;
         let one = flags(false, self.interrupt, false);
         let [a0, a1, a2, a3] = self.active.to_le_bytes();
-        [kind, one, self.status, self.error, a0, a1, a2, a3]
+        [kind, one, halves(self.status), self.error, a0, a1, a2, a3]
     }
 
     // Status bits 7 and 3 have no place in A1h.

@@ -1,10 +1,7 @@
 -- What an event does to the sixteen counters, and that they then tell the events since the last zeroing. Assumes nothing.
-use Rattle.std.proofs.Common.{eq-eqb, ◌≡◌, refl, sym, ap, ◌∙◌, Bool, true, false, List, [], ◌∷◌, ⊎_elim, ℕ, ◌+◌, ◌^◌, ◌≤◌, ◌<◌, min, arith, eqb, ltb, length, get_or, set, replicate, length-set, get_or-set_same, get_or-set_other, eqb-true, ne_eqb, ltb-true, ltb-false}
-use mathlib.Core.Path.{subst⁻¹}
+use Rattle.std.proofs.Common.{◌≡◌, refl, ◌∙◌, Bool, true, false, List, [], ◌∷◌, ⊎_elim, ℕ, ◌+◌, ◌^◌, ◌≤◌, ◌<◌, min, arith, length, get_or, replicate}
 use lib.ListN.{length-replicate, get_or-eq_default}
-use borrow.Author.Tests.{eqb-false}
 use Rattle.bits.specs.Pick.{pick}
-use Rattle.bits.proofs.Picks.{by_test, tested}
 use Rattle.counters.specs.Counts.{top, next_count}
 use Rattle.device_state.specs.declared.shapes.Settings.{Settings}
 use Rattle.device.specs.Device.{fresh_device, power_on}
