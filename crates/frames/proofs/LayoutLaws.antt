@@ -1,5 +1,5 @@
 -- There and back, for every layout. Assumes nothing.
-use Rattle.std.proofs.Common.{◌≡◌, refl, sym, ap, ◌∙◌, true, List, [], ◌∷◌, ◌++◌, ℕ, zero, suc, ◌+◌, ◌*◌, ◌^◌, ◌<◌, ◌≤◌, arith, length, get_or, take, drop, replicate, append_assoc, length-append, length-drop, take_at, drop_at, mod-eq_of_lt, eqb, eqb-true, ltb-true, lt-ltb, bit_and}
+use Rattle.std.proofs.Common.{◌≡◌, refl, sym, ap, ◌∙◌, true, List, [], ◌∷◌, ◌++◌, ℕ, zero, suc, ◌+◌, ◌*◌, ◌^◌, ◌<◌, ◌≤◌, arith, length, get_or, take, drop, replicate, append_assoc, append-nil, drop_of_length-le, length-append, length-drop, take_at, drop_at, mod-eq_of_lt, eqb, eqb-true, ltb-true, lt-ltb, bit_and}
 use native.Mathlib.Nat.{mod-one}
 use lib.Bits.{and_mask}
 use Rattle.std.specs.Int.Bits.{and_self}
@@ -89,6 +89,12 @@ module _ (l : List ℕ) (bytes : Bytes l) where
   written_again (p ∷ ps) at =
       let n : at + length (mask p ++ masks ps) ≡ (at + length (mask p)) + length (masks ps) = omega (arith, length-append (mask p) (masks ps)) in
       rw (n, piece_again p at (masks ps), append_assoc (put p (got p l at)) (bytes_of ps (values_in ps l (at + length (mask p)))) (drop ((at + length (mask p)) + length (masks ps)) l), written_again ps (at + length (mask p)))
+
+  -- bytes that have no other bits are those of what was read
+  pub all_again : (ps : List Piece) → length l ≡ length (masks ps) → masked_from 0 (masks ps) l ≡ l → bytes_of ps (values_in ps l 0) ≡ l
+  all_again ps n e =
+      let d : drop (0 + length (masks ps)) l ≡ [] = drop_of_length-le l {i = 0 + length (masks ps)} (omega (arith, n)) in
+      sym (append-nil (bytes_of ps (values_in ps l 0))) ∙ ap (λ (x : List ℕ). bytes_of ps (values_in ps l 0) ++ x) (sym d) ∙ written_again ps 0 ∙ e
 
   got_holds : (p : Piece) (at : ℕ) → holds p (got p l at) ≡ true
   got_holds p at = grind (arith, lt-ltb, bytes at, le_lt l bytes at, and_assoc, and_self)

@@ -31,10 +31,10 @@ high : (hi lo : ℕ) → lo < 2 ^ 24 → (hi * 2 ^ 24 + lo) / 2 ^ 24 ≡ hi
 high hi lo h = omega arith
 
 module _ (l : List ℕ) (bytes : Bytes l) where
-  lba_low : (le_at l 8 3 * 2 ^ 24 + le_at l 4 3) % 2 ^ 24 ≡ le_at l 4 3
+  pub lba_low : (le_at l 8 3 * 2 ^ 24 + le_at l 4 3) % 2 ^ 24 ≡ le_at l 4 3
   lba_low = low (le_at l 8 3) (le_at l 4 3) (le_lt l bytes 4 3)
 
-  lba_high : (le_at l 8 3 * 2 ^ 24 + le_at l 4 3) / 2 ^ 24 ≡ le_at l 8 3
+  pub lba_high : (le_at l 8 3 * 2 ^ 24 + le_at l 4 3) / 2 ^ 24 ≡ le_at l 8 3
   lba_high = high (le_at l 8 3) (le_at l 4 3) (le_lt l bytes 4 3)
 
   abbrev pub Back : FrameValue → Type 0

@@ -1,7 +1,7 @@
 -- How long a page's text is at most. Assumes nothing.
 use Rattle.std.proofs.Common.{◌≡◌, ℕ, ◌+◌, ◌*◌, ◌^◌, ◌<◌, ◌≤◌, Bool, true, List, [], ◌∷◌, length, get_or, refl, sym, ap, Option, Some, None, Ok, arith, length-append, decimal, codes, lt_of_lt_of_le, ltb, pow_mono, ltb-true}
 use Rattle.std.proofs.lemmas.Fmt.{length-decimal-le}
-use Rattle.std.specs.List.{list_all, count_by, enumerate_from}
+use Rattle.std.specs.List.{list_all, count_by}
 use Rattle.bits.specs.Little.{le_at, Bytes}
 use Rattle.bits.specs.Answer.{bit_number}
 use Rattle.bits.proofs.Littles.{le_lt}
@@ -10,7 +10,7 @@ use Rattle.refusals.specs.First.{first_of}
 use Rattle.refusals.proofs.FirstLaws.{unless_ok}
 use Rattle.counters.specs.Rows.{ids}
 use Rattle.pages.specs.Page10.{fields10, ladder10, read_log}
-use Rattle.pages.specs.Others10.{has_other, count_other_bytes}
+use Rattle.pages.specs.Others10.{others_in, count_other_bytes}
 use Rattle.pages.proofs.OtherLaws10.{others_most as other-bytes-most}
 use Rattle.pages.specs.declared.page10.ErrorLog.{ErrorLog}
 use Rattle.pages.specs.Entries.{bytes_in, entries}
@@ -69,9 +69,9 @@ module _ (page : List ℕ) (bytes : Bytes page) where
   unfolding read_log count_other_bytes
   log_told_most log others p q =
       let u = unless_ok (first_of (ladder10 page)) (fields10 page) log (sym p) in
-      let v = unless_ok (first_of (ladder10 page)) (count_by has_other (enumerate_from 0 page)) others (sym q) in
+      let v = unless_ok (first_of (ladder10 page)) (others_in page) others (sym q) in
       let f : length (log_text log) ≤ 74 = rw u.1 (log_most (fields10 page) read_fits) in
-      let o = other_bytes_text_most others (omega (arith, v.1, other-bytes-most page u.0)) in
+      let o = other_bytes_text_most others (omega (arith, v.1, other-bytes-most page)) in
       omega (arith, length-append (log_text log) (other_bytes_text others))
 
   -- page 10h: eleven bytes of a refusal, or 74 of the fields and 16 of the count

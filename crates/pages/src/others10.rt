@@ -1,29 +1,31 @@
 // The bytes of page 10h of which a bit is set that no field is named for.
-ghost use Rattle.std.specs.Prelude.{◌≡◌, count_by};
-ghost use Rattle.std.specs.List.{enumerate_from};
-ghost use Rattle.pages.specs.Others10.{named_bits, has_other, OtherBytesGiven};
+ghost use Rattle.std.specs.Prelude.{◌≡◌};
+ghost use Rattle.frames.specs.Layout.{masks};
+ghost use Rattle.pages.specs.Page10.{log_layout};
+ghost use Rattle.pages.specs.Others10.{others_in, OtherBytesGiven};
 
 use crate::{PAGE_SIZE, byte_sum};
 use refusals::Refusal;
 
-// The bits of the byte at a place that are named: those of the fields, and all of the sum byte. Under NQ no tag is told.
-fn named_bits(at: usize, byte: u8) -> u8
-    ensures { result ≡ named_bits at byte }
+// The bits of each byte that are named: those of the fields, and all of the sum byte. Under NQ no tag is told.
+fn named_bits(nq: bool) -> [u8; PAGE_SIZE]
+    ensures { result ≡ masks (log_layout nq) }
 {
-    match at {
-        0 if frames::flag(byte, 7) => 0x80,
-        0 => 0x9f,
-        2..=10 | 12 | 13 | 511 => 0xff,
-        _ => 0,
-    }
+    let mut named = [0; PAGE_SIZE];
+    named[0] = if nq { 0x80 } else { 0x9f };
+    named[2..=10].fill(0xff);
+    named[12..=13].fill(0xff);
+    named[PAGE_SIZE - 1] = 0xff;
+    named
 }
 
 fn count_bytes(page: &[u8; PAGE_SIZE]) -> usize
-    ensures { result ≡ count_by has_other (enumerate_from 0 page.now) }
+    ensures { result ≡ others_in page.now }
 {
+    let named = named_bits(frames::flag(page[0], 7));
     page.iter()
-        .enumerate()
-        .filter(|(at, byte)| **byte & !named_bits(*at, **byte) != 0)
+        .zip(&named)
+        .filter(|(byte, named)| **byte & **named != **byte)
         .count()
 }
 

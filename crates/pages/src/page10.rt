@@ -1,6 +1,7 @@
 // Log page 10h: the error record, made by value and read.
-ghost use Rattle.std.specs.Prelude.{◌≡◌};
-ghost use Rattle.pages.specs.Page10.{first_byte, tag_shown, fits10, page10, fields10, LogGiven};
+ghost use Rattle.std.specs.Prelude.{◌≡◌, ◌%◌};
+ghost use Rattle.bits.specs.Pick.{pick};
+ghost use Rattle.pages.specs.Page10.{first_byte, fits10, page10, fields10, LogGiven};
 
 use crate::{PAGE_SIZE, byte_sum, seal};
 use frames::{Registers, Task};
@@ -57,11 +58,12 @@ pub(crate) fn page10_bytes(log: ErrorLog) -> [u8; PAGE_SIZE]
 
 // The tag as it stands, and 0 under NQ.
 fn tag_shown(first: u8, nq: bool) -> u8
-    ensures { result ≡ tag_shown first nq }
+    ensures { result ≡ pick nq 0 (first % 32) }
 {
     if nq { 0 } else { first & 31 }
 }
 
+#[tactic(auto, using(crate::proofs::Laws10::tag_named))]
 fn read_fields(page: &[u8; PAGE_SIZE]) -> ErrorLog
     ensures { result ≡ fields10 page.now }
 {
