@@ -12,13 +12,13 @@ pub(crate) const SETTINGS_KIND: u8 = 0x00;
 
 /// The settings that a record's bytes say.
 #[tactic(auto, unfolding(crate::specs::Settings::settings_of))]
-pub(crate) fn settings_of(record: &[u8]) -> Settings
-    ensures { result ≡ settings_of record.now }
+pub(crate) fn settings_of(bytes: &[u8]) -> Settings
+    ensures { result ≡ settings_of bytes.now }
 {
     Settings {
-        depth: u32::from(frames::byte_of(record, 1)),
-        capacity: bits::le32(record, 2),
-        mask: bits::le16(record, 6),
+        depth: u32::from(frames::byte_of(bytes, 1)),
+        capacity: bits::le32(bytes, 2),
+        mask: bits::le16(bytes, 6),
     }
 }
 
