@@ -45,7 +45,7 @@ pub record BeginsWith (l : List ℕ) (event : Event) (n : ℕ) : Type 0 where
   pub within : n ≤ length l
   pub spelt : IsSpelt event (take n l)
 
--- the event that bytes begin with, and how many of them are its; or none begins them [event-24]
+-- the event that bytes begin with, and how many of them are its; or none begins them [no-event]
 abbrev pub FirstEvent : List ℕ → Option (Event × ℕ) → Type 0
 FirstEvent l (Some found) = BeginsWith l found.0 found.1
 FirstEvent l None = NoEventBegins l
