@@ -17,6 +17,7 @@ spelt l w h k = (
   front l 8 h ∙ ap (λ (b : ℕ). b ∷ listed l 1 7) k ∙ ap₂ (λ (c m : List ℕ). 0x00 ∷ get_or l 1 0 ∷ c ++ m) (sym (number_bytes l w 2 4)) (sym (number_bytes l w 6 2)),
 )
 
+-- so where the record is all that there is
 pub whole : (l : List ℕ) → Bytes l → length l ≡ 8 → get_or l 0 0 ≡ 0x00 → SettingsFit (settings_of l) × (l ≡ settings_bytes (settings_of l))
 whole l w h k = let b = spelt l w (omega (arith, h)) k in (b.0, sym (take_all 8 l (omega (arith, h))) ∙ b.1)
 
@@ -24,6 +25,7 @@ whole l w h k = let b = spelt l w (omega (arith, h)) k in (b.0, sym (take_all 8 
 same_number : (n a b : ℕ) → a < 2 ^ (8 * n) → b < 2 ^ (8 * n) → le_bytes n a ≡ le_bytes n b → a ≡ b
 same_number n a b h k q = sym (le_le_bytes n h) ∙ ap (λ (l : List ℕ). le_at l 0 n) q ∙ le_le_bytes n k
 
+-- settings of the same fields
 same_settings : {d d' c c' m m' : ℕ} → d ≡ d' → c ≡ c' → m ≡ m' → ◌≡◌ {A = Settings} (record { depth = d; capacity = c; mask = m }) (record { depth = d'; capacity = c'; mask = m' })
 same_settings p q r = cc
 
@@ -41,6 +43,10 @@ no_settings l h s rest f q =
     let kind : get_or l 0 0 ≡ 0x00 = ap (λ (m : List ℕ). get_or m 0 0) q in
     true≢false (sym h ∙ grind (arith, nat_tests, long, kind))
 
+-- so behind a short body
+pub settings_short : (k : ℕ) (l : List ℕ) → length l < 7 → NoSettingsBegin (k ∷ l)
+settings_short k l h = no_settings (k ∷ l) (grind (arith, nat_tests))
+
 -- ---- a settings record begins some bytes exactly if the rules say
 pub begins : {l : List ℕ} {s : Settings} → FirstSettings l (Some s) → l ≡ settings_bytes s ++ drop 8 l
 begins {l = l} b = sym (take-append-drop 8 l) ∙ ap (λ (e : List ℕ). e ++ drop 8 l) b.1
@@ -50,6 +56,3 @@ start_exactly l w = (λ n. ⊎_elim (λ (h : starts_none l ≡ true). h) (λ (h 
   where
     found : starts_none l ≡ false → NoSettingsBegin l → ⊥
     found h n = let b = spelt l w (grind (arith, nat_tests)) (grind (arith, nat_tests)) in n (settings_of l) (drop 8 l) b.0 (begins b)
-
-pub settings_short : (k : ℕ) (l : List ℕ) → length l < 7 → NoSettingsBegin (k ∷ l)
-settings_short k l h = no_settings (k ∷ l) (grind (arith, nat_tests))
