@@ -3,4 +3,5 @@ pub mod Plays
 pub mod PlaysCode
 pub mod Programs
 pub mod ProgramCode
+pub mod Values
 pub mod Tied

@@ -6,7 +6,7 @@ use Rattle.rules.specs.Call.{host_frame, happens}
 use Rattle.rules.specs.declared.event.DeviceEvent.TheVariants.{OpenPhase, SendData, FinishTags, MediaError, LinkEvent, LinkTally, Comreset}
 use Rattle.device.specs.Lent.{lent, gave, answered}
 use Rattle.device.specs.Sealing.{powered_of}
-use Rattle.events.specs.Settings.{asked_of}
+use Rattle.events.specs.Settings.{in_limit}
 use denote.RattleType.{RattleType}
 use denote.Param.Laws.{Laws}
 use mir.Syntax.{Dict}
@@ -94,13 +94,13 @@ tied_kept_comreset = say (λ κs a. tt) (λ κs a r ws p. p)
 
 -- ---- of events
 
-pub tied_start : Says playing-said.start.ended playing.start.Reads.Asked playing.start.Reads.Post (λ κs a r ws. BeginsBy (asked_of a.0.now) r)
+pub tied_start : Says playing-said.start.ended playing.start.Reads.Asked playing.start.Reads.Post (λ κs a r ws. BeginsBy (in_limit a.0) a.0 r)
 tied_start = say (λ κs a. tt) (λ κs a r ws p. p)
 
-pub tied_play : Says playing-said.play.ended playing.play.Reads.Asked playing.play.Reads.Post (λ κs a r ws. PlayContinues a.0.now.device (played a.1.0.now a.1.1.0.now a.1.1.1.0.now (gave (answered ws.0.device r) ws.1.1.0 ws.1.1.1.0)))
+pub tied_play : Says playing-said.play.ended playing.play.Reads.Asked playing.play.Reads.Post (λ κs a r ws. PlayContinues a.0.now.device (played a.1.0 a.1.1.0.now a.1.1.1.0.now (gave (answered ws.0.device r) ws.1.1.0 ws.1.1.1.0)))
 tied_play = say (λ κs a. tt) (λ κs a r ws p. p)
 
-pub tied_play_by_value : Says playing-said.play_by_value.ended playing.play_by_value.Reads.Asked playing.play_by_value.Reads.Post (λ κs a r ws. PlayContinues a.0 (played a.1.0.now a.1.1.0.now a.1.1.1.0.now (gave r ws.1.1.0 ws.1.1.1.0)))
+pub tied_play_by_value : Says playing-said.play_by_value.ended playing.play_by_value.Reads.Asked playing.play_by_value.Reads.Post (λ κs a r ws. PlayContinues a.0 (played a.1.0 a.1.1.0.now a.1.1.1.0.now (gave r ws.1.1.0 ws.1.1.1.0)))
 tied_play_by_value = say (λ κs a. tt) (λ κs a r ws p. p)
 
 pub tied_events_are_a_history : Says playing-said.events_are_a_history.ended playing.events_are_a_history.Reads.Asked playing.events_are_a_history.Reads.Post (λ κs a r ws. PlaysContinue × (GivenPlaysHold × GivenPlaysTold))

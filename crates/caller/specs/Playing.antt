@@ -1,65 +1,59 @@
 -- Events played one after the other, each with any medium and any reply buffer, and the history that they are. Assumes nothing.
--- Were only the run of an event file spoken of, a device would pass that forgets its commands where a medium of another length or a short reply buffer is lent to it, or that resets at bytes which are no event: a run lends one medium and one buffer of the right lengths, and plays no such bytes.
-use Rattle.std.specs.Prelude.{◌≡◌, Bool, ◌+◌, List, [], ◌∷◌, ◌++◌, ℕ, Option, Some, None, option_map, option_to_list, Result, Err}
-use Rattle.bits.specs.Little.{Bytes}
+-- Were only the run of an event file spoken of, a device would pass that forgets its commands where a medium of another length or a short reply buffer is lent to it: a run lends one medium and one buffer of the right lengths.
+use Rattle.std.specs.Prelude.{◌≡◌, Bool, true, false, ◌+◌, List, [], ◌∷◌, ◌++◌, ℕ, Result, Err}
 use Rattle.refusals.specs.declared.reasons.Refusal.{Refusal}
-use Rattle.refusals.specs.declared.reasons.Refusal.TheVariants.{Contradiction, NoFrame}
+use Rattle.refusals.specs.declared.reasons.Refusal.TheVariants.{Contradiction}
 use Rattle.device_state.specs.declared.shapes.Settings.{Settings}
-use Rattle.device.specs.Lent.{lent, Gave, gave, answered}
+use Rattle.device.specs.Lent.{lent, Gave, Typed}
 use Rattle.device.specs.Sealing.{powered_of}
 use Rattle.device.specs.Step.{Gives, bytes_of}
 use Rattle.device.specs.declared.sealed.Sealed.{Sealed}
 use Rattle.device.specs.declared.state.Device.{Device}
 use Rattle.device.specs.declared.state.Outcome.{Outcome}
-use Rattle.events.specs.Calls.{call_for}
-use Rattle.events.specs.Played.{event_step}
+use Rattle.events.specs.Calls.{call_of, event_step}
 use Rattle.events.specs.Lines.{line_of}
 use Rattle.events.specs.Running.{step_told}
+use Rattle.events.specs.declared.asked.Event.{Event}
 use Rattle.history.specs.Run.{Done, done}
 use Rattle.caller.specs.Continued.{Reached, Holds, Continues, Begins}
 
--- power-on by a settings record begins a history with the settings that it asks for; where it asks for none, 1, and there is no device [events-told] [event-settings]
-abbrev pub BeginsBy : Option Settings → Result Sealed Refusal → Type 0
-BeginsBy (Some asked) r = Begins asked (powered_of r)
-BeginsBy None r = r ≡ Err Contradiction
+-- power-on by a settings record begins a history with its settings; out of the limit it is 1, and there is no device [events-told] [event-settings]
+abbrev pub BeginsBy : Bool → Settings → Result Sealed Refusal → Type 0
+BeginsBy true s r = Begins s (powered_of r)
+BeginsBy false s r = r ≡ Err Contradiction
 
--- one event as it was played: its bytes, the medium and the reply buffer lent to it, and what came back
+-- one event as it was played: the event, the medium and the reply buffer lent to it, and what came back
 pub record Play : Type 0 where
-  pub event : List ℕ
+  pub event : Event
   pub medium : List ℕ
   pub buffer : List ℕ
   pub gave : Gave
 
 -- an event as it was played, of these four
-abbrev pub play : List ℕ → List ℕ → List ℕ → Gave → Play
+abbrev pub play : Event → List ℕ → List ℕ → Gave → Play
 play e m b g = record { event = e; medium = m; buffer = b; gave = g }
 
--- its call as it went, if it made one in the state d
-abbrev pub done_by : Device → Play → Option Done
-done_by d p = option_map (λ c. done (lent c p.medium p.buffer) p.gave) (call_for d p.event)
+-- its call as it went in the state d
+abbrev pub done_by : Device → Play → Done
+done_by d p = done (lent (call_of d p.event) p.medium p.buffer) p.gave
 
 -- those of all events, the oldest first, each in the state that the last one left
 unfoldable pub dones_all : Device → List Play → List Done
 dones_all d [] = []
-dones_all d (p ∷ ps) = option_to_list (done_by d p) ++ dones_all p.gave.outcome.state ps
+dones_all d (p ∷ ps) = done_by d p ∷ dones_all p.gave.outcome.state ps
 
 -- the state that they end with
 unfoldable pub end_state : Device → List Play → Device
 end_state d [] = d
 end_state d (p ∷ ps) = end_state p.gave.outcome.state ps
 
--- the event's call continues every history that led to the state d; where it makes none, 24, and nothing has changed
-unfoldable pub ContinuesBy : Device → Play → Option Done → Type 0
-ContinuesBy d p None = p.gave ≡ gave (answered d (Err NoFrame)) p.medium p.buffer
-ContinuesBy d p (Some x) = Continues d x.lent x.gave
-
--- by the call that it makes there [events-told]
+-- the event's call continues every history that led to the state d [events-told]
 abbrev pub PlayContinues : Device → Play → Type 0
-PlayContinues d p = ContinuesBy d p (done_by d p)
+PlayContinues d p = Continues d (lent (call_of d p.event) p.medium p.buffer) p.gave
 
--- what came back is what the contract of `events::play` promises in the state d; an event is of bytes, as what stands in a slice of them always is
+-- what came back is what the contract of `events::play` promises in the state d; what the event hands in is of its types, as it always is
 abbrev pub PlayGiven : Device → Play → Type 0
-PlayGiven d p = Bytes p.event × Gives (event_step d p.event p.medium p.buffer) p.buffer p.gave
+PlayGiven d p = Typed (call_of d p.event) × Gives (event_step d p.event p.medium p.buffer) p.buffer p.gave
 
 -- one event after the other, each as R allows it in the state that the last one left
 unfoldable pub EachPlay : (Device → Play → Type 0) → Device → List Play → Type 0
@@ -93,7 +87,7 @@ EachTold traced n d (p ∷ ps) = LineTold traced n d p × EachTold traced (n + 1
 abbrev pub GivenPlaysTold : Type 0
 GivenPlaysTold = (traced : Bool) (n : ℕ) (d : Device) (ps : List Play) → EachPlay PlayGiven d ps → EachTold traced n d ps
 
--- behind power-on by a settings record: all that is promised holds of these events, with the settings that it asks for; where it asks for none, 1, and there is no device [events-told] [event-settings]
-abbrev pub HeldBy : Option Settings → Outcome → List Play → Type 0
-HeldBy (Some asked) r ps = Holds asked r (dones_all r.state ps) (end_state r.state ps)
-HeldBy None r ps = r ≡ powered_of (Err Contradiction)
+-- behind power-on by a settings record: all that is promised holds of these events, with its settings; out of the limit it is 1, and there is no device [events-told] [event-settings]
+abbrev pub HeldBy : Bool → Settings → Outcome → List Play → Type 0
+HeldBy true s r ps = Holds s r (dones_all r.state ps) (end_state r.state ps)
+HeldBy false s r ps = r ≡ powered_of (Err Contradiction)

@@ -1,16 +1,14 @@
 -- What the event program plays, event by event, and the calls of the device that are made. Assumes nothing.
-use Rattle.std.specs.Prelude.{◌≡◌, Bool, List, [], ◌∷◌, ◌++◌, ℕ, ◌+◌, length, Option, Some, None}
+use Rattle.std.specs.Prelude.{◌≡◌, Bool, true, false, List, [], ◌∷◌, ◌++◌, ℕ, ◌+◌, Option, Some}
 use Rattle.refusals.specs.declared.reasons.Refusal.TheVariants.{Contradiction}
 use Rattle.device_state.specs.declared.shapes.Settings.{Settings}
 use Rattle.device.specs.Device.{zero_device, power_on}
-use Rattle.device.specs.Lent.{lent, gave}
-use Rattle.device.specs.Step.{bytes_of}
-use Rattle.events.specs.Settings.{asked_of}
+use Rattle.device.specs.Lent.{lent}
+use Rattle.events.specs.Settings.{in_limit}
 use Rattle.events.specs.declared.kinds.InputEnd.TheVariants.{NoEvent}
 use Rattle.events.specs.Lines.{line_of}
 use Rattle.streams.specs.Fronts.{AppendsFront}
-use Rattle.events.specs.Running.{Kept, kept, step_of, after, told, started, start_line, Read, nothing, begun, bytes_read, run_lines, kept_after, ending, Plays}
-use Rattle.events.specs.Grammar.{event_bytes}
+use Rattle.events.specs.Running.{Kept, kept, after, told, started, start_line, Read, nothing, begun, bytes_read, run_lines, kept_after, ending, Plays}
 use Rattle.events.specs.declared.asked.Event.{Event}
 use Rattle.events.specs.Calls.{call_of}
 use Rattle.history.specs.Event.{replied}
@@ -18,21 +16,15 @@ use Rattle.history.specs.Run.{result, Done, done, event}
 use Rattle.history.specs.Follows.{history_of}
 use Rattle.history.specs.Lasting.{Lasting}
 use Rattle.caller.specs.Continued.{Holds}
-use Rattle.caller.specs.Playing.{Play, play, dones_all}
-
--- an event as the run plays it: lent what is kept, and what came back is kept
-abbrev pub play_in : Kept → Event → Play
-play_in k e =
-    play (event_bytes e) k.medium k.reply (gave (record { state = (after k e).device; refusal = (step_of k e).refusal; len = length (bytes_of (step_of k e)) }) (after k e).medium (after k e).reply)
-
--- all of them, each in what the last one left
-unfoldable pub plays_in : Kept → List Event → List Play
-plays_in k [] = []
-plays_in k (e ∷ es) = play_in k e ∷ plays_in (after k e) es
 
 -- the call that an event makes as the device takes it: lent what the run keeps, and what the device then gives [program-told]
 abbrev pub call_in : Kept → Event → Done
 call_in k e = let c = lent (call_of k.device e) k.medium k.reply in done c (result k.device c)
+
+-- those of all events, each in what the last one left
+unfoldable pub calls_in : Kept → List Event → List Done
+calls_in k [] = []
+calls_in k (e ∷ es) = call_in k e ∷ calls_in (after k e) es
 
 -- behind an event the run keeps the state, medium and reply buffer that its call left, and its line shows that state, the refusal and the reply
 pub record Shows (traced : Bool) (number : ℕ) (k : Kept) (e : Event) (x : Done) : Type 0 where
@@ -44,33 +36,33 @@ unfoldable pub EachShown : Bool → ℕ → Kept → List Event → Type 0
 EachShown traced n k [] = Unit
 EachShown traced n k (e ∷ es) = Shows traced n k e (call_in k e) × EachShown traced (n + 1) (after k e) es
 
--- power-on with the settings that the record s asks for, and its line, the first
-pub record StartShown (traced : Bool) (s : List ℕ) (asked : Settings) : Type 0 where
-  pub state : (started s).device ≡ (power_on asked).state
-  pub line : start_line traced s ≡ line_of traced 0 (power_on asked).refusal (power_on asked).state.status.outstanding []
+-- power-on with the settings s, and its line, the first
+pub record StartShown (traced : Bool) (s : Settings) : Type 0 where
+  pub state : (started s).device ≡ (power_on s).state
+  pub line : start_line traced s ≡ line_of traced 0 (power_on s).refusal (power_on s).state.status.outstanding []
 
--- what is played behind the settings record s is a faithful history: from power-on its calls are as the device answers them, each event shows its own of them, all that is promised holds of their history, and of the one medium that they share it tells every byte [program-told] [finished-writes-stand]
-pub record IsHistory (traced : Bool) (s : List ℕ) (asked : Settings) (es : List Event) : Type 0 where
-  pub begins : StartShown traced s asked
+-- what is played behind the settings s is a faithful history: from power-on its calls are as the device answers them, each event shows its own of them, all that is promised holds of their history, and of the one medium that they share it tells every byte [program-told] [finished-writes-stand]
+pub record IsHistory (traced : Bool) (s : Settings) (es : List Event) : Type 0 where
+  pub begins : StartShown traced s
   pub shown : EachShown traced 1 (started s) es
-  pub holds : Holds asked (power_on asked) (dones_all (started s).device (plays_in (started s) es)) (kept_after (started s) es).device
-  pub media : Lasting (started s).medium (history_of (dones_all (started s).device (plays_in (started s) es)))
+  pub holds : Holds s (power_on s) (calls_in (started s) es) (kept_after (started s) es).device
+  pub media : Lasting (started s).medium (history_of (calls_in (started s) es))
 
 -- there is no device, and nothing is played: the one line is that of refusal 1 [program-told]
-pub record NoneStarts (traced : Bool) (s : List ℕ) (es : List Event) : Type 0 where
+pub record NoneStarts (traced : Bool) (s : Settings) (es : List Event) : Type 0 where
   pub state : (started s).device ≡ zero_device
   pub line : start_line traced s ≡ line_of traced 0 (Some Contradiction) 0 []
   pub none : es ≡ []
 
--- by what the settings record asks for
-abbrev pub ByAsked : Bool → List ℕ → List Event → Option Settings → Type 0
-ByAsked traced s es (Some asked) = IsHistory traced s asked es
-ByAsked traced s es None = NoneStarts traced s es
+-- by whether the settings are in a run's limit
+abbrev pub ByLimit : Bool → Bool → Settings → List Event → Type 0
+ByLimit true traced s es = IsHistory traced s es
+ByLimit false traced s es = NoneStarts traced s es
 
 -- the first event is the settings; a run without them makes no call
 unfoldable pub OfHistory : Bool → Read → Type 0
 OfHistory traced nothing = Unit
-OfHistory traced (begun s es) = ByAsked traced s es (asked_of s)
+OfHistory traced (begun s es) = ByLimit (in_limit s) traced s es
 
 -- of the lines of a history, and `stop`, a run has written a front: how much of it, its end says [program-told]
 pub record RunHistory (traced : Bool) (input : List ℕ) (old new : Option (List ℕ)) : Type 0 where

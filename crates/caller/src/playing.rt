@@ -1,35 +1,37 @@
 // One event each, with any medium and any reply buffer: what is proved is what the contracts of `events` tell a caller.
-#![tactic(auto, using(crate::proofs::Plays::events))]
 
 ghost use Rattle.device.specs.Lent.{gave, answered};
-ghost use Rattle.events.specs.Settings.{asked_of};
+ghost use Rattle.events.specs.Settings.{in_limit};
 ghost use Rattle.caller.specs.Playing.{play as played, BeginsBy, PlayContinues, PlaysContinue, GivenPlaysHold, GivenPlaysTold};
 
 use device::{Device, Outcome, Sealed};
+use device_state::Settings;
+use events::Event;
 use refusals::Refusal;
 
-/// Power-on by the settings record; where it asks for no settings, refusal 1.
-pub fn start(event: &[u8]) -> Result<Sealed, Refusal>
-    ensures { BeginsBy (asked_of event.now) result }
+/// Power-on by the settings record; out of a run's limit, refusal 1.
+#[tactic(auto, using(crate::proofs::Plays::begins_by))]
+pub fn start(settings: Settings) -> Result<Sealed, Refusal>
+    ensures { BeginsBy (in_limit settings) settings result }
 {
-    events::start(event)
+    events::start(settings)
 }
 
-/// One event: its call continues every history that led to the device; what is no event is refused with 24, and changes nothing.
+/// One event: its call continues every history that led to the device.
 pub fn play(
     sealed: &mut Sealed,
-    event: &[u8],
+    event: Event,
     medium: &mut [u8],
     reply: &mut [u8],
 ) -> Result<usize, Refusal>
-    ensures { PlayContinues sealed.old.device (played event.now medium.old reply.old (gave (answered sealed.new.device result) medium.new reply.new)) }
+    ensures { PlayContinues sealed.old.device (played event medium.old reply.old (gave (answered sealed.new.device result) medium.new reply.new)) }
 {
     events::play(sealed, event, medium, reply)
 }
 
 /// One event of a device by value: the same.
-pub fn play_by_value(device: Device, event: &[u8], medium: &mut [u8], reply: &mut [u8]) -> Outcome
-    ensures { PlayContinues device (played event.now medium.old reply.old (gave result medium.new reply.new)) }
+pub fn play_by_value(device: Device, event: Event, medium: &mut [u8], reply: &mut [u8]) -> Outcome
+    ensures { PlayContinues device (played event medium.old reply.old (gave result medium.new reply.new)) }
 {
     events::play_by_value(device, event, medium, reply)
 }

@@ -1,15 +1,12 @@
-pub mod Asking
 pub mod Spelling
 pub mod Ahead
-pub mod ExactlyNext
-pub mod Recording
-pub mod TiedKinds
 pub mod Cuts
 pub mod Digits
 pub mod Fields
 pub mod Fronts
 pub mod Nexts
 pub mod Parts
+pub mod Records
 pub mod Played
 pub mod Runs
 pub mod Starting
@@ -18,6 +15,4 @@ pub mod Steps
 pub mod TiedRuns
 pub mod Frames
 pub mod Exactly
-pub mod Playable
-pub mod Turned
 pub mod Tied

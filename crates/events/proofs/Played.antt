@@ -1,5 +1,5 @@
 -- Where a run stands behind the events that it has played. Assumes nothing.
-use Rattle.std.proofs.Common.{◌≡◌, ℕ, ◌+◌, ◌-◌, ◌^◌, Bool, true, false, true≢false, List, [], ◌∷◌, ◌++◌, flat_map, length, length-append, append-nil, Option, Some, None, IfSome, Result, IsErr, IsErrAnd, refl, sym, ap₂, subst, ◌∙◌, arith, Ok, Err}
+use Rattle.std.proofs.Common.{◌≡◌, ℕ, ◌+◌, ◌-◌, ◌^◌, Bool, false, true≢false, List, [], ◌∷◌, ◌++◌, flat_map, length, length-append, append-nil, Option, IfSome, Result, IsErr, IsErrAnd, refl, sym, ap₂, subst, ◌∙◌, arith, Ok, Err}
 use Rattle.std.proofs.KnownBytes.{Appends-nil, Appends-trans, Consumes-nil, Consumes-trans}
 use Rattle.std.specs.Io.KnownBytes.{Appends, Consumes}
 use Rattle.streams.specs.Fronts.{AppendsFront}
@@ -7,14 +7,16 @@ use Rattle.events.specs.declared.errors.RunError.{RunError}
 use Rattle.events.specs.declared.kinds.InputEnd.{InputEnd}
 use Rattle.events.specs.Ends.{Finished}
 use Rattle.events.specs.Output.{PassedOn}
-use Rattle.events.specs.Kinds.{next_of}
 use Rattle.events.specs.declared.errors.RunError.TheVariants.{TooMany}
-use Rattle.events.specs.Reading.{IsEvent, Ends, BreaksIn, ReadNext}
+use Rattle.events.specs.Reading.{IsEnd, BreaksIn, ReadNext}
+use Rattle.events.specs.Settings.{settings_bytes, SettingsFit}
+use Rattle.device_state.specs.declared.shapes.Settings.{Settings}
 use Rattle.events.specs.declared.asked.Event.{Event}
-use Rattle.events.specs.Grammar.{event_bytes}
-use Rattle.events.specs.Running.{Kept, step_of, after_step, step_told, told, after, lines_from, kept_after, AllFit, begun, bytes_read, Plays, ReadsOn, run_lines, refused, started, start_line, next_behind}
+use Rattle.events.specs.Grammar.{event_bytes, NoEventBegins}
+use Rattle.events.specs.Running.{Kept, step_of, after_step, step_told, told, after, lines_from, kept_after, AllFit, begun, bytes_read, Plays, ReadsOn, run_lines, refused, started, start_line, NoneFollows, end_behind}
 use Rattle.events.specs.Runs.{CameTo, Ran}
 use Rattle.streams.proofs.Fronts.{front_then}
+use Rattle.events.proofs.Nexts.{known}
 use Rattle.events.proofs.Runs.{joined_more, kept_more, events_more, text_more, text_passed, IsLost, told_lost, finished, finished_behind}
 
 -- the events so far were read, and left k; their lines, and those that were left before (l), are written, but for the lines that are left; n is the next number
@@ -64,13 +66,13 @@ module _ {traced : Bool} {first : Kept} {l : List ℕ} {known old now new : Opti
   }
 
   -- behind settings that were taken
-  module _ (s : List ℕ) (taken : refused s ≡ false) (from : first ≡ started s) (line : l ≡ start_line traced s) (before : Option (List ℕ)) (i : IsEvent true s) (c : Consumes before known s) where
+  module _ (s : Settings) (taken : refused s ≡ false) (from : first ≡ started s) (line : l ≡ start_line traced s) (before : Option (List ℕ)) (i : SettingsFit s) (c : Consumes before known (settings_bytes s)) where
     plays : Plays (begun s p.es)
     unfolding Plays
     plays = (i, p.events, λ t. absurd (true≢false (sym t ∙ taken)))
 
     read : Consumes before now (bytes_read (begun s p.es))
-    read = Consumes-trans before known now s (flat_map event_bytes p.es) c p.read
+    read = Consumes-trans before known now (settings_bytes s) (flat_map event_bytes p.es) c p.read
 
     text : run_lines traced (begun s p.es) ≡ p.done ++ lines
     unfolding run_lines
@@ -86,18 +88,14 @@ module _ {traced : Bool} {first : Kept} {l : List ℕ} {known old now new : Opti
     ended left new' end r m f = finished traced before now left old new' (begun s p.es) plays read end r m (finished_behind old new new' p.done lines (run_lines traced (begun s p.es)) end r text p.written f)
 
 -- what a run comes to behind settings that were taken, and events: the end of the input, a read that failed, the last number
-module _ (s : List ℕ) (es : List Event) (taken : refused s ≡ false) where
-  next : (rest : List ℕ) → next_of false rest ≡ next_behind (begun s es) rest
-  unfolding next_behind
-  next rest = rw taken refl
+module _ (s : Settings) (es : List Event) (taken : refused s ≡ false) where
+  pub at_end : (now : Option (List ℕ)) (end : InputEnd) → IfSome now (IsEnd end) → IfSome now (λ rest. NoneFollows (begun s es) rest × (end ≡ end_behind (begun s es) rest))
+  unfolding NoneFollows end_behind
+  at_end now end m = known (IsEnd end) _ now (λ rest e. (λ t. e.0, rw taken e.1)) m
 
-  pub at_end : (now : Option (List ℕ)) (end : InputEnd) → IfSome now (λ rest. next_of false rest ≡ Err end) → IfSome now (λ rest. next_behind (begun s es) rest ≡ Err end)
-  at_end None end m = tt
-  at_end (Some rest) end m = sym (next rest) ∙ m
-
-  pub at_failure : (now left : Option (List ℕ)) → BreaksIn false now left → ReadsOn (begun s es) × ((part : List ℕ) × Consumes now left part × Ends (next_behind (begun s es) part))
-  unfolding ReadsOn
-  at_failure now left m = (taken, (m.0, m.1, subst Ends (next m.0) m.2))
+  pub at_failure : (now left : Option (List ℕ)) → BreaksIn NoEventBegins now left → ReadsOn (begun s es) × BreaksIn (NoneFollows (begun s es)) now left
+  unfolding ReadsOn NoneFollows
+  at_failure now left m = (taken, (m.0, m.1, λ t. m.2))
 
   pub at_last : (now : Option (List ℕ)) (n : ℕ) → 1 + length es ≡ n → n ≡ 2 ^ 64 - 1 → CameTo (Err TooMany) (begun s es) now now
   at_last now n e q = (omega (arith, e, q), refl)

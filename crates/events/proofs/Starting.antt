@@ -1,10 +1,12 @@
 -- What a run begins with: its settings, and power-on by these. Assumes nothing.
-use Rattle.std.proofs.Common.{◌≡◌, ℕ, Bool, true, false, List, [], ◌++◌, Option, Some, None, IfSome, Result, Ok, Err, subst, sym, refl, ap, ◌∙◌, append-nil, length, take, length-take-le, ◌≤◌, arith, replicate, option_copied, Bor}
+use Rattle.std.proofs.Common.{◌≡◌, ℕ, Bool, true, false, true≢false, List, [], ◌++◌, Option, Some, None, IfSome, Result, Ok, Err, subst, sym, refl, ap, ◌∙◌, append-nil, length, take, length-take-le, ◌≤◌, arith, replicate, option_copied, Bor}
 use Rattle.std.proofs.lemmas.Bool.Decides.{nat_tests}
 use Rattle.std.specs.Io.KnownBytes.{Consumes}
 use Rattle.std.proofs.KnownBytes.{Consumes-nil, Appends-nil}
-use Rattle.events.specs.declared.kinds.InputEnd.TheVariants.{Clean}
-use Rattle.events.specs.Start.{start_by, start_of}
+use Rattle.events.specs.declared.kinds.InputEnd.TheVariants as ends
+use Rattle.events.specs.Start.{start_of}
+use Rattle.events.specs.Settings.{settings_bytes, SettingsFit}
+use Rattle.device_state.specs.declared.shapes.Settings.{Settings}
 use Rattle.device.specs.declared.state.Outcome.{Outcome}
 use Rattle.events.specs.Lines.{line_of}
 use Rattle.events.specs.Running.{kept}
@@ -16,8 +18,7 @@ use Rattle.device.specs.Device.{fresh_device, power_on}
 use Rattle.device.specs.Sealing.{powered_of}
 use Rattle.device.specs.declared.sealed.Sealed.{Sealed}
 use Rattle.events.specs.declared.errors.RunError.{RunError}
-use Rattle.events.specs.Reading.{IsEvent}
-use Rattle.events.specs.Running.{nothing, begun, AllFit, lines_from, refused, started, start_line, run_lines, Plays, next_behind}
+use Rattle.events.specs.Running.{nothing, begun, AllFit, lines_from, refused, started, start_line, run_lines, Plays, NoneFollows, end_behind}
 use Rattle.events.specs.Runs.{Ran, Lost}
 use Rattle.events.specs.Ends.{Finished}
 use Rattle.events.proofs.Runs.{finished}
@@ -29,15 +30,15 @@ unfolding Plays
 loses_all traced known w = record { all = nothing; now = known; events = tt; read = Consumes-nil known; came = tt; written = (0, Appends-nil w) }
 
 -- refused settings end a run
-next_refused : (s : List ℕ) (rest : List ℕ) → refused s ≡ true → next_behind (begun s []) rest ≡ Err Clean
-unfolding next_behind
-next_refused s rest h = rw h refl
+none_behind : (s : Settings) (rest : List ℕ) → refused s ≡ true → NoneFollows (begun s []) rest × (ends.Clean ≡ end_behind (begun s []) rest)
+unfolding NoneFollows end_behind
+none_behind s rest h = (λ t. absurd (true≢false (sym h ∙ t)), rw h refl)
 
-plays_refused : (s : List ℕ) → IsEvent true s → Plays (begun s [])
+plays_refused : (s : Settings) → SettingsFit s → Plays (begun s [])
 unfolding Plays AllFit
 plays_refused s i = (i, tt, λ t. refl)
 
-line_refused : (traced : Bool) (s : List ℕ) → run_lines traced (begun s []) ≡ start_line traced s
+line_refused : (traced : Bool) (s : Settings) → run_lines traced (begun s []) ≡ start_line traced s
 unfolding run_lines lines_from
 line_refused traced s = append-nil (start_line traced s)
 
@@ -45,26 +46,26 @@ all_known : {Q : List ℕ → Type 0} (u : Option (List ℕ)) → ((l : List ℕ
 all_known None f = tt
 all_known (Some l) f = f l
 
-pub stays_refused : (traced : Bool) (s lines : List ℕ) (before known known' w w' : Option (List ℕ)) (r : Result Unit RunError) → refused s ≡ true → IsEvent true s → Consumes before known s → lines ≡ start_line traced s
-    → Finished (Ok Clean) w w' lines r → Ran traced before known' w w' r
+pub stays_refused : (traced : Bool) (s : Settings) (lines : List ℕ) (before known known' w w' : Option (List ℕ)) (r : Result Unit RunError) → refused s ≡ true → SettingsFit s → Consumes before known (settings_bytes s) → lines ≡ start_line traced s
+    → Finished (Ok ends.Clean) w w' lines r → Ran traced before known' w w' r
 stays_refused traced s lines before known known' w w' r h i c p f =
     finished traced before known known' w w' (begun s []) (plays_refused s i)
-    (subst (Consumes before known) (sym (append-nil s)) c)
-    (Ok Clean) r
-    (all_known known (λ rest. next_refused s rest h))
-    (subst (λ (l : List ℕ). Finished (Ok Clean) w w' l r) (p ∙ sym (line_refused traced s)) f)
+    (subst (Consumes before known) (sym (append-nil (settings_bytes s))) c)
+    (Ok ends.Clean) r
+    (all_known known (λ rest. none_behind s rest h))
+    (subst (λ (l : List ℕ). Finished (Ok ends.Clean) w w' l r) (p ∙ sym (line_refused traced s)) f)
 
 -- a start leaves nothing outstanding
-none_outstanding : (e : List ℕ) → (start_of e).state.status.outstanding ≡ 0
-unfolding start_of start_by power_on powered_of fresh_device
+none_outstanding : (e : Settings) → (start_of e).state.status.outstanding ≡ 0
+unfolding start_of power_on powered_of fresh_device
 none_outstanding e = grind arith
 
 -- what power-on gave
-pub refused_yes : (s : List ℕ) (r : Refusal) → powered_of (Err r) ≡ start_of s → refused s ≡ true
+pub refused_yes : (s : Settings) (r : Refusal) → powered_of (Err r) ≡ start_of s → refused s ≡ true
 unfolding powered_of
 refused_yes s r e = rw (← e) refl
 
-pub refused_no : (s : List ℕ) (d : Sealed) → powered_of (Ok d) ≡ start_of s → refused s ≡ false
+pub refused_no : (s : Settings) (d : Sealed) → powered_of (Ok d) ≡ start_of s → refused s ≡ false
 unfolding powered_of
 refused_no s d e = rw (← e) refl
 
@@ -73,7 +74,7 @@ handed_on : (r : Result (Bor Sealed) (Bor Refusal)) → option_copied (result_er
 unfolding powered_of
 handed_on r = grind arith
 
-pub first_line : (traced : Bool) (s : List ℕ) {begun : Result Sealed Refusal} (r : Result (Bor Sealed) (Bor Refusal)) {o : Option (Bor Refusal)} {given : Option Refusal} {none lines : List ℕ}
+pub first_line : (traced : Bool) (s : Settings) {begun : Result Sealed Refusal} (r : Result (Bor Sealed) (Bor Refusal)) {o : Option (Bor Refusal)} {given : Option Refusal} {none lines : List ℕ}
     → powered_of begun ≡ start_of s → result_copied r ≡ begun → o ≡ result_err r → given ≡ option_copied o → none ≡ [] → lines ≡ none ++ line_of traced 0 given 0 [] → lines ≡ start_line traced s
 first_line traced s r {given = given} e p q t k l =
     let h = handed_on r in
@@ -81,18 +82,18 @@ first_line traced s r {given = given} e p q t k l =
     rw (none_outstanding s) (rw (k, same) at l)
 
 -- the medium of a run has room in the program's array
-started_in_limit : (e : List ℕ) → (start_of e).state.settings.capacity ≤ 64
-unfolding start_of start_by power_on powered_of fresh_device
+started_in_limit : (e : Settings) → (start_of e).state.settings.capacity ≤ 64
+unfolding start_of power_on powered_of fresh_device
 started_in_limit e = grind (arith, nat_tests)
 
-pub medium_fits : (s : List ℕ) {r : Result Sealed Refusal} {d : Sealed} → powered_of r ≡ start_of s → r ≡ Ok d → d.device.settings.capacity ≤ 64
+pub medium_fits : (s : Settings) {r : Result Sealed Refusal} {d : Sealed} → powered_of r ≡ start_of s → r ≡ Ok d → d.device.settings.capacity ≤ 64
 unfolding powered_of
 medium_fits s e o = subst (λ (n : ℕ). n ≤ 64) (sym (ap (λ (x : Outcome). x.state.settings.capacity) (sym (ap powered_of o) ∙ e))) (started_in_limit s)
 
-pub room_is : (s : List ℕ) (r : Result Sealed Refusal) (d : Sealed) → powered_of r ≡ start_of s → r ≡ Ok d → (n : ℕ) → n ≡ medium_size d.device.settings.capacity → (room : List ℕ) → room ≡ replicate 32768 0 → n ≡ length (take n room)
+pub room_is : (s : Settings) (r : Result Sealed Refusal) (d : Sealed) → powered_of r ≡ start_of s → r ≡ Ok d → (n : ℕ) → n ≡ medium_size d.device.settings.capacity → (room : List ℕ) → room ≡ replicate 32768 0 → n ≡ length (take n room)
 room_is s r d e o n size room q = let f = medium_fits s e o in sym (length-take-le n room (rw q (omega (arith, f, size, length-replicate {A = ℕ} 32768 0))))
 
-pub started_is : (s : List ℕ) (d : Sealed) (m b : List ℕ) → powered_of (Ok d) ≡ start_of s → (n : ℕ) → n ≡ medium_size d.device.settings.capacity → m ≡ replicate n 0 → b ≡ replicate 8196 0 → kept d.device m b ≡ started s
+pub started_is : (s : Settings) (d : Sealed) (m b : List ℕ) → powered_of (Ok d) ≡ start_of s → (n : ℕ) → n ≡ medium_size d.device.settings.capacity → m ≡ replicate n 0 → b ≡ replicate 8196 0 → kept d.device m b ≡ started s
 unfolding started powered_of
 started_is s d m b e n size p q =
     same_kept (ap (λ (x : Outcome). x.state) e) (p ∙ ap (λ (k : ℕ). replicate k 0) (size ∙ ap (λ (x : Outcome). medium_size x.state.settings.capacity) e)) q

@@ -1,5 +1,5 @@
 -- The bytes of an event behind the settings, in the direction in which they are written. Assumes nothing.
-use Rattle.std.specs.Prelude.{◌≡◌, ◌<◌, ◌^◌, List, [], ◌∷◌, ℕ, length, get_or}
+use Rattle.std.specs.Prelude.{◌≡◌, ◌<◌, ◌≤◌, ◌^◌, List, [], ◌∷◌, ◌++◌, ℕ, length, take, get_or, Option, Some, None}
 use Rattle.bits.specs.Little.{Bytes, le_bytes}
 use Rattle.events.specs.declared.asked.Event.{Event}
 use Rattle.events.specs.declared.asked.Event.TheVariants.{OfDevice, HostData, HostRegister, Bist}
@@ -32,6 +32,20 @@ IsShaped (Bist frame) = (length frame ≡ 12) × (get_or frame 0 0 ≡ 0x58)
 abbrev pub Fits : Event → Type 0
 Fits event = IsShaped event × Bytes (event_bytes event)
 
+-- no event begins these bytes [event-kinds] [event-stop]
+abbrev pub NoEventBegins : List ℕ → Type 0
+NoEventBegins l = (event : Event) (rest : List ℕ) → Fits event → l ≡ event_bytes event ++ rest → ⊥
+
 -- these are the bytes of that event [event-reads]
 abbrev pub IsSpelt : Event → List ℕ → Type 0
 IsSpelt event e = Fits event × (e ≡ event_bytes event)
+
+-- the first n of some bytes are those of the event [event-reads]
+pub record BeginsWith (l : List ℕ) (event : Event) (n : ℕ) : Type 0 where
+  pub within : n ≤ length l
+  pub spelt : IsSpelt event (take n l)
+
+-- the event that bytes begin with, and how many of them are its; or none begins them [no-event]
+abbrev pub FirstEvent : List ℕ → Option (Event × ℕ) → Type 0
+FirstEvent l (Some found) = BeginsWith l found.0 found.1
+FirstEvent l None = NoEventBegins l

@@ -1,5 +1,4 @@
 pub mod Kinds
-pub mod Asked
 pub mod Grammar
 pub mod Settings
 pub mod Stops
@@ -12,4 +11,3 @@ pub mod Runs
 pub mod Start
 pub mod HostData
 pub mod Calls
-pub mod Played

@@ -1,21 +1,23 @@
 -- What a run writes for what it reads, for each way in which it may end. Assumes nothing.
-use Rattle.std.specs.Prelude.{◌≡◌, Bool, true, false, List, [], ◌++◌, ◌⊎◌, ℕ, ◌-◌, ◌^◌, Option, Some, Result, Ok, Err, IfSome}
+use Rattle.std.specs.Prelude.{◌≡◌, Bool, false, List, [], ◌++◌, ◌⊎◌, ℕ, ◌-◌, ◌^◌, Option, Some, Result, Ok, Err, IfSome}
 use Rattle.std.specs.declared.io.Error.{Error}
 use Rattle.std.specs.Io.KnownBytes.{Appends, Consumes}
 use Rattle.events.specs.declared.kinds.InputEnd.{InputEnd}
 use Rattle.events.specs.declared.ended.Ended.{Ended}
 use Rattle.events.specs.declared.errors.RunError.{RunError}
 use Rattle.events.specs.declared.errors.RunError.TheVariants.{Input, Output, Memory, TooMany}
-use Rattle.events.specs.Reading.{Ends, IsEvent}
+use Rattle.events.specs.Reading.{BreaksIn}
+use Rattle.events.specs.Settings.{settings_bytes, SettingsFit}
+use Rattle.device_state.specs.declared.shapes.Settings.{Settings}
 use Rattle.streams.specs.Fronts.{AppendsFront}
 use Rattle.streams.specs.Lost.{complaint}
 use Rattle.events.specs.Ends.{last_text}
-use Rattle.events.specs.Running.{Kept, Read, bytes_read, count_read, refused, started, start_line, run_lines, Plays, ReadsOn, next_behind}
+use Rattle.events.specs.Running.{Kept, Read, bytes_read, count_read, refused, started, start_line, run_lines, Plays, ReadsOn, NoneFollows, end_behind}
 
--- what a run came to behind all that it read and played, by what was left of the input then (now) and what is left of it (left): its end; a read that failed, behind a part that is no event; or the last number, so that the event which has it is the last [event-stop] [event-broken]
+-- what a run came to behind all that it read and played, by what was left of the input then (now) and what is left of it (left): its end; a read that failed, behind a part that begins with none; or the last number, so that the event which has it is the last [event-stop] [event-broken]
 abbrev pub CameTo : Result InputEnd RunError → Read → (now left : Option (List ℕ)) → Type 0
-CameTo (Ok end) all now left = IfSome now (λ rest. next_behind all rest ≡ Err end)
-CameTo (Err (Input e)) all now left = ReadsOn all × ((part : List ℕ) × Consumes now left part × Ends (next_behind all part))
+CameTo (Ok end) all now left = IfSome now (λ rest. NoneFollows all rest × (end ≡ end_behind all rest))
+CameTo (Err (Input e)) all now left = ReadsOn all × BreaksIn (NoneFollows all) now left
 CameTo (Err TooMany) all now left = (count_read all ≡ 2 ^ 64 - 1) × (now ≡ left)
 CameTo (Err e) all now left = ⊥
 
@@ -69,13 +71,13 @@ exit_status_of (Err (Output e)) = 4
 exit_status_of (Err Memory) = 4
 exit_status_of (Err TooMany) = 3
 
--- the run from its settings on: whatever began with these, it is the whole run of that
-abbrev pub StartedWith : Bool → List ℕ → (known left old new : Option (List ℕ)) → Result Unit RunError → Type 0
-StartedWith traced s known left old new result = (before : Option (List ℕ)) → IsEvent true s → Consumes before known s → Ran traced before left old new result
+-- the run from its settings on: whatever began with their bytes, it is the whole run of that
+abbrev pub StartedWith : Bool → Settings → (known left old new : Option (List ℕ)) → Result Unit RunError → Type 0
+StartedWith traced s known left old new result = (before : Option (List ℕ)) → SettingsFit s → Consumes before known (settings_bytes s) → Ran traced before left old new result
 
 -- the run behind settings that were taken, with what is kept and a line that is not yet written: of whatever settings these are
 abbrev pub PlayedOn : Bool → Kept → List ℕ → (known left old new : Option (List ℕ)) → Result Unit RunError → Type 0
-PlayedOn traced k lines known left old new result = (s : List ℕ) → refused s ≡ false → k ≡ started s → lines ≡ start_line traced s → StartedWith traced s known left old new result
+PlayedOn traced k lines known left old new result = (s : Settings) → refused s ≡ false → k ≡ started s → lines ≡ start_line traced s → StartedWith traced s known left old new result
 
 -- one input has one text: outputs that an end of the input allows for the same bytes read are equal [event-run]
 abbrev pub OneText : Type 0

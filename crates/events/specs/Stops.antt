@@ -1,34 +1,24 @@
--- When a run ends with `stop`, and when its settings record is refused. Assumes nothing.
-use Rattle.std.specs.Prelude.{Bool, true, false, not, ◌&&◌, ◌||◌, List, ℕ, ◌+◌, eqb, leb, length, get_or, Result, Ok, Err}
+-- When a run ends with `stop`, and when its settings record is refused, in the words of the rules. Assumes nothing.
+use Rattle.std.specs.Prelude.{Bool, true, not, ◌&&◌, ◌||◌, List, ℕ, ◌+◌, eqb, leb, length, get_or, Option, Some, None}
 use Rattle.device_state.specs.Contradictory.{settings_out}
-use Rattle.events.specs.Kinds.{body_length, is_event}
-use Rattle.events.specs.Settings.{in_limit, settings_of}
-use Rattle.std.specs.Prelude.{Option, Some, None}
-use Rattle.events.specs.declared.kinds.InputEnd.{InputEnd}
-use Rattle.events.specs.declared.kinds.InputEnd.TheVariants.{Clean, NoEvent}
+use Rattle.device_state.specs.declared.shapes.Settings.{Settings}
+use Rattle.events.specs.Kinds.{kind_named, body_of}
+use Rattle.events.specs.Settings.{in_limit}
+use Rattle.events.specs.declared.kinds.Kind.{Kind}
 
--- the answer that stops
-unfoldable pub is_stop : Result ℕ InputEnd → Bool
-is_stop (Ok n) = false
-is_stop (Err NoEvent) = true
-is_stop (Err Clean) = false
+-- no input, a first kind other than 00h, a body cut short [event-stop]
+abbrev pub starts_none : List ℕ → Bool
+starts_none l = not (leb 8 (length l) && eqb (get_or l 0 0) 0x00)
 
--- an unknown kind, or a short body
-unfoldable pub not_whole : Option ℕ → ℕ → Bool
-not_whole (Some n) have = not (leb (n + 1) have)
+-- an unknown kind, or a body cut short
+unfoldable pub not_whole : Option Kind → ℕ → Bool
+not_whole (Some kind) have = not (leb (body_of kind + 1) have)
 not_whole None have = true
 
--- empty input; or a first kind other than 00h, a repeated 00h, an unknown kind, a short body [event-stop]
-abbrev pub stops_at : Bool → List ℕ → Bool
-stops_at first l =
-    (first && eqb (length l) 0)
-    || (not (eqb (length l) 0)
-    && ((first && not (eqb (get_or l 0 0) 0x00)) || (not first && eqb (get_or l 0 0) 0x00) || not_whole (body_length (get_or l 0 0)) (length l)))
+-- nothing, an unknown kind, as 00h is behind the settings, or a body cut short [event-stop]
+abbrev pub begins_none : List ℕ → Bool
+begins_none l = not_whole (kind_named (get_or l 0 0)) (length l)
 
--- refusal 1: no settings record, capacity above 64 here, or settings that power-on refuses [event-refused]
-abbrev pub start_out : List ℕ → Bool
-start_out e = not (in_limit e) || settings_out (settings_of e)
-
--- no event, so that 24 is given: kind unknown or length wrong; and settings, which have their own call
-abbrev pub no_call : List ℕ → Bool
-no_call e = not (is_event e) || eqb (get_or e 0 0) 0x00
+-- refusal 1: capacity above 64 here, or settings that power-on refuses [event-refused]
+abbrev pub start_out : Settings → Bool
+start_out s = not (in_limit s) || settings_out s

@@ -1,10 +1,9 @@
-// What an event asks for, read from its bytes once.
-ghost use Rattle.std.specs.Prelude.{◌≡◌, ◌+◌, IfSome, length};
-ghost use Rattle.events.specs.Kinds.{body_of};
-ghost use Rattle.events.specs.Asked.{event_by_kind, event_of};
-ghost use Rattle.events.specs.Grammar.{IsSpelt};
+// An event, and how it is taken from its bytes.
+ghost use Rattle.std.specs.Prelude.{◌≡◌, ◌+◌, length};
+ghost use Rattle.events.specs.Kinds.{body_of, event_by_kind};
+ghost use Rattle.events.specs.Grammar.{FirstEvent};
 
-use crate::kinds::{Kind, event_kind};
+use crate::kinds::Kind;
 use frames::byte_of;
 use rules::DeviceEvent;
 
@@ -21,18 +20,17 @@ pub enum Event {
     Bist([u8; 12]),
 }
 
-/// What the bytes of an event of a kind ask for; `None` for settings.
+/// The event that the bytes of a kind are.
 #[inline(always)]
-#[tactic(auto, unfolding(crate::specs::Asked::event_by_kind, crate::specs::Kinds::body_of))]
-pub(crate) fn event_by_kind(kind: Kind, event: &[u8]) -> Option<Event>
+#[tactic(auto, unfolding(crate::specs::Kinds::event_by_kind, crate::specs::Kinds::body_of))]
+pub(crate) fn event_by_kind(kind: Kind, event: &[u8]) -> Event
     requires { length event.now ≡ body_of kind + 1 }
     ensures { result ≡ event_by_kind event.now kind }
 {
     let device_event = match kind {
-        Kind::Settings => return None,
-        Kind::HostData => return Some(Event::HostData(byte_of(event, 1))),
-        Kind::HostRegister => return Some(Event::HostRegister(*event.as_array()?)),
-        Kind::Bist => return Some(Event::Bist(*event.as_array()?)),
+        Kind::HostData => return Event::HostData(byte_of(event, 1)),
+        Kind::HostRegister => return Event::HostRegister(*event.as_array().unwrap()),
+        Kind::Bist => return Event::Bist(*event.as_array().unwrap()),
         Kind::OpenPhase => DeviceEvent::OpenPhase(byte_of(event, 1)),
         Kind::SendData => DeviceEvent::SendData,
         Kind::FinishTags => DeviceEvent::FinishTags(bits::le32(event, 1)),
@@ -44,14 +42,16 @@ pub(crate) fn event_by_kind(kind: Kind, event: &[u8]) -> Option<Event>
         Kind::LinkEvent => DeviceEvent::LinkEvent(byte_of(event, 1)),
         Kind::Comreset => DeviceEvent::Comreset,
     };
-    Some(Event::OfDevice(device_event))
+    Event::OfDevice(device_event)
 }
 
-/// What the bytes of an event ask for; `None` for what is no event, and for settings.
-#[tactic(auto, unfolding(crate::specs::Asked::event_of), using(crate::proofs::Recording::kind_length))]
-pub fn event_of(event: &[u8]) -> Option<Event>
-    ensures value { result ≡ event_of event.now }
-    ensures spelt { IfSome result (λ asked. IsSpelt asked event.now) }
+/// The event that bytes begin with, if all of it is there, and how many bytes it has. Settings are none.
+#[inline(always)]
+pub fn first_event(bytes: &[u8]) -> Option<(Event, usize)>
+    ensures { FirstEvent bytes.now result }
 {
-    event_by_kind(event_kind(event)?, event)
+    let kind = Kind::from_byte(*bytes.first()?)?;
+    let size = kind.body_length() + 1;
+    let event = event_by_kind(kind, bytes.get(..size)?);
+    Some((event, size))
 }

@@ -17,14 +17,14 @@ mod running;
 mod settings;
 mod starts;
 
-pub use asked::{Event, event_of};
+pub use asked::{Event, first_event};
 pub use by_value::play_by_value;
 pub use ended::{Ended, say};
 pub use errors::RunError;
-pub use kinds::{EVENT_LIMIT, InputEnd, Kind};
+pub use kinds::InputEnd;
 pub use lines::Format;
 pub use pieces::{PIECE, run_in_pieces};
 pub use plays::play;
 pub use running::{a_run_has_one_text, run};
-pub use settings::{RUN_CAPACITY_LIMIT, settings_asked};
-pub use starts::start;
+pub use settings::{SETTINGS_SIZE, first_settings};
+pub use starts::{RUN_CAPACITY_LIMIT, start};

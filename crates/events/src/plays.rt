@@ -1,11 +1,10 @@
 // One event to its call.
-ghost use Rattle.device.specs.Lent.{lent, gave, answered};
-ghost use Rattle.device.specs.Step.{step, Gives};
-ghost use Rattle.events.specs.Calls.{call_of};
-ghost use Rattle.events.specs.Played.{event_step};
+ghost use Rattle.device.specs.Lent.{gave, answered};
+ghost use Rattle.device.specs.Step.{Gives};
+ghost use Rattle.events.specs.Calls.{event_step};
 
+use crate::Event;
 use crate::host_data::host_data;
-use crate::{Event, event_of};
 use device::Sealed;
 use frames::DATA_FRAME_LIMIT;
 use refusals::Refusal;
@@ -19,7 +18,7 @@ pub(crate) fn make_call(
     medium: &mut [u8],
     reply: &mut [u8],
 ) -> Result<usize, Refusal>
-    ensures { Gives (step sealed.old.device (lent (call_of sealed.old.device event) medium.old reply.old)) reply.old (gave (answered sealed.new.device result) medium.new reply.new) }
+    ensures { Gives (event_step sealed.old.device event medium.old reply.old) reply.old (gave (answered sealed.new.device result) medium.new reply.new) }
 {
     match event {
         Event::OfDevice(event) => sealed.event(event, medium, reply),
@@ -29,16 +28,14 @@ pub(crate) fn make_call(
     }
 }
 
-/// One event to its call: the event is its kind and body; medium and reply buffer are those of the device's calls. What is no event is refused with 24, and changes nothing.
-#[tactic(auto, unfolding(crate::specs::Played::step_for, replies::specs::Replies::sent_all, frames::specs::Cut::joined_bytes))]
+/// One event to its call: medium and reply buffer are those of the device's calls.
 pub fn play(
     sealed: &mut Sealed,
-    event: &[u8],
+    event: Event,
     medium: &mut [u8],
     reply: &mut [u8],
 ) -> Result<usize, Refusal>
-    ensures { Gives (event_step sealed.old.device event.now medium.old reply.old) reply.old (gave (answered sealed.new.device result) medium.new reply.new) }
+    ensures { Gives (event_step sealed.old.device event medium.old reply.old) reply.old (gave (answered sealed.new.device result) medium.new reply.new) }
 {
-    let event = event_of(event).ok_or(Refusal::NoFrame)?;
     make_call(sealed, event, &mut [0; DATA_FRAME_LIMIT], medium, reply)
 }

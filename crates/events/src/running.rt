@@ -5,9 +5,10 @@ use crate::bench::Bench;
 use crate::errors::RunError;
 use crate::lines::{Format, Line};
 use crate::output::{finish, pass_on};
-use crate::reading::{read_bytes, read_event};
-use crate::{EVENT_LIMIT, InputEnd, RUN_CAPACITY_LIMIT};
+use crate::reading::{read_event, read_settings};
+use crate::{InputEnd, RUN_CAPACITY_LIMIT};
 use device::Device;
+use device_state::Settings;
 use std::io::{BufRead, Write};
 
 // The bytes of the longest medium, as the settings record is limited.
@@ -36,14 +37,14 @@ fn play_on<R: BufRead, W: Write>(
     finish(out, lines, Err(RunError::TooMany))
 }
 
-// The settings record, and what follows it.
+// What follows the settings record.
 fn start_with<R: BufRead, W: Write>(
     format: Format,
     reader: &mut R,
     out: &mut W,
-    settings: &[u8],
+    settings: Settings,
 ) -> Result<(), RunError>
-    ensures { StartedWith format.traced settings.now (R.remaining reader.old) (R.remaining reader.new) (W.contents out.old) (W.contents out.new) result }
+    ensures { StartedWith format.traced settings (R.remaining reader.old) (R.remaining reader.new) (W.contents out.old) (W.contents out.new) result }
 {
     let begun = crate::start(settings);
     let mut lines = Vec::new(format.alloc);
@@ -72,10 +73,9 @@ pub fn run<R: BufRead, W: Write>(
 ) -> Result<(), RunError>
     ensures { Ran format.traced (R.remaining reader.old) (R.remaining reader.new) (W.contents out.old) (W.contents out.new) result }
 {
-    let mut room = [0u8; EVENT_LIMIT];
-    match read_bytes(reader, &mut room, true) {
-        Ok(Ok(event)) => start_with(format, reader, out, event),
-        Ok(Err(end)) => finish(out, &[], Ok(end)),
+    match read_settings(reader) {
+        Ok(Some(settings)) => start_with(format, reader, out, settings),
+        Ok(None) => finish(out, &[], Ok(InputEnd::NoEvent)),
         Err(failed) => finish(out, &[], Err(RunError::Input(failed))),
     }
 }

@@ -1,31 +1,33 @@
 // The settings record.
 ghost use Rattle.std.specs.Prelude.{◌≡◌};
-ghost use Rattle.events.specs.Settings.{settings_of, asked_of};
+ghost use Rattle.events.specs.Settings.{settings_of, FirstSettings};
 
-use crate::kinds::{Kind, event_kind};
 use device_state::Settings;
 
+/// The bytes of a settings record.
+pub const SETTINGS_SIZE: usize = 8;
+
+// Its first byte.
+pub(crate) const SETTINGS_KIND: u8 = 0x00;
+
+/// The settings that a record's bytes say.
 #[tactic(auto, unfolding(crate::specs::Settings::settings_of))]
-fn settings_of(event: &[u8]) -> Settings
-    ensures { result ≡ settings_of event.now }
+pub(crate) fn settings_of(bytes: &[u8]) -> Settings
+    ensures { result ≡ settings_of bytes.now }
 {
     Settings {
-        depth: u32::from(frames::byte_of(event, 1)),
-        capacity: bits::le32(event, 2),
-        mask: bits::le16(event, 6),
+        depth: u32::from(frames::byte_of(bytes, 1)),
+        capacity: bits::le32(bytes, 2),
+        mask: bits::le16(bytes, 6),
     }
 }
 
-/// The most sectors that a run may have: its medium is an array of the program's.
-pub const RUN_CAPACITY_LIMIT: u32 = 64;
-
-/// The settings that the record asks for; `None` for what is no settings record, and for more sectors than a run may have.
-#[tactic(auto, using(crate::proofs::Recording::settings_event))]
-pub fn settings_asked(event: &[u8]) -> Option<Settings>
-    ensures { result ≡ asked_of event.now }
+/// The settings record that bytes begin with, if all of it is there.
+pub fn first_settings(bytes: &[u8]) -> Option<Settings>
+    ensures { FirstSettings bytes.now result }
 {
-    let settings = settings_of(event);
-    let is_in_limit = event_kind(event) == Some(Kind::Settings)
-        && settings.capacity <= RUN_CAPACITY_LIMIT;
-    is_in_limit.then_some(settings)
+    if bytes.len() < SETTINGS_SIZE || bytes[0] != SETTINGS_KIND {
+        return None;
+    }
+    Some(settings_of(bytes))
 }

@@ -4,13 +4,19 @@ ghost use Rattle.device.specs.Sealing.{powered_of};
 ghost use Rattle.events.specs.Start.{start_of};
 
 use device::Sealed;
+use device_state::Settings;
 use refusals::Refusal;
 
-/// Power-on by the settings record: a device, or the refusal, which is 1 where the event is no settings record or asks for more sectors than a run may have.
-#[tactic(auto, unfolding(crate::specs::Start::start_of, crate::specs::Start::start_by))]
-pub fn start(event: &[u8]) -> Result<Sealed, Refusal>
-    ensures { powered_of result ≡ start_of event.now }
+/// The most sectors that a run may have: its medium is an array of the program's.
+pub const RUN_CAPACITY_LIMIT: u32 = 64;
+
+/// Power-on by the settings record: a device, or the refusal, which is 1 where it asks for more sectors than a run may have.
+#[tactic(auto, unfolding(crate::specs::Start::start_of))]
+pub fn start(settings: Settings) -> Result<Sealed, Refusal>
+    ensures { powered_of result ≡ start_of settings }
 {
-    let settings = crate::settings_asked(event).ok_or(Refusal::Contradiction)?;
+    if settings.capacity > RUN_CAPACITY_LIMIT {
+        return Err(Refusal::Contradiction);
+    }
     Sealed::power_on(settings)
 }

@@ -1,7 +1,8 @@
 // The same events twice over: by the public calls of `Device`, which take the state and hand it back, and by those of the
 // device that is kept. State, refusal, length, reply buffer and medium must be the same behind each.
 use device::{Device, Outcome, Sealed};
-use events::{Event, Kind, RUN_CAPACITY_LIMIT};
+use device_state::Settings;
+use events::{Event, RUN_CAPACITY_LIMIT, SETTINGS_SIZE};
 use frames::{DATA_FRAME_LIMIT, DATA_HEAD, DATA_HEAD_SIZE};
 use rules::DeviceEvent;
 
@@ -68,13 +69,18 @@ fn call(device: Device, event: Event, medium: &mut [u8], reply: &mut [u8]) -> Ou
     }
 }
 
-// The next event of the input, and what is behind it.
-fn next_event(input: &[u8], first: bool) -> Option<(&[u8], &[u8])> {
-    let kind = Kind::from_byte(*input.first()?)?;
-    if kind.is_misplaced(first) {
-        return None;
-    }
-    input.split_at_checked(kind.body_length().checked_add(1)?)
+// The settings record of the input, and what is behind it.
+fn split_settings(input: &[u8]) -> Option<(Settings, &[u8])> {
+    Some((
+        events::first_settings(input)?,
+        input.get(SETTINGS_SIZE..)?,
+    ))
+}
+
+// The next event, and what is behind it.
+fn split_event(input: &[u8]) -> Option<(Event, &[u8])> {
+    let (event, size) = events::first_event(input)?;
+    Some((event, input.get(size..)?))
 }
 
 // The events behind power-on, each played both ways.
@@ -90,16 +96,13 @@ fn play_on(device: Device, sealed: Sealed, events: &[u8]) -> Compared {
         same: device == sealed.device,
     };
     for _ in 0..events.len() {
-        let Some((bytes, behind)) = next_event(rest, false) else {
-            break;
-        };
-        let Some(event) = events::event_of(bytes) else {
+        let Some((event, behind)) = split_event(rest) else {
             break;
         };
         let outcome = call(device, event, &mut handed.medium[..size], &mut handed.reply);
         let answer = events::play(
             &mut sealed,
-            bytes,
+            event,
             &mut kept.medium[..size],
             &mut kept.reply,
         );
@@ -122,10 +125,7 @@ fn play_alone(device: Device, events: &[u8]) -> Counted {
     let mut rest = events;
     let mut counted = Counted::default();
     for _ in 0..events.len() {
-        let Some((bytes, behind)) = next_event(rest, false) else {
-            break;
-        };
-        let Some(event) = events::event_of(bytes) else {
+        let Some((event, behind)) = split_event(rest) else {
             break;
         };
         let outcome = call(device, event, &mut lent.medium[..size], &mut lent.reply);
@@ -142,12 +142,12 @@ fn play_alone(device: Device, events: &[u8]) -> Counted {
 
 /// Plays the events of a file by value alone, for what it costs: nothing is compared.
 pub fn play(input: &[u8]) -> Counted {
-    let Some((record, events)) = next_event(input, true) else {
+    let Some((settings, events)) = split_settings(input) else {
         return Counted::default();
     };
-    let Some(settings) = events::settings_asked(record) else {
+    if settings.capacity > RUN_CAPACITY_LIMIT {
         return Counted::default();
-    };
+    }
     let outcome = Device::power_on(settings);
     match outcome.refusal {
         None => play_alone(outcome.state, events),
@@ -157,20 +157,19 @@ pub fn play(input: &[u8]) -> Counted {
 
 /// Plays the events of a file both ways, from the settings record on.
 pub fn compare(input: &[u8]) -> Compared {
-    let nothing = Compared {
-        played: 0,
-        same: true,
+    let Some((settings, events)) = split_settings(input) else {
+        return Compared {
+            played: 0,
+            same: true,
+        };
     };
-    let Some((record, events)) = next_event(input, true) else {
-        return nothing;
-    };
-    let begun = events::start(record);
-    let Some(settings) = events::settings_asked(record) else {
+    let begun = events::start(settings);
+    if settings.capacity > RUN_CAPACITY_LIMIT {
         return Compared {
             played: 1,
             same: begun.is_err(),
         };
-    };
+    }
     let outcome = Device::power_on(settings);
     match begun {
         Ok(sealed) => play_on(outcome.state, sealed, events),

@@ -1,0 +1,6 @@
+use Rattle.caller.proofs.Continuing.{continues_given}
+use Rattle.caller.proofs.Values.{typed_value}
+use Rattle.caller.proofs.playing.play.Goals as goal
+
+pub returns : goal.returns
+returns c = continues_given _ _ _ (typed_value _ c.args.event c.well_formed.1.0) c.play.ensures
