@@ -1,5 +1,5 @@
 -- What stands where on the page as it is made. Assumes nothing.
-use Rattle.std.proofs.Common.{◌≡◌, sym, ap, ◌∙◌, ⊎_elim, Bool, true, false, if◌then◌else◌, ℕ, zero, suc, ◌+◌, ◌-◌, ◌*◌, ◌^◌, ◌<◌, leb, arith, leb-true, leb-false, length, length-set, get_or, get_or-set_other, get_or-append-add}
+use Rattle.std.proofs.Common.{◌≡◌, sym, ap, ◌∙◌, ⊎_elim, Bool, true, false, if◌then◌else◌, ℕ, zero, suc, ◌+◌, ◌-◌, ◌*◌, ◌%◌, ◌^◌, ◌<◌, leb, arith, leb-true, leb-false, length, length-set, get_or, get_or-set_other, get_or-append-add}
 use lib.ListN.{get_or-append}
 use Rattle.bits.specs.Little.{le_bytes}
 use Rattle.bits.proofs.Picks.{tested}
@@ -62,7 +62,7 @@ module _ (f : Identity) where
   identity_sums = sum_sealed (words_to f 256) (length_words f 256) last_zero
 
   module _ (h : fits_identity f ≡ true) where
-    depth_small : f.depth - 1 < 2 ^ 16
+    depth_small : (f.depth - 1) % 32 < 2 ^ 16
     depth_small = grind arith
 
     -- every word has sixteen bits

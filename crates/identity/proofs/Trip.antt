@@ -28,7 +28,7 @@ module _ (f : Identity) (h : fits_identity f ≡ true) where
   small_capacity : f.capacity < 2 ^ 48
   small_capacity = grind arith
 
-  depth_back : (f.depth - 1) % 32 + 1 ≡ f.depth
+  depth_back : (f.depth - 1) % 32 % 32 + 1 ≡ f.depth
   depth_back = grind arith
 
   is : (k : ℕ) → k < 255 → word_in (identity_page f) k ≡ word_of f k

@@ -27,7 +27,7 @@ word_of f k =
     else (if eqb k 53 then 0x0004
     else (if eqb k 60 then sixteen_bits (by_28_bits f.capacity) 0
     else (if eqb k 61 then sixteen_bits (by_28_bits f.capacity) 16
-    else (if eqb k 75 then f.depth - 1
+    else (if eqb k 75 then (f.depth - 1) % 32
     else (if eqb k 76 then 0x0502
     else (if eqb k 78 then features_word no_features
     else (if eqb k 79 then features_word no_features

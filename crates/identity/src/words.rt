@@ -9,7 +9,7 @@ use crate::features::Features;
 #[derive(Clone, Copy, Debug, PartialEq, Eq)]
 pub struct Identity {
     /// how many commands can be outstanding: 1 to 32
-    pub depth: u8,
+    pub depth: u32,
     /// sectors of 512 bytes, in 48 bits
     pub capacity: u64,
 }
@@ -50,7 +50,7 @@ impl Identity {
             53 => 0x0004,
             60 => sixteen_bits(self.capacity.min(MOST_BY_28_BITS), 0),
             61 => sixteen_bits(self.capacity.min(MOST_BY_28_BITS), 16),
-            75 => u16::from(self.depth.saturating_sub(1)),
+            75 => (self.depth.saturating_sub(1) & 31) as u16,
             76 => 0x0502,
             78 => Features::NONE.word(),
             79 => Features::NONE.word(),
