@@ -1,5 +1,5 @@
 -- What the history reads of a host frame is what its act does to the counters; and only page 11h is read as such. Assumes nothing.
-use Rattle.std.proofs.Common.{Ok, ◌≡◌, refl, sym, ap, subst, ◌∙◌, Bool, true, false, ◌&&◌, List, [], ℕ, ◌%◌, arith}
+use Rattle.std.proofs.Common.{Ok, ◌≡◌, refl, sym, subst, ◌∙◌, Bool, true, false, ◌&&◌, List, [], ℕ, ◌%◌, arith}
 use mathlib.Core.Bool.{false≢true, and-false}
 use Rattle.bits.specs.Bit.{bit_in}
 use Rattle.frames.specs.declared.shared.Task.{Task}

@@ -1,5 +1,5 @@
 -- Every page of IDENTIFY DEVICE that is sent tells depth and capacity. Assumes nothing.
-use Rattle.std.proofs.Common.{Ok, ◌≡◌, sym, ap, subst, ◌∙◌, Bool, true, false, ◌&&◌, List, [], ℕ, is_none}
+use Rattle.std.proofs.Common.{Ok, ◌≡◌, sym, ap, subst, ◌∙◌, true, false, ◌&&◌, List, [], ℕ, is_none}
 use mathlib.Core.Bool.{false≢true}
 use Rattle.bits.proofs.Picks.{pick_yes, and_left, and_right}
 use Rattle.frames.specs.Write.{FrameValue}
@@ -7,7 +7,6 @@ use Rattle.device_state.specs.declared.shapes.Settings.{Settings}
 use Rattle.identity.specs.Words.{fits_identity}
 use Rattle.identity.specs.Page.{identity_page}
 use Rattle.identity.specs.Read.{read_identity}
-use Rattle.identity.specs.declared.words.Identity.{Identity}
 use Rattle.identity.proofs.Trip.{read_page}
 use Rattle.rules.specs.Call.{Call, host_frame}
 use Rattle.rules.specs.Medium.{part_of}

@@ -10,7 +10,6 @@ use Rattle.frames.specs.Write.{FrameValue}
 use Rattle.device_state.specs.State.{echo_of}
 use Rattle.device_state.proofs.EchoLaws.{echo_task}
 use Rattle.rules.specs.OtherRule.{asks_errors, asks_counters, asks_identity}
-use Rattle.frames.specs.declared.log_pages.LogPage.{LogPage}
 use Rattle.rules.specs.declared.command_rules.PageAsked.{PageAsked}
 use Rattle.rules.specs.declared.command_rules.PageAsked.TheVariants.{Log, Identity}
 use Rattle.std.specs.Option.{option_map}
