@@ -7,7 +7,7 @@ use Rattle.device_state.specs.declared.shapes.Settings.{Settings}
 use Rattle.identity.specs.Words.{fits_identity}
 use Rattle.identity.specs.Page.{identity_page}
 use Rattle.identity.specs.Read.{read_identity}
-use Rattle.identity.proofs.Trip.{read_page}
+use Rattle.identity.proofs.Trip.{read_identified}
 use Rattle.rules.specs.Call.{Call, host_frame}
 use Rattle.rules.specs.Medium.{part_of}
 use Rattle.rules.specs.declared.acts.Act.{Act}
@@ -76,7 +76,7 @@ told_here d l t s =
     let v = ruled_page d l.medium l.buffer o
     (sym (ap (some is_pio) (read_frames x rs r)) ∙ and_right (call_asks l.call).identifies (paged x) u) (and_left (call_asks l.call).identifies (paged x) u) in
     let e : page x ≡ identity_page (identity_told d.settings) = frames.read_page x rs r ∙ v.1 ∙ identity_is d v.0 in
-    record { bytes = e; fields = ap read_identity e ∙ read_page (identity_told d.settings) (identity_fits d v.0) })
+    record { bytes = e; fields = ap read_identity e ∙ read_identified (identity_told d.settings) (identity_fits d v.0) })
     (read_step d l t s)
 
 -- with the settings of power-on: after a refused one every call is refused

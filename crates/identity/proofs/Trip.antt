@@ -7,14 +7,9 @@ use Rattle.frames.proofs.EmitLaws.{wrote_all}
 use Rattle.pages.specs.Sum.{sum256}
 use Rattle.identity.specs.Words.{word_of, fits_identity}
 use Rattle.identity.specs.Page.{identity_page}
-use Rattle.identity.specs.Read.{word_in, queue_told, capacity_told, read_identity}
+use Rattle.identity.specs.Read.{word_in, queue_told, capacity_told, all_told, read_identity}
 use Rattle.identity.specs.declared.words.Identity.{Identity}
-use Rattle.identity.specs.declared.reading.Identified.{Identified}
 use Rattle.identity.proofs.Standing.{word_is, page_length, page_signed, identity_sums}
-
--- what a page tells of which depth and capacity are known
-abbrev pub all_told : Identity → Identified
-all_told f = record { queue = Some f.depth; capacity = Some f.capacity }
 
 -- four words are a number of eight bytes
 four_words : (l : List ℕ) → le_at l 200 8 ≡ word_in l 100 + 2 ^ 16 * word_in l 101 + 2 ^ 32 * word_in l 102 + 2 ^ 48 * word_in l 103
@@ -46,9 +41,9 @@ module _ (f : Identity) (h : fits_identity f ≡ true) where
       (four_words (identity_page f)
       ∙ rw (is 100 (omega arith), is 101 (omega arith), is 102 (omega arith), is 103 (omega arith)) (four_bits f.capacity small_capacity)))
 
-  pub read_page : read_identity (identity_page f) ≡ Ok (all_told f)
+  pub read_identified : read_identity (identity_page f) ≡ Ok (all_told f)
   unfolding read_identity first_of
-  read_page =
+  read_identified =
       rw (eq-eqb (length (identity_page f)) 512 (page_length f), eq-eqb (sum256 (identity_page f)) 0 (identity_sums f), page_signed f)
       (ap₂ (λ (q c : Option ℕ). Ok (record { queue = q; capacity = c })) queue_back capacity_back)
 
@@ -56,4 +51,4 @@ module _ (f : Identity) (h : fits_identity f ≡ true) where
 pub read_write : (f : Identity) (d d' : List ℕ) (n : ℕ) → WriteGiven (fits_identity f) (identity_page f) d (Ok n) d' → read_identity (take n d') ≡ Ok (all_told f)
 read_write f d d' n w =
     let a = wrote_all (fits_identity f) (identity_page f) d n d' w in
-    rw (a.2, a.3, take_at (identity_page f) (drop (length (identity_page f)) d) (length (identity_page f)) refl) (read_page f a.0)
+    rw (a.2, a.3, take_at (identity_page f) (drop (length (identity_page f)) d) (length (identity_page f)) refl) (read_identified f a.0)

@@ -9,6 +9,7 @@ use Rattle.refusals.specs.Number.{number}
 use Rattle.refusals.specs.declared.reasons.Refusal.{Refusal}
 use Rattle.refusals.specs.declared.reasons.Refusal.TheVariants.{PageLength, PageSum}
 use Rattle.pages.specs.Sum.{sum256}
+use Rattle.identity.specs.declared.words.Identity.{Identity}
 use Rattle.identity.specs.declared.reading.Identified.{Identified}
 
 -- word k stands at bytes 2 k and 2 k + 1
@@ -34,6 +35,10 @@ capacity_told l = pick (tells_capacity (word_in l 83)) (Some (le_at l 200 8)) No
 -- what a page tells
 abbrev pub told_by : List ℕ → Identified
 told_by l = record { queue = queue_told l; capacity = capacity_told l }
+
+-- what a page tells that was made of depth and capacity [identity-read]
+abbrev pub all_told : Identity → Identified
+all_told f = record { queue = Some f.depth; capacity = Some f.capacity }
 
 -- 20: not 512 bytes; 21: sum wrong, or byte 510 not A5h [refused-20] [refused-21] [identity-signed]
 abbrev pub ladder_identity : List ℕ → List Rung

@@ -11,6 +11,9 @@ use Rattle.frames.specs.declared.shared.Task.{Task}
 use Rattle.frames.specs.Read.{read_frame}
 use Rattle.frames.specs.Write.{FrameValue, host, device, set_bits, setup, activate, payload, bist, pio, encode}
 use Rattle.frames.specs.RoundTrip.{read_back}
+use Rattle.identity.specs.Page.{identity_page}
+use Rattle.identity.specs.Read.{all_told, read_identity}
+use Rattle.worked_examples.specs.WholeIdentity.{whole_identity, identity_bytes}
 use Rattle.pages.specs.Page10.{page10, read_log}
 use Rattle.pages.specs.declared.page10.ErrorLog.{ErrorLog}
 use Rattle.pages.specs.Layout11.{page11}
@@ -169,6 +172,9 @@ pub record WholeShows : Type 0 where
   pub rows : page11 0xFFFF whole_values ≡ rows_bytes
   pub rows_read : map (read_counter rows_bytes) whole_numbers ≡ map read_as whole_values
   pub some_rows : page11 0xC201 whole_values ≡ some_bytes
+  -- the page of IDENTIFY DEVICE as it is written and read
+  pub identity : identity_page whole_identity ≡ identity_bytes
+  pub identity_read : read_identity identity_bytes ≡ Ok (all_told whole_identity)
   -- frames are cut where each ends; one whose kind is not known takes what is left, and one that is too short what there is
   pub parts : cut (joined_bytes three) ≡ three
   pub unknown : cut (0x39 ∷ 0x00 ∷ 0x00 ∷ 0x00 ∷ 0x77 ∷ 0x39 ∷ 0x00 ∷ 0x00 ∷ 0x00 ∷ []) ≡ (0x39 ∷ 0x00 ∷ 0x00 ∷ 0x00 ∷ []) ∷ (0x77 ∷ 0x39 ∷ 0x00 ∷ 0x00 ∷ 0x00 ∷ []) ∷ []
