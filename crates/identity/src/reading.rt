@@ -14,6 +14,12 @@ pub struct Identified {
     pub capacity: Option<u64>,
 }
 
+// The words that are looked at.
+const DEPTH: usize = 75;
+const CAPABILITIES: usize = 76;
+const COMMAND_SETS: usize = 83;
+const CAPACITY: usize = 100;
+
 // Where the byte stands that says that the last byte is a sum.
 const SIGNATURE_AT: usize = PAGE_SIZE - 2;
 
@@ -32,22 +38,22 @@ fn word_in(page: &[u8; PAGE_SIZE], index: usize) -> u16
 fn queue_told(page: &[u8; PAGE_SIZE]) -> Option<u8>
     ensures { result ≡ queue_told page.now }
 {
-    let capabilities = word_in(page, 76);
+    let capabilities = word_in(page, CAPABILITIES);
     if capabilities == 0 || capabilities == 0xffff || !bits::bit(u32::from(capabilities), 8) {
         return None;
     }
-    Some((word_in(page, 75) & 31) as u8 + 1)
+    Some((word_in(page, DEPTH) & 31) as u8 + 1)
 }
 
 // Word 83 counts where its bits 15:14 are 01b, and its bit 10 says that there are 48-bit addresses.
 fn capacity_told(page: &[u8; PAGE_SIZE]) -> Option<u64>
     ensures { result ≡ capacity_told page.now }
 {
-    let commands = word_in(page, 83);
+    let commands = word_in(page, COMMAND_SETS);
     if commands >> 14 != 1 || !bits::bit(u32::from(commands), 10) {
         return None;
     }
-    Some(bits::le(page, 200, 8))
+    Some(bits::le(page, 2 * CAPACITY, 8))
 }
 
 /// Reads a page of IDENTIFY DEVICE: what it tells; `PageLength` where it is not 512 bytes long, else `PageSum` where its
