@@ -109,8 +109,8 @@ impl Device {
 
     fn other(&mut self, frame: &[u8; 20], replies: &mut Replies) {
         let echo = Echo::of(frame);
-        let page = log_page(frame);
-        if self.state.halted && page != Some(0x10) {
+        let page = page_asked(frame);
+        if self.state.halted && page != Some(Asked::Errors) {
             return replies.register(Err(ABORTED), &echo);
         }
         if self.state.outstanding != 0 {
@@ -118,8 +118,9 @@ impl Device {
             return self.bad(record, replies);
         }
         match page {
-            Some(0x10) => self.read_errors(&echo, replies),
-            Some(_) => self.read_counters(frame[3] & 1 == 1, &echo, replies),
+            Some(Asked::Errors) => self.read_errors(&echo, replies),
+            Some(Asked::Counters) => self.read_counters(frame[3] & 1 == 1, &echo, replies),
+            Some(Asked::Identity) => self.identify(&echo, replies),
             None => replies.register(Err(ABORTED), &echo),
         }
     }
@@ -133,6 +134,11 @@ impl Device {
         pages::errors(replies.page(), &self.state.record);
     }
 
+    fn identify(&mut self, echo: &Echo, replies: &mut Replies) {
+        replies.pio_setup(echo);
+        pages::identity(replies.page(), &self.settings);
+    }
+
     fn read_counters(&mut self, zeroing: bool, echo: &Echo, replies: &mut Replies) {
         replies.pio_setup(echo);
         pages::counters(replies.page(), &self.settings, &self.state.counters);
@@ -142,12 +148,24 @@ impl Device {
     }
 }
 
-/// The page that a well-formed READ LOG EXT asks for.
-fn log_page(frame: &[u8; 20]) -> Option<u8> {
-    let page = frame[4];
-    let well_formed = frame[2] == 0x2F
-        && (page == 0x10 || page == 0x11)
-        && (frame[5], frame[9]) == (0, 0)
-        && (frame[12], frame[13]) == (1, 0);
+/// A page that a command asks for.
+#[derive(Clone, Copy, PartialEq)]
+enum Asked {
+    Errors,
+    Counters,
+    Identity,
+}
+
+/// The page that a well-formed READ LOG EXT, or IDENTIFY DEVICE, asks for.
+fn page_asked(frame: &[u8; 20]) -> Option<Asked> {
+    if frame[2] == 0xEC {
+        return Some(Asked::Identity);
+    }
+    let page = match frame[4] {
+        0x10 => Asked::Errors,
+        0x11 => Asked::Counters,
+        _ => return None,
+    };
+    let well_formed = frame[2] == 0x2F && (frame[5], frame[9]) == (0, 0) && (frame[12], frame[13]) == (1, 0);
     well_formed.then_some(page)
 }

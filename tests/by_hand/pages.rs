@@ -35,6 +35,36 @@ pub fn counters(page: &mut Page, settings: &Settings, values: &[u32; ROWS]) {
     sum(page, at);
 }
 
+/// What IDENTIFY DEVICE tells of every device: a word, and where it stands.
+const FIXED: [(usize, u16); 13] = [
+    (2, 0xC837),
+    (47, 0x8000),
+    (49, 0x0300),
+    (50, 0x4000),
+    (53, 0x0004),
+    (76, 0x0502),
+    (80, 0x0040),
+    (83, 0x4400),
+    (84, 0x4020),
+    (86, 0x0400),
+    (87, 0x4020),
+    (88, 0x203F),
+    (255, 0x00A5),
+];
+
+pub fn identity(page: &mut Page, settings: &Settings) {
+    page.fill(0);
+    page[20..40].fill(b' ');
+    page[46..94].fill(b' ');
+    for (word, value) in FIXED {
+        page[2 * word..2 * word + 2].copy_from_slice(&value.to_le_bytes());
+    }
+    page[150] = settings.depth - 1;
+    page[120..124].copy_from_slice(&settings.capacity.to_le_bytes());
+    page[200..204].copy_from_slice(&settings.capacity.to_le_bytes());
+    sum(page, 511);
+}
+
 /// The last byte makes all bytes sum to 0; behind `end` the page is blank.
 fn sum(page: &mut Page, end: usize) {
     let sum = page[..end].iter().fold(0u8, |sum, &byte| sum.wrapping_add(byte));

@@ -20,6 +20,7 @@ mod device;
 mod examples;
 mod fields;
 mod frames;
+mod identity;
 mod pages;
 mod program;
 mod random;

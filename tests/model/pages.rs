@@ -32,7 +32,7 @@ fn check_sum(bytes: &[u8]) -> Result<(), u8> {
 }
 
 /// Sets byte 511, which is still 0, so that all bytes sum to 0 modulo 256.
-fn seal(mut page: [u8; PAGE]) -> [u8; PAGE] {
+pub fn seal(mut page: [u8; PAGE]) -> [u8; PAGE] {
     let sum: usize = page.iter().map(|&b| usize::from(b)).sum();
     page[PAGE - 1] = ((256 - sum % 256) % 256) as u8;
     page

@@ -5,6 +5,8 @@ use Rattle.counters.specs.Counts.{tallied, single}
 use Rattle.counters.proofs.CountLaws.{tallied_none, single_other}
 use Rattle.device_state.specs.Contradictory.{settings_out, table_bad, status_bad, record_bad, row_bad_at, rows_bad, contradictory, amount_refused_at, tally_refused}
 use Rattle.device_state.proofs.TableLaws.{some_never, some_absent}
+use Rattle.identity.specs.Words.{fits_identity}
+use Rattle.device.specs.Step.{identity_told}
 use Rattle.device.specs.Device.{contradictory_device}
 use Rattle.device.specs.After.{counted_by}
 use Rattle.device.specs.declared.state.Device.{Device}
@@ -47,6 +49,11 @@ settings_good d h = grind arith
 pub both_kept : (d : Device) → contradictory_device d ≡ false → keeps_both d.settings.mask ≡ true
 unfolding settings_out
 both_kept d h = let s = settings_good d h in grind arith
+
+-- depth and capacity can be told
+pub identity_fits : (d : Device) → contradictory_device d ≡ false → fits_identity (identity_told d.settings) ≡ true
+unfolding settings_out
+identity_fits d h = let s = settings_good d h in grind arith
 
 -- rows 0 and 9 are kept
 pub first_kept : (d : Device) → contradictory_device d ≡ false → kept d.settings.mask 0 ≡ true

@@ -34,6 +34,7 @@ pub mod Storing
 pub mod Moves
 pub mod Tallies
 pub mod Due
+pub mod Identifying
 pub mod Contradicted
 pub mod Zeros
 pub mod Defaults

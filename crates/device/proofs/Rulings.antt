@@ -29,7 +29,7 @@ use Rattle.device.specs.After.{after_of, moved_by}
 use Rattle.device.specs.Step.{state_shown}
 use Rattle.device.specs.declared.state.Device.{Device}
 use Rattle.device.proofs.Effects.{traits, Puts}
-use Rattle.device.proofs.Keeping.{both_kept, counted_good, settings_good, single_spares, tally_spares}
+use Rattle.device.proofs.Keeping.{both_kept, identity_fits, counted_good, settings_good, single_spares, tally_spares}
 use Rattle.device.proofs.Acts.{failed_good, halt_good, released_good, renewed_good, reset_held_good, unhalted_good, zeroed_good}
 use Rattle.device.proofs.Changes.{accepted_good, finished_good, moved_good, opened_good}
 use Rattle.device.proofs.Entering.{entry_good, tag_small}
@@ -96,6 +96,7 @@ module _ (d : Device) (wrong some : Bool) (room : ℕ) (g : contradictory_device
   heard_keeps k l r (by.other h c (by.busy x)) = record { fits = λ t _. (omega arith, echo_bytes h.task t); puts = λ t _. (omega arith, echo_bytes h.task t); good = λ _. fault_good d h None 0x04 g refl }
   heard_keeps k l r (by.other h c (by.page10 e p)) = record { fits = λ t z. (t, record_fits d z g); puts = λ _ _. none_puts; good = λ _. unhalted_good d g }
   heard_keeps k l r (by.other h c (by.page11 x e p)) = record { fits = λ t _. (t, both_kept d g); puts = λ _ _. none_puts; good = λ _. zeroed_good d (bit_in 8 h.features 0) g }
+  heard_keeps k l r (by.other h c (by.identity x e p)) = record { fits = λ t _. (t, identity_fits d g); puts = λ _ _. none_puts; good = λ _. g }
   heard_keeps k l r (by.due n p w s) = record { fits = λ _ _. tt; puts = λ _ es. (lit< tt, move_small d n p es); good = λ _. moving_good d n g p (eqb-true (n % 4) 0 (and_right (leb 4 n && leb n 8192) (eqb (n % 4) 0) r.1.1)) }
   heard_keeps k l r (by.bist b) = record { fits = λ _ _. tt; puts = λ _ _. none_puts; good = λ _. zeroed_good d true g }
   heard_keeps k l r _ = record { fits = λ t _. (omega arith, t); puts = λ _ _. none_puts; good = λ _. g }

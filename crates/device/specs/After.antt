@@ -14,7 +14,7 @@ use Rattle.rules.specs.declared.acts.Fault.{Fault}
 use Rattle.rules.specs.declared.acts.Queued.{Queued}
 use Rattle.rules.specs.declared.acts.Move.{Move}
 use Rattle.rules.specs.declared.acts.Act.{Act}
-use Rattle.rules.specs.declared.acts.Act.TheVariants.{Nothing, Bad, BadAndHalt, Accept, Log10, Log11, Reset, Release, ZeroCounters, Store, Open, Send, Finish, Media, Count, Renew}
+use Rattle.rules.specs.declared.acts.Act.TheVariants.{Nothing, Bad, BadAndHalt, Accept, Log10, Log11, Identify, Reset, Release, ZeroCounters, Store, Open, Send, Finish, Media, Count, Renew}
 use Rattle.device.specs.declared.state.Device.{Device}
 
 -- the state with other counters
@@ -86,6 +86,7 @@ after_of d (BadAndHalt f) = halt_with d f
 after_of d (Accept q) = accepted_by d q
 after_of d (Log10 task) = unhalted_device d
 after_of d (Log11 l) = zeroed_if d l.zero
+after_of d (Identify task) = d
 after_of d Reset = reset_held d
 after_of d Release = released_device d
 after_of d ZeroCounters = zeroed_if d true

@@ -7,6 +7,8 @@ use Rattle.rules.specs.Call.{Call}
 use Rattle.rules.specs.Act.{act}
 use Rattle.rules.specs.Medium.{part_of, medium_after}
 use Rattle.rules.specs.declared.acts.Act.{Act}
+use Rattle.device_state.specs.declared.shapes.Settings.{Settings}
+use Rattle.identity.specs.declared.words.Identity.{Identity}
 use Rattle.replies.specs.Replies.{replies_of, sent_all}
 use Rattle.replies.specs.declared.shown.Shown.{Shown}
 use Rattle.device.specs.Lent.{Lent, lent, Gave, gave, frame_in}
@@ -22,9 +24,13 @@ pub record Step : Type 0 where
   pub frames : List FrameValue
   pub medium : List ℕ
 
+-- what IDENTIFY DEVICE tells of settings [identify]
+abbrev pub identity_told : Settings → Identity
+identity_told s = record { depth = s.depth; capacity = s.capacity }
+
 -- what replies show of a device
 abbrev pub state_shown : Device → Shown
-state_shown d = record { halted = d.status.halted; mask = d.settings.mask; errors = d.errors; values = d.values }
+state_shown d = record { halted = d.status.halted; identity = identity_told d.settings; mask = d.settings.mask; errors = d.errors; values = d.values }
 
 -- what is left behind, with what was lent: refused, all as it was and no reply; else by the act [unchanged]
 abbrev pub step_by : Device → Lent → Result Act Refusal → Step

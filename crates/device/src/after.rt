@@ -107,7 +107,7 @@ impl Device {
         ensures { self.new ≡ after_of self.old act.now }
     {
         match act {
-            Act::Nothing | Act::Bad(_) => {}
+            Act::Nothing | Act::Bad(_) | Act::Identify(_) => {}
             Act::BadAndHalt(fault) => self.halt(*fault),
             Act::Accept(queued) => self.accept(*queued),
             Act::Log10(_) => self.end_halt(),

@@ -18,6 +18,7 @@ use crate::sealed::Sealed;
 use crate::state::Device;
 use counters::Counters;
 use device_state::{Entry, Settings};
+use identity::Identity;
 use refusals::Refusal;
 use replies::Shown;
 use rules::{Act, DeviceEvent, Facts};
@@ -44,6 +45,10 @@ impl Device {
     {
         Shown {
             halted: self.status.halted,
+            identity: Identity {
+                depth: self.settings.depth,
+                capacity: u64::from(self.settings.capacity),
+            },
             mask: self.settings.mask,
             errors: &self.errors,
             values: &self.values,

@@ -67,7 +67,8 @@ use Rattle.history.proofs.Transfers.{transfer_open}
 use Rattle.history.proofs.Tally.{ValuesTell, Counting}
 use Rattle.history.proofs.Soundness.{by_power, Sound}
 use Rattle.history.proofs.Knows.{Known}
-use Rattle.history.proofs.Otherwise.{same_other, by_other, names_ten, names_eleven}
+use Rattle.history.proofs.Otherwise.{same_other, by_other, names_ten, names_eleven, names_identity}
+use Rattle.history.proofs.Identified.{identity_is}
 use Rattle.device.proofs.Phases.{some_open, open_entry_lem}
 
 -- a state and the history before it, as every run has them
@@ -144,7 +145,7 @@ module _ (d : Device) (h : List Event) (k : Stands d h) where
   others v f x o g t c =
       rw (c.command, c.kind)
       (by_other v (state_shown d) [] f (sym x) t
-      ∙ same_other v.status.halted _ f.task (x ∙ sym k.known.halted) (names_ten f t) (names_eleven f t) (ap (λ (n : ℕ). not (eqb n 0)) o ∙ sym busy_is) (errors_page g) (counters_page_lem g))
+      ∙ same_other v.status.halted _ f.task (x ∙ sym k.known.halted) (names_ten f t) (names_eleven f t) (names_identity f) (ap (λ (n : ℕ). not (eqb n 0)) o ∙ sym busy_is) (errors_page g) (counters_page_lem g) (identity_is d g))
 
   -- host data
   due_answers : (n : ℕ) → contradictory_device d ≡ false → is_none d.status.phase ≡ false → (phase_entry d).write ≡ true

@@ -9,6 +9,7 @@ use Rattle.history.specs.StateAgrees.{StateAgrees}
 use Rattle.history.specs.Refused.{Refusals}
 use Rattle.history.specs.Answered.{Answers}
 use Rattle.history.specs.Logged.{LogTold}
+use Rattle.history.specs.IdentityTold.{IdentityTold}
 use Rattle.device.specs.Lent.{Lent}
 use Rattle.history.specs.Run.{Done, AllTyped, run_from, history}
 use Rattle.refusals.specs.declared.reasons.Refusal.{Refusal}
@@ -22,7 +23,7 @@ use Rattle.history.specs.Follows.{final, lents, history_of, Began}
 use Rattle.history.proofs.Allowed.{BeganCode, CounterCode, CountCode}
 use Rattle.history.proofs.Counters.{counters_tell}
 use Rattle.history.proofs.RefusedTests.{powered}
-use Rattle.history.proofs.Runs.{run_fates, run_data, run_sactive, run_waiting, run_depth, run_single, run_reply_rules, refused_exactly, log_agrees, held}
+use Rattle.history.proofs.Runs.{run_fates, run_data, run_sactive, run_waiting, run_depth, run_single, run_reply_rules, refused_exactly, log_agrees, identity_told, held}
 use Rattle.history.proofs.StateAgrees.{told_outstanding, told_waits, told_counters, told_asked, told_depth, told_count, told_due, told_consistent}
 use Rattle.history.proofs.Lasting.{lasting}
 use Rattle.history.proofs.Contracts.{for_all, began_code, counter_code, count_code}
@@ -60,6 +61,7 @@ promised s as' t = record {
   refusals = refused_exactly s as' t;
   answers = (held s as' t).answers;
   errors = log_agrees s as' t;
+  identity = identity_told s as' t;
   faithful = faithful s as' t;
   lasting = λ m. lasting m (history s as') (run_data s as' t).1 (run_data s as' t).0;
   state = state_agrees s as' t;
@@ -105,6 +107,10 @@ module _ (s : Settings) (r : Outcome) (xs : List Done) (b : BeganCode s r xs) wh
     -- every page 10h ever delivered tells the last error since the last reset, as the history before it has it
     pub log_code : LogTold (history_of xs)
     log_code = (promised_code s r xs b t).all.errors
+
+    -- every page of IDENTIFY DEVICE tells depth and capacity
+    pub identity_code : IdentityTold s.depth s.capacity (history_of xs)
+    identity_code = (promised_code s r xs b t).all.identity
 
     -- what the host wrote last stands in the medium, where each call is lent it as the last one left it
     pub media_code : (m : List ℕ) → HandedOn m (history_of xs) → Lasting m (history_of xs)

@@ -1,5 +1,5 @@
 -- What the history reads of a host frame is what its act does to the counters; and only page 11h is read as such. Assumes nothing.
-use Rattle.std.proofs.Common.{Ok, ◌≡◌, refl, sym, ap, subst, ◌∙◌, Bool, true, false, ◌&&◌, List, [], ℕ, ◌%◌, arith}
+use Rattle.std.proofs.Common.{Ok, ◌≡◌, refl, sym, subst, ◌∙◌, Bool, true, false, ◌&&◌, List, [], ℕ, ◌%◌, arith}
 use mathlib.Core.Bool.{false≢true, and-false}
 use Rattle.bits.specs.Bit.{bit_in}
 use Rattle.frames.specs.declared.shared.Task.{Task}
@@ -7,18 +7,19 @@ use Rattle.frames.specs.Write.{FrameValue}
 use Rattle.frames.specs.declared.shapes.HostReg.{HostReg}
 use Rattle.frames.specs.declared.shapes.Frame.TheVariants as fs
 use Rattle.device_state.specs.State.{echo_of}
-use Rattle.rules.specs.OtherRule.{asks_errors, asks_counters}
+use Rattle.rules.specs.OtherRule.{asks_errors, asks_counters, asks_identity}
 use Rattle.rules.specs.Decide.{log_page, page_asked}
 use Rattle.rules.specs.declared.acts.CountersRead.{CountersRead}
 use Rattle.rules.specs.declared.acts.Move.{Move}
 use Rattle.rules.specs.declared.acts.Act.{Act}
-use Rattle.rules.specs.declared.acts.Act.TheVariants.{Log10, Log11, Store, ZeroCounters}
+use Rattle.rules.specs.declared.acts.Act.TheVariants.{Log10, Log11, Identify, Store, ZeroCounters}
 use Rattle.replies.specs.Replies.{replies_of}
 use Rattle.device.specs.After.{after_of, moved_by, unhalted_device, zeroed_if}
 use Rattle.device.specs.Step.{state_shown}
 use Rattle.device.specs.declared.state.Device.{Device}
 use Rattle.history.specs.Replied.{FrameRead, some, is_pio}
 use Rattle.history.specs.Logs.{reads_log}
+use Rattle.history.specs.FrameAsks.{register_asks}
 use Rattle.history.specs.FrameReading.{frame_asks, frame_zeroes}
 use Rattle.history.specs.Reading.{uncounted}
 use Rattle.history.proofs.Views.{read_in}
@@ -61,6 +62,25 @@ reads_ten : (h : HostReg) → asks_errors (page_asked h) ≡ true → reads_log 
 unfolding log_page
 reads_ten h p = let b = first_byte h.task in grind arith
 
+-- IDENTIFY DEVICE reads no page of the logs
+pub reads_none : (h : HostReg) → asks_identity (page_asked h) ≡ true → (page : ℕ) → reads_log page h ≡ false
+unfolding log_page
+reads_none h p page = grind arith
+
+-- and is one that the history reads as such
+pub identifies_lem : (h : HostReg) → h.command_bit ≡ true → asks_identity (page_asked h) ≡ true → (register_asks h).identifies ≡ true
+unfolding log_page
+identifies_lem h c p = grind arith
+
+-- no read of a page of the logs is one
+pub ten_unidentified : (h : HostReg) → asks_errors (page_asked h) ≡ true → (register_asks h).identifies ≡ false
+unfolding log_page
+ten_unidentified h p = grind arith
+
+pub eleven_unidentified : (h : HostReg) → asks_counters (page_asked h) ≡ true → (register_asks h).identifies ≡ false
+unfolding log_page
+eleven_unidentified h p = grind arith
+
 -- ---- each rule
 
 module _ (d : Device) where
@@ -83,6 +103,14 @@ module _ (d : Device) where
   ten_heard h t = record {
     values = rw (reads_ten h t, and-false (pio_in (replies_of (state_shown d) [] (Log10 h.task)))) (unchanged d.values);
     shown = λ _ q. absurd (false≢true (sym (reads_ten h t) ∙ q));
+  }
+
+  -- IDENTIFY DEVICE
+  pub identity_heard : (h : HostReg) → asks_identity (page_asked h) ≡ true → HeardBy (Ok (fs.Host h)) (Identify h.task)
+  unfolding after_of
+  identity_heard h t = record {
+    values = rw (reads_none h t 0x11, and-false (pio_in (replies_of (state_shown d) [] (Identify h.task)))) (unchanged d.values);
+    shown = λ _ q. absurd (false≢true (sym (reads_none h t 0x11) ∙ q));
   }
 
   -- page 11h: it zeroes by its bit alone

@@ -29,8 +29,8 @@ use Rattle.history.proofs.Marked.{Marked}
 use Rattle.history.proofs.Placed.{log_none, active_none}
 use Rattle.history.proofs.Hosts.{Comes}
 use Rattle.history.proofs.Hosts as hosts
-use Rattle.history.proofs.Hearing.{pio_in, Hears, none_heard, data_heard, ten_heard, eleven_heard, bist_heard, reads_errors, reads_counters}
-use Rattle.history.proofs.Said.{some_bits, FrameSays, Telling, mild, ten_said, eleven_said, kept_said}
+use Rattle.history.proofs.Hearing.{pio_in, Hears, none_heard, data_heard, ten_heard, eleven_heard, identity_heard, bist_heard, reads_errors, reads_counters, identifies_lem}
+use Rattle.history.proofs.Said.{some_bits, FrameSays, Telling, mild, ten_said, eleven_said, identity_said, kept_said}
 use Rattle.history.proofs.Shaped.{Shaped, unblamed, to_queued, to_other, to_log, to_data}
 use Rattle.device.proofs.Phases.{none_open}
 
@@ -105,6 +105,15 @@ module _ (d : Device) (g : contradictory_device d ≡ false) where
     heard = eleven_heard d h c.command p;
     marked = λ k. k;
     comes = hosts.paged_eleven d g h c.command (hosts.other d g h c.command c.kind) y (bit_in 8 h.features 0);
+  }
+  heard_goes x m b r (by.other h c (by.identity y e p)) = record {
+    medium = untouched _ _ refl (λ _. refl);
+    shaped = to_log h c.command false h.task _;
+    said = λ _. identity_said h h.task _ (identifies_lem h c.command p);
+    unsent = refl;
+    heard = identity_heard d h p;
+    marked = λ k. k;
+    comes = hosts.identity_comes d g h c.command (hosts.other d g h c.command c.kind) y;
   }
   heard_goes x m b r (by.other h c (by.neither y e)) = badly h 0x04 c.command (hosts.answered_free d g h 0x04 c.command (hosts.other d g h c.command c.kind) y (eqb-true d.status.outstanding 0 e))
   heard_goes x m b r (by.due n p w y) =

@@ -14,7 +14,7 @@ use Rattle.device_state.specs.declared.shapes.Entry.{Entry}
 use Rattle.rules.specs.Positions.{left_of, move_of}
 use Rattle.rules.specs.Decide.{bad, fault, tag_asked, entry_for, is_queued}
 use Rattle.rules.specs.declared.acts.Act.{Act}
-use Rattle.rules.specs.declared.acts.Act.TheVariants.{Nothing, Accept, Log10, Log11, Reset, Release, ZeroCounters, Store}
+use Rattle.rules.specs.declared.acts.Act.TheVariants.{Nothing, Accept, Log10, Log11, Identify, Reset, Release, ZeroCounters, Store}
 use Rattle.replies.specs.Replies.{log_replies, page10_of, replies_of}
 use Rattle.device.specs.Device.{contradictory_device}
 use Rattle.device.specs.DataDue.{phase_entry}
@@ -110,6 +110,11 @@ module _ (d : Device) (g : contradictory_device d ≡ false) where
     paged_eleven c q x b =
         pages (k.reads 0x10) (is_page k _ _ q (rw c) refl) (page_unbegun k _ _) x
         (record { settings = refl; outstanding = refl; phase = refl; halted = refl; entries = refl })
+
+    -- IDENTIFY DEVICE, while not halted
+    pub identity_comes : h.command_bit ≡ true → k.queued ≡ false → d.status.halted ≡ false → Comes d [] k (Identify h.task)
+    unfolding replies_of after_of
+    identity_comes c q x = pages (k.reads 0x10) (is_page k _ _ q (rw c) refl) (page_unbegun k _ _) x (same d)
 
     -- SRST
     pub reset : h.command_bit ≡ false → srst_of h.control ≡ true → Comes d [] k Reset

@@ -1,10 +1,10 @@
 -- What a call does to the counters is what the history reads of it. Assumes nothing.
-use Rattle.std.proofs.Common.{◌≡◌, refl, sym, ap, ◌∙◌, Bool, true, false, List, ℕ, ◌<◌, get_or, replicate}
+use Rattle.std.proofs.Common.{◌≡◌, refl, sym, ap, ◌∙◌, Bool, true, false, List, ℕ, ◌<◌, get_or}
 use lib.ListN.{length-replicate}
 use mathlib.Core.Path.{subst⁻¹}
 use Rattle.std.proofs.lemmas.List.{get_or-replicate}
 use Rattle.bits.specs.Pick.{pick}
-use Rattle.counters.specs.Counts.{next_count, tallied, single}
+use Rattle.counters.specs.Counts.{next_count, single}
 use Rattle.counters.proofs.CountLaws.{length_tallied, tallied_at, single_at}
 use Rattle.rules.specs.Call.{Call}
 use Rattle.rules.specs.declared.acts.Act.{Act}

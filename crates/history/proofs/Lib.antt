@@ -52,6 +52,7 @@ pub mod Holding
 pub mod Naming
 pub mod Logging
 pub mod Showing
+pub mod Identified
 pub mod Knows
 pub mod HeardKinds
 pub mod RefusedTests

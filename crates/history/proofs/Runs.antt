@@ -12,6 +12,7 @@ use Rattle.history.specs.Faithful.{Fates, Ranges, Moves, Contents, Sactive, Wait
 use Rattle.history.specs.ReplyRules.{AllReplyRules}
 use Rattle.history.specs.Refused.{Refusals}
 use Rattle.history.specs.Logged.{log_by, LogTold}
+use Rattle.history.specs.IdentityTold.{IdentityTold}
 use Rattle.history.specs.Answered.{Answers}
 use Rattle.replies.specs.Replies.{log_of}
 use Rattle.device.specs.Lent.{Lent, Typed}
@@ -32,6 +33,7 @@ use Rattle.history.proofs.Refusing.{refusing}
 use Rattle.history.proofs.Naming.{Named, named_step, named_power}
 use Rattle.history.proofs.Logging.{logged_step, logged_power}
 use Rattle.history.proofs.Showing.{told_step}
+use Rattle.history.proofs.Identified.{identity_step}
 use Rattle.history.proofs.Frames.{read_step}
 use Rattle.history.proofs.Tally.{Counting, counting_start}
 use Rattle.history.proofs.Counts.{Replies, counting_step}
@@ -57,6 +59,7 @@ pub record Held (s : Settings) (d : Device) (h : List Event) : Type 0 where
   pub named : Named d h
   pub logged : log_by h ≡ log_of d.errors
   pub log_agrees : LogTold h
+  pub identity : IdentityTold s.depth s.capacity h
   pub masked : Masked s.mask d
   pub counting : Counting d h
   pub counters : Counters s.mask h
@@ -64,7 +67,7 @@ pub record Held (s : Settings) (d : Device) (h : List Event) : Type 0 where
 
 -- one call more
 pub held_step : (s : Settings) (d : Device) (a : Lent) (h : List Event) → Typed a.call → Held s d h → Held s (result d a).outcome.state (event (done a (result d a)) ∷ h)
-unfolding AllLone Contents AllReplyRules Refusals LogTold Counters Answers
+unfolding AllLone Contents AllReplyRules Refusals LogTold IdentityTold Counters Answers
 held_step s d a h t i =
     let d' : Device = (result d a).outcome.state in
     let x : Event = event (done a (result d a)) in
@@ -87,6 +90,7 @@ held_step s d a h t i =
       named = named_step d h i.named a t i.wide.sized;
       logged = logged_step d h i.knows.halted (ap (ltb 0) (inv_total i.inv) ∙ ones_some d.status.outstanding) i.named i.logged a t i.wide.sized;
       log_agrees = (told_step d a h t i.wide.sized i.logged, i.log_agrees);
+      identity = (identity_step s d a t i.wide.sized i.sound, i.identity);
       masked = masked_step s.mask d a i.masked;
       counting = counting_step d a h r i.counting;
       counters = (counters_step s.mask d a h i.masked i.counting r, i.counters);
@@ -95,7 +99,7 @@ held_step s d a h t i =
 
 -- power-on
 pub held_power : (s : Settings) → Held s (power_on s).state []
-unfolding fresh_device AllLone Contents AllReplyRules Refusals LogTold Counters Answers
+unfolding fresh_device AllLone Contents AllReplyRules Refusals LogTold IdentityTold Counters Answers
 held_power s =
     let d : Device = (power_on s).state in
     let v : Inv d.status.outstanding d.status.halted [] = from_power (λ (d : Device). Inv d.status.outstanding d.status.halted []) s inv_start inv_start in
@@ -114,6 +118,7 @@ held_power s =
       named = named_power s;
       logged = logged_power s;
       log_agrees = tt;
+      identity = tt;
       masked = masked_start s;
       counting = counting_start s;
       counters = tt;
@@ -141,6 +146,10 @@ refused_exactly s as' t = (held s as' t).refusals
 -- every page 10h ever sent tells the last error since the last reset, as the history before it has it
 pub log_agrees : (s : Settings) (as' : List Lent) → AllTyped as' → LogTold (history s as')
 log_agrees s as' t = (held s as' t).log_agrees
+
+-- every page of IDENTIFY DEVICE tells depth and capacity
+pub identity_told : (s : Settings) (as' : List Lent) → AllTyped as' → IdentityTold s.depth s.capacity (history s as')
+identity_told s as' t = (held s as' t).identity
 
 -- no more ones than the depth
 within_depth : (s : Settings) (d : Device) (h : List Event) → Held s d h → total (map seen h) ≤ s.depth

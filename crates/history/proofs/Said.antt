@@ -1,5 +1,5 @@
--- What the replies of each act may hold: an A1h answers a host frame only with page 10h, which tells an error, and a page only a read of 10h or 11h. Assumes nothing.
-use Rattle.std.proofs.Common.{Ok, ◌≡◌, refl, sym, ◌∙◌, Bool, true, false, ◌&&◌, ◌||◌, List, append-nil, ℕ, arith}
+-- What the replies of each act may hold: an A1h answers a host frame only with page 10h, which tells an error, and a page only a read of 10h or 11h, or IDENTIFY DEVICE. Assumes nothing.
+use Rattle.std.proofs.Common.{Ok, ◌≡◌, refl, sym, ◌∙◌, Bool, true, false, ◌&&◌, List, append-nil, ℕ, arith}
 use mathlib.Core.Path.{subst⁻¹}
 use mathlib.Core.Bool.{false≢true}
 use Rattle.frames.specs.declared.shared.Task.{Task}
@@ -10,6 +10,7 @@ use Rattle.frames.specs.declared.shapes.Frame.TheVariants as fs
 use Rattle.pages.specs.Page10.{read_log}
 use Rattle.replies.specs.Replies.{log_replies, activate_if, page10_of}
 use Rattle.replies.specs.declared.shown.Shown.{Shown}
+use Rattle.history.specs.FrameAsks.{asks_page}
 use Rattle.history.specs.FrameReading.{frame_asks}
 use Rattle.history.specs.Replied.{FrameRead, some, set_bits_in, collect}
 use Rattle.history.specs.ReplyRules.{TellsError}
@@ -28,7 +29,7 @@ some_bits rs = some (λ f. true) (bits_in rs)
 pub record FrameSays (f : FrameRead) (rs : List FrameValue) : Type 0 where
   pub swept : some_bits rs ≡ true → (frame_asks f).reads 0x10 && pio_in rs ≡ true
   pub tells : some_bits rs ≡ true → TellsError (read_log (page_in rs))
-  pub paged : pio_in rs ≡ true → (frame_asks f).reads 0x10 || (frame_asks f).reads 0x11 ≡ true
+  pub paged : pio_in rs ≡ true → asks_page (frame_asks f) ≡ true
 
 -- no A1h and no page
 pub mild : (f : FrameRead) (rs : List FrameValue) → some_bits rs ≡ false → pio_in rs ≡ false → FrameSays f rs
@@ -48,6 +49,11 @@ ten_said h task page t false k = record { swept = λ _. rw t; tells = λ x. absu
 pub eleven_said : (h : HostReg) (task : Task) (page : List ℕ) → (frame_asks (Ok (fs.Host h))).reads 0x11 ≡ true → FrameSays (Ok (fs.Host h)) (log_replies false task page)
 unfolding some collect
 eleven_said h task page t = grind arith
+
+-- IDENTIFY DEVICE
+pub identity_said : (h : HostReg) (task : Task) (page : List ℕ) → (frame_asks (Ok (fs.Host h))).identifies ≡ true → FrameSays (Ok (fs.Host h)) (log_replies false task page)
+unfolding some collect
+identity_said h task page t = grind arith
 
 -- an Activate or none
 pub kept_said : (f : FrameRead) (on : Bool) → FrameSays f (activate_if on)

@@ -37,7 +37,7 @@ use Rattle.history.proofs.Decided.{by_decided}
 use Rattle.history.proofs.Views.{page_in}
 use Rattle.history.proofs.Frames.{Read, read_frames, read_step}
 use Rattle.history.proofs.Frames as frames
-use Rattle.history.proofs.Hearing.{pio_in, reads_counters}
+use Rattle.history.proofs.Hearing.{pio_in, reads_counters, reads_none}
 use Rattle.history.proofs.Own.{own_goes}
 
 -- a page that can be written is read as what it was made of
@@ -47,7 +47,7 @@ reads_back f fit =
     ap read_log (sym (take_at s (drop (length s) s) (length s) refl)) ∙ read_write f s (overlay s s) (length s) (emitted_done (fits10 f) s s (length s) (overlay s s) fit (omega arith) refl refl)
 
 -- page 10h in its replies, with or without the sweep
-ten_page : (on : Bool) (task : Task) (l : List ℕ) → page_in (log_replies on task l) ≡ l
+pub ten_page : (on : Bool) (task : Task) (l : List ℕ) → page_in (log_replies on task l) ≡ l
 unfolding some
 ten_page on task l = grind (arith, append-nil {A = ℕ})
 
@@ -64,6 +64,7 @@ module _ (d : Device) where
   unfolding replies_of some
   heard_page x m b (by.other f c (by.page10 y z)) p q = ten_page d.status.halted f.task (page10_of d.errors)
   heard_page x m b (by.other f c (by.page11 y z v)) p q = absurd (not_ten f c.command v q)
+  heard_page x m b (by.other f c (by.identity y z v)) p q = absurd (false≢true (sym (reads_none f v 0x10) ∙ q))
   heard_page x m b (by.due l y z v) p q = absurd (false≢true q)
   heard_page x m b _ p q = absurd (false≢true p)
 

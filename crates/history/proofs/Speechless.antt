@@ -1,5 +1,5 @@
 -- When a call says no more than it may, and what it must: by its replies. Assumes nothing.
-use Rattle.std.proofs.Common.{◌≡◌, refl, sym, ap, ◌∙◌, Bool, true, false, not, ◌&&◌, ◌||◌, true≢false, List, [], ◌∷◌, ℕ, arith}
+use Rattle.std.proofs.Common.{◌≡◌, refl, sym, ap, ◌∙◌, Bool, true, false, not, ◌&&◌, true≢false, List, [], ◌∷◌, ℕ, arith}
 use mathlib.Core.Bool.{false≢true, and-false}
 use Rattle.bits.specs.Bit.{bit_in}
 use Rattle.bits.proofs.Picks.{and_right}
@@ -8,7 +8,7 @@ use Rattle.frames.specs.Write.{FrameValue}
 use Rattle.frames.specs.declared.shapes.SetBits.{SetBits}
 use Rattle.pages.specs.Page10.{read_log}
 use Rattle.rules.specs.Call.{Call, host_frame}
-use Rattle.history.specs.FrameAsks.{Asked}
+use Rattle.history.specs.FrameAsks.{Asked, asks_page}
 use Rattle.history.specs.FrameReading.{frame_asks}
 use Rattle.history.specs.Reading.{Speech, none_finished, set_finished, error_told, call_asks, call_says}
 use Rattle.history.specs.Replied.{FrameRead, some, err_in}
@@ -52,7 +52,7 @@ host_finishes f rs y t =
 -- what a taken call's replies rs say: an A1h that answers a command comes with page 10h, which tells an error; a page answers a read of one; and what is finished is what the call may finish
 pub record Utters (c : Call) (rs : List FrameValue) : Type 0 where
   pub swept : (call_asks c).command && some_bits rs ≡ true → ((call_asks c).reads 0x10 && pio_in rs ≡ true) × TellsError (read_log (page_in rs))
-  pub paged : pio_in rs ≡ true → (call_asks c).reads 0x10 || (call_asks c).reads 0x11 ≡ true
+  pub paged : pio_in rs ≡ true → asks_page (call_asks c) ≡ true
   pub spoken : SpokenBy (call_says c) (view (call_asks c) rs)
 
 -- of a host frame

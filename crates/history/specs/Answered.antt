@@ -11,6 +11,7 @@ use Rattle.frames.specs.declared.shapes.HostReg.{HostReg}
 use Rattle.frames.specs.declared.shapes.Frame.TheVariants.{Host, Data}
 use Rattle.pages.specs.Layout11.{page11}
 use Rattle.pages.specs.Page10.{page10}
+use Rattle.identity.specs.Page.{identity_page}
 use Rattle.rules.specs.Call.{Call, host_frame, happens}
 use Rattle.rules.specs.declared.event.DeviceEvent.TheVariants.{OpenPhase, SendData, FinishTags, MediaError, LinkEvent, LinkTally, Comreset}
 use Rattle.history.specs.Event.{Event, taken}
@@ -67,14 +68,19 @@ abbrev pub well_formed : ℕ → HostReg → Bool
 well_formed page f =
     eqb f.command 0x2F && (eqb (f.task.lba % 256) page && (eqb (f.task.lba / 2 ^ 8 % 256) 0 && (eqb (f.task.lba / 2 ^ 32 % 256) 0 && eqb f.task.count 1)))
 
--- any other command: an error waits and it is no well-formed READ LOG EXT of page 10h; something is outstanding; no well-formed READ LOG EXT at all: bad, 04h.
--- A good one: PIO Setup, then page 10h of the last error, while one waits with the sweep before them; or page 11h of what was counted [answered-exactly]
-abbrev pub other_replies : ℕ → List Event → HostReg → List FrameValue
-other_replies mask h f =
+-- IDENTIFY DEVICE: PIO Setup, then the page of the settings; any other is bad, 04h
+abbrev pub identified_replies : ℕ → ℕ → HostReg → List FrameValue
+identified_replies deep capacity f =
+    pick (eqb f.command 0xEC) (page_replies f.task (identity_page (record { depth = deep; capacity = capacity }))) (answered_bad 0x04 f.task ∷ [])
+
+-- any other command: an error waits and it is no well-formed READ LOG EXT of page 10h; something is outstanding; no well-formed READ LOG EXT at all and no IDENTIFY DEVICE: bad, 04h.
+-- A good one: PIO Setup, then page 10h of the last error, while one waits with the sweep before them; or page 11h of what was counted; or the page of IDENTIFY DEVICE [answered-exactly]
+abbrev pub other_replies : ℕ → ℕ → ℕ → List Event → HostReg → List FrameValue
+other_replies deep capacity mask h f =
     pick (waits (map seen h) && not (well_formed 0x10 f)) (answered_bad 0x04 f.task ∷ [])
     (pick (ltb 0 (total (map seen h))) (answered_bad 0x04 f.task ∷ [])
     (pick (well_formed 0x10 f) (pick (waits (map seen h)) (sweep_reply ∷ []) [] ++ page_replies f.task (page10 (log_by h)))
-    (pick (well_formed 0x11 f) (page_replies f.task (page11 mask (counts h))) (answered_bad 0x04 f.task ∷ []))))
+    (pick (well_formed 0x11 f) (page_replies f.task (page11 mask (counts h))) (identified_replies deep capacity f))))
 
 -- control frame: SRST no reply; with SRST 0, if reset is held, the signature, otherwise nothing [answered-exactly]
 abbrev pub control_answer : List Event → HostReg → List FrameValue
@@ -83,7 +89,7 @@ control_answer h f = pick (srst_of f.control) [] (pick (holding h) (signature_re
 -- by its kind
 abbrev pub register_replies : ℕ → ℕ → ℕ → List Event → HostReg → List FrameValue
 register_replies deep capacity mask h f =
-    pick f.command_bit (pick (eqb f.command 0x60 || eqb f.command 0x61) (queued_reply deep capacity h f ∷ []) (other_replies mask h f)) (control_answer h f)
+    pick f.command_bit (pick (eqb f.command 0x60 || eqb f.command 0x61) (queued_reply deep capacity h f ∷ []) (other_replies deep capacity mask h f)) (control_answer h f)
 
 -- a host data frame: if more is left, an Activate follows
 abbrev pub data_replies : List Event → ℕ → List FrameValue

@@ -23,6 +23,7 @@ pub mod Refused
 pub mod Powered
 pub mod Polled
 pub mod Logged
+pub mod IdentityTold
 pub mod Answered
 pub mod NoChoice
 pub mod StateAgrees

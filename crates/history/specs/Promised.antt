@@ -9,6 +9,7 @@ use Rattle.history.specs.Lasting.{HandedOn, Lasting}
 use Rattle.history.specs.Powered.{Powered}
 use Rattle.history.specs.Refused.{Refusals}
 use Rattle.history.specs.Logged.{LogTold}
+use Rattle.history.specs.IdentityTold.{IdentityTold}
 use Rattle.history.specs.Answered.{Answers}
 use Rattle.history.specs.StateAgrees.{StateAgrees}
 use Rattle.history.specs.Run.{Done, AllTyped}
@@ -24,6 +25,8 @@ pub record Promised (s : Settings) (r : Outcome) (d : Device) (h : List Event) :
   pub answers : Answers s.depth s.capacity s.mask h
   -- every page 10h tells the error that halted last
   pub errors : LogTold h
+  -- every page of IDENTIFY DEVICE tells depth and capacity
+  pub identity : IdentityTold s.depth s.capacity h
   -- every page 11h tells what was counted; every command has one fate; its bytes are carried once, and are the medium's; SActive names what is outstanding
   pub faithful : Faithful s.depth s.mask h
   -- where each call is lent the medium as the last one left it, what the host wrote last stands there, and a read sends that

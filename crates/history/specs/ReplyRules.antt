@@ -6,6 +6,7 @@ use Rattle.pages.specs.Page10.{read_log}
 use Rattle.refusals.specs.declared.reasons.Refusal.{Refusal}
 use Rattle.pages.specs.declared.page10.ErrorLog.{ErrorLog}
 use Rattle.history.specs.Event.{Event, taken, replied}
+use Rattle.history.specs.FrameAsks.{asks_page}
 use Rattle.history.specs.Asked.{asks}
 use Rattle.history.specs.Reading.{Speech, none_finished, set_finished, error_told, call_says, call_replies}
 use Rattle.history.specs.Replied.{frames, some, err_in, register_in, collect, faulty_in, paged, page}
@@ -47,8 +48,8 @@ pub record ReplyRules (e : Event) (h : List Seen) : Type 0 where
   pub ungranted : (seen e).asks.command ≡ true → (seen e).asks.queued ≡ false → (seen e).good ≡ false
   -- a 5Fh has no ERR: it announces a good answer
   pub faultless : faulty_in (frames e) ≡ false
-  -- a page answers a taken read of page 10h or 11h
-  pub asked : paged e ≡ true → (asks e).reads 0x10 || (asks e).reads 0x11 ≡ true
+  -- a page answers a taken read of page 10h or 11h, or a taken IDENTIFY DEVICE
+  pub asked : paged e ≡ true → asks_page (asks e) ≡ true
   -- what is named finished is outstanding: no dead command is called finished
   pub named : (t : ℕ) → t < 32 → (seen e).finishes t ≡ true → total_with t h ≡ 1
   -- and is what was asked for

@@ -11,4 +11,5 @@ pub mod Answered
 pub mod Digits
 pub mod Pieces
 pub mod Longest
+pub mod LongestIdentity
 pub mod Tied

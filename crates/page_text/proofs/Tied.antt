@@ -9,7 +9,11 @@ use Rattle.std.specs.declared.io.traits.Write as Writer
 use Rattle.refusals.specs.First.{refusal_in}
 use Rattle.page_text.specs.Fields.{log_told, fields_text}
 use Rattle.page_text.specs.Counters.{counters_told, counters_text}
+use Rattle.identity.specs.Read.{read_identity}
+use Rattle.page_text.specs.Identity.{identified_text}
 use Rattle.page_text.proofs.counter_lines
+use Rattle.page_text.proofs.identity_lines
+use Rattle.page_text.specs.contracts.identity_lines as identity_lines-said
 use Rattle.page_text.proofs.fields
 use Rattle.page_text.specs.contracts.counter_lines as counter_lines-said
 use Rattle.page_text.specs.contracts.fields as fields-said
@@ -23,3 +27,8 @@ pub tied_write_counters : (W : RattleType) (l : Laws W) (g : Writer.Ghosts W.Den
     → SaysOver (counter_lines-said.write_counters.ended W g d) (counter_lines.write_counters.Reads.Asked W l g d) (counter_lines.write_counters.Reads.Post W l g d)
     (λ κs a r ws. OnOk r (Appends (g.contents a.0.now) (g.contents ws.0) (counters_text a.1.0.now)) × IfOk r (λ refusal. refusal ≡ refusal_in (counters_told a.1.0.now)))
 tied_write_counters W l g d = record { same = λ κs a b h. h; some = (([], ([], (W.lives, tt))), λ a x h. h); says = λ κs a r ws p. (p.0, p.1) }
+
+pub tied_write_identified : (W : RattleType) (l : Laws W) (g : Writer.Ghosts W.Denot) (d : Dict)
+    → SaysOver (identity_lines-said.write_identified.ended W g d) (identity_lines.write_identified.Reads.Asked W l g d) (identity_lines.write_identified.Reads.Post W l g d)
+    (λ κs a r ws. OnOk r (Appends (g.contents a.0.now) (g.contents ws.0) (identified_text a.1.0.now)) × IfOk r (λ refusal. refusal ≡ refusal_in (read_identity a.1.0.now)))
+tied_write_identified W l g d = record { same = λ κs a b h. h; some = (([], ([], (W.lives, tt))), λ a x h. h); says = λ κs a r ws p. (p.0, p.1) }

@@ -2,22 +2,26 @@
 use Rattle.std.specs.Prelude.{ℕ, List, codes, Option, Some, None}
 use Rattle.refusals.specs.First.{refusal_in}
 use Rattle.refusals.specs.declared.reasons.Refusal.{Refusal}
-use Rattle.frames.specs.declared.log_pages.LogPage.{LogPage}
-use Rattle.frames.specs.declared.log_pages.LogPage.TheVariants.{Errors, Counters}
+use Rattle.identity.specs.Read.{read_identity}
 use Rattle.page_text.specs.Fields.{log_told, fields_text}
 use Rattle.page_text.specs.Counters.{counters_told, counters_text}
+use Rattle.page_text.specs.Identity.{identified_text}
+use Rattle.page_text.specs.declared.queries.PageKind.{PageKind}
+use Rattle.page_text.specs.declared.queries.PageKind.TheVariants.{Errors, Counters, Identity}
 use Rattle.page_text.specs.declared.answers.Answer.{Answer}
 use Rattle.page_text.specs.declared.answers.Answer.TheVariants.{Told, Refused, NotAPage, Stopped, Unopened}
 
--- what is printed of either page [text-10h] [text-11h]
-unfoldable pub text_of : LogPage → List ℕ → List ℕ
+-- what is printed of a page [text-10h] [text-11h] [text-identity]
+unfoldable pub text_of : PageKind → List ℕ → List ℕ
 text_of Errors page = fields_text page
 text_of Counters page = counters_text page
+text_of Identity page = identified_text page
 
--- why either page is refused, if it is [text-refused]
-unfoldable pub refusal_of : LogPage → List ℕ → Option Refusal
+-- why a page is refused, if it is [text-refused]
+unfoldable pub refusal_of : PageKind → List ℕ → Option Refusal
 refusal_of Errors page = refusal_in (log_told page)
 refusal_of Counters page = refusal_in (counters_told page)
+refusal_of Identity page = refusal_in (read_identity page)
 
 -- a page that is not refused is told [text-input]
 abbrev pub answer_by : Option Refusal → Answer

@@ -11,3 +11,4 @@ pub mod Words
 pub mod Both
 pub mod Fields
 pub mod Counters
+pub mod Identity

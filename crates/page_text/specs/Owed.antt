@@ -1,14 +1,14 @@
 -- What is owed an input, by what was read of it. Assumes nothing.
 use Rattle.std.specs.Prelude.{◌≡◌, ℕ, List, take, IfSome, Option, Some, None}
-use Rattle.frames.specs.declared.log_pages.LogPage.{LogPage}
 use Rattle.page_text.specs.declared.answers.Answer.{Answer}
 use Rattle.page_text.specs.declared.answers.Answer.TheVariants.{NotAPage, Stopped}
+use Rattle.page_text.specs.declared.queries.PageKind.{PageKind}
 use Rattle.page_text.specs.declared.queries.Query.{Query}
 use Rattle.page_text.specs.Answers.{text_of, refusal_of, answer_by, unread_text, stop_text}
 use Rattle.page_text.specs.Inputs.{read_limit, page_in}
 
 -- a page is told or refused; what holds no page is unread
-abbrev pub owed_page : LogPage → Option (List ℕ) → Answer × List ℕ
+abbrev pub owed_page : PageKind → Option (List ℕ) → Answer × List ℕ
 owed_page which (Some page) = (answer_by (refusal_of which page), text_of which page)
 owed_page which None = (NotAPage, unread_text)
 

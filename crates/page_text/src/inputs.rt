@@ -7,8 +7,7 @@ ghost use Rattle.page_text.specs.Owed.{owed, told};
 
 use crate::Notation;
 use crate::answers::Answer;
-use crate::queries::{Query, TEXT_LIMIT};
-use frames::LogPage;
+use crate::queries::{PageKind, Query, TEXT_LIMIT};
 use pages::PAGE_SIZE;
 use refusals::Refusal;
 use std::io;
@@ -25,19 +24,20 @@ fn text_page(text: &[u8], notation: Notation) -> Option<[u8; PAGE_SIZE]>
     crate::parse_page(text, notation)
 }
 
-// The text of either page; and the refusal, where it is refused.
+// The text of a page; and the refusal, where it is refused.
 #[tactic(auto, unfolding(crate::specs::Answers::text_of, crate::specs::Answers::refusal_of))]
-fn write_text<W: Write>(out: &mut W, which: LogPage, page: &[u8]) -> io::Result<Option<Refusal>>
+fn write_text<W: Write>(out: &mut W, which: PageKind, page: &[u8]) -> io::Result<Option<Refusal>>
     ensures text { OnOk result (Appends (W.contents out.old) (W.contents out.new) (text_of which page.now)) }
     ensures refused { IfOk result (λ refusal. refusal ≡ refusal_of which page.now) }
 {
     match which {
-        LogPage::Errors => crate::write_fields(out, page),
-        LogPage::Counters => crate::write_counters(out, page),
+        PageKind::Errors => crate::write_fields(out, page),
+        PageKind::Counters => crate::write_counters(out, page),
+        PageKind::Identity => crate::write_identified(out, page),
     }
 }
 
-fn write_page<W: Write>(out: &mut W, which: LogPage, page: &[u8]) -> io::Result<Answer>
+fn write_page<W: Write>(out: &mut W, which: PageKind, page: &[u8]) -> io::Result<Answer>
     ensures text { OnOk result (Appends (W.contents out.old) (W.contents out.new) (text_of which page.now)) }
     ensures answer { IfOk result (λ answer. answer ≡ answer_by (refusal_of which page.now)) }
 {

@@ -1,4 +1,4 @@
-// Log pages in text: a page read from hex, the fields of page 10h and the counters of page 11h told in words, and both from any reader and named files to any writer. Every public function is total and has no `requires`.
+// Log pages in text: a page read from hex, the fields of page 10h, the counters of page 11h and what IDENTIFY DEVICE tells told in words, and each from any reader and named files to any writer. Every public function is total and has no `requires`.
 #![tactic(auto)]
 
 mod answers;
@@ -7,6 +7,7 @@ mod ends;
 mod fields;
 mod files;
 mod hex_words;
+mod identity_lines;
 mod inputs;
 mod parsing;
 mod queries;
@@ -18,6 +19,7 @@ mod words;
 pub use counter_lines::write_counters;
 pub use ends::{LINES_MISSING, Lost, exit_status};
 pub use fields::write_fields;
+pub use identity_lines::write_identified;
 pub use parsing::{Notation, parse_page};
-pub use queries::Query;
+pub use queries::{PageKind, Query};
 pub use shelf::Shelf;

@@ -3,12 +3,22 @@ ghost use Rattle.std.specs.Prelude.{◌≡◌};
 ghost use Rattle.page_text.specs.Inputs.{read_limit};
 
 use crate::Notation;
-use frames::LogPage;
 use pages::PAGE_SIZE;
 use std::alloc::Global;
 
 // So many bytes may the text of a page have.
 pub(crate) const TEXT_LIMIT: usize = 65536;
+
+/// A page that can be told.
+#[derive(Clone, Copy, Debug, PartialEq, Eq)]
+pub enum PageKind {
+    /// Page 10h: the error that a halt left.
+    Errors,
+    /// Page 11h: the counters of what happened on the link.
+    Counters,
+    /// The page of IDENTIFY DEVICE: what the device is.
+    Identity,
+}
 
 /// What is asked of an input: which page it is, and how it stands there.
 #[derive(Clone, Copy, Debug)]
@@ -16,7 +26,7 @@ pub struct Query {
     /// where what is read and what is written are gathered
     pub alloc: Global,
     /// which page it is
-    pub page: LogPage,
+    pub page: PageKind,
     /// how it is written in hex; `None` where it stands there as its 512 bytes
     pub notation: Option<Notation>,
 }

@@ -57,7 +57,7 @@ rows_short mask values (suc n) =
 -- ---- bytes laid into zeros
 
 -- b laid over the front of the zeros behind h
-lay_zeros : (h b : List ℕ) (at m : ℕ) → length h ≡ at → length b ≤ m
+pub lay_zeros : (h b : List ℕ) (at m : ℕ) → length h ≡ at → length b ≤ m
     → put_mid at m (h ++ replicate m 0) (overlay_with_room b (mid_of at m (h ++ replicate m 0))) ≡ (h ++ b) ++ replicate (m - length b) 0
 lay_zeros h b at m e r =
     let z = length-replicate {A = ℕ} m 0 in

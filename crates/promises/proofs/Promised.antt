@@ -1,6 +1,8 @@
 -- The theorems that the check finds for a promise by itself. Assumes nothing.
 use Rattle.frames.proofs.RoundTrip.{read_encoded}
 use Rattle.pages.proofs.Trip10.{read_page}
+use Rattle.identity.proofs.Trip.{read_identified}
+use Rattle.identity.proofs.Exactly.{untold_queue, untold_capacity}
 use Rattle.pages.proofs.Trip11.{kept_reads, unkept_absent}
 use Rattle.history.proofs.NoChoice.{no_choice}
 use Rattle.history.proofs.RefusedTests.{powered}
@@ -13,6 +15,6 @@ use Rattle.worked_examples.proofs.Whole.{frames_placed, pages_placed}
 
 pub ruleset histories = (serves, no_choice, refused_struck, powered)
 
-pub ruleset written = (kept_reads, unkept_absent, read_page, read_encoded)
+pub ruleset written = (read_identified, untold_queue, untold_capacity, kept_reads, unkept_absent, read_page, read_encoded)
 
 pub ruleset shown = (frames_placed, pages_placed, second_not_empty, long_not_empty, not_empty, examples)

@@ -1,5 +1,5 @@
 -- What each promise says. Assumes nothing.
-use Rattle.std.specs.Prelude.{◌≡◌, List, ℕ, map, ◌<◌, ◌^◌, true, false, get_or, Some, None, Ok}
+use Rattle.std.specs.Prelude.{◌≡◌, List, ℕ, map, ◌<◌, ◌^◌, ◌/◌, ◌⊎◌, true, false, get_or, Some, None, Ok}
 use Rattle.device_state.specs.declared.shapes.Settings.{Settings}
 use Rattle.device.specs.Device.{power_on, contradictory_device}
 use Rattle.device.specs.Lent.{Lent}
@@ -11,6 +11,7 @@ use Rattle.history.specs.Powered.{Powered}
 use Rattle.history.specs.Refused.{Refusals}
 use Rattle.history.specs.Answered.{Answers}
 use Rattle.history.specs.Logged.{LogTold}
+use Rattle.history.specs.IdentityTold.{IdentityTold}
 use Rattle.history.specs.Faithful.{Fates, Ranges, Contents, Sactive, Waiting, Depth, OnePerTag, Counters}
 use Rattle.history.specs.Lasting.{HandedOn, Lasting}
 use Rattle.history.specs.StateAgrees.{AgreesAsked, AgreesCount, AgreesDue, StateAgrees}
@@ -27,6 +28,12 @@ use Rattle.frames.specs.RoundTrip.{read_back, again, zeroed}
 use Rattle.frames.specs.declared.shapes.Frame.{Frame}
 use Rattle.pages.specs.Page10.{page10, fits10, read_log}
 use Rattle.pages.specs.declared.page10.ErrorLog.{ErrorLog}
+use Rattle.bits.specs.Bit.{bit_in}
+use Rattle.identity.specs.Words.{fits_identity}
+use Rattle.identity.specs.Page.{identity_page}
+use Rattle.identity.specs.Read.{all_told, read_identity, word_in}
+use Rattle.identity.specs.declared.words.Identity.{Identity}
+use Rattle.identity.specs.declared.reading.Identified.{Identified}
 use Rattle.counters.specs.Rows.{id_of, kept}
 use Rattle.pages.specs.Layout11.{page11}
 use Rattle.pages.specs.Read11.{read_counter, row_value}
@@ -69,6 +76,9 @@ tied_counters_told = say (λ κs a. tt) (λ κs a r ws p. p)
 pub tied_errors_told : Says histories-said.errors_told.ended histories.errors_told.Reads.Asked histories.errors_told.Reads.Post (λ κs a r ws. Always (λ s h. LogTold h))
 tied_errors_told = say (λ κs a. tt) (λ κs a r ws p. p)
 
+pub tied_identity_told : Says histories-said.identity_told.ended histories.identity_told.Reads.Asked histories.identity_told.Reads.Post (λ κs a r ws. Always (λ s h. IdentityTold s.depth s.capacity h))
+tied_identity_told = say (λ κs a. tt) (λ κs a r ws p. p)
+
 pub tied_refused_exactly : Says histories-said.refused_exactly.ended histories.refused_exactly.Reads.Asked histories.refused_exactly.Reads.Post (λ κs a r ws. Always (λ s h. Refusals s.depth s.capacity s.mask h))
 tied_refused_exactly = say (λ κs a. tt) (λ κs a r ws p. p)
 
@@ -109,6 +119,14 @@ tied_errors_read_back = say (λ κs a. tt) (λ κs a r ws p. p)
 
 pub tied_counters_read_back : Says written-said.counters_read_back.ended written.counters_read_back.Reads.Asked written.counters_read_back.Reads.Post (λ κs a r ws. ((mask : ℕ) (values : List ℕ) → ((k : ℕ) → get_or values k 0 < 2 ^ 32) → (k : ℕ) → k < 16 → kept mask k ≡ true → read_counter (page11 mask values) (id_of k) ≡ Ok (Some (row_value (get_or values k 0)))) × ((mask : ℕ) (values : List ℕ) → ((k : ℕ) → get_or values k 0 < 2 ^ 32) → (number : ℕ) → 0 < number → number < 4096 → ((k : ℕ) → k < 16 → id_of k ≡ number → kept mask k ≡ false) → read_counter (page11 mask values) number ≡ Ok None))
 tied_counters_read_back = say (λ κs a. tt) (λ κs a r ws p. (p.0, p.1))
+
+pub tied_identity_read_back : Says written-said.identity_read_back.ended written.identity_read_back.Reads.Asked written.identity_read_back.Reads.Post (λ κs a r ws. (f : Identity) → fits_identity f ≡ true → read_identity (identity_page f) ≡ Ok (all_told f))
+tied_identity_read_back = say (λ κs a. tt) (λ κs a r ws p. p)
+
+pub tied_untold_is_none : Says written-said.untold_is_none.ended written.untold_is_none.Reads.Asked written.untold_is_none.Reads.Post
+    (λ κs a r ws. ((l : List ℕ) (i : Identified) → Ok i ≡ read_identity l → ((word_in l 76 ≡ 0) ⊎ (word_in l 76 ≡ 0xFFFF)) → i.queue ≡ None)
+    × ((l : List ℕ) (i : Identified) → Ok i ≡ read_identity l → ((word_in l 83 / 2 ^ 14 ≡ 1 → ⊥) ⊎ (bit_in 16 (word_in l 83) 10 ≡ false)) → i.capacity ≡ None))
+tied_untold_is_none = say (λ κs a. tt) (λ κs a r ws p. (p.0, p.1))
 
 -- ---- examples
 

@@ -16,6 +16,7 @@ ghost use Rattle.history.specs.Powered.{Powered};
 ghost use Rattle.history.specs.Refused.{Refusals};
 ghost use Rattle.history.specs.Answered.{Answers};
 ghost use Rattle.history.specs.Logged.{LogTold};
+ghost use Rattle.history.specs.IdentityTold.{IdentityTold};
 ghost use Rattle.history.specs.Faithful.{Fates, Ranges, Contents, Sactive, Waiting, Depth, OnePerTag, Counters};
 ghost use Rattle.history.specs.Lasting.{HandedOn, Lasting};
 ghost use Rattle.history.specs.StateAgrees.{AgreesAsked, AgreesCount, AgreesDue, StateAgrees};
@@ -64,6 +65,11 @@ pub fn counters_told()
 /// Every page 10h delivered tells the error that halted last, as long as no reset came since, however often it is read; otherwise it is blank.
 pub fn errors_told()
     ensures { Always (λ s h. LogTold h) }
+{}
+
+/// Every page that answered an IDENTIFY DEVICE tells the queue depth and the capacity of power-on.
+pub fn identity_told()
+    ensures { Always (λ s h. IdentityTold s.depth s.capacity h) }
 {}
 
 /// Every call is refused with the first number of 1 to 13 that holds by the history before it, and taken where none does.

@@ -11,7 +11,11 @@ pub use examples::{
 };
 pub use histories::{
     answered_exactly, any_state_serves, carried_once, counters_told, errors_told, exists_always,
-    finished_writes_stand, no_choice_left, no_refusal_matters, one_fate, one_per_tag, polls_told,
-    powered_exactly, refused_exactly, sactive_names, state_told, within_depth,
+    finished_writes_stand, identity_told, no_choice_left, no_refusal_matters, one_fate,
+    one_per_tag, polls_told, powered_exactly, refused_exactly, sactive_names, state_told,
+    within_depth,
 };
-pub use written::{counters_read_back, errors_read_back, frames_read_back, frames_write_back};
+pub use written::{
+    counters_read_back, errors_read_back, frames_read_back, frames_write_back, identity_read_back,
+    untold_is_none,
+};

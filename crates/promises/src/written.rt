@@ -1,7 +1,7 @@
 // Of frames and pages: what is written is read back as it was.
 #![tactic(auto, using(crate::proofs::Promised::written))]
 
-ghost use Rattle.std.specs.Prelude.{◌≡◌, ◌<◌, ◌^◌, true, false, List, ℕ, get_or, Some, None, Ok};
+ghost use Rattle.std.specs.Prelude.{◌≡◌, ◌<◌, ◌^◌, ◌/◌, ◌⊎◌, true, false, List, ℕ, get_or, Some, None, Ok};
 ghost use Rattle.bits.specs.Little.{Bytes};
 ghost use Rattle.frames.specs.Read.{read_frame};
 ghost use Rattle.frames.specs.Write.{FrameValue, encode, fits};
@@ -9,6 +9,12 @@ ghost use Rattle.frames.specs.RoundTrip.{read_back, again, zeroed};
 ghost use Rattle.frames.specs.declared.shapes.Frame.{Frame};
 ghost use Rattle.pages.specs.Page10.{page10, fits10, read_log};
 ghost use Rattle.pages.specs.declared.page10.ErrorLog.{ErrorLog};
+ghost use Rattle.bits.specs.Bit.{bit_in};
+ghost use Rattle.identity.specs.Words.{fits_identity};
+ghost use Rattle.identity.specs.Page.{identity_page};
+ghost use Rattle.identity.specs.Read.{all_told, read_identity, word_in};
+ghost use Rattle.identity.specs.declared.words.Identity.{Identity};
+ghost use Rattle.identity.specs.declared.reading.Identified.{Identified};
 ghost use Rattle.counters.specs.Rows.{id_of, kept};
 ghost use Rattle.pages.specs.Layout11.{page11};
 ghost use Rattle.pages.specs.Read11.{read_counter, row_value};
@@ -32,4 +38,16 @@ pub fn errors_read_back()
 pub fn counters_read_back()
     ensures kept { (mask : ℕ) (values : List ℕ) → ((k : ℕ) → get_or values k 0 < 2 ^ 32) → (k : ℕ) → k < 16 → kept mask k ≡ true → read_counter (page11 mask values) (id_of k) ≡ Ok (Some (row_value (get_or values k 0))) }
     ensures absent { (mask : ℕ) (values : List ℕ) → ((k : ℕ) → get_or values k 0 < 2 ^ 32) → (number : ℕ) → 0 < number → number < 4096 → ((k : ℕ) → k < 16 → id_of k ≡ number → kept mask k ≡ false) → read_counter (page11 mask values) number ≡ Ok None }
+{}
+
+/// A page of IDENTIFY DEVICE that can be written is read as it was.
+pub fn identity_read_back()
+    ensures { (f : Identity) → fits_identity f ≡ true → read_identity (identity_page f) ≡ Ok (all_told f) }
+{}
+
+/// What a page of IDENTIFY DEVICE does not tell has no value: no queue depth where word 76 is 0000h or FFFFh, and no capacity
+/// where bits 15:14 of word 83 are not 01b or its bit 10 is off.
+pub fn untold_is_none()
+    ensures queue { (l : List ℕ) (i : Identified) → Ok i ≡ read_identity l → ((word_in l 76 ≡ 0) ⊎ (word_in l 76 ≡ 0xFFFF)) → i.queue ≡ None }
+    ensures capacity { (l : List ℕ) (i : Identified) → Ok i ≡ read_identity l → ((word_in l 83 / 2 ^ 14 ≡ 1 → ⊥) ⊎ (bit_in 16 (word_in l 83) 10 ≡ false)) → i.capacity ≡ None }
 {}

@@ -36,7 +36,7 @@ pub enum Refusal {
     NoRow = 13,
     /// page not 512 bytes
     PageLength = 20,
-    /// sum of the page wrong
+    /// sum of the page wrong; of that of IDENTIFY DEVICE also A5h missing
     PageSum = 21,
     /// page 11h: an entry that no page may have, or the asked number twice
     PageDamaged = 22,

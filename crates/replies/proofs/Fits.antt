@@ -15,13 +15,17 @@ use Rattle.counters.specs.Rows.{keeps_both}
 use Rattle.pages.specs.Layout11.{page11}
 use Rattle.pages.proofs.Trip10.{length_10}
 use Rattle.pages.proofs.Bytes11.{page_length}
+use Rattle.identity.specs.Words.{fits_identity}
+use Rattle.identity.specs.Page.{identity_page}
+use Rattle.identity.specs.declared.words.Identity.{Identity}
+use Rattle.identity.proofs.Standing as standing
 use Rattle.device_state.specs.State.{placed_bytes, task_in, whole_of}
 use Rattle.device_state.specs.declared.shapes.Echo.{Echo}
 use Rattle.device_state.specs.declared.shapes.ErrorRecord.{ErrorRecord}
 use Rattle.replies.specs.declared.shown.Shown.{Shown}
 use Rattle.rules.specs.declared.acts.Act.{Act}
-use Rattle.rules.specs.declared.acts.Act.TheVariants.{Nothing, Bad, BadAndHalt, Accept, Log10, Log11, Reset, Release, ZeroCounters, Store, Open, Send, Finish, Media, Count, Renew}
-use Rattle.replies.specs.Replies.{register, activate_if, pio_reply, log_of, page10_of, page11_of, log_replies, replies_of, sent_bytes, sent_all, RepliesGiven}
+use Rattle.rules.specs.declared.acts.Act.TheVariants.{Nothing, Bad, BadAndHalt, Accept, Log10, Log11, Identify, Reset, Release, ZeroCounters, Store, Open, Send, Finish, Media, Count, Renew}
+use Rattle.replies.specs.Replies.{register, activate_if, pio_reply, log_of, page10_of, page11_of, identity_of, log_replies, replies_of, sent_bytes, sent_all, RepliesGiven}
 use Rattle.replies.proofs.Fit.{Fitting, Fit}
 
 -- frames that fit are all sent
@@ -59,6 +63,9 @@ page10_long r h = ap length (pick_yes (fits10 (log_of r)) (page10 (log_of r)) []
 pub page11_long : (mask : ℕ) (values : List ℕ) → keeps_both mask ≡ true → length (page11_of mask values) ≡ 512
 page11_long mask values h = ap length (pick_yes (keeps_both mask) (page11 mask values) [] h) ∙ page_length mask values
 
+pub identity_long : (f : Identity) → fits_identity f ≡ true → length (identity_of f) ≡ 512
+identity_long f h = ap length (pick_yes (fits_identity f) (identity_page f) [] h) ∙ standing.page_length f
+
 activate_fits : (on : Bool) → Fitting (activate_if on)
 unfolding Fitting fits
 activate_fits true = (refl, tt)
@@ -87,6 +94,7 @@ module _ (s : Shown) (part : List ℕ) where
   replies_fit (Accept q) h = (register_fits false 0x40 0 (task_in q.entry.echo) (omega arith) (omega arith) (echo_fits q.entry.echo h), tt)
   replies_fit (Log10 task) h = log_fits s.halted task (page10_of s.errors) h.0 (page10_long s.errors h.1)
   replies_fit (Log11 l) h = log_fits false l.task (page11_of s.mask s.values) h.0 (page11_long s.mask s.values h.1)
+  replies_fit (Identify task) h = log_fits false task (identity_of s.identity) h.0 (identity_long s.identity h.1)
   replies_fit Release h = (refl, tt)
   replies_fit (Store m) h = activate_fits (not m.last)
   replies_fit (Open q) h =
@@ -107,6 +115,7 @@ module _ (s : Shown) (part : List ℕ) where
   replies_data_last (Count r) = tt
   replies_data_last (Log10 task) = log_data_last s.halted task (page10_of s.errors)
   replies_data_last (Log11 l) = log_data_last false l.task (page11_of s.mask s.values)
+  replies_data_last (Identify task) = log_data_last false task (identity_of s.identity)
   replies_data_last (Store m) = activate_data_last (not m.last)
   replies_data_last (Open q) = (off, activate_data_last q.entry.write)
   replies_data_last (Send m) = (λ _. refl, tt)

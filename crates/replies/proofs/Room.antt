@@ -13,12 +13,16 @@ use Rattle.counters.specs.Rows.{keeps_both}
 use Rattle.pages.specs.Layout11.{page11}
 use Rattle.pages.proofs.Trip10.{length_10}
 use Rattle.pages.proofs.Bytes11.{page_length}
+use Rattle.identity.specs.Words.{fits_identity}
+use Rattle.identity.specs.Page.{identity_page}
+use Rattle.identity.specs.declared.words.Identity.{Identity}
+use Rattle.identity.proofs.Standing as standing
 use Rattle.device_state.specs.declared.shapes.ErrorRecord.{ErrorRecord}
 use Rattle.rules.specs.declared.acts.Queued.{Queued}
 use Rattle.rules.specs.declared.acts.Act.{Act}
-use Rattle.rules.specs.declared.acts.Act.TheVariants.{Nothing, Log10, Log11, Reset, ZeroCounters, Store, Open, Count}
+use Rattle.rules.specs.declared.acts.Act.TheVariants.{Nothing, Log10, Log11, Identify, Reset, ZeroCounters, Store, Open, Count}
 use Rattle.replies.specs.declared.shown.Shown.{Shown}
-use Rattle.replies.specs.Replies.{sweep, sweep_if, activate_if, pio_reply, setup_reply, log_of, page10_of, page11_of, log_replies, open_replies, replies_of, sent_bytes, sent_all}
+use Rattle.replies.specs.Replies.{sweep, sweep_if, activate_if, pio_reply, setup_reply, log_of, page10_of, page11_of, identity_of, log_replies, open_replies, replies_of, sent_bytes, sent_all}
 use Rattle.replies.proofs.Sending.{sent_one, length_sent}
 
 -- what is sent of a list is no longer than the list
@@ -79,6 +83,9 @@ page10_short r = omega (arith, picked_short (fits10 (log_of r)) (page10 (log_of 
 page11_short : (mask : ℕ) (values : List ℕ) → length (page11_of mask values) ≤ 512
 page11_short mask values = omega (arith, picked_short (keeps_both mask) (page11 mask values), page_length mask values)
 
+identity_short : (f : Identity) → length (identity_of f) ≤ 512
+identity_short f = omega (arith, picked_short (fits_identity f) (identity_page f), standing.page_length f)
+
 none_room : length (sent_all []) ≤ 8196
 unfolding sent_all joined_bytes
 none_room = omega arith
@@ -92,6 +99,7 @@ replies_room s part ZeroCounters = none_room
 replies_room s part (Count r) = none_room
 replies_room s part (Log10 task) = log_room s.halted task (page10_of s.errors) (page10_short s.errors)
 replies_room s part (Log11 l) = log_room false l.task (page11_of s.mask s.values) (page11_short s.mask s.values)
+replies_room s part (Identify task) = log_room false task (identity_of s.identity) (identity_short s.identity)
 replies_room s part (Store m) = omega (arith, activate_room (not m.last))
 replies_room s part (Open q) = open_room q
 replies_room s part _ = one_room _

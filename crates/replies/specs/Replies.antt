@@ -9,12 +9,15 @@ use Rattle.pages.specs.Page10.{page10, fits10}
 use Rattle.counters.specs.Rows.{keeps_both}
 use Rattle.pages.specs.Layout11.{page11}
 use Rattle.pages.specs.declared.page10.ErrorLog.{ErrorLog}
+use Rattle.identity.specs.Words.{fits_identity}
+use Rattle.identity.specs.Page.{identity_page}
+use Rattle.identity.specs.declared.words.Identity.{Identity}
 use Rattle.device_state.specs.State.{task_in, whole_of}
 use Rattle.device_state.specs.declared.shapes.ErrorRecord.{ErrorRecord}
 use Rattle.replies.specs.declared.shown.Shown.{Shown}
 use Rattle.rules.specs.declared.acts.Queued.{Queued}
 use Rattle.rules.specs.declared.acts.Act.{Act}
-use Rattle.rules.specs.declared.acts.Act.TheVariants.{Nothing, Bad, BadAndHalt, Accept, Log10, Log11, Reset, Release, ZeroCounters, Store, Open, Send, Finish, Media, Count, Renew}
+use Rattle.rules.specs.declared.acts.Act.TheVariants.{Nothing, Bad, BadAndHalt, Accept, Log10, Log11, Identify, Reset, Release, ZeroCounters, Store, Open, Send, Finish, Media, Count, Renew}
 
 -- a device register reply
 abbrev pub register : Bool → ℕ → ℕ → Task → FrameValue
@@ -75,6 +78,10 @@ page10_of r = pick (fits10 (log_of r)) (page10 (log_of r)) []
 abbrev pub page11_of : ℕ → List ℕ → List ℕ
 page11_of mask values = pick (keeps_both mask) (page11 mask values) []
 
+-- the page of IDENTIFY DEVICE [identify]
+abbrev pub identity_of : Identity → List ℕ
+identity_of f = pick (fits_identity f) (identity_page f) []
+
 -- if halted, first the sweep; then PIO Setup; then the page as a data frame [log-replies]
 abbrev pub log_replies : Bool → Task → List ℕ → List FrameValue
 log_replies on task page = sweep_if on ++ pio_reply task ∷ payload page ∷ []
@@ -91,6 +98,7 @@ replies_of s part (BadAndHalt f) = bad_reply f.error (task_in f.echo) ∷ []
 replies_of s part (Accept q) = good (task_in q.entry.echo) ∷ []
 replies_of s part (Log10 task) = log_replies s.halted task (page10_of s.errors)
 replies_of s part (Log11 l) = log_replies false l.task (page11_of s.mask s.values)
+replies_of s part (Identify task) = log_replies false task (identity_of s.identity)
 replies_of s part Reset = []
 replies_of s part Release = signature ∷ []
 replies_of s part ZeroCounters = []

@@ -1,10 +1,12 @@
 -- What replies show of the state. Assumes nothing.
 use Rattle.std.specs.Prelude.{Bool, List, ℕ}
 use Rattle.device_state.specs.declared.shapes.ErrorRecord.{ErrorRecord}
+use Rattle.identity.specs.declared.words.Identity.{Identity}
 
--- whether the device is halted, which rows are kept, the error record, and the counters by row
+-- whether the device is halted, depth and capacity, which rows are kept, the error record, and the counters by row
 pub record StateShown : Type 0 where
   pub halted : Bool
+  pub identity : Identity
   pub mask : ℕ
   pub errors : ErrorRecord
   pub values : List ℕ

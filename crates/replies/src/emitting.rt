@@ -2,7 +2,7 @@
 ghost use Rattle.std.specs.Prelude.{◌≡◌, false, [], ◌∷◌, leb, length};
 ghost use Rattle.std.specs.Result.{result_unwrap_or};
 ghost use Rattle.bits.specs.Pick.{pick};
-ghost use Rattle.replies.specs.Replies.{page10_of, page11_of, log_replies, open_replies, replies_of, RepliesGiven};
+ghost use Rattle.replies.specs.Replies.{page10_of, page11_of, identity_of, log_replies, open_replies, replies_of, RepliesGiven};
 ghost use Rattle.replies.specs.Framed.{framed};
 ghost use Rattle.replies.specs.Sends.{Sends};
 
@@ -63,7 +63,7 @@ fn put_log(room: &mut [u8], sweep: bool, task: Task, page: Result<Page, Refusal>
     len
 }
 
-// Page 10h and page 11h. Each has a function that is not inlined: every reply would pay for the room of a page's bytes.
+// Page 10h, page 11h, and that of IDENTIFY DEVICE. Each has a function that is not inlined: every reply would pay for the room of a page's bytes.
 #[inline(never)]
 #[tactic(auto, using(crate::proofs::Sending::page_bytes_pick))]
 fn put_errors(room: &mut [u8], task: &Task, shown: &Shown<'_>) -> usize
@@ -81,6 +81,14 @@ fn put_counters(room: &mut [u8], log: &CountersRead, shown: &Shown<'_>) -> usize
     put_log(room, false, log.task, page)
 }
 
+#[inline(never)]
+#[tactic(auto, using(crate::proofs::Sending::page_bytes_pick))]
+fn put_identity(room: &mut [u8], task: &Task, shown: &Shown<'_>) -> usize
+    ensures { Sends (log_replies false task.now (identity_of shown.now.identity)) room.old result room.new }
+{
+    put_log(room, false, *task, shown.identity.page())
+}
+
 #[tactic(auto, using(crate::proofs::Sending::sends_nothing), unfolding(crate::specs::Replies::replies_of))]
 fn put_all(room: &mut [u8], act: &Act, shown: &Shown<'_>, part: &[u8]) -> usize
     ensures { Sends (replies_of shown.now part.now act.now) room.old result room.new }
@@ -91,6 +99,7 @@ fn put_all(room: &mut [u8], act: &Act, shown: &Shown<'_>, part: &[u8]) -> usize
         Act::Accept(queued) => put(room, Reply::good(Task::from(queued.entry.echo))),
         Act::Log10(task) => put_errors(room, task, shown),
         Act::Log11(log) => put_counters(room, log, shown),
+        Act::Identify(task) => put_identity(room, task, shown),
         Act::Release | Act::Renew => put(room, Reply::signature()),
         Act::Store(moved) => put_if(room, !moved.last, Reply::Activate),
         Act::Open(queued) => put_open(room, queued),

@@ -6,6 +6,7 @@ use crate::status::READY_ERROR;
 use counters::Counters;
 use device_state::ErrorRecord;
 use frames::Task;
+use identity::Identity;
 use pages::ErrorLog;
 use std::marker::Model;
 
@@ -14,6 +15,8 @@ use std::marker::Model;
 pub struct Shown<'a> {
     /// whether the sweep goes before page 10h
     pub halted: bool,
+    /// depth and capacity, of which the page of IDENTIFY DEVICE is made
+    pub identity: Identity,
     /// bit r keeps row r of page 11h
     pub mask: u16,
     /// what page 10h shows
@@ -27,7 +30,7 @@ impl<'a> Model for Shown<'a> {
 
     ghost Value = { StateShown };
 
-    ghost view = { λ s. record { halted = s.halted; mask = s.mask; errors = s.errors.now; values = s.values.now } };
+    ghost view = { λ s. record { halted = s.halted; identity = s.identity; mask = s.mask; errors = s.errors.now; values = s.values.now } };
 }
 
 // The record as page 10h shows it.

@@ -8,7 +8,6 @@ use Rattle.refusals.specs.declared.reasons.Refusal.{Refusal}
 use Rattle.bits.proofs.Picks.{by_test, or_left, or_right, and_left}
 use Rattle.refusals.proofs.FirstLaws as firsts
 use Rattle.frames.specs.Shared.{srst_of}
-use Rattle.frames.specs.declared.log_pages.LogPage.{LogPage}
 use Rattle.frames.specs.Read.{read_frame}
 use Rattle.frames.specs.declared.shapes.HostReg.{HostReg}
 use Rattle.frames.specs.declared.shapes.Frame.{Frame}
@@ -16,7 +15,8 @@ use Rattle.frames.specs.declared.shapes.Frame.TheVariants.{Host, Data, Bist}
 use Rattle.counters.specs.Counts.{single}
 use Rattle.device_state.specs.Range.{too_far}
 use Rattle.rules.specs.QueuedRule.{tag_refused}
-use Rattle.rules.specs.OtherRule.{asks_errors, asks_counters}
+use Rattle.rules.specs.OtherRule.{asks_errors, asks_counters, asks_identity}
+use Rattle.rules.specs.declared.command_rules.PageAsked.{PageAsked}
 use Rattle.rules.specs.declared.command_rules.Bad as verdict
 use Rattle.rules.proofs.Rules.{by_page}
 use Rattle.device_state.specs.UnderWay.{link_busy}
@@ -31,7 +31,7 @@ use Rattle.rules.specs.Act.{failing, does, act}
 use Rattle.rules.specs.Medium.{leaves, touch_of, part_of}
 use Rattle.rules.specs.declared.facts.Facts.{Facts}
 use Rattle.rules.specs.declared.acts.Act.{Act}
-use Rattle.rules.specs.declared.acts.Act.TheVariants.{Nothing, Accept, Log10, Log11, Reset, Release, ZeroCounters, Store, Open, Send, Finish, Media, Count, Renew}
+use Rattle.rules.specs.declared.acts.Act.TheVariants.{Nothing, Accept, Log10, Log11, Identify, Reset, Release, ZeroCounters, Store, Open, Send, Finish, Media, Count, Renew}
 
 -- a command that comes at its time, queued or not
 pub record TimelyCommand (v : Facts) (h : HostReg) (queued : Bool) : Type 0 where
@@ -46,6 +46,7 @@ pub data Other (v : Facts) (h : HostReg) : Act → Type 0 where
   busy : eqb v.status.outstanding 0 ≡ false → Other v h (fault h None 0x04)
   page10 : eqb v.status.outstanding 0 ≡ true → asks_errors (page_asked h) ≡ true → Other v h (Log10 h.task)
   page11 : v.status.halted ≡ false → eqb v.status.outstanding 0 ≡ true → asks_counters (page_asked h) ≡ true → Other v h (Log11 (record { zero = bit_in 8 h.features 0; task = h.task }))
+  identity : v.status.halted ≡ false → eqb v.status.outstanding 0 ≡ true → asks_identity (page_asked h) ≡ true → Other v h (Identify h.task)
   neither : v.status.halted ≡ false → eqb v.status.outstanding 0 ≡ true → Other v h (bad h 0x04)
 
 -- a host frame that is not turned down, as it was read
@@ -131,13 +132,13 @@ module _ (v : Facts) where
   other_ruled : (h : HostReg) → Other v h (other_act v h)
   unfolding other_act
   other_ruled h =
-      let R : Result LogPage verdict.Bad → Type 0 = λ r. Other v h (other_does h r) in
+      let R : Result PageAsked verdict.Bad → Type 0 = λ r. Other v h (other_does h r) in
       let asked : Bool = asks_errors (page_asked h) in
       by_test R (v.status.halted && not asked) _ _ (λ x. halted (and_left v.status.halted (not asked) x))
       (λ x. by_test R (not (eqb v.status.outstanding 0)) _ _ (λ y. busy (not-true (eqb v.status.outstanding 0) y))
       (λ z. let e = not-false (eqb v.status.outstanding 0) z in
       let awake : asked ≡ false → v.status.halted ≡ false = and_other v.status.halted asked x in
-      by_page R (page_asked h) (page10 e) (λ n. page11 (awake n) e) (λ n. neither (awake n) e)))
+      by_page R (page_asked h) (page10 e) (λ n. page11 (awake n) e) (λ n. identity (awake n) e) (λ n. neither (awake n) e)))
 
   register_heard : (h : HostReg) → h.command_bit && (v.status.held || link_busy v.status) ≡ false → Heard v (Ok (Host h)) (register_act v h)
   unfolding register_act

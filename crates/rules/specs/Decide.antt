@@ -14,6 +14,9 @@ use Rattle.device_state.specs.Range.{too_far}
 use Rattle.rules.specs.Errors.{error_byte}
 use Rattle.rules.specs.QueuedRule.{tag_refused, queued_rule}
 use Rattle.rules.specs.OtherRule.{other_rule, log_zeroes}
+use Rattle.std.specs.Option.{option_map}
+use Rattle.rules.specs.declared.command_rules.PageAsked.{PageAsked}
+use Rattle.rules.specs.declared.command_rules.PageAsked.TheVariants.{Log, Identity}
 use Rattle.rules.specs.declared.command_rules.Bad as verdict
 use Rattle.rules.specs.declared.command_rules.Bad.TheVariants.{Only, Halts}
 use Rattle.device_state.specs.State.{echo_of}
@@ -22,7 +25,7 @@ use Rattle.device_state.specs.declared.shapes.Echo.{Echo}
 use Rattle.device_state.specs.declared.shapes.Entry.{Entry}
 use Rattle.rules.specs.declared.facts.Facts.{Facts}
 use Rattle.rules.specs.declared.acts.Act.{Act}
-use Rattle.rules.specs.declared.acts.Act.TheVariants.{Nothing, Bad, BadAndHalt, Accept, Log10, Log11, Reset, Release, ZeroCounters, Store}
+use Rattle.rules.specs.declared.acts.Act.TheVariants.{Nothing, Bad, BadAndHalt, Accept, Log10, Log11, Identify, Reset, Release, ZeroCounters, Store}
 
 -- bad: status 41h, I 1, error as named; no halt
 abbrev pub bad : HostReg → ℕ → Act
@@ -73,14 +76,19 @@ queued_act v h =
 unfoldable pub log_page : ℕ → Echo → Option LogPage
 log_page command e = pick (eqb command 0x2F && (eqb e.b5 0 && eqb e.b9 0) && (eqb e.b12 1 && eqb e.b13 0)) (page_named e.b4) None
 
+-- IDENTIFY DEVICE (ECh), whatever its other bytes [identify]
+abbrev pub identifies : HostReg → Bool
+identifies h = eqb h.command 0xEC
+
 -- the page that a command asks for, if it asks for one
-abbrev pub page_asked : HostReg → Option LogPage
-page_asked h = log_page h.command (echo_of h.task)
+abbrev pub page_asked : HostReg → Option PageAsked
+page_asked h = pick (identifies h) (Some Identity) (option_map (λ page. Log page) (log_page h.command (echo_of h.task)))
 
 -- what a rule of any other command makes the device do; a halt is for no tag [other-halted] [other-between]
-abbrev pub other_does : HostReg → Result LogPage verdict.Bad → Act
-other_does h (Ok Errors) = Log10 h.task
-other_does h (Ok Counters) = Log11 (record { zero = log_zeroes h.features; task = h.task })
+abbrev pub other_does : HostReg → Result PageAsked verdict.Bad → Act
+other_does h (Ok (Log Errors)) = Log10 h.task
+other_does h (Ok (Log Counters)) = Log11 (record { zero = log_zeroes h.features; task = h.task })
+other_does h (Ok Identity) = Identify h.task
 other_does h (Err b) = bad_does h None b
 
 -- any other command: what the first rule that holds says [other-halted] [other-between]

@@ -89,6 +89,8 @@ pub enum Act {
     Log10(Task),
     /// Page 11h is sent, and the counters are zeroed where that was asked for.
     Log11(CountersRead),
+    /// The page of IDENTIFY DEVICE is sent.
+    Identify(Task),
     /// SRST: everything outstanding is dropped, and the reset is held.
     Reset,
     /// The reset that was held is released.

@@ -35,6 +35,15 @@ impl TagNamed {
     }
 }
 
+/// A page that a command which is not queued asks for.
+#[derive(Clone, Copy, Debug, PartialEq, Eq)]
+pub enum PageAsked {
+    /// A log page, by a well-formed READ LOG EXT.
+    Log(LogPage),
+    /// What the device is, by IDENTIFY DEVICE.
+    Identity,
+}
+
 /// A queued command is bad by the first rule that holds, or good: halt, tag, range.
 pub fn queued_rule(
     halted: bool,
@@ -57,11 +66,11 @@ pub fn queued_rule(
     Ok(())
 }
 
-/// Any other command: bad, or the log page that is sent. `page`: the one that it asks for, if it asks for one. `busy`: something is outstanding.
-pub fn other_rule(halted: bool, page: Option<LogPage>, busy: bool) -> Result<LogPage, Bad>
+/// Any other command: bad, or the page that is sent. `page`: the one that it asks for, if it asks for one. `busy`: something is outstanding.
+pub fn other_rule(halted: bool, page: Option<PageAsked>, busy: bool) -> Result<PageAsked, Bad>
     ensures { result ≡ other_rule halted page busy }
 {
-    if halted && page != Some(LogPage::Errors) {
+    if halted && page != Some(PageAsked::Log(LogPage::Errors)) {
         return Err(Bad::Only(CommandError::Aborted));
     }
     if busy {

@@ -8,7 +8,7 @@ ghost use Rattle.rules.specs.Act.{kind_act, heard_act};
 use crate::acts::{Act, BadReply, CountersRead, Fault, Queued};
 use crate::command::Command;
 use crate::facts::{Facts, next_move};
-use crate::{Bad, TagNamed};
+use crate::{Bad, PageAsked, TagNamed};
 use device_state::{Echo, Entry, Sectors};
 use frames::{Frame, HostReg, LogPage, Task};
 use refusals::{Refusal, check};
@@ -86,17 +86,18 @@ impl Facts {
 
     // Any other command, with the page that it asks for, if it asks for one.
     #[tactic(auto, unfolding(crate::specs::Decide::other_act))]
-    fn other_act(&self, host: HostReg, page: Option<LogPage>) -> Act
+    fn other_act(&self, host: HostReg, page: Option<PageAsked>) -> Act
         requires { page ≡ page_asked host }
         ensures { result ≡ other_act self.now host }
     {
         match crate::other_rule(self.status.halted, page, self.status.outstanding != 0) {
             Err(bad) => bad_act(host, None, bad),
-            Ok(LogPage::Errors) => Act::Log10(host.task),
-            Ok(LogPage::Counters) => Act::Log11(CountersRead {
+            Ok(PageAsked::Log(LogPage::Errors)) => Act::Log10(host.task),
+            Ok(PageAsked::Log(LogPage::Counters)) => Act::Log11(CountersRead {
                 zero: crate::log_zeroes(host.features),
                 task: host.task,
             }),
+            Ok(PageAsked::Identity) => Act::Identify(host.task),
         }
     }
 
@@ -125,7 +126,10 @@ impl Facts {
         match Command::from_byte(host.command) {
             Some(Command::ReadFpdmaQueued) => self.queued_act(host, false),
             Some(Command::WriteFpdmaQueued) => self.queued_act(host, true),
-            Some(Command::ReadLogExt) => self.other_act(host, log_page(host.task)),
+            Some(Command::ReadLogExt) => {
+                self.other_act(host, log_page(host.task).map(PageAsked::Log))
+            }
+            Some(Command::IdentifyDevice) => self.other_act(host, Some(PageAsked::Identity)),
             None => self.other_act(host, None),
         }
     }

@@ -13,7 +13,7 @@ mod medium;
 mod move_refusals;
 
 pub use acts::{Act, BadReply, CountersRead, Fault, Move, Queued};
-pub use command_rules::{Bad, TagNamed, log_zeroes, other_rule, queued_rule};
+pub use command_rules::{Bad, PageAsked, TagNamed, log_zeroes, other_rule, queued_rule};
 pub use device_events::some_unready;
 pub use errors::CommandError;
 pub use event::DeviceEvent;

@@ -1,8 +1,7 @@
 // Log pages told in words.
 use crate::fakes::{Months, Sink, Source};
-use frames::LogPage;
 use page_text::Notation::{Bytes, Words};
-use page_text::{Lost, Notation, Query, exit_status};
+use page_text::{Lost, Notation, PageKind, Query, exit_status};
 use std::alloc::Global;
 use std::io;
 
@@ -20,7 +19,7 @@ fn blank() -> [u8; 512] {
 fn query(alloc: Global, notation: Option<Notation>) -> Query {
     Query {
         alloc,
-        page: LogPage::Errors,
+        page: PageKind::Errors,
         notation,
     }
 }

@@ -12,6 +12,9 @@ use Rattle.pages.specs.Layout11.{row_bytes, rows_to, open_to, page11}
 use Rattle.pages.specs.Page10.{page10, read_log}
 use Rattle.pages.specs.Entries.{id_at, entries_from, entries}
 use Rattle.pages.specs.Read11.{damaged, value_in, read_counter}
+use Rattle.identity.specs.Words.{word_of}
+use Rattle.identity.specs.Page.{words_to, identity_page}
+use Rattle.identity.specs.Read.{read_identity}
 use Rattle.worked_examples.specs.Whole.{Placed, whole_frames, WholeShows}
 
 pub frames_placed : Placed whole_frames
@@ -19,5 +22,5 @@ unfolding Placed whole_frames register_bytes fixed_size readable frame_by_kind r
 frames_placed = (refl, (refl, (refl, (refl, (refl, (refl, (refl, (refl, (refl, (refl, (refl, (refl, (refl, (refl, (refl, (refl, (refl, (refl, (refl, (refl, (refl, (refl, (refl, (refl, (refl, (refl, (refl, (refl, (refl, (refl, (refl, (refl, (refl, tt)))))))))))))))))))))))))))))))))
 
 pub pages_placed : WholeShows
-unfolding frame_by_kind read_frame readable first_of joined_bytes cut cut_to first_length fixed_size register_bytes sum256 sealed_page ids row_bytes rows_to open_to page11 page10 read_log id_at entries_from entries damaged value_in read_counter
-pages_placed = record { log = refl; log_read = refl; plain = refl; plain_read = refl; rows = refl; rows_read = refl; some_rows = refl; parts = refl; unknown = refl; short = refl; tag = refl; sectors = refl; srst = refl; front = refl; call_numbers = refl; other_numbers = refl; lengths = refl }
+unfolding frame_by_kind read_frame readable first_of joined_bytes cut cut_to first_length fixed_size register_bytes sum256 sealed_page ids row_bytes rows_to open_to page11 page10 read_log id_at entries_from entries damaged value_in read_counter word_of words_to identity_page read_identity
+pages_placed = record { log = refl; log_read = refl; plain = refl; plain_read = refl; rows = refl; rows_read = refl; some_rows = refl; identity = refl; identity_read = refl; queues = refl; capacities = refl; parts = refl; unknown = refl; short = refl; tag = refl; sectors = refl; srst = refl; front = refl; call_numbers = refl; other_numbers = refl; lengths = refl }

@@ -1,4 +1,5 @@
 pub mod Points
+pub mod WholeIdentity
 pub mod Whole
 pub mod Story
 pub mod Second

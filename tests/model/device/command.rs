@@ -6,6 +6,7 @@ use crate::frames::{self, Frame};
 const READ_QUEUED: u8 = 0x60;
 const WRITE_QUEUED: u8 = 0x61;
 const READ_LOG_EXT: u8 = 0x2F;
+const IDENTIFY_DEVICE: u8 = 0xEC;
 
 pub const ERROR_PAGE: u8 = 0x10;
 pub const COUNTER_PAGE: u8 = 0x11;
@@ -34,6 +35,11 @@ impl Command {
 
     pub fn is_write(&self) -> bool {
         self.code == WRITE_QUEUED
+    }
+
+    /// IDENTIFY DEVICE, whatever its other bytes.
+    pub fn is_identify(&self) -> bool {
+        self.code == IDENTIFY_DEVICE
     }
 
     /// A queued command's sectors: 0 = 65,536.

@@ -136,6 +136,7 @@ fn command(state: &mut State, command: &Command) -> Vec<Frame<'static>> {
     let verdict = if queued { judge_queued(state, command) } else { judge_other(state, command) };
     match verdict {
         Verdict::Good if queued => accept(state, command),
+        Verdict::Good if command.is_identify() => identify(state, command),
         Verdict::Good => read_log(state, command),
         Verdict::Bad(error) => vec![replies::bad(&echo, error)],
         Verdict::Halting(error) => {
@@ -184,7 +185,7 @@ fn judge_other(state: &State, command: &Command) -> Verdict {
         Verdict::Bad(ABORTED)
     } else if state.outstanding != 0 {
         Verdict::Halting(ABORTED)
-    } else if page.is_none() {
+    } else if page.is_none() && !command.is_identify() {
         Verdict::Bad(ABORTED)
     } else {
         Verdict::Good
@@ -206,4 +207,9 @@ fn read_log(state: &mut State, command: &Command) -> Vec<Frame<'static>> {
         sent.push(replies::error_page(&state.record));
     }
     sent
+}
+
+/// A good IDENTIFY DEVICE: PIO Setup and the page. The state stays.
+fn identify(state: &State, command: &Command) -> Vec<Frame<'static>> {
+    vec![replies::pio_setup(&command.echo), replies::identity_page(state)]
 }

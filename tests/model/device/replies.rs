@@ -2,7 +2,7 @@
 
 use super::state::{Echo, Entry, Record, State};
 use crate::frames::{self, Frame};
-use crate::pages;
+use crate::{identity, pages};
 
 /// Writes the frames behind one another, each in the room that the last one
 /// left; bytes behind the last stay. Gives the length of all.
@@ -95,4 +95,9 @@ pub fn counter_page(state: &State) -> Frame<'static> {
     let mut page = [0; pages::PAGE];
     pages::write_11h(state.mask, &state.counters, &mut page).expect("rows 0 and 9 are kept");
     data(&page).owned()
+}
+
+/// The page of IDENTIFY DEVICE in a data frame.
+pub fn identity_page(state: &State) -> Frame<'static> {
+    data(&identity::page(state.depth, u64::from(state.capacity))).owned()
 }

@@ -1,0 +1,5 @@
+pub mod Laying
+pub mod Standing
+pub mod Trip
+pub mod Exactly
+pub mod Tied

@@ -1,0 +1,4 @@
+pub mod Features
+pub mod Words
+pub mod Page
+pub mod Read
