@@ -42,9 +42,9 @@ pub record ReplyRules (e : Event) (h : List Seen) : Type 0 where
   -- a refused call replies nothing; a taken one has one of the replies that it may have, so that each can be read
   pub silent : taken e ≡ false → replied e ≡ []
   pub shaped : taken e ≡ true → OneOf (kinds e) (call_replies e.call)
-  -- a 34h with ERR answers a command: the signature has none
+  -- a 34h with ERR answers a command: the signature has none [err-to-command]
   pub blames : some (λ r. err_in r.status) (collect register_in (frames e)) ≡ true → (asks e).command ≡ true
-  -- a command that is not queued has no good 34h: its good answer is a page
+  -- a command that is not queued has no good 34h: its good answer is a page [good-is-page]
   pub ungranted : (seen e).asks.command ≡ true → (seen e).asks.queued ≡ false → (seen e).good ≡ false
   -- a 5Fh has no ERR: it announces a good answer
   pub faultless : faulty_in (frames e) ≡ false
