@@ -39,8 +39,13 @@ impl Tested {
         Tested::new(command, calls::text)
     }
 
+    /// The program, without its arguments.
+    pub fn name(&self) -> &str {
+        &self.words[0]
+    }
+
     /// What it prints for a file, or why nothing came of it.
-    fn lines(&self, seed: u64, file: &Path) -> Result<Vec<u8>, String> {
+    pub fn lines(&self, seed: u64, file: &Path) -> Result<Vec<u8>, String> {
         let done = match seed % 2 {
             0 => self.fed_by_file(file),
             _ => self.fed_by_pipe(file, 1 + seed as usize % 61),
@@ -131,7 +136,7 @@ fn agrees(seed: u64, bytes: &[u8], tested: &[Tested], path: &PathBuf) -> Result<
             Err(fault) => Some(fault),
         };
         if let Some(fault) = fault {
-            println!("seed {}: {}: {}", seed, program.words[0], fault);
+            println!("seed {}: {}: {}", seed, program.name(), fault);
             println!("  kept: {}", path.display());
             good = false;
         }
@@ -140,7 +145,7 @@ fn agrees(seed: u64, bytes: &[u8], tested: &[Tested], path: &PathBuf) -> Result<
 }
 
 /// The first line that differs, of both.
-fn difference(expected: &[u8], lines: &[u8]) -> Option<String> {
+pub fn difference(expected: &[u8], lines: &[u8]) -> Option<String> {
     if expected == lines {
         return None;
     }
