@@ -52,18 +52,21 @@ cut_data x xs e =
     ∙ ap₂ (λ (a : List ℕ) (b : List (List ℕ)). a ∷ b) (ap (λ (n : ℕ). take n l) w ∙ take-length l)
     (ap (λ (n : ℕ). cut_to (length xs) (drop n l)) w ∙ ap (cut_to (length xs)) (drop-length l) ∙ cut_none (length xs) [] refl)
 
--- replies and the same blanked are cut into frames that are read alike
-pub cut_blanked : (l : List ℕ) → map read_frame (cut (blanked l)) ≡ map read_frame (cut l)
+-- so what is the same of a data frame and of its head and zeros is the same of all replies, cut, and of them blanked
+pub cut_by : {A : Type 0} (f : List (List ℕ) → A) → ((l : List ℕ) → get_or l 0 0 ≡ 0x46 → get_or (headed l) 0 0 ≡ 0x46 → f (headed l ∷ []) ≡ f (l ∷ [])) → (l : List ℕ) → f (cut (blanked l)) ≡ f (cut l)
 unfolding blanked
-cut_blanked [] = refl
-cut_blanked (x ∷ xs) =
+cut_by f same [] = refl
+cut_by f same (x ∷ xs) =
     let l : List ℕ = x ∷ xs in
-    by_test (λ (k : List ℕ). map read_frame (cut k) ≡ map read_frame (cut l)) (eqb x 0x46) (headed l) l
+    by_test (λ (k : List ℕ). f (cut k) ≡ f (cut l)) (eqb x 0x46) (headed l) l
     (λ t.
     let e : x ≡ 0x46 = eqb-true x 0x46 t in
-    ap (map read_frame) (cut_data x (take 3 xs ++ replicate (length l - 4) 0) e)
-    ∙ ap (λ (r : Result Frame Refusal). r ∷ []) (read_headed l e e) ∙ sym (ap (map read_frame) (cut_data x xs e)))
+    ap f (cut_data x (take 3 xs ++ replicate (length l - 4) 0) e) ∙ same l e e ∙ sym (ap f (cut_data x xs e)))
     (λ _. refl)
+
+-- replies and the same blanked are cut into frames that are read alike
+pub cut_blanked : (l : List ℕ) → map read_frame (cut (blanked l)) ≡ map read_frame (cut l)
+cut_blanked = cut_by (map read_frame) (λ l e h. ap (λ (r : Result Frame Refusal). r ∷ []) (read_headed l e h))
 
 -- the payload of host data is blanked away: of the head and the length alone
 pub payload_blanked : (head p : List ℕ) → length head ≡ 4 → get_or head 0 0 ≡ 0x46 → blanked (head ++ p) ≡ head ++ replicate (length p) 0

@@ -68,7 +68,7 @@ same_outcome : {d d' : Device} {r r' : Option Refusal} {n n' : ℕ} → d ≡ d'
 same_outcome p q r = cc
 
 -- by the definitions
-abbrev told_by : Device → Lent → Told
+abbrev pub told_by : Device → Lent → Told
 told_by d l = record {
   outcome = record { state = (step d l).state; refusal = (step d l).refusal; len = length (bytes_of (step d l)) };
   frames = map read_frame (cut (bytes_of (step d l)));
@@ -82,6 +82,14 @@ told_veiled d l =
     let same : shown (veil l).call x ≡ shown l.call (bytes_of (step d l)) =
     ap (λ (b : Bool). pick b (blanked x) x) (send_veiled l.call) ∙ shown_by (is_send l.call) x (bytes_of (step d l)) (blanked_alike d l) (bytes_veiled d l) in
     same_told (same_outcome (state_veiled d l) (refusal_veiled d l) (length_alike d l)) (read_alike d l) same
+
+module _ (d : Device) (a b : Lent) (e : veil a ≡ veil b) where
+  -- so of two calls that differ in contents alone
+  pub defined_alike : told_by d a ≡ told_by d b
+  defined_alike = sym (told_veiled d a) ∙ ap (told_by d) e ∙ told_veiled d b
+
+  pub blanked_same : blanked (bytes_of (step d a)) ≡ blanked (bytes_of (step d b))
+  blanked_same = sym (blanked_alike d a) ∙ ap (λ (l : Lent). blanked (bytes_of (step d l))) e ∙ blanked_alike d b
 
 -- the reply bytes in front of the buffer are those of the definitions
 pub reply_is : (d : Device) (l : Lent) (g : Gave) → Given d l g → reply_of g ≡ bytes_of (step d l)
@@ -97,8 +105,7 @@ given_told d l g p =
 -- ---- what is promised
 
 pub calls_alike : CallsAlike
-calls_alike d a b g h p q e =
-    given_told d a g p ∙ sym (told_veiled d a) ∙ ap (told_by d) e ∙ told_veiled d b ∙ sym (given_told d b h q)
+calls_alike d a b g h p q e = given_told d a g p ∙ defined_alike d a b e ∙ sym (given_told d b h q)
 
 pub rest_stays : RestStays
 rest_stays d l g p =
