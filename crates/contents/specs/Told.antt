@@ -16,11 +16,11 @@ unfoldable pub is_send : Call → Bool
 is_send (happens SendData) = true
 is_send _ = false
 
--- the reply bytes of a call but for a send's payload: what may differ is named by the call, and never by what the bytes look like, so that a log page, a data frame too, is no content [contents-told]
+-- the reply bytes of a call but for a send's payload: what may differ is named by the call, and never by what the bytes look like, so that a log page, a data frame too, is no content [contents-unseen]
 abbrev pub shown : Call → List ℕ → List ℕ
 shown c bytes = pick (is_send c) (blanked bytes) bytes
 
--- what is told of a call: the state that it left, its refusal and the length of its replies; each reply as its reader answers it, which is its kind, its length and every field; and the reply bytes but for a send's payload [contents-told]
+-- what is told of a call: the state that it left, its refusal and the length of its replies; each reply as its reader answers it, which is its kind, its length and every field; and the reply bytes but for a send's payload [contents-unseen]
 pub record Told : Type 0 where
   pub outcome : Outcome
   pub frames : List (Result Frame Refusal)

@@ -15,7 +15,7 @@ CallsAlike = (d : Device) (a b : Lent) (g h : Gave) → Given d a g → Given d 
 abbrev pub RestStays : Type 0
 RestStays = (d : Device) (a : Lent) (g : Gave) → Given d a g → drop g.outcome.len g.buffer ≡ drop g.outcome.len a.buffer
 
--- host data of one head, with any two payloads, media and reply buffers of the same lengths, differ in contents alone [contents-veiled]
+-- host data of one head, with any two payloads, media and reply buffers of the same lengths, differ in contents alone [contents-unseen]
 abbrev pub DataVeiled : Type 0
 DataVeiled =
     (head p q m n b c : List ℕ) → length head ≡ 4 → get_or head 0 0 ≡ 0x46 → length p ≡ length q → length m ≡ length n → length b ≡ length c

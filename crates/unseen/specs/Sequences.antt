@@ -13,7 +13,7 @@ use Rattle.contents.specs.Told.{Told, told}
 abbrev pub told_of : Done → Told
 told_of x = told x.lent x.gave
 
--- of two power-ons, each with the calls behind it, the same is told: of power-on, of call after call, and by the state at the end, with what it answers when it is asked for a counter or for the number of commands [contents-sequences]
+-- of two power-ons, each with the calls behind it, the same is told: of power-on, of call after call, and by the state at the end, with what it answers when it is asked for a counter or for the number of commands [contents-unseen]
 pub record SameTold (r q : Outcome) (xs ys : List Done) : Type 0 where
   pub power : r ≡ q
   pub calls : map told_of xs ≡ map told_of ys
@@ -21,6 +21,6 @@ pub record SameTold (r q : Outcome) (xs ys : List Done) : Type 0 where
   pub counter : (number : ℕ) (c e : Result (Option ℕ) Refusal) → CounterGiven (final r.state xs) number c → CounterGiven (final q.state ys) number e → c ≡ e
   pub count : (c e : Result ℕ Refusal) → CountGiven (final r.state xs) c → CountGiven (final q.state ys) e → c ≡ e
 
--- whatever the settings and the calls: two sequences from power-on that differ in contents alone, call by call [contents-sequences]
+-- whatever the settings and the calls: two sequences from power-on that differ in contents alone, call by call [contents-unseen]
 abbrev pub SequencesAlike : Type 0
 SequencesAlike = (s : Settings) (r q : Outcome) (xs ys : List Done) → Began s r xs → Began s q ys → map veil (lents xs) ≡ map veil (lents ys) → SameTold r q xs ys
