@@ -30,6 +30,11 @@ use Rattle.contents.proofs.Blanked.{read_blanked}
 abbrev by_lengths : Device → Call → ℕ → ℕ → Result Act Refusal
 by_lengths d c m b = act (facts_with d (tag_meant d.status.phase c) (medium_wrong d.settings.capacity m) (unready_in d c) b) c
 
+-- what a call comes to is decided by it, and of what it is lent by lengths alone
+by_its_lengths : (d : Device) (l : Lent) → act_of d l ≡ by_lengths d l.call (length l.medium) (length l.buffer)
+unfolding act_of
+by_its_lengths d l = refl
+
 by_lengths_veiled : (d : Device) (c : Call) (m b : ℕ) → by_lengths d (veiled_call c) m b ≡ by_lengths d c m b
 unfolding act tests does
 by_lengths_veiled d (host_frame f) m b = ap (heard_act (facts_with d (tag_meant d.status.phase (host_frame f)) (medium_wrong d.settings.capacity m) (unready_in d (host_frame f)) b)) (read_blanked f)
@@ -37,11 +42,10 @@ by_lengths_veiled d (happens e) m b = refl
 
 -- a call comes to the same, blanked
 pub act_veiled : (d : Device) (l : Lent) → act_of d (veil l) ≡ act_of d l
-unfolding act_of
 act_veiled d l =
     let m : length (veil l).medium ≡ length l.medium = length-replicate {A = ℕ} (length l.medium) 0 in
     let b : length (veil l).buffer ≡ length l.buffer = length-replicate {A = ℕ} (length l.buffer) 0 in
-    ap₂ (by_lengths d (veiled_call l.call)) m b ∙ by_lengths_veiled d l.call (length l.medium) (length l.buffer)
+    by_its_lengths d (veil l) ∙ ap₂ (by_lengths d (veiled_call l.call)) m b ∙ by_lengths_veiled d l.call (length l.medium) (length l.buffer) ∙ sym (by_its_lengths d l)
 
 -- ---- state and refusal
 
