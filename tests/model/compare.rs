@@ -132,7 +132,7 @@ fn agrees(seed: u64, bytes: &[u8], tested: &[Tested], path: &PathBuf) -> Result<
     for program in tested {
         let expected = (program.expected)(bytes);
         let fault = match program.lines(seed, path) {
-            Ok(lines) => difference(&expected, &lines),
+            Ok(lines) => difference(["model", "program"], &expected, &lines),
             Err(fault) => Some(fault),
         };
         if let Some(fault) = fault {
@@ -144,8 +144,8 @@ fn agrees(seed: u64, bytes: &[u8], tested: &[Tested], path: &PathBuf) -> Result<
     Ok(good)
 }
 
-/// The first line that differs, of both.
-pub fn difference(expected: &[u8], lines: &[u8]) -> Option<String> {
+/// The first line that differs, of both, each behind its name.
+pub fn difference(names: [&str; 2], expected: &[u8], lines: &[u8]) -> Option<String> {
     if expected == lines {
         return None;
     }
@@ -153,7 +153,8 @@ pub fn difference(expected: &[u8], lines: &[u8]) -> Option<String> {
     loop {
         let (our, their) = (ours.next(), theirs.next());
         if our != their {
-            return Some(format!("\n  model   {}\n  program {}", shown(our), shown(their)));
+            let [one, other] = names;
+            return Some(format!("\n  {:7} {}\n  {:7} {}", one, shown(our), other, shown(their)));
         }
     }
 }

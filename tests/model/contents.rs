@@ -1,6 +1,6 @@
-//! Contents must not show: pairs of random event files, and of random scripts of calls, that differ in medium bytes and
-//! in the payloads of host data alone, through the programs under test. Of what a pair prints nothing may differ but the
-//! payload that a send replies, and the bytes of the medium where a script asks for them.
+//! Contents must not show: pairs of random event files, and of random scripts of calls, that differ in medium bytes
+//! and in the payloads of host data alone, through the programs under test. Of what a pair prints nothing may differ but
+//! the payload that a send replies, and the bytes of the medium where a script asks for them.
 
 use crate::calls::bench::Bench;
 use crate::calls::command::{self, Command};
@@ -82,7 +82,7 @@ fn compare(
         let (shown, shown_twin) =
             (without_contents(&first, &pair.hides), without_contents(&twin, &pair.hides));
         found.other_contents += u64::from(first != twin && shown == shown_twin);
-        if let Some(fault) = difference(&shown, &shown_twin) {
+        if let Some(fault) = difference(["first", "twin"], &shown, &shown_twin) {
             found.mismatches += 1;
             println!("seed {}: {}: {}", seed, program.name(), fault);
         }
@@ -120,8 +120,8 @@ fn of_events(seed: u64) -> Pair {
     Pair { first, twin, other, hides }
 }
 
-/// A script: another fill, and other payloads; in the third, the first data frame has another kind. How many lines each
-/// line of a script prints, the model tells.
+/// A script: another fill, and other payloads; in the third, the first data frame has another kind. How many lines
+/// each line of a script prints, the model tells.
 fn of_calls(seed: u64) -> Pair {
     let mut random = Random::seeded(seed ^ 0xC0_7E);
     let script = random_calls::script(seed, random_calls::how_many(seed)).bytes;

@@ -19,7 +19,7 @@ pub headed_long : (f : List ℕ) → length (headed f) ≡ length f
 headed_long f = grind (arith, length-append, length-take, length-replicate)
 
 -- of a data frame the reader sees the length alone
-data_read : (l : List ℕ) → get_or l 0 0 ≡ 0x46 → read_frame l ≡ pick (readable 0x46 (length l)) (Ok (Data (length l - 4))) (Err NoFrame)
+pub data_read : (l : List ℕ) → get_or l 0 0 ≡ 0x46 → read_frame l ≡ pick (readable 0x46 (length l)) (Ok (Data (length l - 4))) (Err NoFrame)
 unfolding read_frame frame_by_kind
 data_read l e = rw e refl
 
@@ -43,7 +43,7 @@ unfolding blanked
 blanked_long f = by_test (λ (l : List ℕ). length l ≡ length f) (eqb (get_or f 0 0) 0x46) (headed f) f (λ _. headed_long f) (λ _. refl)
 
 -- a data frame takes all that is there
-cut_data : (x : ℕ) (xs : List ℕ) → x ≡ 0x46 → cut (x ∷ xs) ≡ (x ∷ xs) ∷ []
+pub cut_data : (x : ℕ) (xs : List ℕ) → x ≡ 0x46 → cut (x ∷ xs) ≡ (x ∷ xs) ∷ []
 unfolding cut fixed_size
 cut_data x xs e =
     let l : List ℕ = x ∷ xs in

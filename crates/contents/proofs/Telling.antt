@@ -52,7 +52,7 @@ shown_by : (b : Bool) (x y : List ℕ) → blanked x ≡ blanked y → (b ≡ fa
 shown_by true x y e f = e
 shown_by false x y e f = f refl
 
-send_veiled : (c : Call) → is_send (veiled_call c) ≡ is_send c
+pub send_veiled : (c : Call) → is_send (veiled_call c) ≡ is_send c
 unfolding is_send
 send_veiled (host_frame f) = refl
 send_veiled (happens e) = refl

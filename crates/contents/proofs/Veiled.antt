@@ -1,5 +1,5 @@
 -- What is decided does not see contents: of a call and the same with its contents blanked. Assumes nothing.
-use Rattle.std.proofs.Common.{Option, Some, None, Result, Ok, Err, ◌≡◌, false, true≢false, refl, sym, ap, ap₂, ◌∙◌, List, [], ◌∷◌, map, ℕ, ◌-◌, min, length, drop, length-take, length-drop}
+use Rattle.std.proofs.Common.{Option, Some, None, Result, Ok, Err, ◌≡◌, true, false, true≢false, refl, sym, ap, ap₂, ◌∙◌, List, [], ◌∷◌, map, ℕ, ◌-◌, min, length, drop, length-take, length-drop}
 use Rattle.std.proofs.lemmas.List.{length-replicate}
 use Rattle.frames.specs.Write.{FrameValue, payload}
 use Rattle.frames.specs.RoundTrip.{read_back}
@@ -105,13 +105,8 @@ pub unsent : (v : Facts) (m : List ℕ) {c : Call} {x : Result Act Refusal} → 
 unfolding touch_of is_send
 unsent v m (by.refused c r e) o = refl
 unsent v m (by.host f a g w s h) o = sym (by.heard_unsent v m h)
-unsent v m (by.own (by.opened t g s p q e)) o = refl
 unsent v m (by.own (by.sent g w s p r)) o = absurd (true≢false o)
-unsent v m (by.own (by.finished t g s q e r)) o = refl
-unsent v m (by.own (by.failed t e x g s p y w)) o = refl
-unsent v m (by.own (by.linked r g x)) o = refl
-unsent v m (by.own (by.tallied ns g x)) o = refl
-unsent v m (by.own (by.renewed g s)) o = refl
+unsent v m (by.own _) o = refl
 
 -- the replies of every call but a send are the same frames
 pub frames_veiled : (d : Device) (l : Lent) → is_send l.call ≡ false → (step d (veil l)).frames ≡ (step d l).frames
@@ -120,6 +115,19 @@ frames_veiled d l o =
     let x : Result Act Refusal = act_of d l in
     let none : (m : List ℕ) → part_by x m ≡ [] = λ m. unsent (facts_of d l) m (by.ruled (facts_of d l) l.call) o in
     frames_are_veiled d l ∙ ap (λ (p : List ℕ). frames_by (state_shown d) p x) (none (veil l).medium ∙ sym (none l.medium)) ∙ sym (frames_are d l)
+
+-- a send replies nothing, or one data frame
+send_by : (P : List FrameValue → Type 0) → P [] → ((p : List ℕ) → P (payload p ∷ [])) → (s : Shown) (v : Facts) (p : List ℕ) {c : Call} {x : Result Act Refusal} → by.Ruled v c x → is_send c ≡ true → P (frames_by s p x)
+unfolding is_send replies_of
+send_by P none one s v p (by.refused c r e) o = none
+send_by P none one s v p (by.host f a g w t h) o = absurd (true≢false (sym o))
+send_by P none one s v p (by.own (by.sent g w t q r)) o = one p
+send_by P none one s v p (by.own _) o = absurd (true≢false (sym o))
+
+pub send_frames : (P : List FrameValue → Type 0) → P [] → ((p : List ℕ) → P (payload p ∷ [])) → (d : Device) (l : Lent) → is_send l.call ≡ true → P (step d l).frames
+unfolding act_of
+send_frames P none one d l o =
+    rw (frames_are d l) (send_by P none one (state_shown d) (facts_of d l) (part_by (act_of d l) l.medium) (by.ruled (facts_of d l) l.call) o)
 
 -- a part of the medium is as long whatever stands there
 sent_long : (t : Touch) (m n : List ℕ) → length m ≡ length n → length (sent_by t m) ≡ length (sent_by t n)

@@ -1,6 +1,5 @@
 -- What a call leaves of medium and reply buffer is as long whatever contents are. Assumes nothing.
-use Rattle.std.proofs.Common.{Result, Ok, Err, ◌≡◌, refl, sym, ap, ap₂, ◌∙◌, Bool, true, false, ◌&&◌, List, [], ◌∷◌, ◌++◌, ℕ, ◌+◌, ◌-◌, ◌≤◌, arith, leb, length, take, drop, length-append, length-take, length-drop, leb-true}
-use Rattle.bits.specs.Pick.{pick}
+use Rattle.std.proofs.Common.{Result, Ok, Err, ◌≡◌, refl, ◌&&◌, List, ◌++◌, ℕ, ◌≤◌, arith, leb, length, take, drop, length-append, length-take, length-drop, leb-true}
 use Rattle.bits.specs.Laid.{overlay, overlay_with_room}
 use Rattle.bits.proofs.Picks.{by_test, and_right}
 use Rattle.device_state.specs.Stored.{stored_medium}

@@ -1,20 +1,19 @@
 -- Runs of the event program that differ in contents alone. Assumes nothing.
-use Rattle.std.proofs.Common.{Option, ◌≡◌, refl, sym, ap, ap₂, ◌∙◌, true, false, List, [], ◌∷◌, ◌++◌, map, ℕ, ◌+◌, arith, length, get_or, replicate, unwrap_or}
+use Rattle.std.proofs.Common.{◌≡◌, refl, sym, ap, ap₂, ◌∙◌, true, false, List, [], ◌∷◌, ◌++◌, map, ℕ, ◌+◌, arith, length, get_or, replicate, unwrap_or}
 use Rattle.std.proofs.lemmas.List.{length-replicate}
 use Rattle.bits.specs.Laid.{overlay}
 use Rattle.frames.specs.Cut.{cut}
-use Rattle.refusals.specs.declared.reasons.Refusal.{Refusal}
 use Rattle.rules.specs.Call.{Call, host_frame}
 use Rattle.device.specs.DataDue.{data_due}
 use Rattle.device.specs.Lent.{Lent, lent}
-use Rattle.device.specs.Step.{Step, step, bytes_of}
+use Rattle.device.specs.Step.{step, bytes_of}
 use Rattle.device.specs.declared.state.Device.{Device}
 use Rattle.events.specs.declared.asked.Event.{Event}
 use Rattle.events.specs.declared.asked.Event.TheVariants.{OfDevice, HostData, HostRegister, Bist}
 use Rattle.events.specs.Calls.{call_of}
 use Rattle.events.specs.HostData.{data_frame}
 use Rattle.events.specs.Lines.{typed, fields_of, head_of, line_of}
-use Rattle.events.specs.Running.{Kept, kept, after, told, lines_from, Read, nothing, begun, count_read, started, start_line, run_lines}
+use Rattle.events.specs.Running.{Kept, kept, after, told, lines_from, nothing, begun, count_read, started, start_line, run_lines}
 use Rattle.contents.specs.Veil.{headed, blanked, veiled_call, veil}
 use Rattle.contents.specs.Told.{Told}
 use Rattle.contents.proofs.Blanked.{headed_long, cut_by, payload_blanked}
@@ -85,7 +84,7 @@ from_alike (e ∷ es) (e' ∷ es') n d m m' b b' v p q =
     let t : told_by d x ≡ told_by d y = defined_alike d x y same in
     let s : (step d y).state ≡ (step d x).state = sym (ap (λ (z : Told). z.outcome.state) t) in
     let fields : fields_of false (cut (bytes_of (step d x))) ≡ fields_of false (cut (bytes_of (step d y))) =
-        fields_alike (bytes_of (step d x)) (bytes_of (step d y)) (blanked_same d x y same) in
+    fields_alike (bytes_of (step d x)) (bytes_of (step d y)) (blanked_same d x y same) in
     let long : length (step d x).medium ≡ length (step d y).medium = medium_long d x ∙ p ∙ sym (medium_long d y) in
     let over : length (overlay (bytes_of (step d x)) b) ≡ length (overlay (bytes_of (step d y)) b') = over_long (bytes_of (step d x)) (bytes_of (step d y)) b b' (ap (λ (z : Told). z.outcome.len) t) q in
     let rest = rest_event (veiled_event e) (veiled_event e') (map veiled_event es) (map veiled_event es') v in
