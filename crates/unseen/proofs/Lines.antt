@@ -1,6 +1,7 @@
 -- Runs of the event program that differ in contents alone. Assumes nothing.
 use Rattle.std.proofs.Common.{◌≡◌, refl, sym, ap, ap₂, ◌∙◌, true, false, List, [], ◌∷◌, ◌++◌, map, ℕ, ◌+◌, arith, length, get_or, replicate, unwrap_or}
 use Rattle.std.proofs.lemmas.List.{length-replicate}
+use Rattle.bits.proofs.Picks.{pick_no}
 use Rattle.bits.specs.Laid.{overlay}
 use Rattle.frames.specs.Cut.{cut}
 use Rattle.rules.specs.Call.{Call, host_frame}
@@ -13,12 +14,12 @@ use Rattle.events.specs.declared.asked.Event.TheVariants.{OfDevice, HostData, Ho
 use Rattle.events.specs.Calls.{call_of}
 use Rattle.events.specs.HostData.{data_frame}
 use Rattle.events.specs.Lines.{typed, fields_of, head_of, line_of}
-use Rattle.events.specs.Running.{Kept, kept, after, told, lines_from, nothing, begun, count_read, started, start_line, run_lines}
+use Rattle.events.specs.Running.{Kept, kept, step_of, after, told, lines_from, nothing, begun, count_read, started, start_line, run_lines}
 use Rattle.contents.specs.Veil.{headed, blanked, veiled_call, veil}
-use Rattle.contents.specs.Told.{Told}
+use Rattle.contents.specs.Told.{is_send, Told}
 use Rattle.contents.proofs.Blanked.{headed_long, cut_by, payload_blanked}
 use Rattle.contents.proofs.Telling.{told_by, defined_alike, blanked_same}
-use Rattle.unseen.specs.Lines.{veiled_event, shown_from, shown_trace, SameLines, LinesAlike}
+use Rattle.unseen.specs.Lines.{veiled_event, shown_from, shown_trace, SameLines, LinesAlike, OthersWhole}
 use Rattle.unseen.proofs.Lengths.{medium_long, over_long}
 
 -- ---- one event
@@ -124,3 +125,9 @@ lines_alike (begun s es) (begun s' es') v =
       lines = ap (λ (x : List ℕ). run_lines false (begun x es)) q ∙ f.lines;
       trace = ap (λ (x : List ℕ). shown_trace (begun x es)) q ∙ f.trace;
     }
+
+pub others_whole : OthersWhole
+unfolding told
+others_whole n k e o =
+    let b : List ℕ = bytes_of (step_of k e) in
+    ap (line_of true n (step_of k e).refusal (step_of k e).state.status.outstanding) (pick_no (is_send (call_of k.device e)) (blanked b) b o)

@@ -5,8 +5,8 @@ use Rattle.events.specs.declared.asked.Event.{Event}
 use Rattle.events.specs.declared.asked.Event.TheVariants.{HostData}
 use Rattle.events.specs.Calls.{call_of}
 use Rattle.events.specs.Lines.{line_of}
-use Rattle.events.specs.Running.{Kept, step_of, after, Read, nothing, begun, started, start_line, run_lines}
-use Rattle.contents.specs.Told.{shown}
+use Rattle.events.specs.Running.{Kept, step_of, after, told, Read, nothing, begun, started, start_line, run_lines}
+use Rattle.contents.specs.Told.{is_send, shown}
 
 -- an event without its contents: of host data, the byte that fills it; every other event has none [contents-lines]
 abbrev pub veiled_event : Event → Event
@@ -27,7 +27,7 @@ unfoldable pub shown_from : ℕ → Kept → List Event → List ℕ
 shown_from n k [] = []
 shown_from n k (e ∷ es) = shown_line n k e ++ shown_from (n + 1) (after k e) es
 
--- the trace of a run, with zeros for the payloads of sends; its other bytes are those of `run_lines true` [contents-lines]
+-- the trace of a run, with zeros for the payloads of sends [contents-lines]
 unfoldable pub shown_trace : Read → List ℕ
 shown_trace nothing = []
 shown_trace (begun s es) = start_line true s ++ shown_from 1 (started s) es
@@ -40,3 +40,7 @@ pub record SameLines (a b : Read) : Type 0 where
 -- so do those that read event files which differ in contents alone [contents-lines]
 abbrev pub LinesAlike : Type 0
 LinesAlike = (a b : Read) → veiled_read a ≡ veiled_read b → SameLines a b
+
+-- of every event but a send that is the line of the trace as it stands
+abbrev pub OthersWhole : Type 0
+OthersWhole = (n : ℕ) (k : Kept) (e : Event) → is_send (call_of k.device e) ≡ false → shown_line n k e ≡ told true n k e
