@@ -39,8 +39,13 @@ impl Tested {
         Tested::new(command, calls::text)
     }
 
+    /// The program, without its arguments.
+    pub fn name(&self) -> &str {
+        &self.words[0]
+    }
+
     /// What it prints for a file, or why nothing came of it.
-    fn lines(&self, seed: u64, file: &Path) -> Result<Vec<u8>, String> {
+    pub fn lines(&self, seed: u64, file: &Path) -> Result<Vec<u8>, String> {
         let done = match seed % 2 {
             0 => self.fed_by_file(file),
             _ => self.fed_by_pipe(file, 1 + seed as usize % 61),
@@ -127,11 +132,11 @@ fn agrees(seed: u64, bytes: &[u8], tested: &[Tested], path: &PathBuf) -> Result<
     for program in tested {
         let expected = (program.expected)(bytes);
         let fault = match program.lines(seed, path) {
-            Ok(lines) => difference(&expected, &lines),
+            Ok(lines) => difference(["model", "program"], &expected, &lines),
             Err(fault) => Some(fault),
         };
         if let Some(fault) = fault {
-            println!("seed {}: {}: {}", seed, program.words[0], fault);
+            println!("seed {}: {}: {}", seed, program.name(), fault);
             println!("  kept: {}", path.display());
             good = false;
         }
@@ -139,8 +144,8 @@ fn agrees(seed: u64, bytes: &[u8], tested: &[Tested], path: &PathBuf) -> Result<
     Ok(good)
 }
 
-/// The first line that differs, of both.
-fn difference(expected: &[u8], lines: &[u8]) -> Option<String> {
+/// The first line that differs, of both, each behind its name.
+pub fn difference(names: [&str; 2], expected: &[u8], lines: &[u8]) -> Option<String> {
     if expected == lines {
         return None;
     }
@@ -148,7 +153,8 @@ fn difference(expected: &[u8], lines: &[u8]) -> Option<String> {
     loop {
         let (our, their) = (ours.next(), theirs.next());
         if our != their {
-            return Some(format!("\n  model   {}\n  program {}", shown(our), shown(their)));
+            let [one, other] = names;
+            return Some(format!("\n  {:7} {}\n  {:7} {}", one, shown(our), other, shown(their)));
         }
     }
 }

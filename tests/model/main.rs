@@ -5,6 +5,8 @@
 //!   --random SEED              the random event file of a seed
 //!   --compare N FROM T R       random files through the programs T (trace) and
 //!                              R (run; empty: not compared) and the model
+//!   --contents N FROM T R C    pairs of random event files through T and R, and
+//!                              of scripts through C, that differ in contents
 //!   --random-calls SEED LINES  the random script of calls of a seed
 //!   --compare-calls N FROM C   random scripts through the program C and the model
 //!   --run, --trace             the event program: events in, lines out; a
@@ -16,6 +18,7 @@
 
 mod calls;
 mod compare;
+mod contents;
 mod device;
 mod examples;
 mod fields;
@@ -43,6 +46,10 @@ fn main() {
         ["--random", seed] => random::file(number(seed)).bytes,
         ["--compare", count, from, trace, run] => {
             return compare_with(number(count), number(from), trace, run)
+        }
+        ["--contents", count, from, trace, run, calls] => {
+            let events = [Tested::trace(trace), Tested::run(run)];
+            return hide_contents(number(count), number(from), &events, &[Tested::calls(calls)]);
         }
         ["--calls", script] => return run_calls(script),
         ["--check-calls", ref scripts @ ..] => return check_calls(scripts),
@@ -81,6 +88,17 @@ fn compare_drawn(kind: &compare::Kind, count: u64, from: u64, tested: &[Tested])
         Ok(true) => {}
         Ok(false) => exit(1),
         Err(fault) => fail(&format!("model: {}", fault)),
+    }
+}
+
+/// Status 1 if contents show, or if nothing could have shown it.
+fn hide_contents(count: u64, from: u64, events: &[Tested], calls: &[Tested]) {
+    let found = contents::run(count, from, events, calls, Path::new("target/contents"))
+        .unwrap_or_else(|fault| fail(&format!("model: {}", fault)));
+    println!("{} of {} inputs with a changed head or tag told apart", found.told_apart, found.changed);
+    println!("{} pairs print other contents, {} anything else", found.other_contents, found.mismatches);
+    if found.mismatches != 0 || found.other_contents == 0 || found.told_apart == 0 {
+        exit(1);
     }
 }
 

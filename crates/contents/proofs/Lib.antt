@@ -1,0 +1,4 @@
+pub mod Blanked
+pub mod Veiled
+pub mod Telling
+pub mod Tied

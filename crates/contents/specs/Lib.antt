@@ -1,0 +1,3 @@
+pub mod Veil
+pub mod Told
+pub mod Unseen

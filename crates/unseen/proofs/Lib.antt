@@ -1,0 +1,4 @@
+pub mod Sequences
+pub mod Lengths
+pub mod Lines
+pub mod Tied
