@@ -12,7 +12,7 @@ use Rattle.rules.specs.Medium.{Touch, leaves, sends, stores, touch_of, sent_by, 
 use Rattle.rules.specs.declared.facts.Facts.{Facts}
 use Rattle.rules.proofs.Ruled as by
 use Rattle.rules.specs.declared.acts.Act.{Act}
-use Rattle.rules.specs.declared.acts.Act.TheVariants.{Nothing, Bad, BadAndHalt, Accept, Log10, Log11, Reset, Release, ZeroCounters, Store, Open, Send, Finish, Media, Count, Renew}
+use Rattle.rules.specs.declared.acts.Act.TheVariants.{Nothing, Bad, BadAndHalt, Accept, Log10, Log11, Identify, Reset, Release, ZeroCounters, Store, Open, Send, Finish, Media, Count, Renew}
 use Rattle.replies.specs.Replies.{replies_of}
 use Rattle.replies.specs.declared.shown.Shown.{Shown}
 use Rattle.device.specs.Lent.{Lent}
@@ -150,6 +150,7 @@ by_part R s p q same sent (BadAndHalt f) = same _
 by_part R s p q same sent (Accept k) = same _
 by_part R s p q same sent (Log10 t) = same _
 by_part R s p q same sent (Log11 l) = same _
+by_part R s p q same sent (Identify t) = same _
 by_part R s p q same sent Reset = same _
 by_part R s p q same sent Release = same _
 by_part R s p q same sent ZeroCounters = same _
