@@ -71,10 +71,7 @@ fn call(device: Device, event: Event, medium: &mut [u8], reply: &mut [u8]) -> Ou
 
 // The settings record of the input, and what is behind it.
 fn split_settings(input: &[u8]) -> Option<(Settings, &[u8])> {
-    Some((
-        events::first_settings(input)?,
-        input.get(SETTINGS_SIZE..)?,
-    ))
+    Some((events::first_settings(input)?, input.get(SETTINGS_SIZE..)?))
 }
 
 // The next event, and what is behind it.
