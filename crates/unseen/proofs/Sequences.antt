@@ -14,6 +14,7 @@ use Rattle.history.specs.Replied.{some, is_pio, payloads}
 use Rattle.refusals.specs.declared.reasons.Refusal.{Refusal}
 use Rattle.device_state.specs.declared.shapes.Settings.{Settings}
 use Rattle.device.specs.Counter.{CounterGiven, CountGiven, counter_of, count_of}
+use Rattle.device.specs.DataDue.{data_due}
 use Rattle.device.specs.Lent.{Lent}
 use Rattle.device.specs.Step.{Given}
 use Rattle.device.specs.declared.state.Device.{Device}
@@ -119,7 +120,15 @@ sequences_alike s r q xs ys f g e =
     let g' : FollowsBy Given r.state ys = subst (λ (z : Outcome). FollowsBy Given z.state ys) (sym p) g.follows in
     let a = follows_alike xs ys r.state f.follows g' e in
     let end : final r.state xs ≡ final q.state ys = a.state ∙ ap (λ (z : Outcome). final z.state ys) p in
-    record { power = p; calls = a.calls; pages = a.pages; state = end; counter = counter_alike (final r.state xs) (final q.state ys) end; count = count_alike (final r.state xs) (final q.state ys) end }
+    record {
+      power = p;
+      calls = a.calls;
+      pages = a.pages;
+      state = end;
+      counter = counter_alike (final r.state xs) (final q.state ys) end;
+      count = count_alike (final r.state xs) (final q.state ys) end;
+      due = ap data_due end;
+    }
 
 -- of the code: of all results that the calls' own contracts allow, by value
 pub sequences_code : (s : Settings) (r q : Outcome) (xs ys : List Done) → BeganCode s r xs → BeganCode s q ys → map veil (lents xs) ≡ map veil (lents ys) → SameTold r q xs ys
