@@ -5,6 +5,7 @@ use Rattle.bits.proofs.Picks.{pick_no}
 use Rattle.bits.specs.Laid.{overlay}
 use Rattle.frames.specs.Cut.{cut}
 use Rattle.rules.specs.Call.{Call, host_frame}
+use Rattle.device_state.specs.declared.shapes.Settings.{Settings}
 use Rattle.device.specs.DataDue.{data_due}
 use Rattle.device.specs.Lent.{Lent, lent}
 use Rattle.device.specs.Step.{step, bytes_of}
@@ -102,13 +103,13 @@ from_alike (e ∷ es) (e' ∷ es') n d m m' b b' v p q =
 
 -- ---- whole runs
 
-same_settings : (s s' : List ℕ) (es es' : List Event) → begun s es ≡ begun s' es' → s ≡ s'
+same_settings : (s s' : Settings) (es es' : List Event) → begun s es ≡ begun s' es' → s ≡ s'
 same_settings s s' es es' e = cc
 
-same_events : (s s' : List ℕ) (es es' : List Event) → begun s es ≡ begun s' es' → es ≡ es'
+same_events : (s s' : Settings) (es es' : List Event) → begun s es ≡ begun s' es' → es ≡ es'
 same_events s s' es es' e = cc
 
-begun_alike : (s : List ℕ) (es es' : List Event) → map veiled_event es ≡ map veiled_event es' → SameLines (begun s es) (begun s es')
+begun_alike : (s : Settings) (es es' : List Event) → map veiled_event es ≡ map veiled_event es' → SameLines (begun s es) (begun s es')
 unfolding run_lines shown_trace started
 begun_alike s es es' v =
     let f = from_alike es es' 1 (started s).device (started s).medium (started s).medium (started s).reply (started s).reply v refl refl in
@@ -122,8 +123,8 @@ lines_alike (begun s es) (begun s' es') v =
     let f = begun_alike s' es es' (same_events s s' (map veiled_event es) (map veiled_event es') v) in
     let q : s ≡ s' = same_settings s s' (map veiled_event es) (map veiled_event es') v in
     record {
-      lines = ap (λ (x : List ℕ). run_lines false (begun x es)) q ∙ f.lines;
-      trace = ap (λ (x : List ℕ). shown_trace (begun x es)) q ∙ f.trace;
+      lines = ap (λ (x : Settings). run_lines false (begun x es)) q ∙ f.lines;
+      trace = ap (λ (x : Settings). shown_trace (begun x es)) q ∙ f.trace;
     }
 
 pub others_whole : OthersWhole
