@@ -1,0 +1,6 @@
+pub mod Samples
+pub mod Reading
+pub mod Changes
+pub mod Rows
+pub mod Refused
+pub mod Table

@@ -1,0 +1,13 @@
+// The hourly table: of page 11h samples, each with its hour, what each counter has counted in each hour, as comma-separated
+// text. Every public function is total and has no `requires`.
+#![tactic(auto)]
+
+mod changes;
+mod checking;
+mod hours;
+mod reasons;
+mod rows;
+mod samples;
+
+pub use reasons::TableRefusal;
+pub use samples::Sample;
