@@ -4,3 +4,4 @@ pub mod Changes
 pub mod Rows
 pub mod Refused
 pub mod Table
+pub mod Room

@@ -27,9 +27,13 @@ hours_of (s ∷ ss) = range_with_len s.hour (last_hour s ss + 1 - s.hour)
 unfoldable pub hour_rows : List Sampled → List ℕ → ℕ → List ℕ
 hour_rows samples numbers hour = flat_map (λ number. row_text hour number (change_in samples hour number)) numbers
 
--- the header, and behind it the rows of each hour; of no samples the header alone [table-rows]
+-- all rows, an hour behind the other
+abbrev pub rows_of : List Sampled → List ℕ → List ℕ
+rows_of samples numbers = flat_map (hour_rows samples numbers) (hours_of samples)
+
+-- the header, and behind it the rows; of no samples the header alone [table-rows]
 unfoldable pub table : List Sampled → List ℕ → List ℕ
-table samples numbers = header ++ flat_map (hour_rows samples numbers) (hours_of samples)
+table samples numbers = header ++ rows_of samples numbers
 
 -- the input's tests, and behind them 71: the room is too short for the table [refused-71]
 abbrev pub table_tests : List Sampled → List ℕ → ℕ → List TableTest

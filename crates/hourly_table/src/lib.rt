@@ -8,6 +8,10 @@ mod hours;
 mod reasons;
 mod rows;
 mod samples;
+mod sizing;
+mod tables;
+mod writing;
 
 pub use reasons::TableRefusal;
 pub use samples::Sample;
+pub use tables::{table_size, write_table};

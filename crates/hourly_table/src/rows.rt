@@ -1,9 +1,12 @@
-// A row of the table.
+// The lines of the table.
 ghost use Rattle.std.specs.Prelude.{◌≡◌, ◌+◌, ◌<◌, ◌≤◌, ◌++◌, ◌%◌};
 ghost use Rattle.arrayvec.specs.ArrayString.{array_string_len};
 ghost use Rattle.hourly_table.specs.Rows.{row_text, hex_digit, hex_number, field_text};
 
 use arrayvec::ArrayString;
+
+/// The first line, with how the fields of the rows are called.
+pub(crate) const HEADER: [u8; 21] = *b"hour,counter,change\r\n";
 
 /// No row is longer: 20 digits, 3 and 20, two commas, CR and LF.
 pub(crate) const ROW_LIMIT: usize = 47;
