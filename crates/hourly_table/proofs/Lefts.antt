@@ -89,30 +89,35 @@ module _ {X : Type 0} (f : X → List ℕ) (xs : List X) (room : ℕ) where
 
 -- ---- of the numbers from one to another
 
-module _ (f : ℕ → List ℕ) (first last room : ℕ) where
+module _ (first last : ℕ) where
   abbrev pub span : List ℕ
   span = range_with_len first (last + 1 - first)
 
-  at_hour : (hour : ℕ) → first ≤ hour → hour ≤ last → get_or span (hour - first) 0 ≡ hour
+  pub at_hour : (hour : ℕ) → first ≤ hour → hour ≤ last → get_or span (hour - first) 0 ≡ hour
   at_hour hour h l = get_or-range_with_len first (last + 1 - first) (hour - first) 0 (omega arith) ∙ omega arith
 
-  in_span : (hour : ℕ) → first ≤ hour → hour ≤ last → hour - first < length span
+  pub in_span : (hour : ℕ) → first ≤ hour → hour ≤ last → hour - first < length span
   in_span hour h l = omega (arith, length-range_with_len first (last + 1 - first))
 
-  pub hour_step : (hour left : ℕ) (r : Option ℕ) → first ≤ hour → hour ≤ last → LeftAt f span room (hour - first) left → r ≡ left_of left (f hour) → r ≡ left_of room (flat_map f (take (hour + 1 - first) span))
+  -- behind the last hour, also where that is lower than the first
+  pub past_span : (hour : ℕ) → last < hour → length span ≤ hour - first
+  past_span hour h = omega (arith, length-range_with_len first (last + 1 - first))
+
+module _ (f : ℕ → List ℕ) (first last room : ℕ) where
+  pub hour_step : (hour left : ℕ) (r : Option ℕ) → first ≤ hour → hour ≤ last → LeftAt f (span first last) room (hour - first) left → r ≡ left_of left (f hour) → r ≡ left_of room (flat_map f (take (hour + 1 - first) (span first last)))
   hour_step hour left r h l a e =
       let i : (hour - first) + 1 ≡ hour + 1 - first = omega arith in
-      left_step f span room (hour - first) left 0 r (in_span hour h l) a (e ∙ ap (λ x. left_of left (f x)) (sym (at_hour hour h l)))
-      ∙ ap (λ n. left_of room (flat_map f (take n span))) i
+      left_step f (span first last) room (hour - first) left 0 r (in_span first last hour h l) a (e ∙ ap (λ x. left_of left (f x)) (sym (at_hour first last hour h l)))
+      ∙ ap (λ n. left_of room (flat_map f (take n (span first last)))) i
 
-  pub hour_stop : (hour left : ℕ) → first ≤ hour → hour ≤ last → LeftAt f span room (hour - first) left → None ≡ left_of left (f hour) → None ≡ left_of room (flat_map f span)
-  hour_stop hour left h l a e = left_stop f span room (hour - first) left 0 (in_span hour h l) a (e ∙ ap (λ x. left_of left (f x)) (sym (at_hour hour h l)))
+  pub hour_stop : (hour left : ℕ) → first ≤ hour → hour ≤ last → LeftAt f (span first last) room (hour - first) left → None ≡ left_of left (f hour) → None ≡ left_of room (flat_map f (span first last))
+  hour_stop hour left h l a e = left_stop f (span first last) room (hour - first) left 0 (in_span first last hour h l) a (e ∙ ap (λ x. left_of left (f x)) (sym (at_hour first last hour h l)))
 
   -- behind the last hour
-  pub hour_last : (hour left left' : ℕ) → first ≤ hour → hour ≡ last → LeftAt f span room (hour - first) left → Some left' ≡ left_of left (f hour) → Some left' ≡ left_of room (flat_map f span)
+  pub hour_last : (hour left left' : ℕ) → first ≤ hour → hour ≡ last → LeftAt f (span first last) room (hour - first) left → Some left' ≡ left_of left (f hour) → Some left' ≡ left_of room (flat_map f (span first last))
   hour_last hour left left' h l a e =
-      left_end f span room (hour + 1 - first) left' (omega (arith, length-range_with_len first (last + 1 - first))) (hour_step hour left (Some left') h (omega arith) a e)
+      left_end f (span first last) room (hour + 1 - first) left' (past_span first last (hour + 1) (omega arith)) (hour_step hour left (Some left') h (omega arith) a e)
 
   -- where the last is lower than the first
-  pub hour_none : (hour left : ℕ) → last < hour → LeftAt f span room (hour - first) left → Some left ≡ left_of room (flat_map f span)
-  hour_none hour left l a = left_end f span room (hour - first) left (omega (arith, length-range_with_len first (last + 1 - first))) a
+  pub hour_none : (hour left : ℕ) → last < hour → LeftAt f (span first last) room (hour - first) left → Some left ≡ left_of room (flat_map f (span first last))
+  hour_none hour left l a = left_end f (span first last) room (hour - first) left (past_span first last hour l) a

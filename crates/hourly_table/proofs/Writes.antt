@@ -1,11 +1,11 @@
 -- Texts written one behind the other. Assumes nothing.
 use Rattle.std.proofs.Common.{◌≡◌, refl, sym, ap, ◌∙◌, ℕ, ◌+◌, ◌-◌, ◌<◌, ◌≤◌, List, [], ◌∷◌, ◌++◌, length, get_or, take, drop, arith, length-append, length-drop, take_all}
 use borrow.Rule.Slice.PartMut.{mid_of, put_mid}
-use Rattle.std.specs.List.{flat_map, range_with_len}
+use Rattle.std.specs.List.{flat_map}
 use Rattle.std.proofs.lemmas.List.Folds.{length-flat_map-take}
 use Rattle.bits.specs.Laid.{overlay, overlay_with_room}
 use Rattle.bits.proofs.Fronts.{laid_next, rest_part, over_yes}
-use Rattle.hourly_table.proofs.Lefts.{texts_more, texts_all}
+use Rattle.hourly_table.proofs.Lefts.{texts_more, span, at_hour, in_span}
 
 module _ {X : Type 0} (f : X → List ℕ) (xs : List X) (old : List ℕ) where
   -- the texts of the first i elements are written, and are so long
@@ -43,3 +43,21 @@ module _ {X : Type 0} (f : X → List ℕ) (xs : List X) (old : List ℕ) where
       let part = mid_of len (length out - len) out in
       let fits : length row ≤ length part = omega (arith, room_next i out len d h w room same, ap length e) in
       written_step i out len n d ys h w (m ∙ ap length e) (y ∙ over_yes row part fits ∙ ap (λ r. overlay r part) e)
+
+-- ---- of the numbers from one to another
+
+module _ (f : ℕ → List ℕ) (first last : ℕ) (old : List ℕ) where
+  module _ (hour : ℕ) (out : List ℕ) (len : ℕ) (low : first ≤ hour) (high : hour ≤ last) (w : WrittenAt f (span first last) old (hour - first) out len) where
+    same_hour : f (get_or (span first last) (hour - first) 0) ≡ f hour
+    same_hour = ap f (at_hour first last hour low high)
+
+    pub hour_room : length (flat_map f (span first last)) ≤ length old → length out ≡ length old → length (f hour) ≤ length (mid_of len (length out - len) out)
+    hour_room room same = omega (arith, room_next f (span first last) old (hour - first) out len 0 (in_span first last hour low high) w room same, ap length same_hour)
+
+    pub hour_written : (n : ℕ) (ys : List ℕ) → n ≡ length (f hour) → ys ≡ overlay (f hour) (mid_of len (length out - len) out)
+        → WrittenAt f (span first last) old (hour + 1 - first) (put_mid len (length out - len) out ys) (len + n)
+    hour_written n ys e y =
+        let i : (hour - first) + 1 ≡ hour + 1 - first = omega arith in
+        rw (← i)
+        (written_step f (span first last) old (hour - first) out len n 0 ys (in_span first last hour low high) w (e ∙ ap length (sym same_hour))
+        (y ∙ ap (λ l. overlay l (mid_of len (length out - len) out)) (sym same_hour)))
