@@ -4,3 +4,6 @@ pub mod Lefts
 pub mod HourRows
 pub mod Spans
 pub mod Writes
+pub mod Firsts
+pub mod Sorted
+pub mod Sizes

@@ -61,3 +61,17 @@ module _ (f : ℕ → List ℕ) (first last : ℕ) (old : List ℕ) where
         rw (← i)
         (written_step f (span first last) old (hour - first) out len n 0 ys (in_span first last hour low high) w (e ∙ ap length (sym same_hour))
         (y ∙ ap (λ l. overlay l (mid_of len (length out - len) out)) (sym same_hour)))
+
+-- ---- a header in front of rows
+
+module _ (head rows old buf : List ℕ) (room : length (head ++ rows) ≤ length old) (laid : buf ≡ overlay_with_room head old) (same : length buf ≡ length old) where
+  pub header_laid : buf ≡ overlay head old
+  header_laid = laid ∙ over_yes head old (omega (arith, room, length-append head rows))
+
+  pub header_fits : length head ≤ length buf
+  header_fits = omega (arith, room, same, length-append head rows)
+
+  pub rows_room : length rows ≤ length (mid_of (length head) (length buf - length head) buf)
+  rows_room =
+      let mid : length (mid_of (length head) (length buf - length head) buf) ≡ length buf - length head = ap length (rest_part (length head) buf) ∙ length-drop (length head) buf in
+      omega (arith, mid, room, same, length-append head rows)

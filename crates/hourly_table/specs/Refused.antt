@@ -1,5 +1,6 @@
 -- Why no table is given: the tests in their order, of which the first that holds counts. Assumes nothing.
-use Rattle.std.specs.Prelude.{ℕ, Bool, not, ◌||◌, List, [], ◌∷◌, length, drop, eqb, ltb, Option, Some, None, Result, Ok, Err}
+use Rattle.std.specs.Prelude.{◌≡◌, ℕ, ◌<◌, Bool, true, false, not, ◌||◌, List, [], ◌∷◌, length, drop, get_or, eqb, ltb, Option, Some, None, Result, Ok, Err}
+use Rattle.refusals.specs.First.{Iff}
 use Rattle.std.specs.List.{find, list_any, zip}
 use Rattle.std.specs.Option.{option_map}
 use Rattle.refusals.specs.Number.{number}
@@ -55,3 +56,17 @@ first_refusal tests = option_map (λ test. test.1) (find (λ test. test.0) tests
 abbrev pub unless_refused : {A : Type 0} → Option TableRefusal → A → Result A TableRefusal
 unless_refused None a = Ok a
 unless_refused (Some refusal) a = Err refusal
+
+-- what stands past the end of a list of tests
+abbrev pub no_test : TableTest
+no_test = refuses TableShort false
+
+-- no test in front of the k-th holds
+abbrev pub NoneBefore : List TableTest → ℕ → Type 0
+NoneBefore tests k = (j : ℕ) → j < k → (get_or tests j no_test).0 ≡ false
+
+-- `given` is each test's refusal exactly when that test holds and none in front of it does, none exactly when none holds, and never another [refused-table]
+pub record FirstGiven (tests : List TableTest) (given : Option TableRefusal) : Type 0 where
+  pub each : (k : ℕ) → k < length tests → Iff (given ≡ Some (get_or tests k no_test).1) (((get_or tests k no_test).0 ≡ true) × NoneBefore tests k)
+  pub none : Iff (given ≡ None) (NoneBefore tests (length tests))
+  pub other : ((k : ℕ) → k < length tests → given ≡ Some (get_or tests k no_test).1 → ⊥) → given ≡ None

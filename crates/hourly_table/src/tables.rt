@@ -1,15 +1,13 @@
 // The table: its size, and the table itself.
-ghost use Rattle.std.specs.Prelude.{◌≡◌, map, length};
+ghost use Rattle.std.specs.Prelude.{◌≡◌, map};
 ghost use Rattle.hourly_table.specs.Samples.{sampled};
 ghost use Rattle.hourly_table.specs.Table.{table_size, TableGiven};
 
 use crate::checking::check;
 use crate::reasons::TableRefusal;
-use crate::rows::HEADER;
 use crate::samples::Sample;
 use crate::sizing::left_behind_table;
-use crate::writing::write_rows;
-use bits::lay;
+use crate::writing::write_lines;
 
 /// How many bytes the table has that `write_table` would write to a buffer of `room` bytes; or why it would refuse.
 ///
@@ -43,7 +41,6 @@ pub fn write_table(
     ensures { TableGiven (map sampled samples.now) numbers.now out.old result out.new }
 {
     let size = table_size(samples, numbers, out.len())?;
-    lay(out, &HEADER);
-    write_rows(&mut out[HEADER.len()..], samples, numbers);
+    write_lines(out, samples, numbers);
     Ok(size)
 }

@@ -1,12 +1,13 @@
-// The rows, written where they have room.
+// The table, written where it has room.
 ghost use Rattle.std.specs.Prelude.{◌≡◌, ◌≤◌, map, length};
 ghost use Rattle.std.specs.List.Sorted.{IsNonDecreasingBy};
 ghost use Rattle.bits.specs.Laid.{overlay};
 ghost use Rattle.hourly_table.specs.Samples.{sampled};
-ghost use Rattle.hourly_table.specs.Table.{hour_rows, rows_of};
+ghost use Rattle.hourly_table.specs.Table.{hour_rows, rows_of, table};
 ghost use Rattle.hourly_table.specs.Room.{rows_between};
 
 use crate::hours::Hour;
+use crate::rows::HEADER;
 use crate::samples::Sample;
 use crate::sizing::hours_with_rows;
 use bits::lay;
@@ -44,8 +45,7 @@ fn write_hours(out: &mut [u8], samples: &[Sample<'_>], numbers: &[u16], first: u
     }
 }
 
-/// All rows.
-pub(crate) fn write_rows(out: &mut [u8], samples: &[Sample<'_>], numbers: &[u16])
+fn write_rows(out: &mut [u8], samples: &[Sample<'_>], numbers: &[u16])
     requires sorted { IsNonDecreasingBy (λ (s : Sample). s.hour) samples.now }
     requires room { length (rows_of (map sampled samples.now) numbers.now) ≤ length out.old }
     ensures { out.new ≡ overlay (rows_of (map sampled samples.now) numbers.now) out.old }
@@ -53,4 +53,14 @@ pub(crate) fn write_rows(out: &mut [u8], samples: &[Sample<'_>], numbers: &[u16]
     if let Some((first, last)) = hours_with_rows(samples, numbers) {
         write_hours(out, samples, numbers, first, last);
     }
+}
+
+/// The header and the rows.
+pub(crate) fn write_lines(out: &mut [u8], samples: &[Sample<'_>], numbers: &[u16])
+    requires sorted { IsNonDecreasingBy (λ (s : Sample). s.hour) samples.now }
+    requires room { length (table (map sampled samples.now) numbers.now) ≤ length out.old }
+    ensures { out.new ≡ overlay (table (map sampled samples.now) numbers.now) out.old }
+{
+    lay(out, &HEADER);
+    write_rows(&mut out[HEADER.len()..], samples, numbers);
 }
