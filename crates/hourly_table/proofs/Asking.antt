@@ -2,13 +2,13 @@
 use Rattle.std.proofs.Common.{◌≡◌, refl, sym, ap, ap₂, ◌∙◌, ℕ, Bool, true, false, not, ◌||◌, eqb, length, List, [], ◌∷◌, map, drop, ltb, is_err, Result, Ok, Err}
 use Rattle.std.specs.List.{list_any, zip}
 use Rattle.bits.proofs.Picks.{or_left, or_right}
-use Rattle.refusals.specs.First.{first_of, unless}
+use Rattle.refusals.specs.First.{first_of}
 use Rattle.refusals.specs.declared.reasons.Refusal.TheVariants.{PageLength, PageSum, PageDamaged, NoCounter}
 use Rattle.pages.specs.Sum.{sum256}
 use Rattle.pages.specs.Entries.{entries}
 use Rattle.pages.specs.Read11.{any_fault, damaged, no_number, read_counter}
 use Rattle.pages.specs.Others11.{count_others}
-use Rattle.hourly_table.specs.Samples.{Sampled, sampled}
+use Rattle.hourly_table.specs.Samples.{sampled}
 use Rattle.hourly_table.specs.Reading.{page_refused}
 use Rattle.hourly_table.specs.Refused.{wrong_length, wrong_sum, damaged_for, hour_falls, input_tests, first_refusal, unless_refused}
 use Rattle.hourly_table.specs.declared.samples.Sample.{Sample}

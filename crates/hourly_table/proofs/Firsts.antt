@@ -1,5 +1,5 @@
 -- The first of the tests that holds. Assumes nothing.
-use Rattle.std.proofs.Common.{◌≡◌, refl, sym, ap, ◌∙◌, Bool, true, false, List, [], ◌∷◌, ℕ, zero, suc, ◌<◌, length, get_or, Option, Some, None, suc-le-suc, le_of_suc-le-suc, not-suc-le-zero, zero-lt-suc, ⊎_elim, Result, Ok, Err}
+use Rattle.std.proofs.Common.{◌≡◌, refl, true, false, List, [], ◌∷◌, ℕ, zero, suc, ◌<◌, length, get_or, Option, Some, None, suc-le-suc, le_of_suc-le-suc, not-suc-le-zero, zero-lt-suc, ⊎_elim, Ok, Err}
 use Rattle.bits.proofs.Picks.{tested}
 use Rattle.hourly_table.specs.Refused.{TableTest, no_test, NoneBefore, first_refusal, unless_refused}
 use Rattle.hourly_table.specs.declared.reasons.TableRefusal.{TableRefusal}

@@ -1,5 +1,5 @@
 -- What is left of a room, a text behind the other. Assumes nothing.
-use Rattle.std.proofs.Common.{◌≡◌, refl, sym, ap, ◌∙◌, ℕ, ◌+◌, ◌-◌, ◌<◌, ◌≤◌, Bool, true, false, leb, List, [], ◌∷◌, ◌++◌, append-nil, length, get_or, take, drop, Option, Some, None, arith, leb-true, leb-false, le-leb, ⊎_elim, length-append, take_all, take-append-drop}
+use Rattle.std.proofs.Common.{◌≡◌, refl, sym, ap, ◌∙◌, ℕ, ◌+◌, ◌-◌, ◌<◌, ◌≤◌, true, false, leb, List, [], ◌∷◌, ◌++◌, append-nil, length, get_or, take, drop, Option, Some, None, arith, leb-true, leb-false, le-leb, ⊎_elim, length-append, take_all, take-append-drop}
 use borrow.Author.Tests.{lt-leb}
 use Rattle.std.specs.List.{flat_map, range_with_len}
 use Rattle.std.proofs.lemmas.List.FromFn.{length-range_with_len, get_or-range_with_len}

@@ -7,3 +7,10 @@ pub mod Writes
 pub mod Firsts
 pub mod Sorted
 pub mod Sizes
+pub mod ChangeLaws
+pub mod StandLaws
+pub mod Exactly
+pub mod Smalls
+pub mod AllRead
+pub mod TableOnce
+pub mod Tied

@@ -1,5 +1,5 @@
 -- Which sample stands for an hour: of hours that do not fall, the last that is no later, where it is of that hour. Assumes nothing.
-use Rattle.std.proofs.Common.{◌≡◌, refl, sym, ap, ◌∙◌, ℕ, zero, suc, ◌-◌, ◌+◌, ◌<◌, ◌≤◌, Bool, true, false, if◌then◌else◌, leb, eqb, List, [], ◌∷◌, length, get_or, take, length-take-le, filter, map, Option, Some, None, arith, zero-lt-suc, suc-le-suc, le_of_suc-le-suc, not-suc-le-zero, ne_eqb, eqb-true, leb-true, leb-false, ltb, ltb-true, ltb-false, eq-eqb, ⊎_elim}
+use Rattle.std.proofs.Common.{◌≡◌, refl, sym, ap, ◌∙◌, ℕ, zero, suc, ◌-◌, ◌<◌, ◌≤◌, Bool, true, false, leb, eqb, List, [], ◌∷◌, length, get_or, take, length-take-le, filter, map, Option, Some, None, arith, zero-lt-suc, suc-le-suc, le_of_suc-le-suc, not-suc-le-zero, ne_eqb, eqb-true, leb-true, leb-false, ltb, ltb-true, ltb-false, eq-eqb, ⊎_elim}
 use Rattle.std.proofs.lemmas.List.{get_or_default, get_or-take}
 use Rattle.std.proofs.lemmas.Bool.{eqb-false}
 use Rattle.std.specs.List.{last_or}
@@ -8,7 +8,7 @@ use Rattle.std.specs.Bool.{then_some}
 use Rattle.std.specs.Borrow.{Bor}
 use Rattle.std.specs.Option.{option_map}
 use Rattle.std.specs.Prelude.{slice_get}
-use Rattle.std.proofs.lemmas.Option.{slice_get_within, slice_get-get_or, get_or_from_slice_get}
+use Rattle.std.proofs.lemmas.Option.{slice_get_within, get_or_from_slice_get}
 use Rattle.bits.proofs.Picks.{tested}
 use Rattle.hourly_table.specs.Samples.{Sampled, sampled, page_of_hour, page_before}
 use Rattle.hourly_table.specs.declared.samples.Sample.{Sample}
@@ -68,13 +68,13 @@ module _ (samples : List Sample) (hour i : ℕ) (parted : Parted samples hour i)
   earlier_stands_not sorted d h l ne =
       let last = leb-true (get_or samples (i - 1) d).hour hour (parted.0 (i - 1) d (omega arith) (omega arith)) in
       rw (none_passes (of_hour hour) sampled None samples (λ k x m.
-          ⊎_elim
-          (λ (b : ltb k i ≡ true).
-          let s = sorted k (i - 1) x (omega (arith, ltb-true k i b)) (omega arith) in
-          let same : (get_or samples (i - 1) x).hour ≡ (get_or samples (i - 1) d).hour = ap hour_of (get_or_default samples (i - 1) x d (omega arith)) in
-          ne_eqb (get_or samples k x).hour hour (λ (e : (get_or samples k x).hour ≡ hour). ne (omega arith)))
-          (λ (b : ltb k i ≡ false). later k x (ltb-false k i b) m)
-          (tested (ltb k i)))) refl
+      ⊎_elim
+      (λ (b : ltb k i ≡ true).
+      let s = sorted k (i - 1) x (omega (arith, ltb-true k i b)) (omega arith) in
+      let same : (get_or samples (i - 1) x).hour ≡ (get_or samples (i - 1) d).hour = ap hour_of (get_or_default samples (i - 1) x d (omega arith)) in
+      ne_eqb (get_or samples k x).hour hour (λ (e : (get_or samples k x).hour ≡ hour). ne (omega arith)))
+      (λ (b : ltb k i ≡ false). later k x (ltb-false k i b) m)
+      (tested (ltb k i)))) refl
 
   module _ (part : List Sample) (front : part ≡ take i samples) (within : i ≤ length samples) where
     length_part : length part ≡ i

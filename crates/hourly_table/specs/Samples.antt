@@ -1,5 +1,5 @@
 -- Samples, and which of them stands for an hour. Assumes nothing.
-use Rattle.std.specs.Prelude.{ℕ, zero, suc, ◌==◌, List, filter, Option, Some, None}
+use Rattle.std.specs.Prelude.{ℕ, zero, suc, ◌==◌, List, filter, Option, None}
 use Rattle.std.specs.List.{last_or}
 use Rattle.std.specs.Option.{option_map}
 use Rattle.hourly_table.specs.declared.samples.Sample.{Sample}

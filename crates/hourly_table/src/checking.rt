@@ -17,9 +17,7 @@ use refusals::Refusal;
 fn has_wrong_length(samples: &[Sample<'_>]) -> bool
     ensures { result ≡ list_any (λ (s : Sample). not (eqb (length s.page.now) 512)) samples.now }
 {
-    samples
-        .iter()
-        .any(|sample| sample.page.len() != PAGE_SIZE)
+    samples.iter().any(|sample| sample.page.len() != PAGE_SIZE)
 }
 
 fn has_no_counter(numbers: &[u16]) -> bool
@@ -52,7 +50,9 @@ fn is_refused(page: &[u8], numbers: &[u16]) -> bool
 fn has_refused_page(samples: &[Sample<'_>], numbers: &[u16]) -> bool
     ensures { result ≡ list_any (λ (s : Sample). page_refused numbers.now s.page.now) samples.now }
 {
-    samples.iter().any(|sample| is_refused(sample.page, numbers))
+    samples
+        .iter()
+        .any(|sample| is_refused(sample.page, numbers))
 }
 
 fn has_fallen_hour(samples: &[Sample<'_>]) -> bool

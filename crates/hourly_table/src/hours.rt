@@ -46,10 +46,6 @@ impl<'a> Hour<'a> {
     pub(crate) fn row(self, number: u16) -> ArrayString<ROW_LIMIT>
         ensures { result.bytes ≡ row_text self.entry.hour number (between number (option_map (λ (page : Bor (List ℕ)). page.now) self.entry.before) (option_map (λ (page : Bor (List ℕ)). page.now) self.entry.page)) }
     {
-        row_text(
-            self.hour,
-            number,
-            between(number, self.before, self.page),
-        )
+        row_text(self.hour, number, between(number, self.before, self.page))
     }
 }

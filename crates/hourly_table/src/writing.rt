@@ -13,12 +13,7 @@ use crate::sizing::hours_with_rows;
 use bits::lay;
 
 // The rows of an hour, and how long they are.
-fn write_hour(
-    out: &mut [u8],
-    samples: &[Sample<'_>],
-    numbers: &[u16],
-    hour: u64,
-) -> usize
+fn write_hour(out: &mut [u8], samples: &[Sample<'_>], numbers: &[u16], hour: u64) -> usize
     requires sorted { IsNonDecreasingBy (λ (s : Sample). s.hour) samples.now }
     requires room { length (hour_rows (map sampled samples.now) numbers.now hour) ≤ length out.old }
     ensures size { result ≡ length (hour_rows (map sampled samples.now) numbers.now hour) }

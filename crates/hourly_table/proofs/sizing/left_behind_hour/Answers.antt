@@ -1,4 +1,4 @@
-use Rattle.std.proofs.Common.{ap, sym, ◌∙◌, length, map, rules}
+use Rattle.std.proofs.Common.{ap, ◌∙◌, length, map, rules}
 use Rattle.hourly_table.specs.Samples.{sampled}
 use Rattle.hourly_table.specs.Room.{left_of}
 use Rattle.hourly_table.proofs.Lefts.{left_nothing, left_by, lacks_by, left_step, left_stop, left_end}

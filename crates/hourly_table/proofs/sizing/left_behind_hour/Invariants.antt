@@ -1,4 +1,3 @@
-use Rattle.std.proofs.Common.{◌≡◌}
 use Rattle.hourly_table.proofs.Lefts.{LeftAt}
 use Rattle.hourly_table.proofs.HourRows.{row_by}
 use Rattle.hourly_table.proofs.sizing.left_behind_hour.Given as goal

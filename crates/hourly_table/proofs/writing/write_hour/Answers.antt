@@ -1,4 +1,4 @@
-use Rattle.std.proofs.Common.{ap, sym, ◌∙◌, length, map, arith, rules}
+use Rattle.std.proofs.Common.{ap, ◌∙◌, length, map, arith, rules}
 use Rattle.bits.specs.Laid.{overlay}
 use Rattle.hourly_table.specs.Samples.{sampled}
 use Rattle.hourly_table.proofs.HourRows.{row_by, rows_by}
