@@ -1,0 +1,3 @@
+pub mod Parts
+pub mod Plain
+pub mod Promised
