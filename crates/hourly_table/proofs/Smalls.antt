@@ -55,7 +55,7 @@ value_small page bytes number v e =
     omega (arith, value, le_small page bytes (x.place + 2) (bytes_in x.id) t.from.most)
 
 module _ (samples : List Sampled) (bytes : AllBytes samples) (hour number : ℕ) where
-  change_small : (c : ℕ) → change_in samples hour number ≡ Some c → c < 2 ^ 64
+  pub change_small : (c : ℕ) → change_in samples hour number ≡ Some c → c < 2 ^ 64
   change_small c e =
       let k = (change_exactly samples hour number c).0 e in
       let v = value_small k.page_of_it (standing_bytes samples bytes hour k.page_of_it k.stands) number k.new k.new_read in
