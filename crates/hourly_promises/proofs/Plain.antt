@@ -1,10 +1,10 @@
 -- No field of a row needs quotes. Assumes nothing.
-use Rattle.std.proofs.Common.{◌≡◌, refl, sym, ap, ◌∙◌, ℕ, ◌+◌, ◌/◌, ◌%◌, ◌<◌, ◌^◌, Bool, true, false, not, ◌||◌, List, [], ◌∷◌, ◌++◌, get_or, codes, decimal, Option, Some, None, arith, T, eqb, ne_eqb, append_assoc, append-nil, lit<, mod-lt}
+use Rattle.std.proofs.Common.{◌≡◌, refl, ap, ℕ, ◌/◌, ◌%◌, ◌<◌, ◌^◌, Bool, true, false, not, List, [], ◌∷◌, decimal, Option, Some, None, arith, T, eqb, ne_eqb, append_assoc, append-nil, lit<, mod-lt}
 use Rattle.std.specs.Char.{digit_value}
 use Rattle.std.specs.List.{list_any}
 use Rattle.std.specs.Str.Parse.{AllDigits}
 use Rattle.std.proofs.lemmas.Fmt.{decimal_is_IsNumeral}
-use Rattle.bits.proofs.Tables.{all_below, below_all}
+use Rattle.bits.proofs.Tables.{below_all}
 use Rattle.csv.specs.Writing.{needs_byte, fields_text, is_blank, row_text}
 use Rattle.hourly_table.specs.Rows.{hex_digit, hex_number, field_text}
 use Rattle.hourly_table.specs.Rows.{row_text as line_text}

@@ -1,8 +1,6 @@
 -- What the library's reader reads of a table. Assumes nothing.
-use Rattle.std.proofs.Common.{◌≡◌, refl, sym, ap, ◌∙◌, ℕ, zero, suc, ◌+◌, ◌-◌, ◌*◌, ◌<◌, ◌≤◌, ◌^◌, List, [], ◌∷◌, ◌++◌, length, get_or, Option, Some, codes, arith, lit<, length-append, zero-lt-suc, suc-le-suc}
-use Rattle.std.specs.List.{flat_map, range_with_len}
+use Rattle.std.proofs.Common.{◌≡◌, refl, ap, ◌∙◌, ℕ, suc, ◌+◌, ◌-◌, ◌*◌, ◌<◌, ◌^◌, List, [], ◌∷◌, ◌++◌, length, get_or, codes, arith, lit<, length-append, suc-le-suc}
 use Rattle.std.proofs.lemmas.List.FromFn.{length-range_with_len, get_or-range_with_len}
-use Rattle.csv.specs.Machine.{next_record}
 use Rattle.csv.specs.Reading.{default_config, records, records_from}
 use Rattle.csv.specs.declared.parser.State.TheVariants as st
 use Rattle.hourly_table.specs.Samples.{Sampled}
@@ -11,7 +9,7 @@ use Rattle.hourly_table.specs.Counted.{AllBytes}
 use Rattle.hourly_table.specs.Table.{header, last_hour, hours_of, hour_rows, rows_of, table}
 use Rattle.hourly_table.proofs.Smalls.{change_small}
 use Rattle.hourly_promises.specs.Csv.{header_fields, records_of, AllHours}
-use Rattle.hourly_promises.proofs.ReadRows.{Small, three_of, hours_read, all_length}
+use Rattle.hourly_promises.proofs.ReadRows.{three_of, hours_read, all_length}
 
 last_small : (s : Sampled) (ss : List Sampled) → AllHours (s ∷ ss) → last_hour s ss < 2 ^ 64
 last_small s [] small = small 0 s (lit< tt)
