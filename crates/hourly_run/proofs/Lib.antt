@@ -1,2 +1,4 @@
 pub mod Numerals
 pub mod Cutting
+pub mod Owing
+pub mod Printing

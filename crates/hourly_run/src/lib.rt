@@ -9,4 +9,6 @@ mod readings;
 mod running;
 mod tables;
 
+pub use running::run;
+
 
