@@ -7,11 +7,13 @@ use version::VERSION;
 pub(crate) fn command<'a>(alloc: Global) -> Result<Command<'a>, AllocError> {
     let file = Arg::new(alloc, "file")
         .value_name("FILE")
-        .help("Samples, a line each: the hour in decimal, a blank, the 512 bytes of page 11h in hex")
+        .help(
+            "Samples, a line each: the hour in decimal, a blank, the 512 bytes of page 11h in hex",
+        )
         .required(true);
     let counters = Arg::new(alloc, "counter")
         .value_name("COUNTER")
-        .help("Numbers of counters in hex, as 001 or 00A; each has a row an hour")
+        .help("Numbers of counters in hex, 1 to FFF; each has a row an hour")
         .num_args(0..);
     Command::new(alloc, "hourly")
         .version(VERSION)

@@ -1,7 +1,6 @@
 -- A text, line by line. Assumes nothing.
-use Rattle.std.proofs.Common.{◌≡◌, refl, sym, ap, ◌∙◌, ℕ, zero, suc, ◌+◌, ◌<◌, true, false, List, [], ◌∷◌, ◌++◌, length, take, drop, map, Option, Some, None, Result, Ok, Err, arith, append-nil, append_assoc, ap₂, subst, inl, inr, min, leb, leb-true, leb-false, take_all, drop_of_length-le, zero-lt-suc, ⊎_elim}
+use Rattle.std.proofs.Common.{◌≡◌, refl, sym, ap, ◌∙◌, ℕ, suc, ◌+◌, ◌<◌, true, false, List, [], ◌∷◌, ◌++◌, length, take, drop, Some, None, Result, Ok, Err, arith, append-nil, append_assoc, ap₂, subst, inl, inr, min, leb, leb-true, leb-false, take_all, drop_of_length-le, zero-lt-suc, ⊎_elim}
 use Rattle.std.specs.List.{position_or_len}
-use Rattle.std.specs.Option.{option_map}
 use Rattle.bits.proofs.Picks.{tested}
 use Rattle.hourly_table.specs.Samples.{Sampled}
 use Rattle.hourly_run.specs.Lines.{is_lf, onto_first, lines_of}

@@ -1,12 +1,12 @@
 -- The number that digits tell, one digit behind the other. Assumes nothing.
-use Rattle.std.proofs.Common.{◌≡◌, refl, sym, ap, ◌∙◌, ℕ, zero, suc, ◌+◌, ◌-◌, ◌*◌, ◌<◌, ◌≤◌, ◌^◌, Bool, true, false, ◌&&◌, leb, ltb, List, [], ◌∷◌, length, get_or, drop, Option, Some, None, arith, not-suc-le-zero, le_of_suc-le-suc, zero-lt-suc, suc-le-suc, le-ltb, lt-ltb, le-leb, drop-cons, drop_of_length-le, add-one, leb-true, ⊎_elim}
+use Rattle.std.proofs.Common.{◌≡◌, refl, sym, ap, ◌∙◌, ℕ, zero, suc, ◌+◌, ◌-◌, ◌*◌, ◌<◌, ◌≤◌, ◌^◌, Bool, true, false, ◌&&◌, leb, List, [], ◌∷◌, length, get_or, drop, Some, None, arith, not-suc-le-zero, le_of_suc-le-suc, zero-lt-suc, suc-le-suc, le-ltb, lt-ltb, le-leb, drop-cons, drop_of_length-le, add-one, leb-true, ⊎_elim}
 use Rattle.std.proofs.lemmas.Str.{digit_value_digit}
 use Rattle.std.specs.Int.{IsInRange}
 use Rattle.bits.proofs.Picks.{tested}
 use Rattle.std.specs.Char.{is_ascii_digit, digit_value}
 use Rattle.std.specs.Str.{all_ascii_digits}
 use Rattle.std.specs.Str.Parse.{digits_value, digits_value_after}
-use Rattle.hourly_run.specs.Entries.{is_hour, hour_of}
+use Rattle.hourly_run.specs.Entries.{hour_of}
 
 and_none : (a : Bool) → a && false ≡ false
 and_none true = refl

@@ -21,9 +21,7 @@ pub(crate) fn hour_of(digits: &[u8]) -> Option<u64>
         if !digit.is_ascii_digit() {
             return None;
         }
-        hour = hour
-            .checked_mul(10)?
-            .checked_add(u64::from(digit - b'0'))?;
+        hour = hour.checked_mul(10)?.checked_add(u64::from(digit - b'0'))?;
     }
     Some(hour)
 }

@@ -10,5 +10,3 @@ mod running;
 mod tables;
 
 pub use running::run;
-
-

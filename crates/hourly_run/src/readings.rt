@@ -59,7 +59,10 @@ fn cut_line(text: &[u8]) -> (&[u8], &[u8])
 }
 
 /// The samples of a text; or the first line that tells none.
-pub(crate) fn readings_in(alloc: Global, text: &[u8]) -> Result<Result<Vec<Reading>, &[u8]>, AllocError>
+pub(crate) fn readings_in(
+    alloc: Global,
+    text: &[u8],
+) -> Result<Result<Vec<Reading>, &[u8]>, AllocError>
     ensures { IfOk result (λ r. readings_told r ≡ samples_of text.now) }
 {
     let mut readings = Vec::new(alloc);

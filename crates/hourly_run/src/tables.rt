@@ -38,11 +38,7 @@ fn refused_text(alloc: Global, refusal: TableRefusal) -> Result<Vec<u8>, AllocEr
 }
 
 // The table of the samples, or the refusal.
-fn table_of(
-    alloc: Global,
-    numbers: &[u16],
-    readings: &[Reading],
-) -> Result<Telling, AllocError>
+fn table_of(alloc: Global, numbers: &[u16], readings: &[Reading]) -> Result<Telling, AllocError>
     ensures { IfOk result (λ t. telling_told t ≡ told_of (table_within (map reading readings.now) numbers.now)) }
 {
     let samples = samples_of(alloc, readings)?;
