@@ -15,6 +15,8 @@
 //!                              standard input)
 //!   --check-calls FILE..       the lines of scripts that print something else
 //!                              than what stands behind `->`
+//!   --hourly FILE COUNTER..    the hourly table of the samples of a file
+//!   --hourly-samples SEED N    samples of a seed for it
 
 mod calls;
 mod compare;
@@ -23,6 +25,7 @@ mod device;
 mod examples;
 mod fields;
 mod frames;
+mod hourly;
 mod identity;
 mod pages;
 mod program;
@@ -37,7 +40,7 @@ use std::path::Path;
 use std::process::exit;
 
 const USAGE: &str = "usage: model --examples | --run | --trace | --calls FILE | --check-calls FILE.. | \
-                     --random SEED | --random-calls SEED LINES";
+                     --random SEED | --random-calls SEED LINES | --hourly FILE COUNTER.. | --hourly-samples SEED N";
 
 fn main() {
     let arguments: Vec<String> = std::env::args().skip(1).collect();
@@ -60,6 +63,12 @@ fn main() {
             let tested = [Tested::calls(program)];
             return compare_drawn(&compare::CALLS, number(count), number(from), &tested);
         }
+        ["--hourly", file, ref counters @ ..] => {
+            let samples = std::fs::read_to_string(file).unwrap_or_else(|e| fail(&format!("model: {}: {}", file, e)));
+            let asked: Vec<u16> = counters.iter().map(|c| u16::from_str_radix(c, 16).unwrap_or_else(|_| fail(USAGE))).collect();
+            hourly::text(&samples, &asked).into_bytes()
+        }
+        ["--hourly-samples", seed, count] => hourly::samples(number(seed), number(count)).into_bytes(),
         ["--run"] => return run_events(Style::Run),
         ["--trace"] => return run_events(Style::Trace),
         _ => fail(USAGE),

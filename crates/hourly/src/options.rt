@@ -1,0 +1,49 @@
+// The words of the command line.
+use clap::{Arg, Command};
+use std::alloc::{AllocError, Global};
+use version::VERSION;
+
+/// The words that the program takes.
+pub(crate) fn command<'a>(alloc: Global) -> Result<Command<'a>, AllocError> {
+    let file = Arg::new(alloc, "file")
+        .value_name("FILE")
+        .help(
+            "Samples, a line each: the hour in decimal, a blank, the 512 bytes of page 11h in hex",
+        )
+        .required(true);
+    let counters = Arg::new(alloc, "counter")
+        .value_name("COUNTER")
+        .help("Numbers of counters in hex, 1 to FFF; each has a row an hour")
+        .num_args(0..);
+    Command::new(alloc, "hourly")
+        .version(VERSION)
+        .about("Tells what counters counted in each hour, as comma-separated text")
+        .after_help(
+            "An empty field is a gap, and no 0. Exit status: 0 the table (not that the device is well), 1 refused, 2 usage, 3 a line that is no sample, or unread, 4 lines are missing.",
+        )
+        .arg(file)?
+        .arg(counters)
+}
+
+// 1 to 4 hex digits, of either case.
+fn number_of(word: &str) -> Option<u16> {
+    if !word.bytes().all(|byte| byte.is_ascii_hexdigit()) {
+        return None;
+    }
+    if 4 < word.len() {
+        return None;
+    }
+    u16::from_str_radix(word, 16).ok()
+}
+
+/// The numbers that the words tell; none where one tells no number.
+pub(crate) fn numbers_of(alloc: Global, words: &[&str]) -> Result<Option<Vec<u16>>, AllocError> {
+    let mut numbers = Vec::new(alloc);
+    for word in words {
+        match number_of(word) {
+            Some(number) => numbers.push(number)?,
+            None => return Ok(None),
+        }
+    }
+    Ok(Some(numbers))
+}

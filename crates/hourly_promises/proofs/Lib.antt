@@ -1,0 +1,6 @@
+pub mod Parts
+pub mod Plain
+pub mod ReadRows
+pub mod ReadTable
+pub mod Promised
+pub mod Tied

@@ -1,0 +1,47 @@
+-- The public functions' own contracts: what they say. Assumes nothing.
+use Rattle.std.specs.Prelude.{List, None, Ok, Option, Some, codes, false, get_or, is_err, length, true, ℕ, ◌++◌, ◌<◌, ◌^◌, ◌∷◌, ◌≡◌}
+use Rattle.refusals.specs.First.{Iff}
+use Rattle.pages.specs.Read11.{read_counter}
+use Rattle.pages.specs.Top.{at_top}
+use Rattle.pages.specs.declared.value.CounterValue.{CounterValue}
+use Rattle.hourly_table.specs.Samples.{Sampled, page_before, page_of_hour}
+use Rattle.hourly_table.specs.Changes.{change_in}
+use Rattle.hourly_table.specs.Counted.{AllBytes, Counted}
+use Rattle.hourly_table.specs.Rows.{field_text, row_text as line_text}
+use Rattle.hourly_table.specs.Refused.{FirstGiven, first_refusal, input_tests}
+use Rattle.hourly_table.specs.Table.{table, table_size, table_tests}
+use Rattle.csv.specs.Reading.{default_config, records}
+use Rattle.csv.specs.Writing.{row_text}
+use Rattle.hourly_promises.specs.Csv.{AllHours, crlf_writer, fields_of, header_fields, records_of}
+use Rattle.bits.specs.Contract.{Says}
+use Rattle.bits.proofs.Tying.{say}
+use Rattle.hourly_promises.proofs.fields
+use Rattle.hourly_promises.specs.contracts.fields as fields-said
+use Rattle.hourly_promises.proofs.refusals
+use Rattle.hourly_promises.specs.contracts.refusals as refusals-said
+use Rattle.hourly_promises.proofs.csv_text
+use Rattle.hourly_promises.specs.contracts.csv_text as csv_text-said
+
+pub tied_never_zero : Says fields-said.never_zero.ended fields.never_zero.Reads.Asked fields.never_zero.Reads.Post (λ κs a r ws. (samples : List Sampled) → AllBytes samples → (hour number : ℕ) → Iff (field_text (change_in samples hour number) ≡ codes "0") (Counted samples hour number 0))
+tied_never_zero = say (λ κs a. tt) (λ κs a r ws p. p)
+
+pub tied_change_exactly : Says fields-said.change_exactly.ended fields.change_exactly.Reads.Asked fields.change_exactly.Reads.Post (λ κs a r ws. (samples : List Sampled) (hour number change : ℕ) → Iff (change_in samples hour number ≡ Some change) (Counted samples hour number change))
+tied_change_exactly = say (λ κs a. tt) (λ κs a r ws p. p)
+
+pub tied_empty_where : Says fields-said.empty_where.ended fields.empty_where.Reads.Asked fields.empty_where.Reads.Post (λ κs a r ws. ((s : Sampled) (ss : List Sampled) (numbers : List ℕ) (number : ℕ) → first_refusal (input_tests (s ∷ ss) numbers) ≡ None → change_in (s ∷ ss) s.hour number ≡ None) × ((samples : List Sampled) (hour number : ℕ) → page_of_hour samples hour ≡ None → change_in samples hour number ≡ None) × ((samples : List Sampled) (hour number : ℕ) → page_before samples hour ≡ None → change_in samples hour number ≡ None) × ((samples : List Sampled) (hour number : ℕ) (before page : List ℕ) → page_before samples hour ≡ Some before → page_of_hour samples hour ≡ Some page → read_counter before number ≡ Ok None → change_in samples hour number ≡ None) × ((samples : List Sampled) (hour number : ℕ) (before page : List ℕ) → page_before samples hour ≡ Some before → page_of_hour samples hour ≡ Some page → read_counter page number ≡ Ok None → change_in samples hour number ≡ None) × ((samples : List Sampled) (hour number : ℕ) (before page : List ℕ) → page_before samples hour ≡ Some before → page_of_hour samples hour ≡ Some page → (old new : CounterValue) → read_counter before number ≡ Ok (Some old) → read_counter page number ≡ Ok (Some new) → new.value < old.value → change_in samples hour number ≡ None) × ((samples : List Sampled) (hour number : ℕ) (before page : List ℕ) → page_before samples hour ≡ Some before → page_of_hour samples hour ≡ Some page → (old new : CounterValue) → read_counter before number ≡ Ok (Some old) → read_counter page number ≡ Ok (Some new) → at_top old ≡ true → change_in samples hour number ≡ None) × ((samples : List Sampled) (hour number : ℕ) (before page : List ℕ) → page_before samples hour ≡ Some before → page_of_hour samples hour ≡ Some page → (old new : CounterValue) → read_counter before number ≡ Ok (Some old) → read_counter page number ≡ Ok (Some new) → at_top new ≡ true → change_in samples hour number ≡ None))
+tied_empty_where = say (λ κs a. tt) (λ κs a r ws p. (p.0, p.1.0, p.1.1.0, p.1.1.1.0, p.1.1.1.1.0, p.1.1.1.1.1.0, p.1.1.1.1.1.1.0, p.1.1.1.1.1.1.1))
+
+pub tied_later_stands : Says fields-said.later_stands.ended fields.later_stands.Reads.Asked fields.later_stands.Reads.Post (λ κs a r ws. (xs : List Sampled) (s : Sampled) (ys : List Sampled) → ((k : ℕ) (d : Sampled) → k < length ys → (get_or ys k d).hour ≡ s.hour → ⊥) → page_of_hour (xs ++ s ∷ ys) s.hour ≡ Some s.page)
+tied_later_stands = say (λ κs a. tt) (λ κs a r ws p. p)
+
+pub tied_first_exactly : Says refusals-said.first_exactly.ended refusals.first_exactly.Reads.Asked refusals.first_exactly.Reads.Post (λ κs a r ws. (samples : List Sampled) (numbers : List ℕ) (room : ℕ) → FirstGiven (table_tests samples numbers room) (first_refusal (table_tests samples numbers room)))
+tied_first_exactly = say (λ κs a. tt) (λ κs a r ws p. p)
+
+pub tied_all_read : Says refusals-said.all_read.ended refusals.all_read.Reads.Asked refusals.all_read.Reads.Post (λ κs a r ws. (samples : List Sampled) (numbers : List ℕ) (room size : ℕ) → Ok size ≡ table_size samples numbers room → (i : ℕ) (s : Sampled) → i < length samples → (j : ℕ) → j < length numbers → is_err (read_counter (get_or samples i s).page (get_or numbers j 0)) ≡ false)
+tied_all_read = say (λ κs a. tt) (λ κs a r ws p. p)
+
+pub tied_row_is_csv : Says csv_text-said.row_is_csv.ended csv_text.row_is_csv.Reads.Asked csv_text.row_is_csv.Reads.Post (λ κs a r ws. (hour number : ℕ) (change : Option ℕ) → hour < 2 ^ 64 → ((c : ℕ) → change ≡ Some c → c < 2 ^ 64) → line_text hour number change ≡ row_text crlf_writer (fields_of hour number change))
+tied_row_is_csv = say (λ κs a. tt) (λ κs a r ws p. p)
+
+pub tied_table_is_csv : Says csv_text-said.table_is_csv.ended csv_text.table_is_csv.Reads.Asked csv_text.table_is_csv.Reads.Post (λ κs a r ws. (samples : List Sampled) (numbers : List ℕ) → AllBytes samples → AllHours samples → records default_config (table samples numbers) ≡ header_fields ∷ records_of samples numbers)
+tied_table_is_csv = say (λ κs a. tt) (λ κs a r ws p. p)

@@ -1,0 +1,10 @@
+// What is promised of the hourly table, a function each: no code, and the contract is the sentence.
+#![tactic(auto)]
+
+mod csv_text;
+mod fields;
+mod refusals;
+
+pub use csv_text::{row_is_csv, table_is_csv};
+pub use fields::{change_exactly, empty_where, later_stands, never_zero};
+pub use refusals::{all_read, first_exactly};

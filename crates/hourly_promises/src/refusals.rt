@@ -1,0 +1,19 @@
+// Of the refusals of the table.
+#![tactic(auto, using(crate::proofs::Promised::refusals))]
+
+ghost use Rattle.std.specs.Prelude.{◌≡◌, ◌<◌, false, ℕ, List, length, get_or, is_err, Ok};
+ghost use Rattle.pages.specs.Read11.{read_counter};
+ghost use Rattle.hourly_table.specs.Samples.{Sampled};
+ghost use Rattle.hourly_table.specs.Refused.{FirstGiven, first_refusal};
+ghost use Rattle.hourly_table.specs.Table.{table_tests, table_size};
+
+/// 20, 23, 21, 22, 70 and 71 are each given exactly when their test holds and none in front of it does, and none exactly
+/// when none holds.
+pub fn first_exactly()
+    ensures { (samples : List Sampled) (numbers : List ℕ) (room : ℕ) → FirstGiven (table_tests samples numbers room) (first_refusal (table_tests samples numbers room)) }
+{}
+
+/// Where a table is given no page was refused for a number asked: an empty field hides no refusal.
+pub fn all_read()
+    ensures { (samples : List Sampled) (numbers : List ℕ) (room size : ℕ) → Ok size ≡ table_size samples numbers room → (i : ℕ) (s : Sampled) → i < length samples → (j : ℕ) → j < length numbers → is_err (read_counter (get_or samples i s).page (get_or numbers j 0)) ≡ false }
+{}

@@ -1,0 +1,74 @@
+-- A text, line by line. Assumes nothing.
+use Rattle.std.proofs.Common.{◌≡◌, refl, sym, ap, ◌∙◌, ℕ, suc, ◌+◌, ◌<◌, true, false, List, [], ◌∷◌, ◌++◌, length, take, drop, Some, None, Result, Ok, Err, arith, append-nil, append_assoc, ap₂, subst, inl, inr, min, leb, leb-true, leb-false, take_all, drop_of_length-le, zero-lt-suc, ⊎_elim}
+use Rattle.std.specs.List.{position_or_len}
+use Rattle.bits.proofs.Picks.{tested}
+use Rattle.hourly_table.specs.Samples.{Sampled}
+use Rattle.hourly_run.specs.Lines.{is_lf, onto_first, lines_of}
+use Rattle.hourly_run.specs.Samples.{sample_of, in_front, samples_in}
+
+same_take : (l : List ℕ) (m n : ℕ) → n ≡ min m (length l) → take m l ≡ take n l
+same_take l m n e =
+    ⊎_elim
+    (λ (y : leb m (length l) ≡ true). ap (λ k. take k l) (let h = leb-true m (length l) y in omega arith))
+    (λ (f : leb m (length l) ≡ false). let h = leb-false m (length l) f in take_all m l (omega arith) ∙ sym (take_all n l (omega arith)))
+    (tested (leb m (length l)))
+
+same_drop : (l : List ℕ) (m n : ℕ) → n ≡ min m (length l) → drop m l ≡ drop n l
+same_drop l m n e =
+    ⊎_elim
+    (λ (y : leb m (length l) ≡ true). ap (λ k. drop k l) (let h = leb-true m (length l) y in omega arith))
+    (λ (f : leb m (length l) ≡ false). let h = leb-false m (length l) f in drop_of_length-le l (omega arith) ∙ sym (drop_of_length-le l (omega arith)))
+    (tested (leb m (length l)))
+
+onto_more : (b : ℕ) (bs : List ℕ) → is_lf b ≡ false → (line : List ℕ) (lines : List (List ℕ)) → lines_of bs ≡ line ∷ lines → lines_of (b ∷ bs) ≡ (b ∷ line) ∷ lines
+unfolding lines_of
+onto_more b bs n line lines e = rw n (ap (onto_first b) e)
+
+-- the first line goes as far as LF, and that into it; or as far as the text
+cut_at : (text : List ℕ) → 0 < length text → lines_of text ≡ take (suc (position_or_len is_lf text)) text ∷ lines_of (drop (suc (position_or_len is_lf text)) text)
+unfolding lines_of
+cut_at [] h = absurd (omega arith)
+cut_at (b ∷ []) h = elim (tested (is_lf b)) [ inl y ↦ rw y refl | inr n ↦ rw n refl ]
+cut_at (b ∷ c ∷ cs) h =
+    ⊎_elim
+    (λ (y : is_lf b ≡ true). rw y refl)
+    (λ (n : is_lf b ≡ false).
+    let m = position_or_len is_lf (c ∷ cs) in
+    let e : position_or_len is_lf (b ∷ c ∷ cs) ≡ suc m = rw n (omega arith) in
+    let step : lines_of (b ∷ c ∷ cs) ≡ take (suc (suc m)) (b ∷ c ∷ cs) ∷ lines_of (drop (suc (suc m)) (b ∷ c ∷ cs)) = onto_more b (c ∷ cs) n (take (suc m) (c ∷ cs)) (lines_of (drop (suc m) (c ∷ cs))) (cut_at (c ∷ cs) (zero-lt-suc (length cs))) in
+    subst (λ (k : ℕ). lines_of (b ∷ c ∷ cs) ≡ take (suc k) (b ∷ c ∷ cs) ∷ lines_of (drop (suc k) (b ∷ c ∷ cs))) (sym e) step)
+    (tested (is_lf b))
+
+pub cut : (text : List ℕ) (n : ℕ) (line after : List ℕ) → 0 < length text → n ≡ min (position_or_len is_lf text + 1) (length text) → line ≡ take n text → after ≡ drop n text → lines_of text ≡ line ∷ lines_of after
+cut text n line after h e l a =
+    cut_at text h ∙ ap₂ (λ (x y : List ℕ). x ∷ lines_of y) (same_take text (suc (position_or_len is_lf text)) n (omega arith) ∙ sym l) (same_drop text (suc (position_or_len is_lf text)) n (omega arith) ∙ sym a)
+
+-- samples behind others
+abbrev pub behind : List Sampled → Result (List Sampled) (List ℕ) → Result (List Sampled) (List ℕ)
+behind first (Ok samples) = Ok (first ++ samples)
+behind first (Err line) = Err line
+
+pub none_behind : (r : Result (List Sampled) (List ℕ)) → r ≡ behind [] r
+none_behind (Ok samples) = refl
+none_behind (Err line) = refl
+
+in_front_behind : (first : List Sampled) (s : Sampled) (line : List ℕ) (r : Result (List Sampled) (List ℕ)) → behind first (in_front (Some s) line r) ≡ behind (first ++ s ∷ []) r
+in_front_behind first s line (Ok samples) = ap Ok (sym (append_assoc first (s ∷ []) samples))
+in_front_behind first s line (Err l) = refl
+
+-- one line more
+pub line_more : (all : Result (List Sampled) (List ℕ)) (first : List Sampled) (rest line after : List ℕ) (s : Sampled) → all ≡ behind first (samples_in (lines_of rest)) → lines_of rest ≡ line ∷ lines_of after → Some s ≡ sample_of line
+    → all ≡ behind (first ++ s ∷ []) (samples_in (lines_of after))
+unfolding samples_in
+line_more all first rest line after s a l e = a ∙ ap (λ x. behind first (samples_in x)) l ∙ ap (λ o. behind first (in_front o line (samples_in (lines_of after)))) (sym e) ∙ in_front_behind first s line (samples_in (lines_of after))
+
+-- or the line that tells none
+pub line_bad : (all : Result (List Sampled) (List ℕ)) (first : List Sampled) (rest line after : List ℕ) → all ≡ behind first (samples_in (lines_of rest)) → lines_of rest ≡ line ∷ lines_of after → None ≡ sample_of line → Err line ≡ all
+unfolding samples_in
+line_bad all first rest line after a l e = sym (a ∙ ap (λ x. behind first (samples_in x)) l ∙ ap (λ o. behind first (in_front o line (samples_in (lines_of after)))) (sym e))
+
+-- behind the last line
+pub lines_all : (all : Result (List Sampled) (List ℕ)) (first : List Sampled) (rest : List ℕ) → all ≡ behind first (samples_in (lines_of rest)) → length rest ≡ 0 → Ok first ≡ all
+unfolding samples_in lines_of
+lines_all all first [] a e = sym (a ∙ ap Ok (append-nil first))
+lines_all all first (b ∷ bs) a e = absurd (omega arith)

@@ -1,0 +1,5 @@
+pub mod Numerals
+pub mod Cutting
+pub mod Owing
+pub mod Printing
+pub mod Tied

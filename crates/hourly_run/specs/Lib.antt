@@ -1,0 +1,6 @@
+pub mod Entries
+pub mod Lines
+pub mod Samples
+pub mod Owed
+pub mod Kept
+pub mod Runs

@@ -1,0 +1,93 @@
+// The samples that a text tells.
+ghost use Rattle.std.specs.Prelude.{◌≡◌, ◌<◌, ◌∷◌, ◌+◌, min, Option, map, length, option_map, IfOk};
+ghost use Rattle.std.specs.List.{position, position_or_len};
+ghost use Rattle.hourly_table.specs.Samples.{sampled};
+ghost use Rattle.hourly_run.specs.Lines.{is_lf, lines_of};
+ghost use Rattle.hourly_run.specs.Samples.{sample_of, samples_of};
+ghost use Rattle.hourly_run.specs.Kept.{reading, readings_told};
+
+use crate::entries::entry_of;
+use hex::FromHexError;
+use hourly_table::Sample;
+use std::alloc::{AllocError, Global};
+
+/// A sample that owns its page.
+#[derive(Debug, Drop)]
+pub(crate) struct Reading {
+    pub(crate) hour: u64,
+    pub(crate) page: Vec<u8>,
+}
+
+// The sample of a line; none where it tells none.
+fn reading_of(alloc: Global, line: &[u8]) -> Result<Option<Reading>, AllocError>
+    ensures { IfOk result (λ (r : Option Reading). option_map reading r ≡ sample_of line.now) }
+{
+    let Some((hour, digits)) = entry_of(line) else {
+        return Ok(None);
+    };
+    match hex::decode(alloc, digits) {
+        Ok(page) => Ok(Some(Reading { hour, page })),
+        Err(FromHexError::OutOfMemory) => Err(AllocError),
+        Err(_) => Ok(None),
+    }
+}
+
+fn first_lf(text: &[u8]) -> Option<usize>
+    ensures { result ≡ position is_lf text.now }
+{
+    text.iter().position(|&byte| byte == b'\n')
+}
+
+// How long the first line of a text is, with its LF; the last may have none.
+fn line_length(text: &[u8]) -> usize
+    ensures { result ≡ min (position_or_len is_lf text.now + 1) (length text.now) }
+{
+    match first_lf(text) {
+        Some(place) => place + 1,
+        None => text.len(),
+    }
+}
+
+// The first line, and what stands behind it.
+fn cut_line(text: &[u8]) -> (&[u8], &[u8])
+    requires { 0 < length text.now }
+    ensures line { lines_of text.now ≡ result.0.now ∷ lines_of result.1.now }
+    ensures shorter { length result.1.now < length text.now }
+{
+    let end = line_length(text);
+    text.split_at(end)
+}
+
+/// The samples of a text; or the first line that tells none.
+pub(crate) fn readings_in(
+    alloc: Global,
+    text: &[u8],
+) -> Result<Result<Vec<Reading>, &[u8]>, AllocError>
+    ensures { IfOk result (λ r. readings_told r ≡ samples_of text.now) }
+{
+    let mut readings = Vec::new(alloc);
+    let mut rest = text;
+    while !rest.is_empty() {
+        let (line, behind) = cut_line(rest);
+        match reading_of(alloc, line)? {
+            Some(reading) => readings.push(reading)?,
+            None => return Ok(Err(line)),
+        }
+        rest = behind;
+    }
+    Ok(Ok(readings))
+}
+
+/// Samples that borrow the pages.
+pub(crate) fn samples_of(alloc: Global, readings: &[Reading]) -> Result<Vec<Sample<'_>>, AllocError>
+    ensures { IfOk result (λ v. map sampled v.items ≡ map reading readings.now) }
+{
+    let mut samples = Vec::new(alloc);
+    for reading in readings {
+        samples.push(Sample {
+            hour: reading.hour,
+            page: &reading.page,
+        })?;
+    }
+    Ok(samples)
+}

@@ -1,0 +1,16 @@
+pub mod Standing
+pub mod Asking
+pub mod Lefts
+pub mod HourRows
+pub mod Spans
+pub mod Writes
+pub mod Firsts
+pub mod Sorted
+pub mod Sizes
+pub mod ChangeLaws
+pub mod StandLaws
+pub mod Exactly
+pub mod Smalls
+pub mod AllRead
+pub mod TableOnce
+pub mod Tied
