@@ -1,13 +1,14 @@
 -- The theorems that the check finds for a promise by itself. Assumes nothing.
 use Rattle.hourly_table.proofs.AllRead.{all_read}
-use Rattle.hourly_table.proofs.ChangeLaws.{change_exactly, empty_here, empty_before, empty_absent_before, empty_absent, empty_fallen, empty_old_top, empty_new_top}
+use Rattle.hourly_table.proofs.ChangeLaws.{change_exactly, empty_absent_before, empty_absent, empty_fallen, empty_old_top, empty_new_top}
 use Rattle.hourly_table.proofs.Exactly.{first_exactly}
 use Rattle.hourly_table.proofs.Smalls.{never_zero}
 use Rattle.hourly_table.proofs.StandLaws.{later_stands, empty_first}
+use Rattle.hourly_promises.proofs.Gaps.{no_sample, none_before}
 use Rattle.hourly_promises.proofs.Plain.{row_is_csv}
 use Rattle.hourly_promises.proofs.ReadTable.{table_is_csv}
 
-pub ruleset fields = (never_zero, change_exactly, empty_first, empty_here, empty_before, empty_absent_before, empty_absent, empty_fallen, empty_old_top, empty_new_top, later_stands)
+pub ruleset fields = (never_zero, change_exactly, empty_first, no_sample, none_before, empty_absent_before, empty_absent, empty_fallen, empty_old_top, empty_new_top, later_stands)
 
 pub ruleset refusals = (first_exactly, all_read)
 

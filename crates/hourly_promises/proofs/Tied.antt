@@ -1,5 +1,5 @@
 -- The public functions' own contracts: what they say. Assumes nothing.
-use Rattle.std.specs.Prelude.{List, None, Ok, Option, Some, codes, false, get_or, is_err, length, true, ℕ, ◌++◌, ◌<◌, ◌^◌, ◌∷◌, ◌≡◌}
+use Rattle.std.specs.Prelude.{◌+◌, List, None, Ok, Option, Some, codes, false, get_or, is_err, length, true, ℕ, ◌++◌, ◌<◌, ◌^◌, ◌∷◌, ◌≡◌}
 use Rattle.refusals.specs.First.{Iff}
 use Rattle.pages.specs.Read11.{read_counter}
 use Rattle.pages.specs.Top.{at_top}
@@ -28,7 +28,7 @@ tied_never_zero = say (λ κs a. tt) (λ κs a r ws p. p)
 pub tied_change_exactly : Says fields-said.change_exactly.ended fields.change_exactly.Reads.Asked fields.change_exactly.Reads.Post (λ κs a r ws. (samples : List Sampled) (hour number change : ℕ) → Iff (change_in samples hour number ≡ Some change) (Counted samples hour number change))
 tied_change_exactly = say (λ κs a. tt) (λ κs a r ws p. p)
 
-pub tied_empty_where : Says fields-said.empty_where.ended fields.empty_where.Reads.Asked fields.empty_where.Reads.Post (λ κs a r ws. ((s : Sampled) (ss : List Sampled) (numbers : List ℕ) (number : ℕ) → first_refusal (input_tests (s ∷ ss) numbers) ≡ None → change_in (s ∷ ss) s.hour number ≡ None) × ((samples : List Sampled) (hour number : ℕ) → page_of_hour samples hour ≡ None → change_in samples hour number ≡ None) × ((samples : List Sampled) (hour number : ℕ) → page_before samples hour ≡ None → change_in samples hour number ≡ None) × ((samples : List Sampled) (hour number : ℕ) (before page : List ℕ) → page_before samples hour ≡ Some before → page_of_hour samples hour ≡ Some page → read_counter before number ≡ Ok None → change_in samples hour number ≡ None) × ((samples : List Sampled) (hour number : ℕ) (before page : List ℕ) → page_before samples hour ≡ Some before → page_of_hour samples hour ≡ Some page → read_counter page number ≡ Ok None → change_in samples hour number ≡ None) × ((samples : List Sampled) (hour number : ℕ) (before page : List ℕ) → page_before samples hour ≡ Some before → page_of_hour samples hour ≡ Some page → (old new : CounterValue) → read_counter before number ≡ Ok (Some old) → read_counter page number ≡ Ok (Some new) → new.value < old.value → change_in samples hour number ≡ None) × ((samples : List Sampled) (hour number : ℕ) (before page : List ℕ) → page_before samples hour ≡ Some before → page_of_hour samples hour ≡ Some page → (old new : CounterValue) → read_counter before number ≡ Ok (Some old) → read_counter page number ≡ Ok (Some new) → at_top old ≡ true → change_in samples hour number ≡ None) × ((samples : List Sampled) (hour number : ℕ) (before page : List ℕ) → page_before samples hour ≡ Some before → page_of_hour samples hour ≡ Some page → (old new : CounterValue) → read_counter before number ≡ Ok (Some old) → read_counter page number ≡ Ok (Some new) → at_top new ≡ true → change_in samples hour number ≡ None))
+pub tied_empty_where : Says fields-said.empty_where.ended fields.empty_where.Reads.Asked fields.empty_where.Reads.Post (λ κs a r ws. ((s : Sampled) (ss : List Sampled) (numbers : List ℕ) (number : ℕ) → first_refusal (input_tests (s ∷ ss) numbers) ≡ None → change_in (s ∷ ss) s.hour number ≡ None) × ((samples : List Sampled) (hour number : ℕ) → ((k : ℕ) (d : Sampled) → k < length samples → (get_or samples k d).hour ≡ hour → ⊥) → change_in samples hour number ≡ None) × ((samples : List Sampled) (hour number : ℕ) → ((k : ℕ) (d : Sampled) → k < length samples → (get_or samples k d).hour ≡ hour → ⊥) → change_in samples (hour + 1) number ≡ None) × ((samples : List Sampled) (hour number : ℕ) (before page : List ℕ) → page_before samples hour ≡ Some before → page_of_hour samples hour ≡ Some page → read_counter before number ≡ Ok None → change_in samples hour number ≡ None) × ((samples : List Sampled) (hour number : ℕ) (before page : List ℕ) → page_before samples hour ≡ Some before → page_of_hour samples hour ≡ Some page → read_counter page number ≡ Ok None → change_in samples hour number ≡ None) × ((samples : List Sampled) (hour number : ℕ) (before page : List ℕ) → page_before samples hour ≡ Some before → page_of_hour samples hour ≡ Some page → (old new : CounterValue) → read_counter before number ≡ Ok (Some old) → read_counter page number ≡ Ok (Some new) → new.value < old.value → change_in samples hour number ≡ None) × ((samples : List Sampled) (hour number : ℕ) (before page : List ℕ) → page_before samples hour ≡ Some before → page_of_hour samples hour ≡ Some page → (old new : CounterValue) → read_counter before number ≡ Ok (Some old) → read_counter page number ≡ Ok (Some new) → at_top old ≡ true → change_in samples hour number ≡ None) × ((samples : List Sampled) (hour number : ℕ) (before page : List ℕ) → page_before samples hour ≡ Some before → page_of_hour samples hour ≡ Some page → (old new : CounterValue) → read_counter before number ≡ Ok (Some old) → read_counter page number ≡ Ok (Some new) → at_top new ≡ true → change_in samples hour number ≡ None))
 tied_empty_where = say (λ κs a. tt) (λ κs a r ws p. (p.0, p.1.0, p.1.1.0, p.1.1.1.0, p.1.1.1.1.0, p.1.1.1.1.1.0, p.1.1.1.1.1.1.0, p.1.1.1.1.1.1.1))
 
 pub tied_later_stands : Says fields-said.later_stands.ended fields.later_stands.Reads.Asked fields.later_stands.Reads.Post (λ κs a r ws. (xs : List Sampled) (s : Sampled) (ys : List Sampled) → ((k : ℕ) (d : Sampled) → k < length ys → (get_or ys k d).hour ≡ s.hour → ⊥) → page_of_hour (xs ++ s ∷ ys) s.hour ≡ Some s.page)

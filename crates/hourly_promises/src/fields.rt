@@ -1,7 +1,7 @@
 // Of the fields of the table: which are empty, and what the others say.
 #![tactic(auto, using(crate::proofs::Promised::fields))]
 
-ghost use Rattle.std.specs.Prelude.{◌≡◌, ◌<◌, ◌++◌, ◌∷◌, true, ℕ, List, length, get_or, codes, Some, None, Ok};
+ghost use Rattle.std.specs.Prelude.{◌≡◌, ◌+◌, ◌<◌, ◌++◌, ◌∷◌, true, ℕ, List, length, get_or, codes, Some, None, Ok};
 ghost use Rattle.refusals.specs.First.{Iff};
 ghost use Rattle.pages.specs.Read11.{read_counter};
 ghost use Rattle.pages.specs.Top.{at_top};
@@ -27,8 +27,8 @@ pub fn change_exactly()
 /// either page lacks; where the value has fallen; and where either value is the largest of its width.
 pub fn empty_where()
     ensures first { (s : Sampled) (ss : List Sampled) (numbers : List ℕ) (number : ℕ) → first_refusal (input_tests (s ∷ ss) numbers) ≡ None → change_in (s ∷ ss) s.hour number ≡ None }
-    ensures no_sample { (samples : List Sampled) (hour number : ℕ) → page_of_hour samples hour ≡ None → change_in samples hour number ≡ None }
-    ensures none_before { (samples : List Sampled) (hour number : ℕ) → page_before samples hour ≡ None → change_in samples hour number ≡ None }
+    ensures no_sample { (samples : List Sampled) (hour number : ℕ) → ((k : ℕ) (d : Sampled) → k < length samples → (get_or samples k d).hour ≡ hour → ⊥) → change_in samples hour number ≡ None }
+    ensures none_before { (samples : List Sampled) (hour number : ℕ) → ((k : ℕ) (d : Sampled) → k < length samples → (get_or samples k d).hour ≡ hour → ⊥) → change_in samples (hour + 1) number ≡ None }
     ensures absent_before { (samples : List Sampled) (hour number : ℕ) (before page : List ℕ) → page_before samples hour ≡ Some before → page_of_hour samples hour ≡ Some page → read_counter before number ≡ Ok None → change_in samples hour number ≡ None }
     ensures absent { (samples : List Sampled) (hour number : ℕ) (before page : List ℕ) → page_before samples hour ≡ Some before → page_of_hour samples hour ≡ Some page → read_counter page number ≡ Ok None → change_in samples hour number ≡ None }
     ensures fallen { (samples : List Sampled) (hour number : ℕ) (before page : List ℕ) → page_before samples hour ≡ Some before → page_of_hour samples hour ≡ Some page → (old new : CounterValue) → read_counter before number ≡ Ok (Some old) → read_counter page number ≡ Ok (Some new) → new.value < old.value → change_in samples hour number ≡ None }
