@@ -17,8 +17,8 @@ use Rattle.bits.specs.Contract.{Says}
 use Rattle.bits.proofs.Tying.{say}
 use Rattle.hourly_promises.proofs.fields
 use Rattle.hourly_promises.specs.contracts.fields as fields-said
-use Rattle.hourly_promises.proofs.refusals
-use Rattle.hourly_promises.specs.contracts.refusals as refusals-said
+use Rattle.hourly_promises.proofs.turned_down
+use Rattle.hourly_promises.specs.contracts.turned_down as turned_down-said
 use Rattle.hourly_promises.proofs.csv_text
 use Rattle.hourly_promises.specs.contracts.csv_text as csv_text-said
 
@@ -34,10 +34,10 @@ tied_empty_where = say (λ κs a. tt) (λ κs a r ws p. (p.0, p.1.0, p.1.1.0, p.
 pub tied_later_stands : Says fields-said.later_stands.ended fields.later_stands.Reads.Asked fields.later_stands.Reads.Post (λ κs a r ws. (xs : List Sampled) (s : Sampled) (ys : List Sampled) → ((k : ℕ) (d : Sampled) → k < length ys → (get_or ys k d).hour ≡ s.hour → ⊥) → page_of_hour (xs ++ s ∷ ys) s.hour ≡ Some s.page)
 tied_later_stands = say (λ κs a. tt) (λ κs a r ws p. p)
 
-pub tied_first_exactly : Says refusals-said.first_exactly.ended refusals.first_exactly.Reads.Asked refusals.first_exactly.Reads.Post (λ κs a r ws. (samples : List Sampled) (numbers : List ℕ) (room : ℕ) → FirstGiven (table_tests samples numbers room) (first_refusal (table_tests samples numbers room)))
+pub tied_first_exactly : Says turned_down-said.first_exactly.ended turned_down.first_exactly.Reads.Asked turned_down.first_exactly.Reads.Post (λ κs a r ws. (samples : List Sampled) (numbers : List ℕ) (room : ℕ) → FirstGiven (table_tests samples numbers room) (first_refusal (table_tests samples numbers room)))
 tied_first_exactly = say (λ κs a. tt) (λ κs a r ws p. p)
 
-pub tied_all_read : Says refusals-said.all_read.ended refusals.all_read.Reads.Asked refusals.all_read.Reads.Post (λ κs a r ws. (samples : List Sampled) (numbers : List ℕ) (room size : ℕ) → Ok size ≡ table_size samples numbers room → (i : ℕ) (s : Sampled) → i < length samples → (j : ℕ) → j < length numbers → is_err (read_counter (get_or samples i s).page (get_or numbers j 0)) ≡ false)
+pub tied_all_read : Says turned_down-said.all_read.ended turned_down.all_read.Reads.Asked turned_down.all_read.Reads.Post (λ κs a r ws. (samples : List Sampled) (numbers : List ℕ) (room size : ℕ) → Ok size ≡ table_size samples numbers room → (i : ℕ) (s : Sampled) → i < length samples → (j : ℕ) → j < length numbers → is_err (read_counter (get_or samples i s).page (get_or numbers j 0)) ≡ false)
 tied_all_read = say (λ κs a. tt) (λ κs a r ws p. p)
 
 pub tied_row_is_csv : Says csv_text-said.row_is_csv.ended csv_text.row_is_csv.Reads.Asked csv_text.row_is_csv.Reads.Post (λ κs a r ws. (hour number : ℕ) (change : Option ℕ) → hour < 2 ^ 64 → ((c : ℕ) → change ≡ Some c → c < 2 ^ 64) → line_text hour number change ≡ row_text crlf_writer (fields_of hour number change))

@@ -3,8 +3,8 @@
 
 mod csv_text;
 mod fields;
-mod refusals;
+mod turned_down;
 
 pub use csv_text::{row_is_csv, table_is_csv};
 pub use fields::{change_exactly, empty_where, later_stands, never_zero};
-pub use refusals::{all_read, first_exactly};
+pub use turned_down::{all_read, first_exactly};
