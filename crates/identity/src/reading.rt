@@ -16,8 +16,11 @@ pub struct Identified {
 
 // The words that are looked at.
 const DEPTH: usize = 75;
+
 const CAPABILITIES: usize = 76;
+
 const COMMAND_SETS: usize = 83;
+
 const CAPACITY: usize = 100;
 
 // Where the byte stands that says that the last byte is a sum.
