@@ -2,13 +2,15 @@
 // command line are read, and the file is opened.
 #![tactic(auto)]
 
+ghost use Rattle.std.specs.Prelude.{None};
+
 mod options;
 
 use options::{command, numbers_of};
-use page_text::{LINES_MISSING, exit_status};
+use page_text::{LINES_MISSING, Shelf, exit_status};
 use std::alloc::Global;
 use std::process::ExitCode;
-use std::{env, fs};
+use std::{env, fs, io};
 use streams::put;
 
 // The exit status that clap gives an error of usage.
@@ -17,11 +19,31 @@ const USAGE: u8 = 2;
 // The exit status of a file that cannot be opened, as of one that cannot be read.
 const UNREAD: u8 = 3;
 
-fn tell(rt: &HostRuntime, alloc: Global, file: &str, numbers: &[u16]) -> u8 {
+// The files that lie where a path says.
+#[derive(Drop)]
+struct Disk<'a> {
+    rt: &'a HostRuntime,
+}
+
+impl<'a> Shelf for Disk<'a> {
+    type Page = fs::File;
+
+    ghost holds = { λ disk name. None };
+
+    fn open(&self, name: &str) -> io::Result<fs::File> {
+        fs::open(self.rt, name)
+    }
+}
+
+// The table of a file of samples; `listed` says that each line names the file of its page.
+fn tell(rt: &HostRuntime, alloc: Global, file: &str, listed: bool, numbers: &[u16]) -> u8 {
+    let disk = Disk { rt };
+    let shelf = if listed { Some(&disk) } else { None };
     match fs::open(rt, file) {
         Ok(mut samples) => exit_status(hourly_run::run(
             alloc,
             numbers,
+            shelf,
             &mut samples,
             &mut rt.stdout(),
             &mut rt.stderr(),
@@ -53,7 +75,7 @@ fn run(rt: &HostRuntime) -> anyhow::Result<u8> {
         eprintln!(rt; "counters are hex numbers")?;
         return Ok(USAGE);
     };
-    Ok(tell(rt, alloc, file, &numbers))
+    Ok(tell(rt, alloc, file, matches.get_flag("pages"), &numbers))
 }
 
 fn main(rt: HostRuntime) -> ExitCode {
