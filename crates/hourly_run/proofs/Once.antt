@@ -1,9 +1,8 @@
 -- What an input tells is one thing: of lines of hex whatever it is, and of files whose bytes are known wherever it is a table. Assumes nothing.
-use Rattle.std.proofs.Common.{◌≡◌, refl, sym, ap, ◌∙◌, subst, ℕ, true, List, [], ◌∷◌, take, is_some, IfSome, Option, Some, None, Result, Ok, Err}
-use Rattle.std.specs.Option.{option_map}
+use Rattle.std.proofs.Common.{◌≡◌, refl, sym, ap, ◌∙◌, subst, ℕ, true, List, [], ◌∷◌, is_some, Option, Some, None, Result, Ok, Err}
 use Rattle.hourly_table.specs.Samples.{Sampled}
 use Rattle.hourly_run.specs.Entries.{entry_of}
-use Rattle.hourly_run.specs.Pages.{Shelved, MayRead}
+use Rattle.hourly_run.specs.Pages.{MayRead}
 use Rattle.hourly_run.specs.Samples.{sample_at, MayTell, in_front, Joined, SamplesIn}
 
 one_sample : (entry : Option (ℕ × List ℕ)) (s t : Option Sampled) → MayTell None entry s → MayTell None entry t → s ≡ t
