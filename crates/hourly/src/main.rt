@@ -11,7 +11,7 @@ use page_text::{LINES_MISSING, Shelf, exit_status};
 use std::alloc::Global;
 use std::process::ExitCode;
 use std::{env, fs, io};
-use streams::put;
+use streams::{complain, put};
 
 // The exit status that clap gives an error of usage.
 const USAGE: u8 = 2;
@@ -50,7 +50,10 @@ fn tell(rt: &HostRuntime, alloc: Global, file: &str, listed: bool, numbers: &[u1
         )),
         Err(_) => match put(&mut rt.stdout(), b"stop\n") {
             Ok(()) => UNREAD,
-            Err(_) => LINES_MISSING,
+            Err(_) => {
+                let _unsaid = complain(&mut rt.stderr()).is_err();
+                LINES_MISSING
+            }
         },
     }
 }
