@@ -56,8 +56,8 @@ tied_field_exactly = say (λ κs a. tt) (λ κs a r ws p. p)
 pub tied_numbers_told : Says csv_text-said.numbers_told.ended csv_text.numbers_told.Reads.Asked csv_text.numbers_told.Reads.Post (λ κs a r ws. ((number : ℕ) → length (hex_number number) ≡ 3) × ((number : ℕ) → number < 4096 → digits_value 16 (hex_number number) ≡ number) × ((number k d : ℕ) → k < 3 → get_or (hex_number number) k d ≤ 70))
 tied_numbers_told = say (λ κs a. tt) (λ κs a r ws p. (p.0, p.1.0, p.1.1))
 
-pub tied_every_hour : Says hours-said.every_hour.ended hours.every_hour.Reads.Asked hours.every_hour.Reads.Post (λ κs a r ws. ((s : Sampled) (ss : List Sampled) (numbers : List ℕ) → first_refusal (input_tests (s ∷ ss) numbers) ≡ None → s.hour + length (hours_of (s ∷ ss)) ≡ (get_or (s ∷ ss) (length ss) s).hour + 1) × ((s : Sampled) (ss : List Sampled) (numbers : List ℕ) → first_refusal (input_tests (s ∷ ss) numbers) ≡ None → (k d : ℕ) → k < length (hours_of (s ∷ ss)) → get_or (hours_of (s ∷ ss)) k d ≡ s.hour + k))
-tied_every_hour = say (λ κs a. tt) (λ κs a r ws p. p)
+pub tied_every_hour : Says hours-said.every_hour.ended hours.every_hour.Reads.Asked hours.every_hour.Reads.Post (λ κs a r ws. ((s : Sampled) (ss : List Sampled) (numbers : List ℕ) → first_refusal (input_tests (s ∷ ss) numbers) ≡ None → s.hour + length (hours_of (s ∷ ss)) ≡ (get_or (s ∷ ss) (length ss) s).hour + 1) × ((s : Sampled) (ss : List Sampled) (numbers : List ℕ) → first_refusal (input_tests (s ∷ ss) numbers) ≡ None → (k d : ℕ) → k < length (hours_of (s ∷ ss)) → get_or (hours_of (s ∷ ss)) k d ≡ s.hour + k) × (hours_of [] ≡ []))
+tied_every_hour = say (λ κs a. tt) (λ κs a r ws p. (p.0, p.1.0, p.1.1))
 
 pub tied_table_given : Says turned_down-said.table_given.ended turned_down.table_given.Reads.Asked turned_down.table_given.Reads.Post (λ κs a r ws. (samples : List Sampled) (numbers : List ℕ) (room : ℕ) → ((j : ℕ) → j < length numbers → 1 ≤ get_or numbers j 0) → ((j : ℕ) → j < length numbers → get_or numbers j 0 < 4096) → ((i : ℕ) (s : Sampled) → i < length samples → is_err (count_others (get_or samples i s).page) ≡ false) → ((i : ℕ) (s : Sampled) → i < length samples → (j : ℕ) → j < length numbers → is_err (read_counter (get_or samples i s).page (get_or numbers j 0)) ≡ false) → ((i : ℕ) (s : Sampled) → i + 1 < length samples → (get_or samples i s).hour ≤ (get_or samples (i + 1) s).hour) → length (table samples numbers) ≤ room → table_size samples numbers room ≡ Ok (length (table samples numbers)))
 tied_table_given = say (λ κs a. tt) (λ κs a r ws p. p)
