@@ -189,7 +189,11 @@ one_test b = grind arith
 pub inv_sactive : {k : ℕ} {b : Bool} {h : List Seen} → Inv k b h → Sactive h
 inv_sactive {k} v = λ w t u. v.calm (sym v.waiting ∙ w) t u ∙ sym (ap (ltb 0) (v.number t u) ∙ one_test (bit_in 32 k t))
 
+-- with an empty set nothing is outstanding
+pub inv_none : {k : ℕ} {b : Bool} {h : List Seen} → Inv k b h → k ≡ 0 → total h ≡ 0
+unfolding ones ones_in
+inv_none {k} v e = inv_total v ∙ ap ones e
+
 -- while one waits nothing is outstanding, and SActive names what the demand says
 pub inv_waiting : {k : ℕ} {b : Bool} {h : List Seen} → Inv k b h → Waiting h
-unfolding ones ones_in
-inv_waiting {k} v = λ w. let s = v.stop (sym v.waiting ∙ w) in (inv_total v ∙ ap ones s.0, s.1)
+inv_waiting {k} v = λ w. let s = v.stop (sym v.waiting ∙ w) in (inv_none v s.0, s.1)

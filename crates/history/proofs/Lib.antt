@@ -45,6 +45,7 @@ pub mod Pages
 pub mod Shown
 -- replies: what each call may say, and what it must
 pub mod SeenRules
+pub mod Timely
 pub mod ReplyRules
 -- what the device knows is what the history tells, and so what each call is turned down for
 pub mod Soundness

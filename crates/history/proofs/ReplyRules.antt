@@ -1,5 +1,5 @@
 -- Every call says no more than it may, and what it must: as an event of the history. Assumes nothing.
-use Rattle.std.proofs.Common.{Ok, Err, ◌≡◌, refl, sym, ap, ◌∙◌, Bool, true, false, ◌&&◌, true≢false, List, [], map, ℕ}
+use Rattle.std.proofs.Common.{Ok, Err, ◌≡◌, refl, sym, ap, ap₂, ◌∙◌, Bool, true, false, ◌&&◌, true≢false, List, [], map, ℕ}
 use mathlib.Core.Path.{subst⁻¹}
 use mathlib.Core.Bool.{false≢true}
 use Rattle.frames.specs.Cut.{joined_bytes}
@@ -24,7 +24,7 @@ use Rattle.history.specs.Replied.{FrameRead, frames, some, is_pio, set_bits_in, 
 use Rattle.history.specs.Seen.{Seen, seen}
 use Rattle.history.specs.Shapes.{kind_of, OneOf}
 use Rattle.history.specs.ReplyRules.{TellsError, ReplyRules, Spoken}
-use Rattle.history.proofs.Core.{Inv}
+use Rattle.history.proofs.Core.{Inv, inv_none}
 use Rattle.history.proofs.Counts.{event_by, event_of}
 use Rattle.history.proofs.Decided.{by_decided}
 use Rattle.history.proofs.Views.{read_in, view, is_silent}
@@ -38,6 +38,7 @@ use Rattle.history.proofs.Marked.{Marked, halted_tells}
 use Rattle.history.proofs.SeenRules.{SeenRules, seen_rules}
 use Rattle.history.proofs.Speechless.{SpokenBy, Utters, host_utters}
 use Rattle.history.proofs.Own.{own_goes}
+use Rattle.history.proofs.Timely.{Timely, ruled_timely}
 
 -- ---- the replies of a call that is taken
 
@@ -94,6 +95,7 @@ module _ (d : Device) (l : Lent) where
         ungranted = λ _ _. ap granting_in none;
         faultless = ap faulty_in none;
         asked = λ y. absurd (false≢true (sym (ap (some is_pio) none) ∙ y));
+        timely = λ y. absurd (false≢true (sym (ap (some is_pio) none) ∙ y));
         named = p.named;
         spoken = turned_spoken r q (call_says l.call);
         swept = λ y. absurd (false≢true y);
@@ -104,9 +106,10 @@ module _ (d : Device) (l : Lent) where
       }
 
   -- a taken one
-  heeded_rules : (a : Act) (h : List Seen) → Read (heeded a) (sends a) → SeenRules (seen (heeded a)) h → CallShaped l.call (sends a) → Utters l.call (sends a) → ReplyRules (heeded a) h
+  heeded_rules : (a : Act) (h : List Seen) → Read (heeded a) (sends a) → SeenRules (seen (heeded a)) h → CallShaped l.call (sends a) → Utters l.call (sends a)
+      → Timely d (call_asks l.call) (sends a) → Inv d.status.outstanding d.status.halted h → ReplyRules (heeded a) h
   unfolding some collect seen
-  heeded_rules a h q p shape utters =
+  heeded_rules a h q p shape utters timed i =
       let e : Event = heeded a in
       let seen_as : frames e ≡ read_in (sends a) = read_frames e (sends a) q in
       let pages : paged e ≡ pio_in (sends a) = ap (some is_pio) seen_as in
@@ -117,6 +120,9 @@ module _ (d : Device) (l : Lent) where
         ungranted = λ y n. ap granting_in seen_as ∙ shape.ungranted y n;
         faultless = ap faulty_in seen_as ∙ shape.faultless;
         asked = λ y. utters.paged (sym pages ∙ y);
+        timely = λ y.
+            let sent = sym pages ∙ y in
+            (inv_none i (timed.idle sent), λ w. ap₂ ◌&&◌ (timed.alone sent (sym i.waiting ∙ w)) y);
         named = p.named;
         spoken = heeded_spoken a q (call_says l.call) utters.spoken;
         swept = λ y.
@@ -137,5 +143,6 @@ module _ (d : Device) (l : Lent) where
   pub reply_rules : (h : List Seen) → Typed l.call → SizedRecord d → Marked d → Inv d.status.outstanding d.status.halted h → ReplyRules (event_of d l) h
   reply_rules h t sized marked i =
       by_decided d l (λ (s : Step). Read (event_by l s) s.frames → SeenRules (seen (event_by l s)) h → ReplyRules (event_by l s) h) (λ r. turned_rules r h)
-      (λ a ruled q p. heeded_rules a h q p (ruled_shaped d l.medium l.buffer ruled) (ruled_utters d l.medium l.buffer (λ g. halted_tells d sized g marked) ruled))
+      (λ a ruled q p. heeded_rules a h q p (ruled_shaped d l.medium l.buffer ruled) (ruled_utters d l.medium l.buffer (λ g. halted_tells d sized g marked) ruled)
+      (ruled_timely d l.medium l.buffer ruled) i)
       (read_step d l t sized) (seen_rules d (step d l).state (seen (event_of d l)) h i (comes d l t sized))

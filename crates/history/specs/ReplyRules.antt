@@ -12,7 +12,7 @@ use Rattle.history.specs.Reading.{Speech, none_finished, set_finished, error_tol
 use Rattle.history.specs.Replied.{frames, some, err_in, register_in, collect, faulty_in, paged, page}
 use Rattle.history.specs.Shapes.{kinds, OneOf}
 use Rattle.history.specs.Seen.{Seen, seen, Transfer, errs, accepts}
-use Rattle.history.specs.Fates.{ends, one, total_with}
+use Rattle.history.specs.Fates.{ends, one, total, total_with}
 use Rattle.history.specs.Waits.{waits}
 
 -- nothing is finished; where this is said it follows from the shapes, and at a media error from its ERR
@@ -50,6 +50,8 @@ pub record ReplyRules (e : Event) (h : List Seen) : Type 0 where
   pub faultless : faulty_in (frames e) ≡ false
   -- a page answers a taken read of page 10h or 11h, or a taken IDENTIFY DEVICE
   pub asked : paged e ≡ true → asks_page (asks e) ≡ true
+  -- a page is sent only while nothing is outstanding, and while an error waits page 10h alone [said]
+  pub timely : paged e ≡ true → (total h ≡ 0) × (waits h ≡ true → (seen e).delivers 0x10 ≡ true)
   -- what is named finished is outstanding: no dead command is called finished
   pub named : (t : ℕ) → t < 32 → (seen e).finishes t ≡ true → total_with t h ≡ 1
   -- and is what was asked for

@@ -2,14 +2,16 @@
 // command line are read, and the file is opened.
 #![tactic(auto)]
 
+ghost use Rattle.std.specs.Prelude.{None};
+
 mod options;
 
 use options::{command, numbers_of};
-use page_text::{LINES_MISSING, exit_status};
+use page_text::{LINES_MISSING, Shelf, exit_status};
 use std::alloc::Global;
 use std::process::ExitCode;
-use std::{env, fs};
-use streams::put;
+use std::{env, fs, io};
+use streams::{complain, put};
 
 // The exit status that clap gives an error of usage.
 const USAGE: u8 = 2;
@@ -17,18 +19,41 @@ const USAGE: u8 = 2;
 // The exit status of a file that cannot be opened, as of one that cannot be read.
 const UNREAD: u8 = 3;
 
-fn tell(rt: &HostRuntime, alloc: Global, file: &str, numbers: &[u16]) -> u8 {
+// The files that lie where a path says.
+#[derive(Drop)]
+struct Disk<'a> {
+    rt: &'a HostRuntime,
+}
+
+impl<'a> Shelf for Disk<'a> {
+    type Page = fs::File;
+
+    ghost holds = { λ disk name. None };
+
+    fn open(&self, name: &str) -> io::Result<fs::File> {
+        fs::open(self.rt, name)
+    }
+}
+
+// The table of a file of samples; `listed` says that each line names the file of its page.
+fn tell(rt: &HostRuntime, alloc: Global, file: &str, listed: bool, numbers: &[u16]) -> u8 {
+    let disk = Disk { rt };
+    let shelf = if listed { Some(&disk) } else { None };
     match fs::open(rt, file) {
         Ok(mut samples) => exit_status(hourly_run::run(
             alloc,
             numbers,
+            shelf,
             &mut samples,
             &mut rt.stdout(),
             &mut rt.stderr(),
         )),
         Err(_) => match put(&mut rt.stdout(), b"stop\n") {
             Ok(()) => UNREAD,
-            Err(_) => LINES_MISSING,
+            Err(_) => {
+                let _unsaid = complain(&mut rt.stderr()).is_err();
+                LINES_MISSING
+            }
         },
     }
 }
@@ -53,7 +78,7 @@ fn run(rt: &HostRuntime) -> anyhow::Result<u8> {
         eprintln!(rt; "counters are hex numbers")?;
         return Ok(USAGE);
     };
-    Ok(tell(rt, alloc, file, &numbers))
+    Ok(tell(rt, alloc, file, matches.get_flag("pages"), &numbers))
 }
 
 fn main(rt: HostRuntime) -> ExitCode {

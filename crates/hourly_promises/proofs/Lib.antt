@@ -3,5 +3,9 @@ pub mod Plain
 pub mod ReadRows
 pub mod ReadTable
 pub mod Gaps
+pub mod Told
+pub mod EveryHour
+pub mod Hex
+pub mod Given
 pub mod Promised
 pub mod Tied

@@ -1,15 +1,17 @@
 -- The public functions' own contracts: what they say. Assumes nothing.
-use Rattle.std.specs.Prelude.{◌+◌, List, None, Ok, Option, Some, codes, false, get_or, is_err, length, true, ℕ, ◌++◌, ◌<◌, ◌^◌, ◌∷◌, ◌≡◌}
+use Rattle.std.specs.Prelude.{◌+◌, ◌≤◌, List, [], None, Ok, Option, Some, codes, decimal, false, get_or, is_err, length, true, ℕ, ◌++◌, ◌<◌, ◌^◌, ◌∷◌, ◌≡◌}
+use Rattle.std.specs.Str.Parse.{digits_value}
 use Rattle.refusals.specs.First.{Iff}
 use Rattle.pages.specs.Read11.{read_counter}
+use Rattle.pages.specs.Others11.{count_others}
 use Rattle.pages.specs.Top.{at_top}
 use Rattle.pages.specs.declared.value.CounterValue.{CounterValue}
 use Rattle.hourly_table.specs.Samples.{Sampled, page_before, page_of_hour}
 use Rattle.hourly_table.specs.Changes.{change_in}
 use Rattle.hourly_table.specs.Counted.{AllBytes, Counted}
-use Rattle.hourly_table.specs.Rows.{field_text, row_text as line_text}
+use Rattle.hourly_table.specs.Rows.{field_text, hex_number, row_text as line_text}
 use Rattle.hourly_table.specs.Refused.{FirstGiven, first_refusal, input_tests}
-use Rattle.hourly_table.specs.Table.{table, table_size, table_tests}
+use Rattle.hourly_table.specs.Table.{hours_of, table, table_size, table_tests}
 use Rattle.csv.specs.Reading.{default_config, records}
 use Rattle.csv.specs.Writing.{row_text}
 use Rattle.hourly_promises.specs.Csv.{AllHours, crlf_writer, fields_of, header_fields, records_of}
@@ -17,6 +19,8 @@ use Rattle.bits.specs.Contract.{Says}
 use Rattle.bits.proofs.Tying.{say}
 use Rattle.hourly_promises.proofs.fields
 use Rattle.hourly_promises.specs.contracts.fields as fields-said
+use Rattle.hourly_promises.proofs.hours
+use Rattle.hourly_promises.specs.contracts.hours as hours-said
 use Rattle.hourly_promises.proofs.turned_down
 use Rattle.hourly_promises.specs.contracts.turned_down as turned_down-said
 use Rattle.hourly_promises.proofs.csv_text
@@ -45,3 +49,15 @@ tied_row_is_csv = say (λ κs a. tt) (λ κs a r ws p. p)
 
 pub tied_table_is_csv : Says csv_text-said.table_is_csv.ended csv_text.table_is_csv.Reads.Asked csv_text.table_is_csv.Reads.Post (λ κs a r ws. (samples : List Sampled) (numbers : List ℕ) → AllBytes samples → AllHours samples → records default_config (table samples numbers) ≡ header_fields ∷ records_of samples numbers)
 tied_table_is_csv = say (λ κs a. tt) (λ κs a r ws p. p)
+
+pub tied_field_exactly : Says fields-said.field_exactly.ended fields.field_exactly.Reads.Asked fields.field_exactly.Reads.Post (λ κs a r ws. ((samples : List Sampled) (hour number c : ℕ) → Counted samples hour number c → field_text (change_in samples hour number) ≡ decimal c) × ((samples : List Sampled) (hour number : ℕ) → ((c : ℕ) → Counted samples hour number c → ⊥) → field_text (change_in samples hour number) ≡ []))
+tied_field_exactly = say (λ κs a. tt) (λ κs a r ws p. p)
+
+pub tied_numbers_told : Says csv_text-said.numbers_told.ended csv_text.numbers_told.Reads.Asked csv_text.numbers_told.Reads.Post (λ κs a r ws. ((number : ℕ) → length (hex_number number) ≡ 3) × ((number : ℕ) → number < 4096 → digits_value 16 (hex_number number) ≡ number) × ((number k d : ℕ) → k < 3 → get_or (hex_number number) k d ≤ 70))
+tied_numbers_told = say (λ κs a. tt) (λ κs a r ws p. (p.0, p.1.0, p.1.1))
+
+pub tied_every_hour : Says hours-said.every_hour.ended hours.every_hour.Reads.Asked hours.every_hour.Reads.Post (λ κs a r ws. ((s : Sampled) (ss : List Sampled) (numbers : List ℕ) → first_refusal (input_tests (s ∷ ss) numbers) ≡ None → s.hour + length (hours_of (s ∷ ss)) ≡ (get_or (s ∷ ss) (length ss) s).hour + 1) × ((s : Sampled) (ss : List Sampled) (numbers : List ℕ) → first_refusal (input_tests (s ∷ ss) numbers) ≡ None → (k d : ℕ) → k < length (hours_of (s ∷ ss)) → get_or (hours_of (s ∷ ss)) k d ≡ s.hour + k) × (hours_of [] ≡ []))
+tied_every_hour = say (λ κs a. tt) (λ κs a r ws p. (p.0, p.1.0, p.1.1))
+
+pub tied_table_given : Says turned_down-said.table_given.ended turned_down.table_given.Reads.Asked turned_down.table_given.Reads.Post (λ κs a r ws. (samples : List Sampled) (numbers : List ℕ) (room : ℕ) → ((j : ℕ) → j < length numbers → 1 ≤ get_or numbers j 0) → ((j : ℕ) → j < length numbers → get_or numbers j 0 < 4096) → ((i : ℕ) (s : Sampled) → i < length samples → is_err (count_others (get_or samples i s).page) ≡ false) → ((i : ℕ) (s : Sampled) → i < length samples → (j : ℕ) → j < length numbers → is_err (read_counter (get_or samples i s).page (get_or numbers j 0)) ≡ false) → ((i : ℕ) (s : Sampled) → i + 1 < length samples → (get_or samples i s).hour ≤ (get_or samples (i + 1) s).hour) → length (table samples numbers) ≤ room → table_size samples numbers room ≡ Ok (length (table samples numbers)))
+tied_table_given = say (λ κs a. tt) (λ κs a r ws p. p)

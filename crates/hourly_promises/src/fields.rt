@@ -1,7 +1,7 @@
 // Of the fields of the table: which are empty, and what the others say.
 #![tactic(auto, using(crate::proofs::Promised::fields))]
 
-ghost use Rattle.std.specs.Prelude.{◌≡◌, ◌+◌, ◌<◌, ◌++◌, ◌∷◌, true, ℕ, List, length, get_or, codes, Some, None, Ok};
+ghost use Rattle.std.specs.Prelude.{◌≡◌, ◌+◌, ◌<◌, ◌++◌, ◌∷◌, true, ℕ, List, [], length, get_or, codes, decimal, Some, None, Ok};
 ghost use Rattle.refusals.specs.First.{Iff};
 ghost use Rattle.pages.specs.Read11.{read_counter};
 ghost use Rattle.pages.specs.Top.{at_top};
@@ -39,4 +39,10 @@ pub fn empty_where()
 /// Of the samples of an hour the last in the input stands, with the whole of its page.
 pub fn later_stands()
     ensures { (xs : List Sampled) (s : Sampled) (ys : List Sampled) → ((k : ℕ) (d : Sampled) → k < length ys → (get_or ys k d).hour ≡ s.hour → ⊥) → page_of_hour (xs ++ s ∷ ys) s.hour ≡ Some s.page }
+{}
+
+/// A field is the decimal of what was counted, and is empty where nothing is known to have been.
+pub fn field_exactly()
+    ensures told { (samples : List Sampled) (hour number c : ℕ) → Counted samples hour number c → field_text (change_in samples hour number) ≡ decimal c }
+    ensures gap { (samples : List Sampled) (hour number : ℕ) → ((c : ℕ) → Counted samples hour number c → ⊥) → field_text (change_in samples hour number) ≡ [] }
 {}

@@ -4,7 +4,9 @@ use Rattle.std.specs.List.{position_or_len}
 use Rattle.bits.proofs.Picks.{tested}
 use Rattle.hourly_table.specs.Samples.{Sampled}
 use Rattle.hourly_run.specs.Lines.{is_lf, onto_first, lines_of}
-use Rattle.hourly_run.specs.Samples.{sample_of, in_front, samples_in}
+use Rattle.hourly_run.specs.Entries.{entry_of}
+use Rattle.hourly_run.specs.Pages.{Shelved}
+use Rattle.hourly_run.specs.Samples.{MayTell, in_front, SamplesIn, SamplesOf}
 
 same_take : (l : List ℕ) (m n : ℕ) → n ≡ min m (length l) → take m l ≡ take n l
 same_take l m n e =
@@ -52,23 +54,31 @@ pub none_behind : (r : Result (List Sampled) (List ℕ)) → r ≡ behind [] r
 none_behind (Ok samples) = refl
 none_behind (Err line) = refl
 
-in_front_behind : (first : List Sampled) (s : Sampled) (line : List ℕ) (r : Result (List Sampled) (List ℕ)) → behind first (in_front (Some s) line r) ≡ behind (first ++ s ∷ []) r
-in_front_behind first s line (Ok samples) = ap Ok (sym (append_assoc first (s ∷ []) samples))
-in_front_behind first s line (Err l) = refl
+in_front_behind : (first : List Sampled) (s : Sampled) (r : Result (List Sampled) (List ℕ)) → behind first (in_front s r) ≡ behind (first ++ s ∷ []) r
+in_front_behind first s (Ok samples) = ap Ok (sym (append_assoc first (s ∷ []) samples))
+in_front_behind first s (Err l) = refl
 
--- one line more
-pub line_more : (all : Result (List Sampled) (List ℕ)) (first : List Sampled) (rest line after : List ℕ) (s : Sampled) → all ≡ behind first (samples_in (lines_of rest)) → lines_of rest ≡ line ∷ lines_of after → Some s ≡ sample_of line
-    → all ≡ behind (first ++ s ∷ []) (samples_in (lines_of after))
-unfolding samples_in
-line_more all first rest line after s a l e = a ∙ ap (λ x. behind first (samples_in x)) l ∙ ap (λ o. behind first (in_front o line (samples_in (lines_of after)))) (sym e) ∙ in_front_behind first s line (samples_in (lines_of after))
+-- the first samples of a text, in front of all that the rest of it may tell
+abbrev pub Begins : Shelved → List ℕ → List Sampled → List ℕ → Type 0
+Begins shelf text first rest = (more : Result (List Sampled) (List ℕ)) → SamplesOf shelf rest more → SamplesOf shelf text (behind first more)
 
--- or the line that tells none
-pub line_bad : (all : Result (List Sampled) (List ℕ)) (first : List Sampled) (rest line after : List ℕ) → all ≡ behind first (samples_in (lines_of rest)) → lines_of rest ≡ line ∷ lines_of after → None ≡ sample_of line → Err line ≡ all
-unfolding samples_in
-line_bad all first rest line after a l e = sym (a ∙ ap (λ x. behind first (samples_in x)) l ∙ ap (λ o. behind first (in_front o line (samples_in (lines_of after)))) (sym e))
+pub begins_none : (shelf : Shelved) (text : List ℕ) → Begins shelf text [] text
+begins_none shelf text more m = subst (λ (x : Result (List Sampled) (List ℕ)). SamplesOf shelf text x) (none_behind more) m
+
+module _ (shelf : Shelved) (text : List ℕ) (first : List Sampled) (rest : List ℕ) (b : Begins shelf text first rest) where
+  -- one line more
+  pub line_more : (line after : List ℕ) (s : Sampled) → lines_of rest ≡ line ∷ lines_of after → MayTell shelf (entry_of line) (Some s) → Begins shelf text (first ++ s ∷ []) after
+  unfolding SamplesIn
+  line_more line after s l t more m =
+      subst (λ (x : Result (List Sampled) (List ℕ)). SamplesOf shelf text x) (in_front_behind first s more) (b (in_front s more) (subst (λ (ls : List (List ℕ)). SamplesIn shelf ls (in_front s more)) (sym l) (Some s, t, (more, m, refl))))
+
+  -- or the line that tells none
+  pub line_bad : (line after : List ℕ) → lines_of rest ≡ line ∷ lines_of after → MayTell shelf (entry_of line) None → SamplesOf shelf text (Err line)
+  unfolding SamplesIn
+  line_bad line after l t = b (Err line) (subst (λ (ls : List (List ℕ)). SamplesIn shelf ls (Err line)) (sym l) (None, t, refl))
 
 -- behind the last line
-pub lines_all : (all : Result (List Sampled) (List ℕ)) (first : List Sampled) (rest : List ℕ) → all ≡ behind first (samples_in (lines_of rest)) → length rest ≡ 0 → Ok first ≡ all
-unfolding samples_in lines_of
-lines_all all first [] a e = sym (a ∙ ap Ok (append-nil first))
-lines_all all first (b ∷ bs) a e = absurd (omega arith)
+pub lines_all : (shelf : Shelved) (text : List ℕ) (first : List Sampled) (rest : List ℕ) → Begins shelf text first rest → length rest ≡ 0 → SamplesOf shelf text (Ok first)
+unfolding SamplesIn lines_of
+lines_all shelf text first [] b e = subst (λ (x : List Sampled). SamplesOf shelf text (Ok x)) (append-nil first) (b (Ok []) refl)
+lines_all shelf text first (c ∷ cs) b e = absurd (omega arith)

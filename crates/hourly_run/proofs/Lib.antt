@@ -1,5 +1,6 @@
 pub mod Numerals
 pub mod Cutting
+pub mod Once
 pub mod Owing
 pub mod Printing
 pub mod Tied

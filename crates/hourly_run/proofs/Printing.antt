@@ -7,6 +7,7 @@ use Rattle.page_text.specs.declared.ends.Lost.TheVariants.{Unsaid}
 use Rattle.hourly_run.specs.declared.answers.Answer.{Answer}
 use Rattle.hourly_run.specs.declared.answers.Answer.TheVariants.{Stopped}
 use Rattle.hourly_run.specs.Owed.{Owes, stop_text, status_of}
+use Rattle.hourly_run.specs.Pages.{Shelved}
 use Rattle.hourly_run.specs.Runs.{Answered, Ran}
 
 appends_none : (known : Option (List ℕ)) → Appends known known []
@@ -14,26 +15,26 @@ appends_none None = tt
 appends_none (Some xs) = sym (append-nil xs)
 
 -- nothing at all is a front of `stop`
-pub nothing_printed : (numbers : List ℕ) (known old : Option (List ℕ)) → (t : Answered numbers known) × AppendsFront old old t.text
-nothing_printed numbers known old = (record { answer = Stopped; text = stop_text; said = []; owes = (refl, refl) }, (0, appends_none old))
+pub nothing_printed : (shelf : Shelved) (numbers : List ℕ) (known old : Option (List ℕ)) → (t : Answered shelf numbers known) × AppendsFront old old t.text
+nothing_printed shelf numbers known old = (record { answer = Stopped; text = stop_text; said = []; owes = (refl, refl) }, (0, appends_none old))
 
 all_front : (old new : Option (List ℕ)) (text : List ℕ) → Appends old new text → AppendsFront old new text
 all_front old new text a = (length text, subst (λ (x : List ℕ). Appends old new x) (sym (take_all (length text) text (omega arith))) a)
 
-module _ (numbers : List ℕ) (known old new : Option (List ℕ)) where
+module _ (shelf : Shelved) (numbers : List ℕ) (known old new : Option (List ℕ)) where
   -- an answer whose text was not all printed
-  pub front_printed : (answer : Answer) (text said printed : List ℕ) → Owes numbers known answer text said → printed ≡ text → AppendsFront old new printed
-      → (t : Answered numbers known) × AppendsFront old new t.text
+  pub front_printed : (answer : Answer) (text said printed : List ℕ) → Owes shelf numbers known answer text said → printed ≡ text → AppendsFront old new printed
+      → (t : Answered shelf numbers known) × AppendsFront old new t.text
   front_printed answer text said printed owes e a = (record { answer = answer; text = text; said = said; owes = owes }, subst (λ (x : List ℕ). AppendsFront old new x) e a)
 
   module _ (errors errors' : Option (List ℕ)) where
-    pub ran_all : (answer : Answer) (text said told : List ℕ) (status : ℕ) → Owes numbers known answer text said → Appends old new text → told ≡ said → Appends errors errors' told → status ≡ status_of answer
-        → Ran numbers known old new errors errors' (Ok status)
+    pub ran_all : (answer : Answer) (text said told : List ℕ) (status : ℕ) → Owes shelf numbers known answer text said → Appends old new text → told ≡ said → Appends errors errors' told → status ≡ status_of answer
+        → Ran shelf numbers known old new errors errors' (Ok status)
     ran_all answer text said told status owes a e b s = (record { answer = answer; text = text; said = said; owes = owes }, s, a, subst (λ (x : List ℕ). Appends errors errors' x) e b)
 
-    pub ran_unsaid : (answer : Answer) (text said told : List ℕ) → Owes numbers known answer text said → Appends old new text → told ≡ said → AppendsFront errors errors' told
-        → Ran numbers known old new errors errors' (Err Unsaid)
+    pub ran_unsaid : (answer : Answer) (text said told : List ℕ) → Owes shelf numbers known answer text said → Appends old new text → told ≡ said → AppendsFront errors errors' told
+        → Ran shelf numbers known old new errors errors' (Err Unsaid)
     ran_unsaid answer text said told owes a e b = (record { answer = answer; text = text; said = said; owes = owes }, all_front old new text a, inr (subst (λ (x : List ℕ). AppendsFront errors errors' x) e b))
 
-    pub ran_lost : (t : Answered numbers known) → AppendsFront old new t.text → AppendsFront errors errors' complaint → Ran numbers known old new errors errors' (Err Unsaid)
+    pub ran_lost : (t : Answered shelf numbers known) → AppendsFront old new t.text → AppendsFront errors errors' complaint → Ran shelf numbers known old new errors errors' (Err Unsaid)
     ran_lost t a b = (t, a, inl b)

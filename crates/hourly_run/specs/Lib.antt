@@ -1,5 +1,6 @@
 pub mod Entries
 pub mod Lines
+pub mod Pages
 pub mod Samples
 pub mod Owed
 pub mod Kept

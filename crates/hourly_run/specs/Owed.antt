@@ -4,7 +4,8 @@ use Rattle.hourly_table.specs.Samples.{Sampled}
 use Rattle.hourly_table.specs.Refused.{table_number}
 use Rattle.hourly_table.specs.Table.{table, table_size}
 use Rattle.hourly_table.specs.declared.reasons.TableRefusal.{TableRefusal}
-use Rattle.hourly_run.specs.Samples.{samples_of}
+use Rattle.hourly_run.specs.Pages.{Shelved}
+use Rattle.hourly_run.specs.Samples.{SamplesOf}
 use Rattle.hourly_run.specs.declared.answers.Answer.{Answer}
 use Rattle.hourly_run.specs.declared.answers.Answer.TheVariants.{Told, Refused, Malformed, Stopped}
 
@@ -40,14 +41,14 @@ abbrev pub owed_samples : List ℕ → Result (List Sampled) (List ℕ) → Tell
 owed_samples numbers (Ok samples) = told_of (table_within samples numbers)
 owed_samples numbers (Err line) = telling Malformed stop_text line
 
--- of the whole text
-unfoldable pub owed : List ℕ → List ℕ → Telling
-owed numbers text = owed_samples numbers (samples_of text)
+-- of a text: what the samples are owed that it may tell
+abbrev pub IsOwed : Shelved → List ℕ → List ℕ → Telling → Type 0
+IsOwed shelf numbers text t = (told : Result (List Sampled) (List ℕ)) × SamplesOf shelf text told × (t ≡ owed_samples numbers told)
 
--- what is printed and said is what the input is owed, where that is known; or a read failed, and `stop` is printed [hourly-input]
-abbrev pub Owes : List ℕ → Option (List ℕ) → Answer → List ℕ → List ℕ → Type 0
-Owes numbers known Stopped text said = (text ≡ stop_text) × (said ≡ [])
-Owes numbers known answer text said = IfSome known (λ input. owed numbers input ≡ telling answer text said)
+-- what is printed and said is owed the input, where that is known; or a read of it failed, and `stop` is printed [hourly-input]
+abbrev pub Owes : Shelved → List ℕ → Option (List ℕ) → Answer → List ℕ → List ℕ → Type 0
+Owes shelf numbers known Stopped text said = (text ≡ stop_text) × (said ≡ [])
+Owes shelf numbers known answer text said = IfSome known (λ input. IsOwed shelf numbers input (telling answer text said))
 
 -- the exit status: 0 a table, 1 a refusal, 3 a malformed line or a failed read [hourly-status]
 abbrev pub status_of : Answer → ℕ

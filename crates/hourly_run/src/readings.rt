@@ -3,12 +3,15 @@ ghost use Rattle.std.specs.Prelude.{◌≡◌, ◌<◌, ◌∷◌, ◌+◌, min,
 ghost use Rattle.std.specs.List.{position, position_or_len};
 ghost use Rattle.hourly_table.specs.Samples.{sampled};
 ghost use Rattle.hourly_run.specs.Lines.{is_lf, lines_of};
-ghost use Rattle.hourly_run.specs.Samples.{sample_of, samples_of};
+ghost use Rattle.hourly_run.specs.Entries.{entry_of};
+ghost use Rattle.hourly_run.specs.Pages.{shelved};
+ghost use Rattle.hourly_run.specs.Samples.{MayTell, SamplesOf};
 ghost use Rattle.hourly_run.specs.Kept.{reading, readings_told};
 
 use crate::entries::entry_of;
-use hex::FromHexError;
+use crate::page_sources::page_of;
 use hourly_table::Sample;
+use page_text::Shelf;
 use std::alloc::{AllocError, Global};
 
 /// A sample that owns its page.
@@ -19,17 +22,18 @@ pub(crate) struct Reading {
 }
 
 // The sample of a line; none where it tells none.
-fn reading_of(alloc: Global, line: &[u8]) -> Result<Option<Reading>, AllocError>
-    ensures { IfOk result (λ (r : Option Reading). option_map reading r ≡ sample_of line.now) }
+fn reading_of<S: Shelf>(
+    alloc: Global,
+    shelf: Option<&S>,
+    line: &[u8],
+) -> Result<Option<Reading>, AllocError>
+    ensures { IfOk result (λ r. MayTell (shelved S.holds shelf.entry) (entry_of line.now) (option_map reading r)) }
 {
-    let Some((hour, digits)) = entry_of(line) else {
+    let Some((hour, behind)) = entry_of(line) else {
         return Ok(None);
     };
-    match hex::decode(alloc, digits) {
-        Ok(page) => Ok(Some(Reading { hour, page })),
-        Err(FromHexError::OutOfMemory) => Err(AllocError),
-        Err(_) => Ok(None),
-    }
+    let page = page_of(alloc, shelf, behind)?;
+    Ok(page.map(|page| Reading { hour, page }))
 }
 
 fn first_lf(text: &[u8]) -> Option<usize>
@@ -59,17 +63,18 @@ fn cut_line(text: &[u8]) -> (&[u8], &[u8])
 }
 
 /// The samples of a text; or the first line that tells none.
-pub(crate) fn readings_in(
+pub(crate) fn readings_in<'t, S: Shelf>(
     alloc: Global,
-    text: &[u8],
-) -> Result<Result<Vec<Reading>, &[u8]>, AllocError>
-    ensures { IfOk result (λ r. readings_told r ≡ samples_of text.now) }
+    shelf: Option<&S>,
+    text: &'t [u8],
+) -> Result<Result<Vec<Reading>, &'t [u8]>, AllocError>
+    ensures { IfOk result (λ r. SamplesOf (shelved S.holds shelf.entry) text.now (readings_told r)) }
 {
     let mut readings = Vec::new(alloc);
     let mut rest = text;
     while !rest.is_empty() {
         let (line, behind) = cut_line(rest);
-        match reading_of(alloc, line)? {
+        match reading_of(alloc, shelf, line)? {
             Some(reading) => readings.push(reading)?,
             None => return Ok(Err(line)),
         }

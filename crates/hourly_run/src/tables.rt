@@ -2,11 +2,13 @@
 ghost use Rattle.std.specs.Prelude.{◌≡◌, ◌++◌, ◌^◌, IfOk, MatchResult, Ok, Err, map};
 ghost use Rattle.hourly_table.specs.Samples.{sampled};
 ghost use Rattle.hourly_run.specs.Kept.{reading, table_told, telling_told};
-ghost use Rattle.hourly_run.specs.Owed.{refused_text, table_within, told_of, owed};
+ghost use Rattle.hourly_run.specs.Owed.{refused_text, table_within, told_of, IsOwed};
+ghost use Rattle.hourly_run.specs.Pages.{shelved};
 
 use crate::answers::{Answer, Telling};
 use crate::readings::{Reading, readings_in, samples_of};
 use hourly_table::{Sample, TableRefusal, table_size, write_table};
+use page_text::Shelf;
 use std::alloc::{AllocError, Global};
 
 /// A table of more bytes is refused as too long.
@@ -57,10 +59,15 @@ fn table_of(alloc: Global, numbers: &[u16], readings: &[Reading]) -> Result<Tell
 }
 
 /// What the whole input is owed.
-pub(crate) fn tell(alloc: Global, numbers: &[u16], input: &[u8]) -> Result<Telling, AllocError>
-    ensures { IfOk result (λ t. telling_told t ≡ owed numbers.now input.now) }
+pub(crate) fn tell<S: Shelf>(
+    alloc: Global,
+    numbers: &[u16],
+    shelf: Option<&S>,
+    input: &[u8],
+) -> Result<Telling, AllocError>
+    ensures { IfOk result (λ t. IsOwed (shelved S.holds shelf.entry) numbers.now input.now (telling_told t)) }
 {
-    match readings_in(alloc, input)? {
+    match readings_in(alloc, shelf, input)? {
         Ok(readings) => table_of(alloc, numbers, &readings),
         Err(line) => Ok(Telling {
             answer: Answer::Malformed,

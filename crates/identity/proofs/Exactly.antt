@@ -1,5 +1,5 @@
 -- Each refusal of the reader is given exactly when it should be, and what a page does not tell has no value. Assumes nothing.
-use Rattle.std.proofs.Common.{Some, None, ◌≡◌, refl, ap, ◌∙◌, ◌⊎◌, ⊎_elim, List, ℕ, ◌+◌, ◌/◌, ◌%◌, ◌^◌, eqb, Result, Ok, false, arith}
+use Rattle.std.proofs.Common.{Some, None, ◌≡◌, refl, ap, ◌∙◌, ◌⊎◌, ⊎_elim, List, ℕ, ◌+◌, ◌/◌, ◌%◌, ◌^◌, ◌&&◌, not, eqb, Result, Ok, false, arith}
 use mathlib.Core.Bool.{and-false}
 use Rattle.bits.specs.Bit.{bit_in}
 use Rattle.bits.specs.Little.{le_at}
@@ -29,8 +29,10 @@ number_told_lem r = grind arith
 pub identity_told_lem : (l : List ℕ) (r : Result Identified Refusal) → r ≡ read_identity l → IdentityGiven l r
 identity_told_lem l r e = record { answer = e; refusal = ap refusal_in e ∙ refusal_first l }
 
-no_queue : (w : ℕ) → (w ≡ 0) ⊎ (w ≡ 0xFFFF) → tells_queue w ≡ false
-no_queue w = ⊎_elim (λ (e : w ≡ 0). rw e refl) (λ (e : w ≡ 0xFFFF). rw e refl)
+no_queue : (w : ℕ) → (w ≡ 0) ⊎ ((w ≡ 0xFFFF) ⊎ (bit_in 16 w 8 ≡ false)) → tells_queue w ≡ false
+no_queue w =
+    ⊎_elim (λ (e : w ≡ 0). rw e refl)
+    (⊎_elim (λ (e : w ≡ 0xFFFF). rw e refl) (λ (e : bit_in 16 w 8 ≡ false). rw e (and-false (not (eqb w 0) && not (eqb w 0xFFFF)))))
 
 no_capacity : (w : ℕ) → (w / 2 ^ 14 ≡ 1 → ⊥) ⊎ (bit_in 16 w 10 ≡ false) → tells_capacity w ≡ false
 no_capacity w = ⊎_elim (λ (n : w / 2 ^ 14 ≡ 1 → ⊥). grind arith) (λ (e : bit_in 16 w 10 ≡ false). rw e (and-false (eqb (w / 2 ^ 14) 1)))
@@ -40,8 +42,8 @@ module _ (l : List ℕ) (i : Identified) (e : Ok i ≡ read_identity l) where
   unfolding read_identity
   told = (unless_ok (first_of (ladder_identity l)) (told_by l) i e).1
 
-  -- of every page: a word 76 of 0000h or FFFFh tells no queue
-  pub untold_queue : (word_in l 76 ≡ 0) ⊎ (word_in l 76 ≡ 0xFFFF) → i.queue ≡ None
+  -- of every page: a word 76 of 0000h or FFFFh, or whose bit 8 is off, tells no queue
+  pub untold_queue : (word_in l 76 ≡ 0) ⊎ ((word_in l 76 ≡ 0xFFFF) ⊎ (bit_in 16 (word_in l 76) 8 ≡ false)) → i.queue ≡ None
   untold_queue w = ap (λ (t : Identified). t.queue) told ∙ pick_no (tells_queue (word_in l 76)) (Some (word_in l 75 % 32 + 1)) None (no_queue (word_in l 76) w)
 
   -- of every page: a word 83 whose bits 15:14 are not 01b, or whose bit 10 is off, tells no capacity

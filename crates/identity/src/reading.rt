@@ -14,13 +14,16 @@ pub struct Identified {
     pub capacity: Option<u64>,
 }
 
-// The words that are looked at.
+// The word that tells the queue depth less one.
 const DEPTH: usize = 75;
 
+// The word that tells what the device has of Serial ATA.
 const CAPABILITIES: usize = 76;
 
+// The word that tells of 48-bit addresses.
 const COMMAND_SETS: usize = 83;
 
+// The first of the four words that tell the capacity.
 const CAPACITY: usize = 100;
 
 // Where the byte stands that says that the last byte is a sum.

@@ -124,7 +124,7 @@ pub tied_identity_read_back : Says written-said.identity_read_back.ended written
 tied_identity_read_back = say (λ κs a. tt) (λ κs a r ws p. p)
 
 pub tied_untold_is_none : Says written-said.untold_is_none.ended written.untold_is_none.Reads.Asked written.untold_is_none.Reads.Post
-    (λ κs a r ws. ((l : List ℕ) (i : Identified) → Ok i ≡ read_identity l → ((word_in l 76 ≡ 0) ⊎ (word_in l 76 ≡ 0xFFFF)) → i.queue ≡ None)
+    (λ κs a r ws. ((l : List ℕ) (i : Identified) → Ok i ≡ read_identity l → ((word_in l 76 ≡ 0) ⊎ ((word_in l 76 ≡ 0xFFFF) ⊎ (bit_in 16 (word_in l 76) 8 ≡ false))) → i.queue ≡ None)
     × ((l : List ℕ) (i : Identified) → Ok i ≡ read_identity l → ((word_in l 83 / 2 ^ 14 ≡ 1 → ⊥) ⊎ (bit_in 16 (word_in l 83) 10 ≡ false)) → i.capacity ≡ None))
 tied_untold_is_none = say (λ κs a. tt) (λ κs a r ws p. (p.0, p.1))
 

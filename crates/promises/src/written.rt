@@ -45,9 +45,9 @@ pub fn identity_read_back()
     ensures { (f : Identity) → fits_identity f ≡ true → read_identity (identity_page f) ≡ Ok (all_told f) }
 {}
 
-/// What a page of IDENTIFY DEVICE does not tell has no value: no queue depth where word 76 is 0000h or FFFFh, and no capacity
-/// where bits 15:14 of word 83 are not 01b or its bit 10 is off.
+/// What a page of IDENTIFY DEVICE does not tell has no value: no queue depth where word 76 is 0000h or FFFFh, or its
+/// bit 8 is off, and no capacity where bits 15:14 of word 83 are not 01b or its bit 10 is off.
 pub fn untold_is_none()
-    ensures queue { (l : List ℕ) (i : Identified) → Ok i ≡ read_identity l → ((word_in l 76 ≡ 0) ⊎ (word_in l 76 ≡ 0xFFFF)) → i.queue ≡ None }
+    ensures queue { (l : List ℕ) (i : Identified) → Ok i ≡ read_identity l → ((word_in l 76 ≡ 0) ⊎ ((word_in l 76 ≡ 0xFFFF) ⊎ (bit_in 16 (word_in l 76) 8 ≡ false))) → i.queue ≡ None }
     ensures capacity { (l : List ℕ) (i : Identified) → Ok i ≡ read_identity l → ((word_in l 83 / 2 ^ 14 ≡ 1 → ⊥) ⊎ (bit_in 16 (word_in l 83) 10 ≡ false)) → i.capacity ≡ None }
 {}

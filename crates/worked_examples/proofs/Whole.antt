@@ -23,4 +23,4 @@ frames_placed = (refl, (refl, (refl, (refl, (refl, (refl, (refl, (refl, (refl, (
 
 pub pages_placed : WholeShows
 unfolding frame_by_kind read_frame readable first_of joined_bytes cut cut_to first_length fixed_size register_bytes sum256 sealed_page ids row_bytes rows_to open_to page11 page10 read_log id_at entries_from entries damaged value_in read_counter word_of words_to identity_page read_identity
-pages_placed = record { log = refl; log_read = refl; plain = refl; plain_read = refl; rows = refl; rows_read = refl; some_rows = refl; identity = refl; identity_read = refl; queues = refl; capacities = refl; parts = refl; unknown = refl; short = refl; tag = refl; sectors = refl; srst = refl; front = refl; call_numbers = refl; other_numbers = refl; lengths = refl }
+pages_placed = record { log = refl; log_read = refl; plain = refl; plain_read = refl; rows = refl; rows_read = refl; some_rows = refl; identity = refl; identity_read = refl; queues = refl; capacities = refl; fitting = refl; parts = refl; unknown = refl; short = refl; tag = refl; sectors = refl; srst = refl; front = refl; call_numbers = refl; other_numbers = refl; lengths = refl }

@@ -11,9 +11,10 @@ use Rattle.frames.specs.declared.shared.Task.{Task}
 use Rattle.frames.specs.Read.{read_frame}
 use Rattle.frames.specs.Write.{FrameValue, host, device, set_bits, setup, activate, payload, bist, pio, encode}
 use Rattle.frames.specs.RoundTrip.{read_back}
+use Rattle.identity.specs.Words.{fits_identity}
 use Rattle.identity.specs.Page.{identity_page}
 use Rattle.identity.specs.Read.{tells_queue, tells_capacity, all_told, read_identity}
-use Rattle.worked_examples.specs.WholeIdentity.{whole_identity, identity_bytes, identity_noisy}
+use Rattle.worked_examples.specs.WholeIdentity.{of, whole_identity, identity_bytes, identity_noisy}
 use Rattle.pages.specs.Page10.{page10, read_log}
 use Rattle.pages.specs.declared.page10.ErrorLog.{ErrorLog}
 use Rattle.pages.specs.Layout11.{page11}
@@ -178,6 +179,8 @@ pub record WholeShows : Type 0 where
   -- bit 8 of word 76 tells of a queue, but not in 0000h or FFFFh; bit 10 of word 83 of 48-bit addresses, behind 01b
   pub queues : map tells_queue (0x0100 ∷ 0xFFFE ∷ 0xFFFF ∷ 0x0000 ∷ 0xFEFF ∷ []) ≡ true ∷ true ∷ false ∷ false ∷ false ∷ []
   pub capacities : map tells_capacity (0x4400 ∷ 0x7FFF ∷ 0x0400 ∷ 0x8400 ∷ 0xC400 ∷ 0xFFFF ∷ 0x7BFF ∷ []) ≡ true ∷ true ∷ false ∷ false ∷ false ∷ false ∷ false ∷ []
+  -- a page is made of a depth of 1 to 32 and a capacity of at most 48 bits, and of no other
+  pub fitting : map fits_identity (of 1 0 ∷ of 32 0xFFFFFFFFFFFF ∷ of 0 1 ∷ of 33 1 ∷ of 1 0x1000000000000 ∷ []) ≡ true ∷ true ∷ false ∷ false ∷ false ∷ []
   -- frames are cut where each ends; one whose kind is not known takes what is left, and one that is too short what there is
   pub parts : cut (joined_bytes three) ≡ three
   pub unknown : cut (0x39 ∷ 0x00 ∷ 0x00 ∷ 0x00 ∷ 0x77 ∷ 0x39 ∷ 0x00 ∷ 0x00 ∷ 0x00 ∷ []) ≡ (0x39 ∷ 0x00 ∷ 0x00 ∷ 0x00 ∷ []) ∷ (0x77 ∷ 0x39 ∷ 0x00 ∷ 0x00 ∷ 0x00 ∷ []) ∷ []

@@ -2,6 +2,10 @@
 use Rattle.std.specs.Prelude.{List, [], ◌∷◌, ◌++◌, ℕ, replicate}
 use Rattle.identity.specs.declared.words.Identity.{Identity}
 
+-- a depth and a capacity
+abbrev pub of : ℕ → ℕ → Identity
+of d c = record { depth = d; capacity = c }
+
 abbrev pub whole_identity : Identity
 whole_identity = record { depth = 27; capacity = 0x0C0B0A090807 }
 
