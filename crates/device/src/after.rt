@@ -103,6 +103,7 @@ impl Device {
     }
 
     // By the act: one function for each thing that changes.
+    #[inline(always)]
     pub(crate) fn after(&mut self, act: &Act)
         ensures { self.new ≡ after_of self.old act.now }
     {

@@ -55,7 +55,9 @@ impl Device {
         }
     }
 
-    // The act is done: replies, whose length is answered, then the state.
+    // The act is done: replies, whose length is answered, then the state. This is inlined, with what it calls, where the act is made,
+    // so that no act is laid in memory.
+    #[inline(always)]
     fn done(&mut self, act: &Act, part: &[u8], reply: &mut [u8]) -> usize
         ensures state { self.new ≡ after_of self.old act.now }
         ensures reply { RepliesGiven (pick (leb 8196 (length reply.old)) (replies_of (state_shown self.old) part.now act.now) []) reply.old result reply.new }

@@ -57,11 +57,9 @@ pub struct Echo {
     pub b13: u8,
 }
 
-/// The table's entry of a tag: direction and range in sectors, what has moved in bytes, and the command's bytes 3-13. An idle one is all zeros.
+/// The table's entry of a tag: range in sectors, what has moved in bytes, the command's bytes 3-13, and the direction. An idle one is all zeros.
 #[derive(Clone, Copy, Debug, Default, PartialEq, Eq)]
 pub struct Entry {
-    /// from the host to the medium, else the other way
-    pub write: bool,
     /// the first sector
     pub first: u32,
     /// sectors
@@ -74,6 +72,8 @@ pub struct Entry {
     pub features_high: u8,
     /// the command's other bytes
     pub echo: Echo,
+    /// from the host to the medium, else the other way
+    pub write: bool,
 }
 
 impl Entry {

@@ -67,9 +67,9 @@ unfolding end_at
 ends_clean = (none_there [] refl, refl)
 
 -- no body is longer than a frame of 27h behind its type
-pub short_body : (k : ℕ) (kind : Kind) → kind_named k ≡ Some kind → body_of kind ≤ 19
-unfolding kind_named body_of
-short_body k kind e = grind arith
+pub short_body : (kind : Kind) → body_of kind ≤ 19
+unfolding body_of
+short_body kind = grind arith
 
 -- behind the byte of a kind
 module _ (k : ℕ) (kind : Kind) (n : ℕ) (named : kind_named k ≡ Some kind) (size : n ≡ body_of kind) where
@@ -81,7 +81,7 @@ module _ (k : ℕ) (kind : Kind) (n : ℕ) (named : kind_named k ≡ Some kind) 
 
   -- in a room for the longest an event has the bytes of its kind
   pub room_for : (room event : List ℕ) → length room ≡ 20 → length event ≡ length (take (n + 1) room) → length event ≡ n + 1
-  room_for room event limit same = let h = short_body k kind named in same ∙ length-take-le (n + 1) room (omega (arith, size, limit, h))
+  room_for room event limit same = let h = short_body kind in same ∙ length-take-le (n + 1) room (omega (arith, size, limit, h))
 
 -- ---- an event begins some bytes exactly if the rules say
 pub begins : {l : List ℕ} {x : Event} {n : ℕ} → BeginsWith l x n → Fits x × (l ≡ event_bytes x ++ drop n l)

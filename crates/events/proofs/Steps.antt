@@ -1,12 +1,15 @@
 -- What the device gives for an event is what a run keeps and tells of it. Assumes nothing.
-use Rattle.std.proofs.Common.{◌≡◌, ℕ, Bool, List, length, take, drop, ap₂, ◌∙◌, sym, Option, Result, Ok, Err}
+use Rattle.std.proofs.Common.{◌≡◌, ℕ, Bool, List, length, take, drop, ap, ap₂, ◌∙◌, sym, Option, Some, Result, Ok, Err, arith}
 use lib.Seq.{take-append_seam}
 use Rattle.std.specs.Result.{result_err, result_unwrap_or}
 use Rattle.refusals.specs.declared.reasons.Refusal.{Refusal}
-use Rattle.device.specs.Lent.{Gave, gave, answered}
-use Rattle.device.specs.Step.{Step, bytes_of, Gives}
+use Rattle.rules.specs.Call.{Call, host_frame}
+use Rattle.device.specs.Lent.{Gave, gave, answered, lent}
+use Rattle.device.specs.Step.{Step, step, bytes_of, Gives}
 use Rattle.device.specs.declared.state.Device.{Device}
 use Rattle.device.proofs.Kept.{answered_state}
+use Rattle.events.specs.declared.asked.Event.{Event}
+use Rattle.events.specs.Calls.{call_of, frame_of, event_step}
 use Rattle.events.specs.Lines.{line_of}
 use Rattle.events.specs.Running.{Kept, kept, after_step, step_told}
 
@@ -32,3 +35,11 @@ told_answered traced n s old d (Err r) m b p = told_by traced n s old (gave (ans
 pub told_is : (traced : Bool) (n : ℕ) (s : Step) (old : List ℕ) (d : Device) (r : Result ℕ Refusal) (m b : List ℕ) (given : Option Refusal) (len : ℕ) → given ≡ result_err r → len ≡ result_unwrap_or r 0
     → Gives s old (gave (answered d r) m b) → line_of traced n given d.status.outstanding (take len b) ≡ step_told traced n s
 told_is traced n s old d r m b given len p q g = rw (p, q) (told_answered traced n s old d r m b g)
+
+-- an event that is a frame from the host is that call
+framed_call : (d : Device) (x : Event) (frame : List ℕ) → Some frame ≡ frame_of x → host_frame frame ≡ call_of d x
+unfolding frame_of call_of
+framed_call d x frame h = grind arith
+
+pub framed_step : (d : Device) (x : Event) (frame m b : List ℕ) → Some frame ≡ frame_of x → step d (lent (host_frame frame) m b) ≡ event_step d x m b
+framed_step d x frame m b h = ap (λ (call : Call). step d (lent call m b)) (framed_call d x frame h)

@@ -1,5 +1,5 @@
 -- Which call of the device an event makes, and what it leaves behind. Assumes nothing.
-use Rattle.std.specs.Prelude.{List, ℕ}
+use Rattle.std.specs.Prelude.{List, ℕ, Option, Some, None}
 use Rattle.rules.specs.Call.{Call, host_frame, happens}
 use Rattle.device.specs.Lent.{lent}
 use Rattle.device.specs.Step.{Step, step}
@@ -14,6 +14,12 @@ call_of d (OfDevice event) = happens event
 call_of d (HostData b) = host_frame (host_data_frame d b)
 call_of d (HostRegister frame) = host_frame frame
 call_of d (Bist frame) = host_frame frame
+
+-- the frame of an event that is one from the host
+unfoldable pub frame_of : Event → Option (List ℕ)
+frame_of (HostRegister frame) = Some frame
+frame_of (Bist frame) = Some frame
+frame_of event = None
 
 -- its step, lent the medium m and the reply buffer b [event-call]
 abbrev pub event_step : Device → Event → List ℕ → List ℕ → Step

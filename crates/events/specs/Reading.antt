@@ -1,11 +1,13 @@
 -- What is told of the settings record, and of the next event. Assumes nothing.
-use Rattle.std.specs.Prelude.{◌≡◌, List, [], ◌∷◌, ℕ, IfSome, Option, Some, None, Result, Ok, Err}
+use Rattle.std.specs.Prelude.{◌≡◌, ◌+◌, List, [], ◌∷◌, ℕ, take, IfSome, Option, Some, None, Result, Ok, Err}
 use Rattle.std.specs.Io.KnownBytes.{Consumes, Keeps}
 use Rattle.device_state.specs.declared.shapes.Settings.{Settings}
 use Rattle.events.specs.declared.kinds.InputEnd.{InputEnd}
 use Rattle.events.specs.declared.kinds.InputEnd.TheVariants as ends
 use Rattle.events.specs.declared.asked.Event.{Event}
-use Rattle.events.specs.Grammar.{event_bytes, Fits, NoEventBegins}
+use Rattle.events.specs.declared.kinds.Kind.{Kind}
+use Rattle.events.specs.Kinds.{body_of, event_by_kind}
+use Rattle.events.specs.Grammar.{event_bytes, Fits, BeginsWith, NoEventBegins}
 use Rattle.events.specs.Settings.{settings_bytes, SettingsFit, NoSettingsBegin}
 
 -- how an input of which l is left ends, if no event begins that: cleanly if nothing is left [event-stop]
@@ -35,3 +37,13 @@ ReadAhead old None new = Keeps old new
 -- a read failed: what came before it begins with nothing that was to be read
 abbrev pub BreaksIn : (List ℕ → Type 0) → Option (List ℕ) → Option (List ℕ) → Type 0
 BreaksIn N old new = (part : List ℕ) × Consumes old new part × N part
+
+-- so many bytes of some are an event of that kind, as it is taken from them [event-reads]
+pub record KindBegins (l : List ℕ) (kind : Kind) (n : ℕ) : Type 0 where
+  pub size : n ≡ body_of kind + 1
+  pub begins : BeginsWith l (event_by_kind (take n l) kind) n
+
+-- the kind of the event that bytes begin with, and how many of them are its; or none begins them [no-event]
+abbrev pub FirstKind : List ℕ → Option (Kind × ℕ) → Type 0
+FirstKind l (Some found) = KindBegins l found.0 found.1
+FirstKind l None = NoEventBegins l

@@ -2,6 +2,7 @@
 ghost use Rattle.std.specs.Prelude.{◌≡◌, ◌+◌, length};
 ghost use Rattle.events.specs.Kinds.{body_of, event_by_kind};
 ghost use Rattle.events.specs.Grammar.{FirstEvent};
+ghost use Rattle.events.specs.Reading.{FirstKind};
 
 use crate::kinds::Kind;
 use frames::byte_of;
@@ -45,13 +46,23 @@ pub(crate) fn event_by_kind(kind: Kind, event: &[u8]) -> Event
     Event::OfDevice(device_event)
 }
 
-/// The event that bytes begin with, if all of it is there, and how many bytes it has. Settings are none.
+// The kind of the event that bytes begin with, if all of it is there, and how many bytes it has.
 #[inline(always)]
-pub fn first_event(bytes: &[u8]) -> Option<(Event, usize)>
-    ensures { FirstEvent bytes.now result }
+pub(crate) fn first_kind(bytes: &[u8]) -> Option<(Kind, usize)>
+    ensures { FirstKind bytes.now result }
 {
     let kind = Kind::from_byte(*bytes.first()?)?;
     let size = kind.body_length() + 1;
-    let event = event_by_kind(kind, bytes.get(..size)?);
-    Some((event, size))
+    if bytes.len() < size {
+        return None;
+    }
+    Some((kind, size))
+}
+
+/// The event that bytes begin with, if all of it is there, and how many bytes it has. Settings are none.
+pub fn first_event(bytes: &[u8]) -> Option<(Event, usize)>
+    ensures { FirstEvent bytes.now result }
+{
+    let (kind, size) = first_kind(bytes)?;
+    Some((event_by_kind(kind, &bytes[..size]), size))
 }

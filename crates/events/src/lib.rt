@@ -15,6 +15,7 @@ mod plays;
 mod reading;
 mod running;
 mod settings;
+mod spellings;
 mod starts;
 
 pub use asked::{Event, first_event};

@@ -7,10 +7,11 @@ ghost use Rattle.events.specs.Grammar.{NoEventBegins};
 ghost use Rattle.events.specs.Settings.{NoSettingsBegin};
 ghost use Rattle.events.specs.Reading.{ReadSettings, ReadNext, ReadAhead, BreaksIn};
 
-use crate::asked::{event_by_kind, first_event};
+use crate::InputEnd;
+use crate::asked::first_kind;
 use crate::kinds::{EVENT_LIMIT, Kind};
 use crate::settings::{SETTINGS_KIND, SETTINGS_SIZE, settings_of};
-use crate::{Event, InputEnd};
+use crate::spellings::Spelling;
 use device_state::Settings;
 use std::io;
 use std::io::{BufRead, Read};
@@ -48,26 +49,27 @@ pub(crate) fn read_settings<R: Read>(reader: &mut R) -> io::Result<Option<Settin
     Ok(Some(settings_of(&record)))
 }
 
-// The next event, where all of it lies in the reader's buffer; else nothing is read.
+// The next event, where the bytes of the longest lie in the reader's buffer; else nothing is read.
 #[inline(always)]
-fn read_ahead<R: BufRead>(reader: &mut R) -> io::Result<Option<Event>>
+fn read_ahead<R: BufRead>(reader: &mut R) -> io::Result<Option<Spelling>>
     ensures ok { IfOk result (λ event. ReadAhead (R.remaining reader.old) event (R.remaining reader.new)) }
     ensures err { OnErr result (Keeps (R.remaining reader.old) (R.remaining reader.new)) }
 {
-    let Some((event, size)) = first_event(reader.fill_buf()?) else {
+    let Some(front) = reader.fill_buf()?.first_chunk::<EVENT_LIMIT>() else {
+        return Ok(None);
+    };
+    let bytes = *front;
+    let Some((kind, size)) = first_kind(&bytes) else {
         return Ok(None);
     };
     reader.consume(size);
-    Ok(Some(event))
+    Ok(Some(Spelling { kind, bytes }))
 }
 
-// The next event, read to its end; `room` is where its bytes are laid.
+// The next event, read to its end.
 #[inline(never)]
 #[tactic(auto, using(crate::proofs::Nexts::short_body))]
-fn read_whole<R: Read>(
-    reader: &mut R,
-    room: &mut [u8; EVENT_LIMIT],
-) -> io::Result<Result<Event, InputEnd>>
+fn read_whole<R: Read>(reader: &mut R) -> io::Result<Result<Spelling, InputEnd>>
     ensures ok { IfOk result (λ next. ReadNext (R.remaining reader.old) next (R.remaining reader.new)) }
     ensures err { OnErr result (BreaksIn NoEventBegins (R.remaining reader.old) (R.remaining reader.new)) }
 {
@@ -78,21 +80,21 @@ fn read_whole<R: Read>(
         return Ok(Err(InputEnd::NoEvent));
     };
     let body = kind.body_length();
-    let event = &mut room[..body + 1];
-    if read_body(reader, byte, event)? < body {
+    let mut bytes = [0; EVENT_LIMIT];
+    if read_body(reader, byte, &mut bytes[..body + 1])? < body {
         return Ok(Err(InputEnd::NoEvent));
     }
-    Ok(Ok(event_by_kind(kind, event)))
+    Ok(Ok(Spelling { kind, bytes }))
 }
 
 /// The next event behind the settings, or how the input ends.
 #[inline(always)]
-pub(crate) fn read_event<R: BufRead>(reader: &mut R) -> io::Result<Result<Event, InputEnd>>
+pub(crate) fn read_event<R: BufRead>(reader: &mut R) -> io::Result<Result<Spelling, InputEnd>>
     ensures ok { IfOk result (λ next. ReadNext (R.remaining reader.old) next (R.remaining reader.new)) }
     ensures err { OnErr result (BreaksIn NoEventBegins (R.remaining reader.old) (R.remaining reader.new)) }
 {
     match read_ahead(reader)? {
         Some(event) => Ok(Ok(event)),
-        None => read_whole(reader, &mut [0; EVENT_LIMIT]),
+        None => read_whole(reader),
     }
 }

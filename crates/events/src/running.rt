@@ -27,7 +27,7 @@ fn play_on<R: BufRead, W: Write>(
     for number in 1..u64::MAX {
         match read_event(reader) {
             Ok(Ok(event)) => {
-                bench.play_and_tell(format, lines, number, event)?;
+                bench.play_and_tell(format, lines, number, &event)?;
                 pass_on(out, lines)?;
             }
             Ok(Err(end)) => return finish(out, lines, Ok(end)),

@@ -62,8 +62,6 @@ pub struct CountersRead {
 /// Data that move in the open phase, from the medium or to it.
 #[derive(Clone, Copy, Debug, PartialEq, Eq)]
 pub struct Move {
-    /// that of the open phase, as wide as the state holds it
-    pub tag: u32,
     /// the first byte's place in the medium
     pub at: usize,
     /// bytes
@@ -72,6 +70,8 @@ pub struct Move {
     pub entry: Entry,
     /// nothing is left then, and the phase closes
     pub last: bool,
+    /// that of the open phase, as wide as the state holds it
+    pub tag: u32,
 }
 
 /// What is done, by the rule that holds: a call that is refused has no act.
