@@ -102,7 +102,7 @@ impl Device {
         self.halt(fault);
     }
 
-    // By the act: one function for each thing that changes.
+    // By the act: one function for each thing that changes. Inlined as `done` is.
     #[inline(always)]
     pub(crate) fn after(&mut self, act: &Act)
         ensures { self.new ≡ after_of self.old act.now }

@@ -57,7 +57,7 @@ pub struct Echo {
     pub b13: u8,
 }
 
-/// The table's entry of a tag: range in sectors, what has moved in bytes, the command's bytes 3-13, and the direction. An idle one is all zeros.
+/// The table's entry of a tag: range in sectors, what has moved in bytes, the command's bytes 3-13, and the direction, which stands last: no hole. An idle one is all zeros.
 #[derive(Clone, Copy, Debug, Default, PartialEq, Eq)]
 pub struct Entry {
     /// the first sector

@@ -1,4 +1,4 @@
--- What the device gives for an event is what a run keeps and tells of it. Assumes nothing.
+-- What the device gives for an event is what a run keeps and tells of it; an event that carries a frame whole is the call of a host frame. Assumes nothing.
 use Rattle.std.proofs.Common.{◌≡◌, ℕ, Bool, List, length, take, drop, ap, ap₂, ◌∙◌, sym, Option, Some, Result, Ok, Err, arith}
 use lib.Seq.{take-append_seam}
 use Rattle.std.specs.Result.{result_err, result_unwrap_or}
@@ -36,10 +36,11 @@ pub told_is : (traced : Bool) (n : ℕ) (s : Step) (old : List ℕ) (d : Device)
     → Gives s old (gave (answered d r) m b) → line_of traced n given d.status.outstanding (take len b) ≡ step_told traced n s
 told_is traced n s old d r m b given len p q g = rw (p, q) (told_answered traced n s old d r m b g)
 
--- an event that is a frame from the host is that call
+-- an event that carries a frame whole is that call
 framed_call : (d : Device) (x : Event) (frame : List ℕ) → Some frame ≡ frame_of x → host_frame frame ≡ call_of d x
 unfolding frame_of call_of
 framed_call d x frame h = grind arith
 
+-- and has its step
 pub framed_step : (d : Device) (x : Event) (frame m b : List ℕ) → Some frame ≡ frame_of x → step d (lent (host_frame frame) m b) ≡ event_step d x m b
 framed_step d x frame m b h = ap (λ (call : Call). step d (lent call m b)) (framed_call d x frame h)

@@ -15,7 +15,7 @@ call_of d (HostData b) = host_frame (host_data_frame d b)
 call_of d (HostRegister frame) = host_frame frame
 call_of d (Bist frame) = host_frame frame
 
--- the frame of an event that is one from the host
+-- the frame that an event carries whole: 27h or 58h
 unfoldable pub frame_of : Event → Option (List ℕ)
 frame_of (HostRegister frame) = Some frame
 frame_of (Bist frame) = Some frame

@@ -29,7 +29,7 @@ abbrev pub ReadNext : Option (List ℕ) → Result Event InputEnd → Option (Li
 ReadNext old (Ok event) new = Fits event × Consumes old new (event_bytes event)
 ReadNext old (Err end) new = IfSome old (IsEnd end)
 
--- so is an event that lies whole in the reader's buffer; of another nothing is read
+-- so is an event read ahead; where none is, nothing is read
 abbrev pub ReadAhead : Option (List ℕ) → Option Event → Option (List ℕ) → Type 0
 ReadAhead old (Some event) new = ReadNext old (Ok event) new
 ReadAhead old None new = Keeps old new
@@ -38,7 +38,7 @@ ReadAhead old None new = Keeps old new
 abbrev pub BreaksIn : (List ℕ → Type 0) → Option (List ℕ) → Option (List ℕ) → Type 0
 BreaksIn N old new = (part : List ℕ) × Consumes old new part × N part
 
--- so many bytes of some are an event of that kind, as it is taken from them [event-reads]
+-- the first n bytes of l are an event of that kind, and the event is what is taken from them [event-reads]
 pub record KindBegins (l : List ℕ) (kind : Kind) (n : ℕ) : Type 0 where
   pub size : n ≡ body_of kind + 1
   pub begins : BeginsWith l (event_by_kind (take n l) kind) n

@@ -46,7 +46,7 @@ pub(crate) fn event_by_kind(kind: Kind, event: &[u8]) -> Event
     Event::OfDevice(device_event)
 }
 
-// The kind of the event that bytes begin with, if all of it is there, and how many bytes it has.
+/// The kind of the event that bytes begin with, if all of it is there, and how many bytes it has.
 #[inline(always)]
 pub(crate) fn first_kind(bytes: &[u8]) -> Option<(Kind, usize)>
     ensures { FirstKind bytes.now result }

@@ -4,9 +4,9 @@ ghost use Rattle.device.specs.Lent.{gave, answered};
 ghost use Rattle.device.specs.Step.{Gives};
 ghost use Rattle.events.specs.Running.{Kept, kept, step_of, after_step, step_told};
 
+use crate::event_bytes::EventBytes;
 use crate::lines::{Format, Line};
 use crate::plays::make_call;
-use crate::spellings::Spelling;
 use device::Sealed;
 use frames::DATA_FRAME_LIMIT;
 use refusals::Refusal;
@@ -42,7 +42,7 @@ impl<'a> Bench<'a> {
     }
 
     // One event played: how many bytes of replies stand in front of the buffer, or the refusal.
-    fn play(&mut self, event: &Spelling) -> Result<usize, Refusal>
+    fn play(&mut self, event: &EventBytes) -> Result<usize, Refusal>
         ensures { Gives (step_of self.old event.now) self.old.reply (gave (answered self.new.device result) self.new.medium self.new.reply) }
     {
         if let Some(frame) = event.frame() {
@@ -76,7 +76,7 @@ impl<'a> Bench<'a> {
         format: Format,
         lines: &mut Vec<u8>,
         number: u64,
-        event: &Spelling,
+        event: &EventBytes,
     ) -> Result<(), AllocError>
         ensures kept { self.new ≡ after_step self.old (step_of self.old event.now) }
         ensures line { OnOk result (lines.new.items ≡ lines.old.items ++ step_told format.traced number (step_of self.old event.now)) }

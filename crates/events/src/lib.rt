@@ -6,6 +6,7 @@ mod bench;
 mod by_value;
 mod ended;
 mod errors;
+mod event_bytes;
 mod host_data;
 mod kinds;
 mod lines;
@@ -15,7 +16,6 @@ mod plays;
 mod reading;
 mod running;
 mod settings;
-mod spellings;
 mod starts;
 
 pub use asked::{Event, first_event};

@@ -9,7 +9,8 @@ use device::Sealed;
 use frames::DATA_FRAME_LIMIT;
 use refusals::Refusal;
 
-/// An event to its call; `room` is where the frame of host data is laid.
+/// An event to its call; `room` is where the frame of host data is laid. A run hands on frames from the host by themselves
+/// (`EventBytes::frame`).
 #[tactic(auto, unfolding(crate::specs::Calls::call_of))]
 pub(crate) fn make_call(
     sealed: &mut Sealed,

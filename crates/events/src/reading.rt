@@ -9,9 +9,9 @@ ghost use Rattle.events.specs.Reading.{ReadSettings, ReadNext, ReadAhead, Breaks
 
 use crate::InputEnd;
 use crate::asked::first_kind;
+use crate::event_bytes::EventBytes;
 use crate::kinds::{EVENT_LIMIT, Kind};
 use crate::settings::{SETTINGS_KIND, SETTINGS_SIZE, settings_of};
-use crate::spellings::Spelling;
 use device_state::Settings;
 use std::io;
 use std::io::{BufRead, Read};
@@ -49,9 +49,9 @@ pub(crate) fn read_settings<R: Read>(reader: &mut R) -> io::Result<Option<Settin
     Ok(Some(settings_of(&record)))
 }
 
-// The next event, where the bytes of the longest lie in the reader's buffer; else nothing is read.
+// The next event, where as many bytes as the longest has lie in the reader's buffer, which are copied at once; else nothing is read.
 #[inline(always)]
-fn read_ahead<R: BufRead>(reader: &mut R) -> io::Result<Option<Spelling>>
+fn read_ahead<R: BufRead>(reader: &mut R) -> io::Result<Option<EventBytes>>
     ensures ok { IfOk result (λ event. ReadAhead (R.remaining reader.old) event (R.remaining reader.new)) }
     ensures err { OnErr result (Keeps (R.remaining reader.old) (R.remaining reader.new)) }
 {
@@ -63,13 +63,13 @@ fn read_ahead<R: BufRead>(reader: &mut R) -> io::Result<Option<Spelling>>
         return Ok(None);
     };
     reader.consume(size);
-    Ok(Some(Spelling { kind, bytes }))
+    Ok(Some(EventBytes::new(kind, bytes)))
 }
 
 // The next event, read to its end.
 #[inline(never)]
 #[tactic(auto, using(crate::proofs::Nexts::short_body))]
-fn read_whole<R: Read>(reader: &mut R) -> io::Result<Result<Spelling, InputEnd>>
+fn read_whole<R: Read>(reader: &mut R) -> io::Result<Result<EventBytes, InputEnd>>
     ensures ok { IfOk result (λ next. ReadNext (R.remaining reader.old) next (R.remaining reader.new)) }
     ensures err { OnErr result (BreaksIn NoEventBegins (R.remaining reader.old) (R.remaining reader.new)) }
 {
@@ -84,12 +84,12 @@ fn read_whole<R: Read>(reader: &mut R) -> io::Result<Result<Spelling, InputEnd>>
     if read_body(reader, byte, &mut bytes[..body + 1])? < body {
         return Ok(Err(InputEnd::NoEvent));
     }
-    Ok(Ok(Spelling { kind, bytes }))
+    Ok(Ok(EventBytes::new(kind, bytes)))
 }
 
 /// The next event behind the settings, or how the input ends.
 #[inline(always)]
-pub(crate) fn read_event<R: BufRead>(reader: &mut R) -> io::Result<Result<Spelling, InputEnd>>
+pub(crate) fn read_event<R: BufRead>(reader: &mut R) -> io::Result<Result<EventBytes, InputEnd>>
     ensures ok { IfOk result (λ next. ReadNext (R.remaining reader.old) next (R.remaining reader.new)) }
     ensures err { OnErr result (BreaksIn NoEventBegins (R.remaining reader.old) (R.remaining reader.new)) }
 {

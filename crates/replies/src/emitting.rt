@@ -89,6 +89,7 @@ fn put_identity(room: &mut [u8], task: &Task, shown: &Shown<'_>) -> usize
     put_log(room, false, *task, shown.identity.page())
 }
 
+// Inlined, with `emit`, where the act is made.
 #[inline(always)]
 #[tactic(auto, using(crate::proofs::Sending::sends_nothing), unfolding(crate::specs::Replies::replies_of))]
 fn put_all(room: &mut [u8], act: &Act, shown: &Shown<'_>, part: &[u8]) -> usize
@@ -113,8 +114,8 @@ fn put_all(room: &mut [u8], act: &Act, shown: &Shown<'_>, part: &[u8]) -> usize
 
 /// The replies of an act, in front of `reply`, and how many bytes they are; none where `reply` is under the 8,196 bytes that
 /// every call which replies asks for.
-#[tactic(auto, unfolding(crate::specs::Replies::sent_all, frames::specs::Cut::joined_bytes), using(crate::proofs::Room::replies_room))]
 #[inline(always)]
+#[tactic(auto, unfolding(crate::specs::Replies::sent_all, frames::specs::Cut::joined_bytes), using(crate::proofs::Room::replies_room))]
 pub fn emit(reply: &mut [u8], act: &Act, shown: &Shown<'_>, part: &[u8]) -> usize
     ensures { RepliesGiven (pick (leb 8196 (length reply.old)) (replies_of shown.now part.now act.now) []) reply.old result reply.new }
 {

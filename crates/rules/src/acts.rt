@@ -59,7 +59,7 @@ pub struct CountersRead {
     pub task: Task,
 }
 
-/// Data that move in the open phase, from the medium or to it.
+/// Data that move in the open phase, from the medium or to it. The order of the fields lets an act be copied in whole words.
 #[derive(Clone, Copy, Debug, PartialEq, Eq)]
 pub struct Move {
     /// the first byte's place in the medium

@@ -21,4 +21,4 @@ returns-clause-ok g c =
     let rested = c.fill_buf.follows.lender-at-none in
     let filled = subst (FillKeeps _ (g.R.Read.remaining rested) (g.R.BufRead.consumable_len rested)) c.in_ok-fill_buf.was c.fill_buf.follows.holds-at-none in
     let moved = Consumes_shown _ _ _ _ shown c.in-Some-first_kind.size (omega (arith, within, long, chunk.enough)) c.in_ok-fill_buf.ensures.front c.in_ok-fill_buf.ensures.end filled.0 filled.1 c.consume.ensures.bytes in
-    (spelt.0, subst (Consumes _ _) (sym same ∙ spelt.1) moved.0)
+    rw c.new.ensures (spelt.0, subst (Consumes _ _) (sym same ∙ spelt.1) moved.0)

@@ -2,8 +2,8 @@ use lib.Seq.{take-append_seam}
 use Rattle.std.proofs.Common.{length-take-le, take, arith, List, ◌++◌, ◌≡◌, ◌+◌, ◌∙◌, ℕ, [], ◌∷◌, sym, ap, refl, subst}
 use Rattle.std.specs.Io.KnownBytes.{Consumes}
 use Rattle.events.specs.declared.kinds.InputEnd.TheVariants as ends
-use Rattle.events.specs.Kinds.{kind_named, body_of, event_by_kind}
-use Rattle.events.specs.Grammar.{event_bytes, Fits, NoEventBegins}
+use Rattle.events.specs.Kinds.{kind_named, body_of}
+use Rattle.events.specs.Grammar.{NoEventBegins}
 use Rattle.events.specs.Reading.{IsEnd}
 use Rattle.events.proofs.Fronts.{on_err}
 use Rattle.events.proofs.Nexts.{short_body, begun, ended, ends_clean, stops, none_there, none_named, short_behind, stops_short, room_for}
@@ -46,7 +46,7 @@ returns-clause-ok g c =
     let b = spelt event c.read_body.ensures.bytes kind (ap kind_named c.read_body.ensures.first ∙ sym c.in-Some-from_byte.ensures) size in
     -- the room behind them is not looked at
     let front : (rest : List ℕ) → take (body_of kind + 1) (event ++ rest) ≡ event = λ rest. subst (λ (m : ℕ). take m (event ++ rest) ≡ event) size (take-append_seam event rest) in
-    subst (λ e. Fits (event_by_kind e kind) × Consumes (g.R.Read.remaining c.args.reader.now) (g.R.Read.remaining c.read_body.new.reader) (event_bytes (event_by_kind e kind))) (sym (front _)) (b.0, subst (Consumes _ _) b.1 whole)
+    rw (c.new.ensures, front _) (b.0, subst (Consumes _ _) b.1 whole)
 
 pub slice_bounds-read_body-end : goal.slice_bounds-read_body-end
 slice_bounds-read_body-end g c = sym (length-take-le _ _ (omega (arith, c.body_length-body.ensures, short_body c.in-Some-from_byte.kind)))

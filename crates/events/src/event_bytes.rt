@@ -1,6 +1,7 @@
 // An event as its bytes, between where they are read and where it is played.
-ghost use Rattle.std.specs.Prelude.{◌≡◌};
+ghost use Rattle.std.specs.Prelude.{◌≡◌, ◌+◌, take};
 ghost use Rattle.std.specs.Option.{option_map};
+ghost use Rattle.events.specs.Kinds.{body_of, event_by_kind};
 ghost use Rattle.events.specs.Calls.{frame_of};
 
 use crate::Event;
@@ -8,15 +9,15 @@ use crate::asked::event_by_kind;
 use crate::kinds::{EVENT_LIMIT, Kind};
 use std::marker::Model;
 
-/// An event as its bytes, behind which others may stand. A contract sees the event. Its bytes stand first, so that no field is
-/// copied in halves.
+/// An event as its bytes, behind which others may stand; a contract sees the event. The array stands first: behind the byte of the
+/// kind it is copied in pieces that overlap, a tenth of a run.
 #[derive(Drop)]
-pub(crate) struct Spelling {
-    pub(crate) bytes: [u8; EVENT_LIMIT],
-    pub(crate) kind: Kind,
+pub(crate) struct EventBytes {
+    bytes: [u8; EVENT_LIMIT],
+    kind: Kind,
 }
 
-impl Model for Spelling {
+impl Model for EventBytes {
     ghost use Rattle.std.specs.Prelude.{take, ◌+◌};
     ghost use Rattle.events.specs.Kinds.{body_of, event_by_kind};
     ghost use Rattle.events.specs.declared.asked.Event.{Event};
@@ -26,7 +27,16 @@ impl Model for Spelling {
     ghost view = { λ s. event_by_kind (take (body_of s.kind + 1) s.bytes) s.kind };
 }
 
-impl Spelling {
+impl EventBytes {
+    /// An event of a kind, which stands first in some bytes.
+    #[inline(always)]
+    pub(crate) fn new(kind: Kind, bytes: [u8; EVENT_LIMIT]) -> EventBytes
+        ensures { result ≡ event_by_kind (take (body_of kind + 1) bytes) kind }
+    {
+        EventBytes { bytes, kind }
+    }
+
+    /// The event.
     #[inline(always)]
     #[tactic(auto, using(crate::proofs::Nexts::short_body))]
     pub(crate) fn event(&self) -> Event
@@ -35,7 +45,7 @@ impl Spelling {
         event_by_kind(self.kind, &self.bytes[..self.kind.body_length() + 1])
     }
 
-    /// The frame, of an event that is one from the host: it is lent as it stands, and not copied into an event first.
+    /// The frame that an event carries whole, 27h or 58h: it is lent as it stands, and not copied into an event first.
     #[inline(always)]
     #[tactic(auto, using(crate::proofs::Nexts::short_body), unfolding(crate::specs::Calls::frame_of, crate::specs::Kinds::event_by_kind))]
     pub(crate) fn frame(&self) -> Option<&[u8]>
