@@ -35,6 +35,12 @@ impl<'a> Shelf for Disk<'a> {
     }
 }
 
+// Lines are missing, and that is said where it can be.
+fn missing(rt: &HostRuntime) -> u8 {
+    let _unsaid = complain(&mut rt.stderr()).is_err();
+    LINES_MISSING
+}
+
 // The table of a file of samples; `listed` says that each line names the file of its page.
 fn tell(rt: &HostRuntime, alloc: Global, file: &str, listed: bool, numbers: &[u16]) -> u8 {
     let disk = Disk { rt };
@@ -50,10 +56,7 @@ fn tell(rt: &HostRuntime, alloc: Global, file: &str, listed: bool, numbers: &[u1
         )),
         Err(_) => match put(&mut rt.stdout(), b"stop\n") {
             Ok(()) => UNREAD,
-            Err(_) => {
-                let _unsaid = complain(&mut rt.stderr()).is_err();
-                LINES_MISSING
-            }
+            Err(_) => missing(rt),
         },
     }
 }
@@ -67,7 +70,7 @@ fn run(rt: &HostRuntime) -> anyhow::Result<u8> {
         Err(error) => {
             return Ok(match error.print(rt) {
                 Ok(()) => error.exit_code() as u8,
-                Err(_) => LINES_MISSING,
+                Err(_) => missing(rt),
             });
         }
     };

@@ -10,6 +10,7 @@ use options::{command, query};
 use page_text::{LINES_MISSING, Shelf, exit_status};
 use std::process::ExitCode;
 use std::{env, fs, io};
+use streams::complain;
 
 // The files that lie where a path says.
 #[derive(Drop)]
@@ -30,6 +31,12 @@ impl<'a> Shelf for Disk<'a> {
 // The exit status that clap gives an error of usage.
 const USAGE: u8 = 2;
 
+// Lines are missing, and that is said where it can be.
+fn missing(rt: &HostRuntime) -> u8 {
+    let _unsaid = complain(&mut rt.stderr()).is_err();
+    LINES_MISSING
+}
+
 // Help, and what is wrong with the words, is printed by clap. An `Err` is of memory, or of a word that is no text.
 fn run(rt: &HostRuntime) -> anyhow::Result<u8> {
     let alloc = rt.alloc();
@@ -39,7 +46,7 @@ fn run(rt: &HostRuntime) -> anyhow::Result<u8> {
         Err(error) => {
             return Ok(match error.print(rt) {
                 Ok(()) => error.exit_code() as u8,
-                Err(_) => LINES_MISSING,
+                Err(_) => missing(rt),
             });
         }
     };
