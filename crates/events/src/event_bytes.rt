@@ -10,7 +10,7 @@ use crate::kinds::{EVENT_LIMIT, Kind};
 use std::marker::Model;
 
 /// An event as its bytes, behind which others may stand; a contract sees the event. The array stands first: behind the byte of the
-/// kind it is copied in pieces that overlap, a tenth of a run.
+/// kind it is copied in pieces that overlap, three to six parts of a hundred of a run.
 #[derive(Drop)]
 pub(crate) struct EventBytes {
     bytes: [u8; EVENT_LIMIT],
