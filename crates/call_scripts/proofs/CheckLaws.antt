@@ -2,18 +2,18 @@
 use Rattle.std.proofs.Common.{◌≡◌, ℕ, ◌<◌, Bool, true, false, List, [], ◌∷◌, ◌++◌, length, append-nil, append_assoc, Option, Some, None, Result, Ok, Err, IsErr, IsErrAnd, IfSome, refl, sym, subst, ap, ap₂, ◌∙◌, arith}
 use Rattle.std.specs.Bool.{◌==◌}
 use mathlib.Core.Bool.{false≢true}
-use Rattle.std.specs.Io.KnownBytes.{Appends, Keeps}
+use Rattle.std.specs.Io.KnownBytes.{Appends}
 use Rattle.std.proofs.KnownBytes.{Appends-nil, Appends-trans}
-use Rattle.streams.specs.Fronts.{AppendsFront}
-use Rattle.streams.proofs.Fronts.{front_then}
-use Rattle.events.proofs.Fronts.{front_first}
+use Rattle.streams.specs.Fronts.{AppendsFront, AppendsSome}
+use Rattle.events.proofs.Fronts.{loses_first, loses_then}
+use Rattle.events.specs.Output.{Loses}
 use Rattle.events.specs.declared.errors.RunError.{RunError}
 use Rattle.events.specs.declared.errors.RunError.TheVariants.{Input, Output, Memory, TooMany}
 use Rattle.call_scripts.specs.Bench.{Kept}
-use Rattle.call_scripts.specs.Lines.{after_line, IsLost}
+use Rattle.call_scripts.specs.Lines.{after_line}
 use Rattle.call_scripts.specs.Parts.{before, behind, lines_of}
 use Rattle.call_scripts.specs.Scripts.{fresh}
-use Rattle.call_scripts.specs.Checks.{line_told, line_check, differences, found_of, unchecked, check_text, check_found, Checked, HasChecked}
+use Rattle.call_scripts.specs.Checks.{line_told, line_check, differences, found_of, unchecked, check_text, Checked, HasChecked}
 use Rattle.call_scripts.specs.declared.found.Found.{Found}
 use Rattle.call_scripts.specs.declared.checking.Check.{Check}
 use Rattle.call_scripts.proofs.PartLaws.{lines_first}
@@ -63,8 +63,8 @@ module _ {name : List ℕ} {first : Kept} {script : List ℕ} {old new : Option 
   })
 
   -- what is told of it is lost
-  pub line_lost : (new' : Option (List ℕ)) (line others : List ℕ) → 0 < length rest → line ≡ before 10 rest → others ≡ behind 10 rest → AppendsFront new new' (line_told name k check line) → AppendsFront old new' (check_text name first script)
-  line_lost new' line others h el eo f = subst (AppendsFront old new') (sym (text_on line others h el eo)) (front_then old new new' p.done _ p.written (front_first new new' (line_told name k check line) _ f))
+  pub line_lost : (new' : Option (List ℕ)) (e : RunError) (line others : List ℕ) → 0 < length rest → line ≡ before 10 rest → others ≡ behind 10 rest → Loses e new new' (line_told name k check line) → Loses e old new' (check_text name first script)
+  line_lost new' e line others h el eo l = subst (Loses e old new') (sym (text_on line others h el eo)) (loses_then e old new new' p.done _ p.written (loses_first e new new' (line_told name k check line) _ l))
 
   -- there are no more
   pub all_checked : rest ≡ [] → Checked name first script old new (Ok check.found)
@@ -75,14 +75,14 @@ module _ {name : List ℕ} {first : Kept} {script : List ℕ} {old new : Option 
   )
 
 -- an error that is handed on
-pub check_lost : (name : List ℕ) (first : Kept) (script : List ℕ) (old new : Option (List ℕ)) (r : Result Found RunError) (e : RunError) → IsErr r → IsErrAnd r (λ x. x ≡ e) → IsLost e → AppendsFront old new (check_text name first script)
+pub check_lost : (name : List ℕ) (first : Kept) (script : List ℕ) (old new : Option (List ℕ)) (r : Result Found RunError) (e : RunError) → IsErr r → IsErrAnd r (λ x. x ≡ e) → Loses e old new (check_text name first script)
     → Checked name first script old new r
-check_lost name first script old new (Ok f) e i h o a = absurd (false≢true i)
-check_lost name first script old new (Err x) e i h o a = (subst IsLost (sym h) o, a)
+check_lost name first script old new (Ok f) e i h l = absurd (false≢true i)
+check_lost name first script old new (Err x) e i h l = subst (λ (y : RunError). Loses y old new (check_text name first script)) (sym h) l
 
 -- nothing is written where there is no memory for a bench
 pub check_none : (name : List ℕ) (first : Kept) (script : List ℕ) (old : Option (List ℕ)) → Checked name first script old old (Err Memory)
-check_none name first script old = (tt, (0, Appends-nil old))
+check_none name first script old = (0, Appends-nil old)
 
 -- a script is what was read, where that is known
 pub known_as : (known : Option (List ℕ)) (script bytes : List ℕ) → script ≡ bytes → IfSome known (λ input. bytes ≡ input) → IfSome known (λ input. script ≡ input)
@@ -92,12 +92,12 @@ known_as (Some input) script bytes e k = e ∙ k
 -- the check is that of the script
 pub check_read : (name : List ℕ) (known old new : Option (List ℕ)) (script : List ℕ) (r : Result Found RunError) → IfSome known (λ input. script ≡ input) → Checked name (fresh 262144) script old new r → HasChecked name known old new r
 check_read name None old new script (Ok f) e c = tt
-check_read name None old new script (Err (Input x)) e c = absurd c.0
+check_read name None old new script (Err (Input x)) e c = absurd c
 check_read name None old new script (Err (Output x)) e c = tt
 check_read name None old new script (Err Memory) e c = tt
-check_read name None old new script (Err TooMany) e c = c.0
+check_read name None old new script (Err TooMany) e c = c
 check_read name (Some input) old new script (Ok f) e c = subst (λ (s : List ℕ). Checked name (fresh 262144) s old new (Ok f)) e c
-check_read name (Some input) old new script (Err (Input x)) e c = absurd c.0
-check_read name (Some input) old new script (Err (Output x)) e c = subst (λ (s : List ℕ). AppendsFront old new (check_text name (fresh 262144) s)) e c.1
-check_read name (Some input) old new script (Err Memory) e c = subst (λ (s : List ℕ). AppendsFront old new (check_text name (fresh 262144) s)) e c.1
-check_read name (Some input) old new script (Err TooMany) e c = c.0
+check_read name (Some input) old new script (Err (Input x)) e c = absurd c
+check_read name (Some input) old new script (Err (Output x)) e c = subst (λ (s : List ℕ). AppendsFront old new (check_text name (fresh 262144) s)) e c
+check_read name (Some input) old new script (Err Memory) e c = subst (λ (s : List ℕ). AppendsSome old new (check_text name (fresh 262144) s)) e c
+check_read name (Some input) old new script (Err TooMany) e c = c

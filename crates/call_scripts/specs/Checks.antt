@@ -3,11 +3,12 @@ use Rattle.std.specs.Prelude.{◌≡◌, ℕ, ◌+◌, ◌-◌, ◌^◌, min, Li
 use Rattle.std.specs.Str.{bytes_eq}
 use Rattle.std.specs.Io.KnownBytes.{Appends, Keeps}
 use Rattle.bits.specs.Pick.{pick}
-use Rattle.streams.specs.Fronts.{AppendsFront}
+use Rattle.streams.specs.Fronts.{AppendsFront, AppendsSome}
 use Rattle.events.specs.declared.errors.RunError.{RunError}
 use Rattle.events.specs.declared.errors.RunError.TheVariants.{Input, Output, Memory, TooMany}
+use Rattle.events.specs.Output.{Loses}
 use Rattle.call_scripts.specs.Bench.{Kept}
-use Rattle.call_scripts.specs.Lines.{line_text, after_line, IsLost}
+use Rattle.call_scripts.specs.Lines.{line_text, after_line}
 use Rattle.call_scripts.specs.Parts.{lines_of}
 use Rattle.call_scripts.specs.Scripts.{fresh}
 use Rattle.call_scripts.specs.Told.{one_line, told}
@@ -71,17 +72,17 @@ check_text name k script = differences name k unchecked (lines_of script)
 abbrev pub check_found : Kept → List ℕ → Found
 check_found k script = (found_of k unchecked (lines_of script)).found
 
--- all is written, and found; or a front is written, as a write failed or there is no memory
+-- all is written, and found; or text is lost
 abbrev pub Checked : List ℕ → Kept → List ℕ → (old new : Option (List ℕ)) → Result Found RunError → Type 0
 Checked name k script old new (Ok found) = Appends old new (check_text name k script) × (found ≡ check_found k script)
-Checked name k script old new (Err e) = IsLost e × AppendsFront old new (check_text name k script)
+Checked name k script old new (Err e) = Loses e old new (check_text name k script)
 
 -- a check of this input from zeros on; of one that could not be read nothing is written [script-check]
 abbrev pub HasChecked : List ℕ → (known old new : Option (List ℕ)) → Result Found RunError → Type 0
 HasChecked name known old new (Ok found) = IfSome known (λ script. Checked name (fresh 262144) script old new (Ok found))
 HasChecked name known old new (Err (Input e)) = Keeps old new
 HasChecked name known old new (Err (Output e)) = IfSome known (λ script. AppendsFront old new (check_text name (fresh 262144) script))
-HasChecked name known old new (Err Memory) = IfSome known (λ script. AppendsFront old new (check_text name (fresh 262144) script))
+HasChecked name known old new (Err Memory) = IfSome known (λ script. AppendsSome old new (check_text name (fresh 262144) script))
 HasChecked name known old new (Err TooMany) = ⊥
 
 -- one script has one text, and one thing is found in it [script-check]

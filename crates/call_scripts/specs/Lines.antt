@@ -1,8 +1,6 @@
 -- What a line of a script prints, and what it leaves behind. Assumes nothing.
 use Rattle.std.specs.Prelude.{ℕ, ltb, List, [], ◌∷◌, ◌++◌, length, Option, Some, None}
 use Rattle.bits.specs.Pick.{pick}
-use Rattle.events.specs.declared.errors.RunError.{RunError}
-use Rattle.events.specs.declared.errors.RunError.TheVariants.{Input, Output, Memory, TooMany}
 use Rattle.call_scripts.specs.Answering.{after, answer_of}
 use Rattle.call_scripts.specs.Answers.{what_text}
 use Rattle.call_scripts.specs.Bench.{Kept}
@@ -34,10 +32,3 @@ after_line k line = after_by k (asked_in line)
 -- a line with one byte more, unless it is too long already
 unfoldable pub line_with : List ℕ → ℕ → List ℕ
 line_with line byte = pick (ltb 65536 (length line)) line (line ++ byte ∷ [])
-
--- lines are lost: a write failed, or there is no memory for a line
-abbrev pub IsLost : RunError → Type 0
-IsLost (Input e) = ⊥
-IsLost (Output e) = Unit
-IsLost Memory = Unit
-IsLost TooMany = ⊥

@@ -2,14 +2,15 @@
 use Rattle.std.specs.Prelude.{◌≡◌, ℕ, eqb, List, [], ◌∷◌, ◌++◌, ◌⊎◌, length, replicate, codes, Option, Some, None, Result, Ok, Err, IfSome}
 use Rattle.std.specs.Io.KnownBytes.{Appends, Consumes}
 use Rattle.bits.specs.Pick.{pick}
-use Rattle.streams.specs.Fronts.{AppendsFront}
+use Rattle.streams.specs.Fronts.{AppendsFront, AppendsSome}
 use Rattle.device.specs.Device.{zero_device}
 use Rattle.events.specs.declared.ended.Ended.{Ended}
+use Rattle.events.specs.Output.{IsOutput, Loses}
 use Rattle.events.specs.Runs.{Said, said_of}
 use Rattle.events.specs.declared.errors.RunError.{RunError}
 use Rattle.events.specs.declared.errors.RunError.TheVariants.{Input, Output, Memory, TooMany}
 use Rattle.call_scripts.specs.Bench.{Kept, kept}
-use Rattle.call_scripts.specs.Lines.{line_text, after_line, line_with, IsLost}
+use Rattle.call_scripts.specs.Lines.{line_text, after_line, line_with}
 
 -- a byte behind a line so far: LF ends it, and then it is printed what it asks for
 abbrev pub byte_text : Kept → List ℕ → ℕ → List ℕ
@@ -52,28 +53,27 @@ stop_text = codes "stop\n"
 abbrev pub Broken : Kept → (known known' old new : Option (List ℕ)) → Type 0
 Broken k known known' old new = (part : List ℕ) × Consumes known known' part × Appends old new (whole_text k part ++ stop_text)
 
--- text is lost: of what was read, a front of its text is written, or of its whole lines' text and `stop` [script-broken]
-abbrev pub Lost : Kept → (known old new : Option (List ℕ)) → Type 0
-Lost k known old new = (part : List ℕ) × IfSome known (λ input. (rest : List ℕ) × (input ≡ part ++ rest)) × (AppendsFront old new (script_text k part) ⊎ AppendsFront old new (whole_text k part ++ stop_text))
+-- text is lost: of the text of what was read it is known what was written (W) [script-broken]
+abbrev pub Lost : (List ℕ → List ℕ) → (known : Option (List ℕ)) → (List ℕ → Type 0) → Type 0
+Lost text known W = (part : List ℕ) × IfSome known (λ input. (rest : List ℕ) × (input ≡ part ++ rest)) × W (text part)
 
--- what is told of a run by its result: it ran to the input's end; a read failed; a write failed, or there is no memory for a line; the last number of bytes is used up [script-run]
+-- what is told of a run by its result: it ran to the input's end; a read failed; a write failed, of its text, or of its whole lines' and `stop`; there is no memory for a line; the last number of bytes is used up [script-run] [script-broken]
 abbrev pub Ran : Kept → (known known' old new : Option (List ℕ)) → Result Unit RunError → Type 0
 Ran k known known' old new (Ok u) = IfSome known (λ input. Appends old new (script_text k input))
 Ran k known known' old new (Err (Input e)) = Broken k known known' old new
-Ran k known known' old new (Err (Output e)) = Lost k known old new
-Ran k known known' old new (Err Memory) = Lost k known old new
+Ran k known known' old new (Err (Output e)) = Lost (script_text k) known (AppendsFront old new) ⊎ Lost (λ part. whole_text k part ++ stop_text) known (AppendsFront old new)
+Ran k known known' old new (Err Memory) = Lost (script_text k) known (AppendsSome old new)
 Ran k known known' old new (Err TooMany) = Broken k known known' old new
 
--- a last line's text is written, or a front of it
+-- a last line's text is written, or lost
 abbrev pub Finishes : Kept → List ℕ → (old new : Option (List ℕ)) → Result Unit RunError → Type 0
 Finishes k line old new (Ok u) = Appends old new (ended k line)
-Finishes k line old new (Err e) = IsLost e × AppendsFront old new (ended k line)
+Finishes k line old new (Err e) = Loses e old new (ended k line)
 
--- `stop` is written, or a front of it
+-- `stop` is written, and the run ends so; or a write failed, and a front of it is
 abbrev pub Stops : RunError → (old new : Option (List ℕ)) → Result Unit RunError → Type 0
 Stops end old new (Ok u) = ⊥
-Stops end old new (Err (Output e)) = AppendsFront old new stop_text
-Stops end old new (Err e) = (e ≡ end) × Appends old new stop_text
+Stops end old new (Err e) = ((e ≡ end) × Appends old new stop_text) ⊎ (IsOutput e × AppendsFront old new stop_text)
 
 -- what a script begins with: a state of zeros, a medium of so many zeros, and nothing said of what is lent
 unfoldable pub fresh : ℕ → Kept

@@ -1,9 +1,9 @@
 // A script held against what its lines are to print.
 ghost use Rattle.std.specs.Prelude.{◌≡◌, ◌++◌, Some, IfSome, IfOk, IfErr, OnOk};
 ghost use Rattle.std.specs.Io.KnownBytes.{Appends};
-ghost use Rattle.streams.specs.Fronts.{AppendsFront};
 ghost use Rattle.events.specs.declared.errors.RunError.TheVariants.{Memory};
-ghost use Rattle.call_scripts.specs.Lines.{after_line, IsLost};
+ghost use Rattle.events.specs.Output.{Loses};
+ghost use Rattle.call_scripts.specs.Lines.{after_line};
 ghost use Rattle.call_scripts.specs.Scripts.{fresh};
 ghost use Rattle.call_scripts.specs.Told.{in_line, one_line, place_text, labelled, difference_text};
 ghost use Rattle.call_scripts.specs.Checks.{told_by, check_by, line_told, line_check, Checked, HasChecked};
@@ -144,7 +144,7 @@ impl Check {
         ensures bench { OnOk result (bench.new ≡ after_line bench.old line.now) }
         ensures check { OnOk result (self.new ≡ line_check bench.old self.old line.now) }
         ensures ok { OnOk result (Appends (W.contents out.old) (W.contents out.new) (line_told name.now bench.old self.old line.now)) }
-        ensures err { IfErr result (λ e. IsLost e × AppendsFront (W.contents out.old) (W.contents out.new) (line_told name.now bench.old self.old line.now)) }
+        ensures err { IfErr result (λ e. Loses e (W.contents out.old) (W.contents out.new) (line_told name.now bench.old self.old line.now)) }
     {
         let mut told = Vec::new(alloc);
         self.check_line(alloc, name, bench, line, &mut told)?;

@@ -1,9 +1,9 @@
 // The line of a script that is being read, and what it prints once it ends.
 ghost use Rattle.std.specs.Prelude.{◌≡◌, [], ◌++◌, OnOk, IfOk, IfErr};
 ghost use Rattle.std.specs.Io.KnownBytes.{Appends};
-ghost use Rattle.streams.specs.Fronts.{AppendsFront};
 ghost use Rattle.events.specs.declared.errors.RunError.TheVariants.{Memory};
-ghost use Rattle.call_scripts.specs.Lines.{asked_in, line_text, after_line, line_with, IsLost};
+ghost use Rattle.events.specs.Output.{Loses};
+ghost use Rattle.call_scripts.specs.Lines.{asked_in, line_text, after_line, line_with};
 
 use crate::bench::Bench;
 use crate::commands::Command;
@@ -58,7 +58,7 @@ pub(crate) fn end_line<W: Write>(
     ensures bench { OnOk result (bench.new ≡ after_line bench.old line.old.items) }
     ensures begun { OnOk result (line.new.items ≡ []) }
     ensures ok { OnOk result (Appends (W.contents out.old) (W.contents out.new) (line_text bench.old line.old.items)) }
-    ensures err { IfErr result (λ e. IsLost e × AppendsFront (W.contents out.old) (W.contents out.new) (line_text bench.old line.old.items)) }
+    ensures err { IfErr result (λ e. Loses e (W.contents out.old) (W.contents out.new) (line_text bench.old line.old.items)) }
 {
     let mut text = Vec::new(alloc);
     answer_line(alloc, bench, line, &mut text)?;

@@ -1,8 +1,7 @@
 // The run of a script, byte for byte.
 ghost use Rattle.std.specs.Prelude.{◌≡◌, IfErr, OnOk};
 ghost use Rattle.std.specs.Io.KnownBytes.{Appends};
-ghost use Rattle.streams.specs.Fronts.{AppendsFront};
-ghost use Rattle.call_scripts.specs.Lines.{IsLost};
+ghost use Rattle.events.specs.Output.{Loses};
 ghost use Rattle.call_scripts.specs.Scripts.{byte_text, byte_bench, byte_line, Finishes, Stops, Ran, OneText, OneBroken};
 ghost use Rattle.call_scripts.specs.Checks.{OneFound};
 
@@ -24,7 +23,7 @@ fn take_byte<W: Write>(
     ensures bench { OnOk result (bench.new ≡ byte_bench bench.old line.old.items byte) }
     ensures line { OnOk result (line.new.items ≡ byte_line line.old.items byte) }
     ensures text { OnOk result (Appends (W.contents out.old) (W.contents out.new) (byte_text bench.old line.old.items byte)) }
-    ensures err { IfErr result (λ e. IsLost e × AppendsFront (W.contents out.old) (W.contents out.new) (byte_text bench.old line.old.items byte)) }
+    ensures err { IfErr result (λ e. Loses e (W.contents out.old) (W.contents out.new) (byte_text bench.old line.old.items byte)) }
 {
     if byte == b'\n' {
         return end_line(alloc, bench, line, out);

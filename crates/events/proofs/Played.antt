@@ -2,11 +2,10 @@
 use Rattle.std.proofs.Common.{◌≡◌, ℕ, ◌+◌, ◌-◌, ◌^◌, Bool, false, true≢false, List, [], ◌∷◌, ◌++◌, flat_map, length, length-append, append-nil, Option, IfSome, Result, IsErr, IsErrAnd, refl, sym, ap₂, subst, ◌∙◌, arith, Ok, Err}
 use Rattle.std.proofs.KnownBytes.{Appends-nil, Appends-trans, Consumes-nil, Consumes-trans}
 use Rattle.std.specs.Io.KnownBytes.{Appends, Consumes}
-use Rattle.streams.specs.Fronts.{AppendsFront}
 use Rattle.events.specs.declared.errors.RunError.{RunError}
 use Rattle.events.specs.declared.kinds.InputEnd.{InputEnd}
 use Rattle.events.specs.Ends.{Finished}
-use Rattle.events.specs.Output.{PassedOn}
+use Rattle.events.specs.Output.{PassedOn, Loses}
 use Rattle.events.specs.declared.errors.RunError.TheVariants.{TooMany}
 use Rattle.events.specs.Reading.{IsEnd, BreaksIn, ReadNext}
 use Rattle.events.specs.Settings.{settings_bytes, SettingsFit}
@@ -15,9 +14,9 @@ use Rattle.events.specs.declared.asked.Event.{Event}
 use Rattle.events.specs.Grammar.{event_bytes, NoEventBegins}
 use Rattle.events.specs.Running.{Kept, step_of, after_step, step_told, told, after, lines_from, kept_after, AllFit, begun, bytes_read, Plays, ReadsOn, run_lines, refused, started, start_line, NoneFollows, end_behind}
 use Rattle.events.specs.Runs.{CameTo, Ran}
-use Rattle.streams.proofs.Fronts.{front_then}
+use Rattle.events.proofs.Fronts.{loses_then}
 use Rattle.events.proofs.Nexts.{known}
-use Rattle.events.proofs.Runs.{joined_more, kept_more, events_more, text_more, text_passed, IsLost, told_lost, finished, finished_behind}
+use Rattle.events.proofs.Runs.{joined_more, kept_more, events_more, text_more, text_passed, told_lost, finished, finished_behind}
 
 -- the events so far were read, and left k; their lines, and those that were left before (l), are written, but for the lines that are left; n is the next number
 pub record Played (traced : Bool) (first : Kept) (l : List ℕ) (known old now new : Option (List ℕ)) (k : Kept) (lines : List ℕ) (n : ℕ) : Type 0 where
@@ -79,9 +78,9 @@ module _ {traced : Bool} {first : Kept} {l : List ℕ} {known old now new : Opti
     text = ap₂ (λ (x : List ℕ) (k : Kept). x ++ lines_from traced 1 k p.es) (sym line) (sym from) ∙ p.text
 
     -- lines are lost
-    pub lost : (left new' : Option (List ℕ)) (r : Result Unit RunError) (e : RunError) → IsErr r → IsErrAnd r (λ x. x ≡ e) → IsLost e → AppendsFront new new' lines → Ran traced before left old new' r
-    lost left new' r e i h o front =
-        told_lost traced before left old new' r e i h o (record { all = begun s p.es; now = now; events = plays; read = read; came = tt; written = subst (AppendsFront old new') (sym text) (front_then old new new' p.done lines p.written front) })
+    pub lost : (left new' : Option (List ℕ)) (r : Result Unit RunError) (e : RunError) → IsErr r → IsErrAnd r (λ x. x ≡ e) → Loses e new new' lines → Ran traced before left old new' r
+    lost left new' r e i h l =
+        told_lost traced before left old new' r e i h (record { all = begun s p.es; now = now; events = plays; read = read; came = tt; written = subst (Loses e old new') (sym text) (loses_then e old new new' p.done lines p.written l) })
 
     -- the run ends
     pub ended : (left new' : Option (List ℕ)) (end : Result InputEnd RunError) (r : Result Unit RunError) → CameTo end (begun s p.es) now left → Finished end new new' lines r → Ran traced before left old new' r

@@ -5,16 +5,13 @@ use Rattle.events.specs.declared.asked.Event.{Event}
 use Rattle.events.specs.Running.{Kept, told, after, lines_from, kept_after, AllFit, Read, bytes_read, Plays, run_lines}
 use Rattle.std.specs.Io.KnownBytes.{Appends, Consumes}
 use Rattle.events.specs.declared.kinds.InputEnd.{InputEnd}
-use Rattle.events.specs.declared.kinds.InputEnd.TheVariants.{NoEvent}
-use Rattle.events.specs.Running.{ending}
 use mathlib.Core.Bool.{false≢true}
 use Rattle.std.proofs.Common.{is_ok, Result, Ok, Err, IsErr, IsErrAnd, IfErr, MatchResult, subst, inl, inr}
 use Rattle.events.specs.declared.errors.RunError.{RunError}
 use Rattle.events.specs.declared.errors.RunError.TheVariants.{Input, Output, Memory, TooMany}
 use Rattle.streams.specs.Fronts.{AppendsFront}
 use Rattle.events.specs.Ends.{last_text, Finished}
-use Rattle.events.specs.Output.{IsOutput}
-use Rattle.streams.proofs.Fronts.{front_of}
+use Rattle.events.specs.Output.{IsOutput, Loses}
 use Rattle.events.proofs.Fronts.{front_last, all_last}
 use Rattle.events.specs.Runs.{CameTo, Lost, EndsWith, Ran}
 
@@ -54,29 +51,23 @@ begins None now front c = tt
 begins (Some xs) None front c = absurd c
 begins (Some xs) (Some ys) front c = (ys, c)
 
--- lines are lost where a write failed, and where there is no memory for one
-abbrev pub IsLost : RunError → Type 0
-IsLost (Input e) = ⊥
-IsLost (Output e) = Unit
-IsLost Memory = Unit
-IsLost TooMany = ⊥
+-- lines are lost where a write failed
+pub output_lost : (e : RunError) (w w' : Option (List ℕ)) (lines : List ℕ) → IsOutput e → AppendsFront w w' lines → Loses e w w' lines
+output_lost (Input x) w w' lines o f = o
+output_lost (Output x) w w' lines o f = f
+output_lost Memory w w' lines o f = absurd o
+output_lost TooMany w w' lines o f = o
 
-pub output_lost : (e : RunError) → IsOutput e → IsLost e
-output_lost (Input x) o = o
-output_lost (Output x) o = tt
-output_lost Memory o = absurd o
-output_lost TooMany o = o
-
-lost_by : (traced : Bool) (known left w w' : Option (List ℕ)) (e : RunError) → IsLost e → Lost traced known w w' → Ran traced known left w w' (Err e)
-lost_by traced known left w w' (Input x) o l = absurd o
-lost_by traced known left w w' (Output x) o l = inl l
-lost_by traced known left w w' Memory o l = l
-lost_by traced known left w w' TooMany o l = absurd o
+lost_by : (traced : Bool) (known left w w' : Option (List ℕ)) (e : RunError) → Lost traced known (Loses e w w') → Ran traced known left w w' (Err e)
+lost_by traced known left w w' (Input x) l = absurd l.written
+lost_by traced known left w w' (Output x) l = inl l
+lost_by traced known left w w' Memory l = l
+lost_by traced known left w w' TooMany l = absurd l.written
 
 -- and that is handed on
-pub told_lost : (traced : Bool) (known left w w' : Option (List ℕ)) (r : Result Unit RunError) (e : RunError) → IsErr r → IsErrAnd r (λ x. x ≡ e) → IsLost e → Lost traced known w w' → Ran traced known left w w' r
-told_lost traced known left w w' (Ok u) e i h o l = absurd (false≢true i)
-told_lost traced known left w w' (Err x) e i h o l = lost_by traced known left w w' x (subst IsLost (sym h) o) l
+pub told_lost : (traced : Bool) (known left w w' : Option (List ℕ)) (r : Result Unit RunError) (e : RunError) → IsErr r → IsErrAnd r (λ x. x ≡ e) → Lost traced known (Loses e w w') → Ran traced known left w w' r
+told_lost traced known left w w' (Ok u) e i h l = absurd (false≢true i)
+told_lost traced known left w w' (Err x) e i h l = lost_by traced known left w w' x (subst (λ (y : RunError). Lost traced known (Loses y w w')) (sym h) l)
 
 -- so it ends, where its lines and the last text could be written, and where they could not
 module _ (traced : Bool) (known now left w w' : Option (List ℕ)) (all : Read) (events : Plays all) (read : Consumes known now (bytes_read all)) where
@@ -92,39 +83,32 @@ module _ (traced : Bool) (known now left w w' : Option (List ℕ)) (all : Read) 
   same_end : (end : Result InputEnd RunError) (e : RunError) → CameTo end all now left → (end ≡ Err e) × Appends w w' (run_lines traced all ++ last_text end) → Ran traced known left w w' (Err e)
   same_end end e m f = broken e (subst (λ (x : Result InputEnd RunError). CameTo x all now left) f.0 m) (subst (λ (x : Result InputEnd RunError). Appends w w' (run_lines traced all ++ last_text x)) f.0 f.1)
 
+  failed : (end : Result InputEnd RunError) (e : RunError) → CameTo end all now left → IsOutput e → AppendsFront w w' (run_lines traced all ++ last_text end) → Ran traced known left w w' (Err e)
+  failed end (Input x) m o f = absurd o
+  failed end (Output x) m o f = inr (end, ends end (AppendsFront w w') m f)
+  failed end Memory m o f = absurd o
+  failed end TooMany m o f = absurd o
+
   pub finished : (end : Result InputEnd RunError) (r : Result Unit RunError) → CameTo end all now left → Finished end w w' (run_lines traced all) r → Ran traced known left w w' r
   finished (Ok end) (Ok u) m f = (end, ends (Ok end) (Appends w w') m f.1)
   finished (Err e) (Ok u) m f = absurd (false≢true f.0)
-  finished end (Err (Input x)) m f = same_end end (Input x) m f
-  finished end (Err (Output x)) m f = inr (end, ends end (AppendsFront w w') m f)
-  finished end (Err Memory) m f = same_end end Memory m f
-  finished end (Err TooMany) m f = same_end end TooMany m f
+  finished end (Err e) m (inl f) = same_end end e m f
+  finished end (Err e) m (inr f) = failed end e m f.0 f.1
 
 -- all could be written
-written_broken : (w w' : Option (List ℕ)) (lines : List ℕ) (e : RunError) → Appends w w' (lines ++ ending NoEvent) → Finished (Err e) w w' lines (Err e)
-written_broken w w' lines (Input x) a = (refl, a)
-written_broken w w' lines (Output x) a = front_of w w' _ [] _ (sym (append-nil (lines ++ ending NoEvent))) a
-written_broken w w' lines Memory a = (refl, a)
-written_broken w w' lines TooMany a = (refl, a)
-
 pub written : (end : Result InputEnd RunError) (w w' : Option (List ℕ)) (lines : List ℕ) (F : InputEnd → Type 0) (r : Result Unit RunError)
     → MatchResult end F (λ e. r ≡ Err e) → is_ok r ≡ is_ok end → Appends w w' (lines ++ last_text end) → Finished end w w' lines r
 written (Ok i) w w' lines F (Ok u) h v a = (refl, a)
 written (Ok i) w w' lines F (Err e) h v a = absurd (false≢true v)
-written (Err e) w w' lines F r h v a = subst (Finished (Err e) w w' lines) (sym h) (written_broken w w' lines e a)
+written (Err e) w w' lines F r h v a = subst (Finished (Err e) w w' lines) (sym h) (inl (refl, a))
 
 -- a write failed
 pub unfinished : (end : Result InputEnd RunError) (w w' : Option (List ℕ)) (lines : List ℕ) (F : Type 0) (r : Result Unit RunError) → IsErr r → IfErr r (λ e. IsOutput e × F) → (F → AppendsFront w w' (lines ++ last_text end)) → Finished end w w' lines r
 unfinished end w w' lines F (Ok u) i f h = absurd (false≢true i)
-unfinished end w w' lines F (Err (Input x)) i f h = absurd f.0
-unfinished end w w' lines F (Err (Output x)) i f h = h f.1
-unfinished end w w' lines F (Err Memory) i f h = absurd f.0
-unfinished end w w' lines F (Err TooMany) i f h = absurd f.0
+unfinished end w w' lines F (Err e) i f h = inr (f.0, h f.1)
 
 -- of the lines some were written before
 pub finished_behind : (a w w' : Option (List ℕ)) (done lines text : List ℕ) (end : Result InputEnd RunError) (r : Result Unit RunError) → text ≡ done ++ lines → Appends a w done → Finished end w w' lines r → Finished end a w' text r
 finished_behind a w w' done lines text end (Ok u) e p f = (f.0, all_last a w w' done lines text (last_text end) e p f.1)
-finished_behind a w w' done lines text end (Err (Input x)) e p f = (f.0, all_last a w w' done lines text (last_text end) e p f.1)
-finished_behind a w w' done lines text end (Err (Output x)) e p f = front_last a w w' done lines text (last_text end) e p f
-finished_behind a w w' done lines text end (Err Memory) e p f = (f.0, all_last a w w' done lines text (last_text end) e p f.1)
-finished_behind a w w' done lines text end (Err TooMany) e p f = (f.0, all_last a w w' done lines text (last_text end) e p f.1)
+finished_behind a w w' done lines text end (Err x) e p (inl f) = inl (f.0, all_last a w w' done lines text (last_text end) e p f.1)
+finished_behind a w w' done lines text end (Err x) e p (inr f) = inr (f.0, front_last a w w' done lines text (last_text end) e p f.1)

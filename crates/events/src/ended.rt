@@ -33,7 +33,7 @@ impl Ended {
 /// Where lines are missing, that is said.
 ///
 /// # Errors
-/// Those of [`complain`]: a front of the sentence is written then.
+/// Those of [`complain`]: a front of the sentence is written then, and not all of it.
 pub fn say<E: Write>(run: &Result<(), RunError>, errors: &mut E) -> io::Result<()>
     ensures { Said (said_of run.now) (E.contents errors.old) (E.contents errors.new) result }
 {

@@ -1,5 +1,5 @@
 -- What a run prints. Assumes nothing.
-use Rattle.std.proofs.Common.{◌≡◌, refl, sym, subst, ℕ, List, [], length, append-nil, take_all, arith, inl, inr, Option, Some, None, Ok, Err}
+use Rattle.std.proofs.Common.{◌≡◌, refl, sym, subst, ℕ, List, [], append-nil, arith, inl, inr, Option, Some, None, Ok, Err}
 use Rattle.std.specs.Io.KnownBytes.{Appends}
 use Rattle.streams.specs.Fronts.{AppendsFront}
 use Rattle.streams.specs.Lost.{complaint}
@@ -16,10 +16,7 @@ appends_none (Some xs) = sym (append-nil xs)
 
 -- nothing at all is a front of `stop`
 pub nothing_printed : (shelf : Shelved) (numbers : List ℕ) (known old : Option (List ℕ)) → (t : Answered shelf numbers known) × AppendsFront old old t.text
-nothing_printed shelf numbers known old = (record { answer = Stopped; text = stop_text; said = []; owes = (refl, refl) }, (0, appends_none old))
-
-all_front : (old new : Option (List ℕ)) (text : List ℕ) → Appends old new text → AppendsFront old new text
-all_front old new text a = (length text, subst (λ (x : List ℕ). Appends old new x) (sym (take_all (length text) text (omega arith))) a)
+nothing_printed shelf numbers known old = (record { answer = Stopped; text = stop_text; said = []; owes = (refl, refl) }, (0, omega arith, appends_none old))
 
 module _ (shelf : Shelved) (numbers : List ℕ) (known old new : Option (List ℕ)) where
   -- an answer whose text was not all printed
@@ -34,7 +31,7 @@ module _ (shelf : Shelved) (numbers : List ℕ) (known old new : Option (List �
 
     pub ran_unsaid : (answer : Answer) (text said told : List ℕ) → Owes shelf numbers known answer text said → Appends old new text → told ≡ said → AppendsFront errors errors' told
         → Ran shelf numbers known old new errors errors' (Err Unsaid)
-    ran_unsaid answer text said told owes a e b = (record { answer = answer; text = text; said = said; owes = owes }, all_front old new text a, inr (subst (λ (x : List ℕ). AppendsFront errors errors' x) e b))
+    ran_unsaid answer text said told owes a e b = (record { answer = answer; text = text; said = said; owes = owes }, inr (a, subst (λ (x : List ℕ). AppendsFront errors errors' x) e b))
 
     pub ran_lost : (t : Answered shelf numbers known) → AppendsFront old new t.text → AppendsFront errors errors' complaint → Ran shelf numbers known old new errors errors' (Err Unsaid)
-    ran_lost t a b = (t, a, inl b)
+    ran_lost t a b = (t, inl (a, b))

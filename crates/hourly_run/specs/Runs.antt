@@ -16,8 +16,8 @@ pub record Answered (shelf : Shelved) (numbers : List ℕ) (known : Option (List
   pub said : List ℕ
   pub owes : Owes shelf numbers known answer text said
 
--- all is printed and said; or lines are missing, and that is said; or a front of that, or of what was to be said [hourly-lost]
+-- all is printed and said; or lines are missing, and that is said, or a front of that; or all is printed, and of what was to be said a front is [hourly-lost]
 abbrev pub Ran : Shelved → List ℕ → (known old new errors errors' : Option (List ℕ)) → Result ℕ Lost → Type 0
 Ran shelf numbers known old new errors errors' (Ok status) = (t : Answered shelf numbers known) × (status ≡ status_of t.answer) × Appends old new t.text × Appends errors errors' t.said
 Ran shelf numbers known old new errors errors' (Err Aloud) = (t : Answered shelf numbers known) × AppendsFront old new t.text × Appends errors errors' complaint
-Ran shelf numbers known old new errors errors' (Err Unsaid) = (t : Answered shelf numbers known) × AppendsFront old new t.text × (AppendsFront errors errors' complaint ⊎ AppendsFront errors errors' t.said)
+Ran shelf numbers known old new errors errors' (Err Unsaid) = (t : Answered shelf numbers known) × ((AppendsFront old new t.text × AppendsFront errors errors' complaint) ⊎ (Appends old new t.text × AppendsFront errors errors' t.said))

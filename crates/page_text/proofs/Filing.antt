@@ -1,5 +1,5 @@
 -- The sections of files, one behind the other. Assumes nothing.
-use Rattle.std.proofs.Common.{map, take, drop, length, get_or, ◌<◌, ◌≤◌, ◌+◌, ltb, subst, take-append-drop, ◌≡◌, ℕ, Bool, List, [], ◌∷◌, ◌++◌, max, Option, Some, None, refl, sym, ap, ◌∙◌, append-nil, append_assoc, arith, take_all, codes}
+use Rattle.std.proofs.Common.{map, take, drop, length, length-append, get_or, ◌<◌, ◌≤◌, ◌+◌, ltb, subst, take-append-drop, ◌≡◌, ℕ, Bool, List, [], ◌∷◌, ◌++◌, max, Option, Some, None, refl, sym, ap, ◌∙◌, append-nil, append_assoc, arith, take_all, codes}
 use Rattle.std.proofs.lemmas.List.{map_more, map-append}
 use Rattle.std.proofs.KnownBytes.{Appends-trans}
 use Rattle.std.specs.Borrow.{Bor}
@@ -15,18 +15,21 @@ use Rattle.page_text.specs.Sections.{OwesOpened, OwesFile, OwesFiles, heading}
 use Rattle.page_text.specs.Written.{Tells, TellsFront}
 use Rattle.page_text.proofs.Owing.{appends_none}
 
--- each file has a section that it may have
+behind_some : (xs ys : List ℕ) → 0 < length ys → 0 < length (xs ++ ys)
+behind_some xs ys h = omega (arith, h, length-append xs ys)
+
+-- each file has a section that it may have, and none is empty
 pub some_section : (query : Query) (many : Bool) (held : Option (Option (List ℕ))) (name : List ℕ)
-    → (answer : Answer) × (text : List ℕ) × ((opened : Option (Option (List ℕ))) × Agrees held opened × OwesOpened query many name opened answer text)
-some_section query many None name = (Unopened, name ++ codes ": unread\n", (None, tt, (refl, refl)))
-some_section query many (Some None) name = (Unopened, name ++ codes ": unread\n", (None, refl, (refl, refl)))
-some_section query many (Some (Some bytes)) name = (Stopped, heading many name ++ stop_text, (Some (Some bytes), refl, (stop_text, refl, refl)))
+    → (answer : Answer) × (text : List ℕ) × (0 < length text) × ((opened : Option (Option (List ℕ))) × Agrees held opened × OwesOpened query many name opened answer text)
+some_section query many None name = (Unopened, name ++ codes ": unread\n", behind_some name (codes ": unread\n") (omega arith), (None, tt, (refl, refl)))
+some_section query many (Some None) name = (Unopened, name ++ codes ": unread\n", behind_some name (codes ": unread\n") (omega arith), (None, refl, (refl, refl)))
+some_section query many (Some (Some bytes)) name = (Stopped, heading many name ++ stop_text, behind_some (heading many name) stop_text (omega arith), (Some (Some bytes), refl, (stop_text, refl, refl)))
 
 -- of which nothing at all is a front
 pub file_nothing : (query : Query) (many : Bool) (holds : List ℕ → Option (Option (List ℕ))) (name : List ℕ) (old : Option (List ℕ)) → TellsFront (OwesFile query many holds name) old old
 file_nothing query many holds name old =
     let s = some_section query many (holds name) name in
-    (s.0, s.1, s.2, (0, appends_none old))
+    (s.0, s.1, s.3, (0, s.2, appends_none old))
 
 -- one file more
 pub files_more : (query : Query) (many : Bool) (holds : List ℕ → Option (Option (List ℕ))) (names : List (List ℕ)) (name : List ℕ) (status : ℕ) (answer : Answer) (text more : List ℕ)

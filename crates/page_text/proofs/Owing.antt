@@ -1,5 +1,5 @@
 -- What is owed an input, from what was read of it. Assumes nothing.
-use Rattle.std.proofs.Common.{◌≡◌, ℕ, List, [], ◌++◌, take, Option, Some, None, Result, Ok, Err, OnOk, OnErr, IfOk, IfSome, refl, sym, ap, subst, append-nil}
+use Rattle.std.proofs.Common.{◌≡◌, ℕ, List, [], ◌++◌, take, Option, Some, None, Result, Ok, Err, OnOk, OnErr, IfOk, IfSome, refl, sym, ap, subst, append-nil, arith}
 use Rattle.std.specs.Option.{option_map}
 use Rattle.std.specs.Io.KnownBytes.{Appends}
 use Rattle.refusals.specs.declared.reasons.Refusal.{Refusal}
@@ -48,7 +48,7 @@ appends_none (Some xs) = sym (append-nil xs)
 
 -- nothing at all is a front of `stop`
 pub tells_nothing : (query : Query) (known old : Option (List ℕ)) → TellsFront (Owes query known) old old
-tells_nothing query known old = (Stopped, stop_text, refl, (0, appends_none old))
+tells_nothing query known old = (Stopped, stop_text, refl, (0, omega arith, appends_none old))
 
 pub on_err : {A E : Type 0} (r : Result A E) (P : Type 0) → P → OnErr r P
 on_err (Ok a) P p = tt

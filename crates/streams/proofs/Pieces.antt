@@ -1,9 +1,10 @@
 -- A text that is written in pieces: what was written, and the rest that is still to come. Assumes nothing.
-use Rattle.std.proofs.Common.{◌≡◌, ℕ, ◌-◌, List, ◌++◌, Option, length, take, drop, refl, sym, ap, ◌∙◌, subst, append_assoc, take-append-drop, take_at}
+use Rattle.std.proofs.Common.{◌≡◌, ℕ, ◌-◌, ◌<◌, List, [], ◌++◌, Option, length, take, drop, sym, ap, subst, ◌∙◌, append_assoc, take-append-drop}
 use Rattle.std.proofs.lemmas.List.{take_rest}
 use Rattle.std.specs.Io.KnownBytes.{Appends, Keeps}
 use Rattle.std.proofs.KnownBytes.{Appends-trans, Appends-kept}
 use Rattle.streams.specs.Fronts.{AppendsFront}
+use Rattle.streams.proofs.Fronts.{front_then}
 
 -- of a text the writer has all but the rest
 pub record Written (old new : Option (List ℕ)) (text rest : List ℕ) : Type 0 where
@@ -23,9 +24,9 @@ written_more a b c text rest n w more = record {
 pub written_kept : (a b c : Option (List ℕ)) (text rest : List ℕ) → Written a b text rest → Keeps b c → Written a c text rest
 written_kept a b c text rest w kept = record { done = w.done; parts = w.parts; bytes = Appends-kept a b c w.done w.bytes kept }
 
--- what was written is a front of the text
-pub written_front : (a b : Option (List ℕ)) (text rest : List ℕ) → Written a b text rest → AppendsFront a b text
-written_front a b text rest w = (length w.done, subst (Appends a b) (sym (ap (take (length w.done)) w.parts ∙ take_at w.done rest (length w.done) refl)) w.bytes)
+-- where of a rest nothing more was written, what was is a front of the text
+pub written_front : (a b c : Option (List ℕ)) (text rest : List ℕ) → Written a b text rest → 0 < length rest → Appends b c [] → AppendsFront a c text
+written_front a b c text rest w more none = subst (AppendsFront a c) (sym w.parts) (front_then a b c w.done rest w.bytes (0, more, none))
 
 -- what the check needs of it
 pub ruleset writes = (written_more, written_kept)

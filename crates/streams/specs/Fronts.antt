@@ -2,9 +2,13 @@
 use Rattle.std.specs.Prelude.{ℕ, ◌<◌, ◌≤◌, List, [], ◌∷◌, length, take, Option, Some, None}
 use Rattle.std.specs.Io.KnownBytes.{Appends, Consumes, IsAtEnd}
 
--- a front of the text was written [event-lost]
+-- a front of the text was written, and not all of it [event-lost]
 abbrev pub AppendsFront : Option (List ℕ) → Option (List ℕ) → List ℕ → Type 0
-AppendsFront old new text = (k : ℕ) × Appends old new (take k text)
+AppendsFront old new text = (k : ℕ) × (k < length text) × Appends old new (take k text)
+
+-- a front of the text was written, it may be all of it [event-lost]
+abbrev pub AppendsSome : Option (List ℕ) → Option (List ℕ) → List ℕ → Type 0
+AppendsSome old new text = (k : ℕ) × Appends old new (take k text)
 
 -- the buffer holds n bytes that were read, and fewer than there is room for only at the reader's end [event-reads] [fill-once]
 pub record Filled (old new : Option (List ℕ)) (n : ℕ) (buffer : List ℕ) : Type 0 where

@@ -11,7 +11,7 @@ use std::io::Write;
 /// Lines that are missing are no good news: a run whose output fails says so where it still can.
 ///
 /// # Errors
-/// Those of [`put`]: a front of the line is written then.
+/// Those of [`put`]: a front of the line is written then, and not all of it.
 pub fn complain<E: Write>(errors: &mut E) -> io::Result<()>
     ensures ok { OnOk result (Appends (E.contents errors.old) (E.contents errors.new) complaint) }
     ensures err { OnErr result (AppendsFront (E.contents errors.old) (E.contents errors.new) complaint) }

@@ -6,12 +6,12 @@ ghost use Rattle.streams.specs.Fronts.{AppendsFront};
 use std::io;
 use std::io::{Error, ErrorKind, Write};
 
-/// All of a text, or a front of it. A write that a signal broke off is tried again.
+/// All of a text, or a front of it that is not all. A write that a signal broke off is tried again.
 /// The library's `write_all` does the same, and says nothing of what was written where it fails.
 ///
 /// # Errors
 /// The writer's: the first error that a write gives, but for `ErrorKind::Interrupted`; `ErrorKind::WriteZero` where a write takes
-/// nothing; `ErrorKind::TimedOut` where `u64::MAX` writes have not sufficed. A front of the text is written then.
+/// nothing; `ErrorKind::TimedOut` where `u64::MAX` writes have not sufficed. A front of the text is written then, and not all of it.
 #[tactic(auto, using(crate::proofs::Pieces::writes))]
 pub fn put<W: Write>(out: &mut W, text: &[u8]) -> io::Result<()>
     ensures ok { OnOk result (Appends (W.contents out.old) (W.contents out.new) text.now) }
@@ -20,7 +20,7 @@ pub fn put<W: Write>(out: &mut W, text: &[u8]) -> io::Result<()>
     let mut rest = text;
     for _ in 0..u64::MAX {
         if rest.is_empty() {
-            return Ok(());
+            break;
         }
         match out.write(rest) {
             Ok(0) => return Err(Error::from(ErrorKind::WriteZero)),
@@ -29,5 +29,9 @@ pub fn put<W: Write>(out: &mut W, text: &[u8]) -> io::Result<()>
             Err(e) => return Err(e),
         }
     }
-    Err(Error::from(ErrorKind::TimedOut))
+    if rest.is_empty() {
+        Ok(())
+    } else {
+        Err(Error::from(ErrorKind::TimedOut))
+    }
 }

@@ -17,7 +17,7 @@ returns-in_err-end_line g c =
     let parts = c.parts_at.ensures in
     let lost = c.in_err-end_line.ensures.err in
     let handed = c.from_residual.ensures in
-    check_lost _ _ _ _ _ c.from_residual.result _ handed.0 handed.1 lost.0 (line_lost c.loop-rest.invariant _ _ _ (some_left _ _ c.is_empty.ensures c.loop-rest-test.true) parts.before parts.behind lost.1)
+    check_lost _ _ _ _ _ c.from_residual.result _ handed.0 handed.1 (line_lost c.loop-rest.invariant _ _ _ _ (some_left _ _ c.is_empty.ensures c.loop-rest-test.true) parts.before parts.behind lost)
 
 pub returns : goal.returns
 returns g c = all_checked c.loop-rest.invariant (none_left _ _ c.is_empty.ensures c.loop-rest-test.false)

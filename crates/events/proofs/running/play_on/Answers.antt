@@ -18,7 +18,7 @@ loop-number-preserved g c =
 pub returns-in_err-play_and_tell-in-Ok-Ok : goal.returns-in_err-play_and_tell-in-Ok-Ok
 returns-in_err-play_and_tell-in-Ok-Ok g c s taken from line before i read =
     let handed = c.from_residual.ensures in
-    lost c.loop-number.invariant s taken from line before i read _ _ _ Memory handed.0 handed.1 tt (0, Appends-nil _)
+    lost c.loop-number.invariant s taken from line before i read _ _ _ Memory handed.0 handed.1 (0, Appends-nil _)
 
 -- the lines could not be passed on
 pub returns-in_err-pass_on-in-Ok-Ok : goal.returns-in_err-pass_on-in-Ok-Ok
@@ -26,7 +26,7 @@ returns-in_err-pass_on-in-Ok-Ok g c s taken from line before i read =
     let more = one_more c.loop-number.invariant c.in-Ok-Ok.field-0-is c.in-Ok-Ok.ensures.ok c.play_and_tell.ensures.kept c.in_ok-play_and_tell-in-Ok-Ok.ensures.line in
     let failed = c.in_err-pass_on-in-Ok-Ok.ensures.err in
     let handed = c.from_residual-in_err-pass_on-in-Ok-Ok.ensures in
-    lost more s taken from line before i read _ _ _ _ handed.0 handed.1 (output_lost _ failed.0) failed.1
+    lost more s taken from line before i read _ _ _ _ handed.0 handed.1 (output_lost _ _ _ _ failed.0 failed.1)
 
 -- the input ends, cleanly or not
 pub returns-in-Ok-Err : goal.returns-in-Ok-Err

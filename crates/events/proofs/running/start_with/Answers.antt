@@ -14,7 +14,7 @@ slice_bounds-new-end g c = room_is c.args.settings _ c.in-Ok.sealed c.start-begu
 
 pub returns-in_err-push_line : goal.returns-in_err-push_line
 returns-in_err-push_line g c before i read =
-    told_lost c.args.format.traced before _ _ _ c.from_residual.result Memory c.from_residual.ensures.0 c.from_residual.ensures.1 tt (loses_all c.args.format.traced before _)
+    told_lost c.args.format.traced before _ _ _ c.from_residual.result Memory c.from_residual.ensures.0 c.from_residual.ensures.1 (loses_all c.args.format.traced before _)
 
 pub returns-in_default : goal.returns-in_default
 returns-in_default g c before i read =
