@@ -2,44 +2,20 @@
 // command line are read, and the file is opened.
 #![tactic(auto)]
 
-ghost use Rattle.std.specs.Prelude.{None};
-
 mod options;
 
 use options::{command, numbers_of};
-use page_text::{LINES_MISSING, Shelf, exit_status};
+use page_text::{Disk, Lost, exit_status};
 use std::alloc::Global;
 use std::process::ExitCode;
-use std::{env, fs, io};
-use streams::{complain, put};
+use std::{env, fs};
+use streams::put;
 
 // The exit status that clap gives an error of usage.
 const USAGE: u8 = 2;
 
 // The exit status of a file that cannot be opened, as of one that cannot be read.
 const UNREAD: u8 = 3;
-
-// The files that lie where a path says.
-#[derive(Drop)]
-struct Disk<'a> {
-    rt: &'a HostRuntime,
-}
-
-impl<'a> Shelf for Disk<'a> {
-    type Page = fs::File;
-
-    ghost holds = { λ disk name. None };
-
-    fn open(&self, name: &str) -> io::Result<fs::File> {
-        fs::open(self.rt, name)
-    }
-}
-
-// Lines are missing, and that is said where it can be.
-fn missing(rt: &HostRuntime) -> u8 {
-    let _unsaid = complain(&mut rt.stderr()).is_err();
-    LINES_MISSING
-}
 
 // The table of a file of samples; `listed` says that each line names the file of its page.
 fn tell(rt: &HostRuntime, alloc: Global, file: &str, listed: bool, numbers: &[u16]) -> u8 {
@@ -56,7 +32,7 @@ fn tell(rt: &HostRuntime, alloc: Global, file: &str, listed: bool, numbers: &[u1
         )),
         Err(_) => match put(&mut rt.stdout(), b"stop\n") {
             Ok(()) => UNREAD,
-            Err(_) => missing(rt),
+            Err(_) => exit_status(Err(Lost::said_on(&mut rt.stderr()))),
         },
     }
 }
@@ -70,7 +46,7 @@ fn run(rt: &HostRuntime) -> anyhow::Result<u8> {
         Err(error) => {
             return Ok(match error.print(rt) {
                 Ok(()) => error.exit_code() as u8,
-                Err(_) => missing(rt),
+                Err(_) => exit_status(Err(Lost::said_on(&mut rt.stderr()))),
             });
         }
     };

@@ -2,8 +2,9 @@
 use Rattle.std.proofs.Common.{◌≡◌, refl, sym, subst, ℕ, List, [], append-nil, arith, inl, inr, Option, Some, None, Ok, Err}
 use Rattle.std.specs.Io.KnownBytes.{Appends}
 use Rattle.streams.specs.Fronts.{AppendsFront}
-use Rattle.streams.specs.Lost.{complaint}
-use Rattle.page_text.specs.declared.ends.Lost.TheVariants.{Unsaid}
+use Rattle.page_text.specs.declared.ends.Lost.{Lost}
+use Rattle.page_text.specs.declared.ends.Lost.TheVariants.{Aloud, Unsaid}
+use Rattle.page_text.specs.Runs.{Missed}
 use Rattle.hourly_run.specs.declared.answers.Answer.{Answer}
 use Rattle.hourly_run.specs.declared.answers.Answer.TheVariants.{Stopped}
 use Rattle.hourly_run.specs.Owed.{Owes, stop_text, status_of}
@@ -33,5 +34,6 @@ module _ (shelf : Shelved) (numbers : List ℕ) (known old new : Option (List �
         → Ran shelf numbers known old new errors errors' (Err Unsaid)
     ran_unsaid answer text said told owes a e b = (record { answer = answer; text = text; said = said; owes = owes }, inr (a, subst (λ (x : List ℕ). AppendsFront errors errors' x) e b))
 
-    pub ran_lost : (t : Answered shelf numbers known) → AppendsFront old new t.text → AppendsFront errors errors' complaint → Ran shelf numbers known old new errors errors' (Err Unsaid)
-    ran_lost t a b = (t, inl (a, b))
+    pub ran_lost : (t : Answered shelf numbers known) → AppendsFront old new t.text → (lost : Lost) → Missed errors errors' lost → Ran shelf numbers known old new errors errors' (Err lost)
+    ran_lost t a Aloud b = (t, a, b)
+    ran_lost t a Unsaid b = (t, inl (a, b))

@@ -12,7 +12,7 @@ use page_text::{Lost, Shelf};
 use std::alloc::Global;
 use std::io;
 use std::io::{Read, Write};
-use streams::{complain, put};
+use streams::put;
 
 // A read that fails is told from an end, for what it keeps from us may be samples. So is memory that runs out for the input.
 fn gather<S: Shelf, R: Read>(
@@ -72,9 +72,6 @@ pub fn run<S: Shelf, R: Read, W: Write, E: Write>(
             Ok(()) => Ok(telling.answer.status()),
             Err(_) => Err(Lost::Unsaid),
         },
-        Err(_) => match complain(errors) {
-            Ok(()) => Err(Lost::Aloud),
-            Err(_) => Err(Lost::Unsaid),
-        },
+        Err(_) => Err(Lost::said_on(errors)),
     }
 }

@@ -3,6 +3,7 @@
 
 mod answers;
 mod counter_lines;
+mod disk;
 mod ends;
 mod fields;
 mod files;
@@ -17,7 +18,8 @@ mod telling;
 mod words;
 
 pub use counter_lines::write_counters;
-pub use ends::{LINES_MISSING, Lost, exit_status};
+pub use disk::Disk;
+pub use ends::{Lost, exit_status};
 pub use fields::write_fields;
 pub use identity_lines::write_identified;
 pub use parsing::{Notation, parse_page};

@@ -7,7 +7,6 @@ use crate::queries::Query;
 use crate::shelf::Shelf;
 use std::io;
 use std::io::{Read, Write};
-use streams::complain;
 
 impl Query {
     // The sections of the files in their order; the greatest of their statuses.
@@ -62,10 +61,7 @@ impl Query {
     {
         match self.tell_all(shelf, names, reader, out) {
             Ok(status) => Ok(status),
-            Err(_) => match complain(errors) {
-                Ok(()) => Err(Lost::Aloud),
-                Err(_) => Err(Lost::Unsaid),
-            },
+            Err(_) => Err(Lost::said_on(errors)),
         }
     }
 }

@@ -2,40 +2,15 @@
 // is `page_text`'s; here the words of the command line are read.
 #![tactic(auto)]
 
-ghost use Rattle.std.specs.Prelude.{None};
-
 mod options;
 
 use options::{command, query};
-use page_text::{LINES_MISSING, Shelf, exit_status};
+use page_text::{Disk, Lost, exit_status};
+use std::env;
 use std::process::ExitCode;
-use std::{env, fs, io};
-use streams::complain;
-
-// The files that lie where a path says.
-#[derive(Drop)]
-struct Disk<'a> {
-    rt: &'a HostRuntime,
-}
-
-impl<'a> Shelf for Disk<'a> {
-    type Page = fs::File;
-
-    ghost holds = { λ disk name. None };
-
-    fn open(&self, name: &str) -> io::Result<fs::File> {
-        fs::open(self.rt, name)
-    }
-}
 
 // The exit status that clap gives an error of usage.
 const USAGE: u8 = 2;
-
-// Lines are missing, and that is said where it can be.
-fn missing(rt: &HostRuntime) -> u8 {
-    let _unsaid = complain(&mut rt.stderr()).is_err();
-    LINES_MISSING
-}
 
 // Help, and what is wrong with the words, is printed by clap. An `Err` is of memory, or of a word that is no text.
 fn run(rt: &HostRuntime) -> anyhow::Result<u8> {
@@ -46,7 +21,7 @@ fn run(rt: &HostRuntime) -> anyhow::Result<u8> {
         Err(error) => {
             return Ok(match error.print(rt) {
                 Ok(()) => error.exit_code() as u8,
-                Err(_) => missing(rt),
+                Err(_) => exit_status(Err(Lost::said_on(&mut rt.stderr()))),
             });
         }
     };

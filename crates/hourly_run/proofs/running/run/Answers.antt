@@ -14,5 +14,5 @@ returns-in-Ok g c =
 
 pub returns : goal.returns
 returns g c =
-    ran_lost (shelved g.S.Shelf.holds c.args.shelf) c.args.numbers.now (g.R.Read.remaining c.args.reader.now) (g.W.Write.contents c.args.out.now) (g.W.Write.contents c.print.new.out) (g.E.Write.contents c.args.errors.now) (g.E.Write.contents c.complain.new.errors)
-    c.in-Err.ensures.err.0 c.in-Err.ensures.err.1 c.in-Err-complain.ensures.err
+    ran_lost (shelved g.S.Shelf.holds c.args.shelf) c.args.numbers.now (g.R.Read.remaining c.args.reader.now) (g.W.Write.contents c.args.out.now) (g.W.Write.contents c.print.new.out) (g.E.Write.contents c.args.errors.now) (g.E.Write.contents c.said_on.new.errors)
+    c.in-Err.ensures.err.0 c.in-Err.ensures.err.1 c.said_on.result c.said_on.ensures
