@@ -11,7 +11,7 @@ use Rattle.events.proofs.Runs.{begins}
 use Rattle.events.specs.declared.errors.RunError.{RunError}
 use Rattle.events.specs.declared.errors.RunError.TheVariants.{Input, Output, Memory, TooMany}
 use Rattle.call_scripts.specs.Bench.{Kept}
-use Rattle.call_scripts.specs.Scripts.{byte_text, byte_bench, byte_line, text_from, ended, unended, script_text, whole_text, stop_text, Lost, Broken, Ran, Finishes, Stops}
+use Rattle.call_scripts.specs.Scripts.{byte_text, byte_bench, byte_line, text_from, ended, unended, script_text, whole_text, stop_text, WroteSoFar, Broken, Ran, Finishes, Stops}
 
 -- the run ends before its input, and nothing is lost
 abbrev pub IsEnd : RunError → Type 0
@@ -20,16 +20,16 @@ IsEnd (Output e) = ⊥
 IsEnd Memory = ⊥
 IsEnd TooMany = Unit
 
-lost_by : (k : Kept) (known known' old new : Option (List ℕ)) (e : RunError) → Lost (script_text k) known (Loses e old new) → Ran k known known' old new (Err e)
+lost_by : (k : Kept) (known known' old new : Option (List ℕ)) (e : RunError) → WroteSoFar (script_text k) known (Loses e old new) → Ran k known known' old new (Err e)
 lost_by k known known' old new (Input x) l = absurd l.2
 lost_by k known known' old new (Output x) l = inl l
 lost_by k known known' old new Memory l = l
 lost_by k known known' old new TooMany l = absurd l.2
 
 -- an error that is handed on
-handed : (k : Kept) (known known' old new : Option (List ℕ)) (r : Result Unit RunError) (e : RunError) → IsErr r → IsErrAnd r (λ x. x ≡ e) → Lost (script_text k) known (Loses e old new) → Ran k known known' old new r
+handed : (k : Kept) (known known' old new : Option (List ℕ)) (r : Result Unit RunError) (e : RunError) → IsErr r → IsErrAnd r (λ x. x ≡ e) → WroteSoFar (script_text k) known (Loses e old new) → Ran k known known' old new r
 handed k known known' old new (Ok u) e i h l = absurd (false≢true i)
-handed k known known' old new (Err x) e i h l = lost_by k known known' old new x (subst (λ (y : RunError). Lost (script_text k) known (Loses y old new)) (sym h) l)
+handed k known known' old new (Err x) e i h l = lost_by k known known' old new x (subst (λ (y : RunError). WroteSoFar (script_text k) known (Loses y old new)) (sym h) l)
 
 -- it ends so
 ended_by : (k : Kept) (known known' old new : Option (List ℕ)) (e : RunError) → IsEnd e → Broken k known known' old new → Ran k known known' old new (Err e)
@@ -39,7 +39,7 @@ ended_by k known known' old new Memory i b = absurd i
 ended_by k known known' old new TooMany i b = b
 
 -- or `stop` is lost
-stop_lost : (k : Kept) (known known' old new : Option (List ℕ)) (e : RunError) → IsOutput e → Lost (λ part. whole_text k part ++ stop_text) known (AppendsFront old new) → Ran k known known' old new (Err e)
+stop_lost : (k : Kept) (known known' old new : Option (List ℕ)) (e : RunError) → IsOutput e → WroteSoFar (λ part. whole_text k part ++ stop_text) known (AppendsFront old new) → Ran k known known' old new (Err e)
 stop_lost k known known' old new (Input x) o l = absurd o
 stop_lost k known known' old new (Output x) o l = inr l
 stop_lost k known known' old new Memory o l = absurd o

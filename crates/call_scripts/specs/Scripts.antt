@@ -53,16 +53,16 @@ stop_text = codes "stop\n"
 abbrev pub Broken : Kept → (known known' old new : Option (List ℕ)) → Type 0
 Broken k known known' old new = (part : List ℕ) × Consumes known known' part × Appends old new (whole_text k part ++ stop_text)
 
--- text is lost: of the text of what was read it is known what was written (W) [script-broken]
-abbrev pub Lost : (List ℕ → List ℕ) → (known : Option (List ℕ)) → (List ℕ → Type 0) → Type 0
-Lost text known W = (part : List ℕ) × IfSome known (λ input. (rest : List ℕ) × (input ≡ part ++ rest)) × W (text part)
+-- a run stopped before its input: of the text of some beginning of the input it is known what was written (W) [script-broken]
+abbrev pub WroteSoFar : (List ℕ → List ℕ) → (known : Option (List ℕ)) → (List ℕ → Type 0) → Type 0
+WroteSoFar text known W = (part : List ℕ) × IfSome known (λ input. (rest : List ℕ) × (input ≡ part ++ rest)) × W (text part)
 
 -- what is told of a run by its result: it ran to the input's end; a read failed; a write failed, of its text, or of its whole lines' and `stop`; there is no memory for a line; the last number of bytes is used up [script-run] [script-broken]
 abbrev pub Ran : Kept → (known known' old new : Option (List ℕ)) → Result Unit RunError → Type 0
 Ran k known known' old new (Ok u) = IfSome known (λ input. Appends old new (script_text k input))
 Ran k known known' old new (Err (Input e)) = Broken k known known' old new
-Ran k known known' old new (Err (Output e)) = Lost (script_text k) known (AppendsFront old new) ⊎ Lost (λ part. whole_text k part ++ stop_text) known (AppendsFront old new)
-Ran k known known' old new (Err Memory) = Lost (script_text k) known (AppendsSome old new)
+Ran k known known' old new (Err (Output e)) = WroteSoFar (script_text k) known (AppendsFront old new) ⊎ WroteSoFar (λ part. whole_text k part ++ stop_text) known (AppendsFront old new)
+Ran k known known' old new (Err Memory) = WroteSoFar (script_text k) known (AppendsSome old new)
 Ran k known known' old new (Err TooMany) = Broken k known known' old new
 
 -- a last line's text is written, or lost

@@ -206,7 +206,7 @@ fn read_all<R: Read>(alloc: Global, reader: &mut R) -> io::Result<Vec<u8>>
 /// Reads a script to its end, runs it from zeros on, and writes each line that prints something else than it is to, with the name of the script.
 ///
 /// # Errors
-/// A read that failed, and nothing is written then; or a write, or no memory, and a front is.
+/// A read that failed, and nothing is written then; a write, and a front is that is not all; or no memory, and it may be all.
 pub fn check_script<R: Read, W: Write>(
     alloc: Global,
     name: &str,

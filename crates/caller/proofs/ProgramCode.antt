@@ -8,7 +8,7 @@ use Rattle.events.specs.declared.errors.RunError.TheVariants.{Input, Output, Mem
 use Rattle.streams.specs.Fronts.{AppendsFront, AppendsSome}
 use Rattle.events.specs.Running.{Read, bytes_read, run_lines, ending}
 use Rattle.events.specs.Ends.{last_text}
-use Rattle.events.specs.Runs.{Wrote, Lost, Ran}
+use Rattle.events.specs.Runs.{Wrote, WroteSoFar, Ran}
 use Rattle.streams.proofs.Fronts.{some_of, front_some}
 use Rattle.events.proofs.Runs.{begins}
 use Rattle.events.proofs.Fronts.{some_first}
@@ -39,7 +39,7 @@ module _ (traced : Bool) (input : List ℕ) (old new : Option (List ℕ)) where
         written = f (run_lines traced t.all) t.written;
       }
 
-  lost : (W : List ℕ → Type 0) → ((lines : List ℕ) → W lines → AppendsSome old new lines) → Lost traced (Some input) W → RunHistory traced input old new
+  lost : (W : List ℕ → Type 0) → ((lines : List ℕ) → W lines → AppendsSome old new lines) → WroteSoFar traced (Some input) W → RunHistory traced input old new
   lost W f t = shown _ W (λ lines w. some_first old new lines (ending NoEvent) (f lines w)) t
 
 pub program_history_code : (traced : Bool) (known known' old new : Option (List ℕ)) (r : Result Unit RunError) → Ran traced known known' old new r

@@ -13,7 +13,7 @@ use Rattle.streams.specs.Fronts.{AppendsFront}
 use Rattle.events.specs.Ends.{last_text, Finished}
 use Rattle.events.specs.Output.{IsOutput, Loses}
 use Rattle.events.proofs.Fronts.{front_last, all_last}
-use Rattle.events.specs.Runs.{CameTo, Lost, EndsWith, Ran}
+use Rattle.events.specs.Runs.{CameTo, WroteSoFar, EndsWith, Ran}
 
 pub joined_more : (es : List Event) (e : Event) → flat_map event_bytes (es ++ e ∷ []) ≡ flat_map event_bytes es ++ event_bytes e
 joined_more [] e = append-nil (event_bytes e)
@@ -58,16 +58,16 @@ output_lost (Output x) w w' lines o f = f
 output_lost Memory w w' lines o f = absurd o
 output_lost TooMany w w' lines o f = o
 
-lost_by : (traced : Bool) (known left w w' : Option (List ℕ)) (e : RunError) → Lost traced known (Loses e w w') → Ran traced known left w w' (Err e)
+lost_by : (traced : Bool) (known left w w' : Option (List ℕ)) (e : RunError) → WroteSoFar traced known (Loses e w w') → Ran traced known left w w' (Err e)
 lost_by traced known left w w' (Input x) l = absurd l.written
 lost_by traced known left w w' (Output x) l = inl l
 lost_by traced known left w w' Memory l = l
 lost_by traced known left w w' TooMany l = absurd l.written
 
 -- and that is handed on
-pub told_lost : (traced : Bool) (known left w w' : Option (List ℕ)) (r : Result Unit RunError) (e : RunError) → IsErr r → IsErrAnd r (λ x. x ≡ e) → Lost traced known (Loses e w w') → Ran traced known left w w' r
+pub told_lost : (traced : Bool) (known left w w' : Option (List ℕ)) (r : Result Unit RunError) (e : RunError) → IsErr r → IsErrAnd r (λ x. x ≡ e) → WroteSoFar traced known (Loses e w w') → Ran traced known left w w' r
 told_lost traced known left w w' (Ok u) e i h l = absurd (false≢true i)
-told_lost traced known left w w' (Err x) e i h l = lost_by traced known left w w' x (subst (λ (y : RunError). Lost traced known (Loses y w w')) (sym h) l)
+told_lost traced known left w w' (Err x) e i h l = lost_by traced known left w w' x (subst (λ (y : RunError). WroteSoFar traced known (Loses y w w')) (sym h) l)
 
 -- so it ends, where its lines and the last text could be written, and where they could not
 module _ (traced : Bool) (known now left w w' : Option (List ℕ)) (all : Read) (events : Plays all) (read : Consumes known now (bytes_read all)) where

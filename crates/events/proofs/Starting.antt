@@ -20,13 +20,13 @@ use Rattle.device.specs.declared.sealed.Sealed.{Sealed}
 use Rattle.events.specs.declared.errors.RunError.{RunError}
 use Rattle.events.specs.Running.{nothing, begun, AllFit, lines_from, refused, started, start_line, run_lines, Plays, NoneFollows, end_behind}
 use Rattle.streams.specs.Fronts.{AppendsSome}
-use Rattle.events.specs.Runs.{Ran, Lost}
+use Rattle.events.specs.Runs.{Ran, WroteSoFar}
 use Rattle.events.specs.Ends.{Finished}
 use Rattle.events.proofs.Runs.{finished}
 use Rattle.events.proofs.Steps.{same_kept}
 
 -- nothing is known to be written yet, and no event is known to be read
-pub loses_all : (traced : Bool) (known w : Option (List ℕ)) → Lost traced known (AppendsSome w w)
+pub loses_all : (traced : Bool) (known w : Option (List ℕ)) → WroteSoFar traced known (AppendsSome w w)
 unfolding Plays
 loses_all traced known w = record { all = nothing; now = known; events = tt; read = Consumes-nil known; came = tt; written = (0, Appends-nil w) }
 

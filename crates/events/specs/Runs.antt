@@ -30,9 +30,9 @@ pub record Wrote (traced : Bool) (known : Option (List ℕ)) (C : Read → Optio
   pub came : C all now
   pub written : W (run_lines traced all)
 
--- lines are lost before a run came to an end: of the lines of events that were read it is known what was written (W), and nothing stands behind them [event-lost]
-abbrev pub Lost : Bool → (known : Option (List ℕ)) → (List ℕ → Type 0) → Type 0
-Lost traced known W = Wrote traced known (λ all now. Unit) W
+-- a run stopped before it came to an end: of the lines of the events that it read it is known what was written (W) [event-lost]
+abbrev pub WroteSoFar : Bool → (known : Option (List ℕ)) → (List ℕ → Type 0) → Type 0
+WroteSoFar traced known W = Wrote traced known (λ all now. Unit) W
 
 -- a run came to an end, and of its lines and its last text it is known what was written (W) [event-run]
 abbrev pub EndsWith : Bool → (known left : Option (List ℕ)) → Result InputEnd RunError → (List ℕ → Type 0) → Type 0
@@ -41,8 +41,8 @@ EndsWith traced known left end W = Wrote traced known (λ all now. CameTo end al
 -- the whole run by its result: it came to an end, and all is written; a write failed there, or before, and a front is; or there is no memory for a line, and some is [event-run] [event-broken] [event-lost]
 abbrev pub Ran : Bool → (known left old new : Option (List ℕ)) → Result Unit RunError → Type 0
 Ran traced known left old new (Ok u) = (end : InputEnd) × EndsWith traced known left (Ok end) (Appends old new)
-Ran traced known left old new (Err (Output e)) = Lost traced known (AppendsFront old new) ⊎ ((end : Result InputEnd RunError) × EndsWith traced known left end (AppendsFront old new))
-Ran traced known left old new (Err Memory) = Lost traced known (AppendsSome old new)
+Ran traced known left old new (Err (Output e)) = WroteSoFar traced known (AppendsFront old new) ⊎ ((end : Result InputEnd RunError) × EndsWith traced known left end (AppendsFront old new))
+Ran traced known left old new (Err Memory) = WroteSoFar traced known (AppendsSome old new)
 Ran traced known left old new (Err e) = EndsWith traced known left (Err e) (Appends old new)
 
 -- what is said aloud of a run by its result: that lines are missing [event-lost]
@@ -53,7 +53,7 @@ said_of (Err (Output e)) = complaint
 said_of (Err Memory) = complaint
 said_of (Err TooMany) = []
 
--- a text was said, or a front of it where that failed: of none nothing fails [event-lost]
+-- a text was said, or a front of it where that failed: where nothing is to be said nothing fails [event-lost]
 abbrev pub Said : List ℕ → (errors errors' : Option (List ℕ)) → {E : Type 0} → Result Unit E → Type 0
 Said text errors errors' (Ok u) = Appends errors errors' text
 Said text errors errors' (Err e) = AppendsFront errors errors' text

@@ -4,7 +4,7 @@ use Rattle.std.specs.Io.KnownBytes.{Appends}
 use Rattle.streams.specs.Fronts.{AppendsFront}
 use Rattle.page_text.specs.declared.ends.Lost.{Lost}
 use Rattle.page_text.specs.declared.ends.Lost.TheVariants.{Aloud, Unsaid}
-use Rattle.page_text.specs.Runs.{Missed}
+use Rattle.page_text.specs.Runs.{SaysMissing}
 use Rattle.hourly_run.specs.declared.answers.Answer.{Answer}
 use Rattle.hourly_run.specs.declared.answers.Answer.TheVariants.{Stopped}
 use Rattle.hourly_run.specs.Owed.{Owes, stop_text, status_of}
@@ -34,6 +34,6 @@ module _ (shelf : Shelved) (numbers : List ℕ) (known old new : Option (List �
         → Ran shelf numbers known old new errors errors' (Err Unsaid)
     ran_unsaid answer text said told owes a e b = (record { answer = answer; text = text; said = said; owes = owes }, inr (a, subst (λ (x : List ℕ). AppendsFront errors errors' x) e b))
 
-    pub ran_lost : (t : Answered shelf numbers known) → AppendsFront old new t.text → (lost : Lost) → Missed errors errors' lost → Ran shelf numbers known old new errors errors' (Err lost)
+    pub ran_lost : (t : Answered shelf numbers known) → AppendsFront old new t.text → (lost : Lost) → SaysMissing errors errors' lost → Ran shelf numbers known old new errors errors' (Err lost)
     ran_lost t a Aloud b = (t, a, b)
     ran_lost t a Unsaid b = (t, inl (a, b))

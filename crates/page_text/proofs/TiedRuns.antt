@@ -8,7 +8,7 @@ use Rattle.bits.proofs.Tying.{same, say, sole, by}
 use Rattle.std.specs.declared.io.traits.Read as Reader
 use Rattle.std.specs.declared.io.traits.Write as Writer
 use Rattle.page_text.specs.declared.shelf.Shelf as Shelves
-use Rattle.page_text.specs.Runs.{Ran, Missed, exit_status_of}
+use Rattle.page_text.specs.Runs.{Ran, SaysMissing, exit_status_of}
 use Rattle.page_text.proofs.ends
 use Rattle.page_text.proofs.queries
 use Rattle.page_text.specs.contracts.ends as ends-said
@@ -22,7 +22,7 @@ tied_exit_status = by (say (λ κs a. tt) (λ κs a r ws p. p)) (λ κs a r r' w
 -- what is said where lines are missing, over any writer
 pub tied_said_on : (W : RattleType) (l : Laws W) (g : Writer.Ghosts W.Denot) (d : Dict)
     → SaysOver (ends-said.Lost.said_on.ended W g d) (ends.Lost.said_on.Reads.Asked W l g d) (ends.Lost.said_on.Reads.Post W l g d)
-    (λ κs a r ws. Missed (g.contents a.0.now) (g.contents ws.0) r)
+    (λ κs a r ws. SaysMissing (g.contents a.0.now) (g.contents ws.0) r)
 tied_said_on W l g d = record { same = λ κs a b x. x; some = (([], (W.lives, tt)), λ a x h. h); says = λ κs a r ws p. p }
 
 -- the whole run: all that it wrote, and what it complained of, by what it read and what was known of the names, however it ended

@@ -32,15 +32,15 @@ abbrev pub Loses : Query → (List ℕ → Option (Option (List ℕ))) → List 
 Loses query holds [] known old new = TellsFront (Owes query known) old new
 Loses query holds names known old new = LosesFiles query holds names old new
 
--- lines are missing, and that is said, or a front of it [text-lost]
-abbrev pub Missed : (errors errors' : Option (List ℕ)) → Lost → Type 0
-Missed errors errors' Aloud = Appends errors errors' complaint
-Missed errors errors' Unsaid = AppendsFront errors errors' complaint
+-- that lines are missing is said, or a front of that [text-lost]
+abbrev pub SaysMissing : (errors errors' : Option (List ℕ)) → Lost → Type 0
+SaysMissing errors errors' Aloud = Appends errors errors' complaint
+SaysMissing errors errors' Unsaid = AppendsFront errors errors' complaint
 
 -- all is written and nothing said; or lines are missing [text-lost]
 abbrev pub Ran : Query → (List ℕ → Option (Option (List ℕ))) → List (List ℕ) → (known old new errors errors' : Option (List ℕ)) → Result ℕ Lost → Type 0
 Ran query holds names known old new errors errors' (Ok status) = Writes query holds names known old new status × Keeps errors errors'
-Ran query holds names known old new errors errors' (Err lost) = Loses query holds names known old new × Missed errors errors' lost
+Ran query holds names known old new errors errors' (Err lost) = Loses query holds names known old new × SaysMissing errors errors' lost
 
 -- the exit status of a run: the greatest of its answers' statuses, and 4 where lines are missing [text-status]
 abbrev pub exit_status_of : Result ℕ Lost → ℕ

@@ -1,6 +1,6 @@
 // How a run ends.
 ghost use Rattle.std.specs.Prelude.{◌≡◌};
-ghost use Rattle.page_text.specs.Runs.{Missed, exit_status_of};
+ghost use Rattle.page_text.specs.Runs.{SaysMissing, exit_status_of};
 
 use std::io::Write;
 use streams::complain;
@@ -17,7 +17,7 @@ pub enum Lost {
 impl Lost {
     /// Says on `errors` that lines are missing, or a front of that where it cannot be written.
     pub fn said_on<E: Write>(errors: &mut E) -> Lost
-        ensures { Missed (E.contents errors.old) (E.contents errors.new) result }
+        ensures { SaysMissing (E.contents errors.old) (E.contents errors.new) result }
     {
         match complain(errors) {
             Ok(()) => Lost::Aloud,
