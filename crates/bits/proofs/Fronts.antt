@@ -1,4 +1,4 @@
--- Laws of bytes that are laid over the front of others. Assumes nothing.
+-- Laws of bytes that are laid over the front of others.
 use Rattle.std.proofs.Common.{◌≡◌, sym, ap, ap₂, ◌∙◌, List, ◌++◌, append_assoc, append-nil, ℕ, ◌+◌, ◌-◌, ◌≤◌, ◌<◌, le_of_eq, length, take, drop, length-append, length-drop, drop_of_length-le, take_all, take_at, drop_at, drop-drop, leb, le-leb}
 use borrow.Rule.Slice.PartMut.{mid_of, put_mid}
 use borrow.Author.Tests.{lt-leb}

@@ -1,4 +1,4 @@
--- Laws of little-endian numbers, over the width. Assumes nothing.
+-- Laws of little-endian numbers, over the width.
 use Rattle.std.proofs.Common.{◌≡◌, refl, sym, ap, ◌∙◌, List, [], ◌∷◌, ◌++◌, ℕ, zero, suc, ◌+◌, ◌-◌, ◌*◌, ◌/◌, ◌%◌, ◌^◌, ◌≤◌, ◌<◌, min, div-one, mod-eq_of_lt, not-suc-le-zero, le_of_suc-le-suc, arith, lit≤, lit<, pow-add, shr-shr, get_or, length, length-take, take, drop, replicate}
 use native.Mathlib.Nat.{mod-one}
 use lib.Arith.{digits_lt}

@@ -1,4 +1,4 @@
--- Laws of single bits and masks, over the width and the index. Bit `t` of `m` is `m / 2 ^ t % 2`. Assumes nothing.
+-- Laws of single bits and masks, over the width and the index. Bit `t` of `m` is `m / 2 ^ t % 2`.
 use Rattle.std.proofs.Common.{◌≡◌, sym, ap, ◌∙◌, ℕ, zero, suc, ◌+◌, ◌-◌, ◌*◌, ◌/◌, ◌%◌, ◌^◌, ◌<◌, min, false, mod-lt, pow-suc, le_of_suc-le-suc, one-add, arith, pow_pos, shr-shr, bit_and, bit_or, ltb}
 use mathlib.Core.Bool.{and-false}
 use native.Mathlib.Nat.{zero-div}

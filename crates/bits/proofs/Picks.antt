@@ -1,4 +1,4 @@
--- Laws of `pick` and of tests. Assumes nothing.
+-- Laws of `pick` and of tests.
 use Rattle.std.proofs.Common.{◌≡◌, refl, sym, Bool, true, false, not, ◌&&◌, ◌||◌, ℕ, arith, ◌⊎◌, inl, inr, ⊎_elim, ltb, leb, lt-ltb, le-ltb, leb-true, leb-false}
 use Rattle.bits.specs.Pick.{pick}
 

@@ -1,4 +1,4 @@
--- Laws of tables: a mask's ones counted against a table, and a rule of every number below a bound. Assumes nothing.
+-- Laws of tables: a mask's ones counted against a table, and a rule of every number below a bound.
 use Rattle.std.proofs.Common.{◌≡◌, sym, ap, ap₂, ◌∙◌, subst, List, [], ◌∷◌, ⊎_elim, Bool, true, false, ◌&&◌, ℕ, zero, suc, ◌+◌, ◌/◌, ◌%◌, ◌^◌, ◌<◌, suc-le-suc, not-suc-le-zero, eq-or-lt_of_le, div-one, zero-lt-suc, le_of_suc-le-suc, add-one, T, shr_lt, length, get_or}
 use lib.Arith.{lt-one}
 use lib.Count.{ones, ones_step}

@@ -1,4 +1,4 @@
--- How a contract is tied to what it says. Assumes nothing.
+-- How a contract is tied to what it says.
 use Rattle.std.proofs.Common.{◌≡◌, sym, ◌∙◌}
 use contract.Lifetimes.{Lfts}
 use denote.Triple.Entry.{Args, Res}

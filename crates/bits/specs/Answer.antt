@@ -1,4 +1,4 @@
--- What an answer tells in the words of the rules: its number, and its values. Assumes nothing.
+-- What an answer tells in the words of the rules: its number, and its values.
 use Rattle.std.specs.Prelude.{Bool, true, false, List, ℕ}
 
 -- number 0 is an answer that was given, any other a refusal; what has no value tells none, which is not a value of 0 [answer-values]

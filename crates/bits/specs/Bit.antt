@@ -1,4 +1,4 @@
--- Single bits of a number of w digits. Assumes nothing.
+-- Single bits of a number of w digits.
 use Rattle.std.specs.Prelude.{Bool, true, false, ◌&&◌, ℕ, ◌-◌, ◌/◌, ◌%◌, ◌^◌, eqb, ltb}
 use Rattle.std.specs.Int.Bits.{bit_and, bit_or}
 use Rattle.bits.specs.Pick.{pick}

@@ -1,4 +1,4 @@
--- What is said of a contract is said of the function's own `Post`: its `ensures`, as the toolchain reads it off the source. Assumes nothing.
+-- What is said of a contract is said of the function's own `Post`: its `ensures`, as the toolchain reads it off the source.
 use Rattle.std.specs.Prelude.{◌≡◌}
 use contract.Lifetimes.{Lfts}
 use denote.Triple.Entry.{Args, Res}

@@ -1,4 +1,4 @@
--- Bytes laid over the front of others. Assumes nothing.
+-- Bytes laid over the front of others.
 use Rattle.std.specs.Prelude.{List, ◌++◌, ℕ, length, drop, leb}
 use Rattle.bits.specs.Pick.{pick}
 

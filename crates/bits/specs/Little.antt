@@ -1,4 +1,4 @@
--- Little-endian numbers in a list of bytes. Assumes nothing.
+-- Little-endian numbers in a list of bytes.
 use Rattle.std.specs.Prelude.{◌≡◌, ℕ, zero, suc, ◌+◌, ◌*◌, ◌/◌, ◌%◌, ◌^◌, ◌<◌, List, [], ◌∷◌, get_or}
 
 -- the number of the n bytes of l from `at` on, the lowest first; past the end of l stand zeros [numbers]

@@ -1,4 +1,4 @@
--- One of two values, by a test. Assumes nothing.
+-- One of two values, by a test.
 use Rattle.std.specs.Prelude.{Bool, if◌then◌else◌}
 
 -- the first where the test holds, else the second

@@ -1,4 +1,4 @@
--- A buffer before it is written to, and the line of a call. Assumes nothing.
+-- A buffer before it is written to, and the line of a call.
 use Rattle.std.proofs.Common.{◌≡◌, ℕ, min, List, take, replicate, ◌∙◌, ap, sym}
 use Rattle.std.proofs.lemmas.List.{take_min}
 use Rattle.std.proofs.Math.ListN.{length-replicate}

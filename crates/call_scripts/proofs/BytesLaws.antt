@@ -1,4 +1,4 @@
--- The bytes of the words behind a place. Assumes nothing.
+-- The bytes of the words behind a place.
 use Rattle.std.proofs.Common.{◌≡◌, ℕ, ◌+◌, ◌<◌, ◌≤◌, List, ◌++◌, drop, drop-cons, length, length-append, get_or, Option, Some, None, refl, sym, ◌∙◌, ap, arith, add-one, map, append_assoc, append-nil}
 use Rattle.std.proofs.lemmas.List.{drop_all}
 use Rattle.call_scripts.specs.Bytes.{word_bytes, joined, all_bytes, few}

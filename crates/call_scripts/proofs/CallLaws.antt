@@ -1,4 +1,4 @@
--- What is told of a call that was lent what there is. Assumes nothing.
+-- What is told of a call that was lent what there is.
 use Rattle.std.proofs.Common.{◌≡◌, ℕ, min, List, length, take, Option}
 use Rattle.std.proofs.lemmas.List.{take_min}
 use Rattle.rules.specs.Call.{Call}

@@ -1,4 +1,4 @@
--- Where a run of a script stands behind the bytes that it has read. Assumes nothing.
+-- Where a run of a script stands behind the bytes that it has read.
 use Rattle.std.proofs.Common.{◌≡◌, ℕ, List, [], ◌∷◌, ◌++◌, append-nil, append_assoc, Option, None, Result, Ok, Err, IsErr, IsErrAnd, IfSome, inl, inr, sym, subst, ap, ◌∙◌}
 use mathlib.Core.Bool.{false≢true}
 use Rattle.std.specs.Io.KnownBytes.{Appends, Consumes}

@@ -1,4 +1,4 @@
--- Where a check of a script stands behind the lines that it has run, and how it ends. Assumes nothing.
+-- Where a check of a script stands behind the lines that it has run, and how it ends.
 use Rattle.std.proofs.Common.{◌≡◌, ℕ, ◌<◌, Bool, true, false, List, [], ◌∷◌, ◌++◌, length, append-nil, append_assoc, Option, Some, None, Result, Ok, Err, IsErr, IsErrAnd, IfSome, refl, sym, subst, ap, ap₂, ◌∙◌, arith}
 use Rattle.std.specs.Bool.{◌==◌}
 use mathlib.Core.Bool.{false≢true}

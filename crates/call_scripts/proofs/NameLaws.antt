@@ -1,4 +1,4 @@
--- What a word names by the rows behind a place. Assumes nothing.
+-- What a word names by the rows behind a place.
 use Rattle.std.proofs.Common.{◌≡◌, ℕ, ◌+◌, ◌<◌, ◌≤◌, List, drop, drop-cons, length, get_or, Some, None, refl, sym, ◌∙◌, ap, add-one, map, true, false}
 use Rattle.std.proofs.lemmas.List.{drop_all}
 use Rattle.std.specs.Str.{bytes_eq}

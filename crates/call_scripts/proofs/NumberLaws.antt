@@ -1,4 +1,4 @@
--- The number of the digits so far. Assumes nothing.
+-- The number of the digits so far.
 use Rattle.std.proofs.Common.{◌≡◌, ℕ, ◌+◌, ◌*◌, ◌<◌, List, [], ◌∷◌, drop, drop-cons, length, get_or, Option, Some, None, refl, arith, add-one}
 use Rattle.std.specs.Option.{option_and_then}
 use Rattle.call_scripts.specs.Numbers.{digit_of, number_from, at_most}

@@ -1,4 +1,4 @@
--- Of a script two outputs that one ending allows are equal, and what two checks find. Assumes nothing.
+-- Of a script two outputs that one ending allows are equal, and what two checks find.
 use Rattle.std.proofs.Common.{◌≡◌, ℕ, List, ◌++◌, Option, Some, Ok, refl, sym, ap, ◌∙◌}
 use Rattle.std.proofs.lemmas.List.{append_cancel_right}
 use Rattle.events.proofs.Cuts.{appended}

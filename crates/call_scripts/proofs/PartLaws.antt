@@ -1,4 +1,4 @@
--- What stands before and behind a byte, from a place on; and the first line of a text. Assumes nothing.
+-- What stands before and behind a byte, from a place on; and the first line of a text.
 use Rattle.std.proofs.Common.{◌≡◌, ℕ, ◌+◌, ◌<◌, Bool, true, false, eqb, List, [], ◌∷◌, drop, drop-cons, length, get_or, refl, ap, add-one, arith}
 use Rattle.std.specs.List.{onto_first}
 use Rattle.bits.specs.Pick.{pick}

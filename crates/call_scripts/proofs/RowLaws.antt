@@ -1,4 +1,4 @@
--- The entries behind a tag. Assumes nothing.
+-- The entries behind a tag.
 use Rattle.std.proofs.Common.{◌≡◌, ℕ, ◌+◌, ◌<◌, ◌≤◌, List, ◌++◌, drop, drop-cons, length, get_or, sym, ◌∙◌, ap, add-one, append_assoc, append-nil}
 use Rattle.std.proofs.lemmas.List.{drop_all}
 use Rattle.device_state.specs.declared.shapes.Entry.{Entry}

@@ -1,4 +1,4 @@
--- What each contract says. Of what a line asks for two answers that it allows are equal, but where there is no memory; a run is by any reader and any writer, which may go more than one way. Assumes nothing.
+-- What each contract says. Of what a line asks for two answers that it allows are equal, but where there is no memory; a run is by any reader and any writer, which may go more than one way.
 use Rattle.std.proofs.Common.{[], ◌≡◌, IfOk, refl}
 use denote.RattleType.{RattleType}
 use denote.Param.Laws.{Laws}

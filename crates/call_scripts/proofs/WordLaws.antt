@@ -1,4 +1,4 @@
--- What a line asks for. Assumes nothing.
+-- What a line asks for.
 use Rattle.std.proofs.Common.{◌≡◌, ℕ, ◌+◌, ◌<◌, List, [], ◌∷◌, drop, drop-cons, length, get_or, refl, sym, ap, ◌∙◌, add-one, map, min}
 use Rattle.std.proofs.lemmas.List.{drop-map, drop_min}
 use Rattle.bits.specs.Pick.{pick}

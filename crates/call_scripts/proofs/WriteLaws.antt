@@ -1,4 +1,4 @@
--- A write and its line, and the values of a line so far. Assumes nothing.
+-- A write and its line, and the values of a line so far.
 use Rattle.std.proofs.Common.{◌≡◌, ℕ, zero, suc, ◌+◌, ◌-◌, ◌<◌, Bool, List, length, take, Some, None, Result, refl, sym, ap, ◌∙◌, add-one, arith}
 use Rattle.std.proofs.lemmas.List.{take_all, take_more_set}
 use Rattle.std.proofs.Math.ListN.{set}

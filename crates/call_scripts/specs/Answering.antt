@@ -1,4 +1,4 @@
--- What a bench answers to a command, and what that leaves behind. Assumes nothing.
+-- What a bench answers to a command, and what that leaves behind.
 use Rattle.std.specs.Prelude.{ℕ, List, [], length, Some}
 use Rattle.bits.specs.Laid.{overlay}
 use Rattle.device_state.specs.declared.shapes.Settings.{Settings}

@@ -1,4 +1,4 @@
--- What is printed of an answer. Assumes nothing.
+-- What is printed of an answer.
 use Rattle.std.specs.Prelude.{ℕ, ◌+◌, Bool, true, not, eqb, leb, List, [], ◌∷◌, ◌++◌, length, take, drop, replicate, decimal, codes, Option, Some, None, Result, Ok, Err}
 use Rattle.std.specs.List.{list_any}
 use Rattle.bits.specs.Pick.{pick}

@@ -1,4 +1,4 @@
--- A change made to a state. Assumes nothing.
+-- A change made to a state.
 use Rattle.std.specs.Prelude.{slice_set}
 use Rattle.device_state.specs.Table.{table_with}
 use Rattle.device.specs.declared.state.Device.{Device}

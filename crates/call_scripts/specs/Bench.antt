@@ -1,4 +1,4 @@
--- What a bench keeps between two calls, and what a call makes of it. Assumes nothing.
+-- What a bench keeps between two calls, and what a call makes of it.
 use Rattle.std.specs.Prelude.{◌≡◌, ℕ, List, ◌++◌, length, take, drop, Option, Some, None}
 use Rattle.bits.specs.Laid.{overlay}
 use Rattle.device_state.specs.State.{medium_size}

@@ -1,4 +1,4 @@
--- Bytes as words tell them. Assumes nothing.
+-- Bytes as words tell them.
 use Rattle.std.specs.Prelude.{ℕ, eqb, leb, List, [], ◌∷◌, ◌++◌, length, take, drop, get_or, replicate, Option, Some, None}
 use Rattle.std.specs.Result.{result_ok}
 use Rattle.bits.specs.Pick.{pick}

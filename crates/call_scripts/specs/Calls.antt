@@ -1,4 +1,4 @@
--- The calls of a script. Assumes nothing.
+-- The calls of a script.
 use Rattle.rules.specs.Call.{Call, host_frame, happens}
 use Rattle.call_scripts.specs.declared.calls.Call as script
 use Rattle.call_scripts.specs.declared.calls.Call.TheVariants.{HostFrame, Event}

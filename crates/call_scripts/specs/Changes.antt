@@ -1,4 +1,4 @@
--- What `set` changes. Assumes nothing.
+-- What `set` changes.
 use Rattle.std.specs.Prelude.{ℕ, ◌+◌, ◌-◌, eqb, List, length, [], ◌∷◌, codes, slice_get, Option, Some, None}
 use Rattle.bits.specs.Pick.{pick}
 use Rattle.device_state.specs.declared.shapes.Echo.{Echo}

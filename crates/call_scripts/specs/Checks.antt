@@ -1,4 +1,4 @@
--- What a check of a script finds and writes, for each way in which it may end. Assumes nothing.
+-- What a check of a script finds and writes, for each way in which it may end.
 use Rattle.std.specs.Prelude.{◌≡◌, ℕ, ◌+◌, ◌-◌, ◌^◌, min, List, [], ◌∷◌, ◌++◌, Option, Some, None, Result, Ok, Err, IfSome}
 use Rattle.std.specs.Str.{bytes_eq}
 use Rattle.std.specs.Io.KnownBytes.{Appends, Keeps}

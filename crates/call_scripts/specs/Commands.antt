@@ -1,4 +1,4 @@
--- What a line of a script asks for. Assumes nothing.
+-- What a line of a script asks for.
 use Rattle.std.specs.Prelude.{ℕ, List, length, drop, slice_get, Option, Some, None}
 use Rattle.bits.specs.Pick.{pick}
 use Rattle.device_state.specs.declared.shapes.Settings.{Settings}

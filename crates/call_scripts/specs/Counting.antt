@@ -1,4 +1,4 @@
--- Bytes that count up. Assumes nothing.
+-- Bytes that count up.
 use Rattle.std.specs.Prelude.{ℕ, zero, suc, ◌+◌, ◌%◌, List, [], ◌∷◌, ◌++◌}
 
 -- so many bytes: the first, and on from it by one a byte, modulo m

@@ -1,4 +1,4 @@
--- The fields of a frame as text. Assumes nothing.
+-- The fields of a frame as text.
 use Rattle.std.specs.Prelude.{ℕ, List, ◌∷◌, ◌++◌, codes, decimal, Result, Ok, Err}
 use Rattle.bits.specs.Answer.{bit_number}
 use Rattle.refusals.specs.declared.reasons.Refusal.{Refusal}

@@ -1,4 +1,4 @@
--- What a queued command comes to. Assumes nothing.
+-- What a queued command comes to.
 use Rattle.std.specs.Prelude.{false, ◌&&◌, ℕ, List, ◌++◌, codes, Option, Some, None, Result, Ok, Err}
 use Rattle.bits.specs.Pick.{pick}
 use Rattle.refusals.specs.declared.reasons.Refusal.{Refusal}

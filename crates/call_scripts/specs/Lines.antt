@@ -1,4 +1,4 @@
--- What a line of a script prints, and what it leaves behind. Assumes nothing.
+-- What a line of a script prints, and what it leaves behind.
 use Rattle.std.specs.Prelude.{ℕ, ltb, List, [], ◌∷◌, ◌++◌, length, Option, Some, None}
 use Rattle.bits.specs.Pick.{pick}
 use Rattle.call_scripts.specs.Answering.{after, answer_of}

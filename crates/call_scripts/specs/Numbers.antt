@@ -1,4 +1,4 @@
--- Numbers as a line tells them. Assumes nothing.
+-- Numbers as a line tells them.
 use Rattle.std.specs.Prelude.{ℕ, ◌+◌, ◌*◌, nat_lt, eqb, leb, List, [], ◌∷◌, length, Option, Some, None}
 use Rattle.std.specs.Char.{digit_value}
 use Rattle.std.specs.Option.{option_and_then}

@@ -1,4 +1,4 @@
--- A text in parts: what stands before a byte, what behind it, and its lines. Assumes nothing.
+-- A text in parts: what stands before a byte, what behind it, and its lines.
 use Rattle.std.specs.Prelude.{ℕ, eqb, List, [], ◌∷◌}
 use Rattle.std.specs.List.{onto_first}
 use Rattle.bits.specs.Pick.{pick}

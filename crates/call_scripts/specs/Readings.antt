@@ -1,4 +1,4 @@
--- What `read` is given. Assumes nothing.
+-- What `read` is given.
 use Rattle.std.specs.Prelude.{ℕ, List, [], ◌∷◌, length, drop, codes, slice_get, Option, Some, None}
 use Rattle.bits.specs.Pick.{pick}
 use Rattle.call_scripts.specs.Steps.{◌>>=◌}

@@ -1,4 +1,4 @@
--- A state in lines of text. Assumes nothing.
+-- A state in lines of text.
 use Rattle.std.specs.Prelude.{ℕ, false, List, [], ◌∷◌, ◌++◌, ◌+◌, flat_map, codes, Option, Some, None}
 use Rattle.std.specs.Fmt.{radix_digits}
 use Rattle.bits.specs.Answer.{bit_number}

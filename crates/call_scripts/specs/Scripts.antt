@@ -1,4 +1,4 @@
--- What a run of a script writes for what it reads, for each way in which it may end. Assumes nothing.
+-- What a run of a script writes for what it reads, for each way in which it may end.
 use Rattle.std.specs.Prelude.{◌≡◌, ℕ, eqb, List, [], ◌∷◌, ◌++◌, ◌⊎◌, length, replicate, codes, Option, Some, None, Result, Ok, Err, IfSome}
 use Rattle.std.specs.Io.KnownBytes.{Appends, Consumes}
 use Rattle.bits.specs.Pick.{pick}

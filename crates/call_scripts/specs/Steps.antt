@@ -1,4 +1,4 @@
--- Steps of which each may give nothing. Assumes nothing.
+-- Steps of which each may give nothing.
 use Rattle.std.specs.Prelude.{Option, Some, None}
 
 -- the second step, if the first gave a value

@@ -1,4 +1,4 @@
--- What is told of a line that prints something else than it is to. Assumes nothing.
+-- What is told of a line that prints something else than it is to.
 use Rattle.std.specs.Prelude.{ℕ, eqb, List, [], ◌∷◌, ◌++◌, flat_map, decimal, codes}
 use Rattle.std.specs.Str.{bytes_eq}
 use Rattle.bits.specs.Pick.{pick}

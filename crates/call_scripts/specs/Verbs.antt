@@ -1,4 +1,4 @@
--- What the first word of a line asks for. Assumes nothing.
+-- What the first word of a line asks for.
 use Rattle.std.specs.Prelude.{ℕ, List, [], ◌∷◌, codes, Option, Some, None}
 use Rattle.call_scripts.specs.Names.{named_in}
 use Rattle.call_scripts.specs.declared.verbs.Verb.{Verb}

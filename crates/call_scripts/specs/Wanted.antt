@@ -1,4 +1,4 @@
--- What a line of a script is to print. Assumes nothing.
+-- What a line of a script is to print.
 use Rattle.std.specs.Prelude.{ℕ, ◌-◌, Bool, ◌&&◌, eqb, ltb, List, length, take, drop, get_or, Option, Some, None}
 use Rattle.std.specs.Char.{is_ascii_whitespace}
 use Rattle.std.specs.List.{prefix_len, suffix_len}

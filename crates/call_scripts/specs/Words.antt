@@ -1,4 +1,4 @@
--- The words of a line. Assumes nothing.
+-- The words of a line.
 use Rattle.std.specs.Prelude.{ℕ, ◌^◌, ◌-◌, Bool, true, not, ◌&&◌, ◌||◌, eqb, List, [], ◌∷◌, length, take, drop, get_or, filter, slice_get, Option, Some, None}
 use Rattle.std.specs.Char.{is_ascii_whitespace}
 use Rattle.std.specs.List.{slice_split}

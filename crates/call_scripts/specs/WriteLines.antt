@@ -1,4 +1,4 @@
--- What is printed of what is written. Assumes nothing.
+-- What is printed of what is written.
 use Rattle.std.specs.Prelude.{ℕ, Bool, List, [], ◌∷◌, ◌++◌, length, take, drop, decimal, codes, is_none, Result, Ok, Err}
 use Rattle.bits.specs.Laid.{overlay}
 use Rattle.bits.specs.Pick.{pick}

@@ -1,4 +1,4 @@
--- What `write` is given. Assumes nothing.
+-- What `write` is given.
 use Rattle.std.specs.Prelude.{ℕ, ◌+◌, ◌-◌, ◌^◌, Bool, zero, suc, eqb, List, [], ◌∷◌, ◌++◌, length, codes, slice_get, Option, Some, None}
 use Rattle.std.specs.Option.{option_map}
 use Rattle.bits.specs.Pick.{pick}

@@ -1,4 +1,4 @@
--- One call more: what its contract allows continues every history that led to its state. Assumes nothing.
+-- One call more: what its contract allows continues every history that led to its state.
 use Rattle.std.proofs.Common.{◌≡◌, refl, sym, subst, false, List, [], ◌∷◌, ◌++◌, ℕ}
 use Rattle.rules.specs.Call.{Call}
 use Rattle.rules.specs.Handed.{handed}

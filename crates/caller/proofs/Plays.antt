@@ -1,4 +1,4 @@
--- Events played one after the other are a faithful history, whatever they are and whatever is lent to them. Assumes nothing.
+-- Events played one after the other are a faithful history, whatever they are and whatever is lent to them.
 use Rattle.std.proofs.Common.{append-nil, append_assoc, ◌≡◌, refl, sym, subst, Bool, true, false, List, [], ◌∷◌, ◌++◌, ℕ, zero, suc, ◌+◌, ◌<◌, arith, get_or, replicate, unwrap_or, Result, Err}
 use Rattle.bits.specs.Little.{Bytes}
 use Rattle.bits.specs.Pick.{pick}

@@ -1,4 +1,4 @@
--- What the contracts of `events` allow, event by event: every sequence of such results is a history. Assumes nothing.
+-- What the contracts of `events` allow, event by event: every sequence of such results is a history.
 use Rattle.std.proofs.Common.{Bool, false, List, [], ◌∷◌, ℕ, Result, ◌≡◌, refl, sym, ap, subst, ◌∙◌, Err}
 use contract.Lifetimes.{Lfts}
 use Rattle.std.specs.Borrow.{MutBor}

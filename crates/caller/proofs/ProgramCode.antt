@@ -1,4 +1,4 @@
--- What the contract of the run allows is a history, however the run ended. Assumes nothing.
+-- What the contract of the run allows is a history, however the run ended.
 use Rattle.std.proofs.Common.{ℕ, Bool, Option, Some, None, IfSome, Result, Ok, Err, List, [], ◌++◌, sym, append-nil, inl, inr}
 use Rattle.std.specs.Io.KnownBytes.{Appends}
 use Rattle.events.specs.declared.kinds.InputEnd.{InputEnd}

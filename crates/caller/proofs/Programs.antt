@@ -1,4 +1,4 @@
--- What the event program plays is a faithful history. Assumes nothing.
+-- What the event program plays is a faithful history.
 use Rattle.std.proofs.Common.{◌≡◌, refl, sym, ap, subst, ◌∙◌, Bool, true, false, List, [], ◌∷◌, ◌++◌, append-nil, append_assoc, map, ℕ, ◌+◌, length, drop, Err}
 use lib.Seq.{take-append_seam}
 use Rattle.bits.specs.Pick.{pick}

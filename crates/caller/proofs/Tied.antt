@@ -1,4 +1,4 @@
--- What each contract of a caller says. The answer itself is said by the contract of the device's call, which is tied there. Assumes nothing.
+-- What each contract of a caller says. The answer itself is said by the contract of the device's call, which is tied there.
 use Rattle.std.proofs.Common.{[], IfSome}
 use Rattle.bits.specs.Contract.{Says, SaysOver}
 use Rattle.bits.proofs.Tying.{say}

@@ -1,4 +1,4 @@
--- What the type of an event says of what stands in it: numbers are of their widths, and frames are of bytes. Assumes nothing.
+-- What the type of an event says of what stands in it: numbers are of their widths, and frames are of bytes.
 use Rattle.std.proofs.Common.{ℕ, zero, suc, List, [], ◌∷◌, arith, unwrap_or}
 use denote.Array.{each}
 use denote.Builtin.{u8}

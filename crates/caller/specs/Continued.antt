@@ -1,4 +1,4 @@
--- What a caller of the device is told: all that is promised (docs/HISTORIES.md) of the history that its call continues. Assumes nothing.
+-- What a caller of the device is told: all that is promised (docs/HISTORIES.md) of the history that its call continues.
 use Rattle.std.specs.Prelude.{◌≡◌, List, [], ◌∷◌, ◌++◌, ℕ}
 use Rattle.device_state.specs.declared.shapes.Settings.{Settings}
 use Rattle.device.specs.declared.state.Device.{Device}

@@ -1,5 +1,5 @@
--- Events played one after the other, each with any medium and any reply buffer, and the history that they are. Assumes nothing.
--- Were only the run of an event file spoken of, a device would pass that forgets its commands where a medium of another length or a short reply buffer is lent to it: a run lends one medium and one buffer of the right lengths.
+-- Events played one after the other, each with any medium and any reply buffer, and the history that they are.
+-- A theorem about event files alone would let through a device that loses its commands when it is lent a wrong medium or buffer: a run lends one medium and one buffer of the right lengths.
 use Rattle.std.specs.Prelude.{◌≡◌, Bool, true, false, ◌+◌, List, [], ◌∷◌, ◌++◌, ℕ, Result, Err}
 use Rattle.refusals.specs.declared.reasons.Refusal.{Refusal}
 use Rattle.refusals.specs.declared.reasons.Refusal.TheVariants.{Contradiction}

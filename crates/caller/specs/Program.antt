@@ -1,4 +1,4 @@
--- What the event program plays, event by event, and the calls of the device that are made. Assumes nothing.
+-- What the event program plays, event by event, and the calls of the device that are made.
 use Rattle.std.specs.Prelude.{◌≡◌, Bool, true, false, List, [], ◌∷◌, ◌++◌, ℕ, ◌+◌, Option, Some}
 use Rattle.refusals.specs.declared.reasons.Refusal.TheVariants.{Contradiction}
 use Rattle.device_state.specs.declared.shapes.Settings.{Settings}

@@ -1,4 +1,4 @@
--- A frame and its blanked one: as long, and read alike. Assumes nothing.
+-- A frame and its blanked one: as long, and read alike.
 use Rattle.std.proofs.Common.{◌≡◌, refl, sym, ap, ap₂, ◌∙◌, List, [], ◌∷◌, ◌++◌, map, ℕ, suc, ◌-◌, arith, eqb, length, get_or, take, drop, replicate, Result, Ok, Err, eqb-true, length-append, length-take}
 use Rattle.std.proofs.lemmas.List.{length-replicate}
 use Rattle.std.proofs.Math.Seq.{take-length, drop-length}

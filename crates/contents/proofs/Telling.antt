@@ -1,4 +1,4 @@
--- What is told of a call does not see contents. Assumes nothing.
+-- What is told of a call does not see contents.
 use Rattle.std.proofs.Common.{Option, Result, Bool, true, false, ◌≡◌, refl, sym, ap, ap₂, ◌∙◌, List, [], ◌∷◌, ◌++◌, map, ℕ, suc, ◌-◌, length, take, drop, replicate, take_at, drop_at, append-nil}
 use Rattle.bits.specs.Pick.{pick}
 use Rattle.frames.specs.Cut.{cut, joined_bytes}

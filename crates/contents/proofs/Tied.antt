@@ -1,4 +1,4 @@
--- What is promised says what it is to say. Assumes nothing.
+-- What is promised says what it is to say.
 use Rattle.bits.specs.Contract.{Says}
 use Rattle.bits.proofs.Tying.{say}
 use Rattle.contents.specs.Unseen.{CallsAlike, RestStays, DataVeiled, LentVeiled}

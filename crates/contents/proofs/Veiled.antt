@@ -1,4 +1,4 @@
--- What is decided does not see contents: of a call and the same with its contents blanked. Assumes nothing.
+-- What is decided does not see contents: of a call and the same with its contents blanked.
 use Rattle.std.proofs.Common.{Option, Some, None, Result, Ok, Err, ◌≡◌, true, false, true≢false, refl, sym, ap, ap₂, ◌∙◌, List, [], ◌∷◌, map, ℕ, ◌-◌, min, length, drop, length-take, length-drop}
 use Rattle.std.proofs.lemmas.List.{length-replicate}
 use Rattle.frames.specs.Write.{FrameValue, payload}

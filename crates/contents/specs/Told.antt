@@ -1,4 +1,4 @@
--- What of a call may be handed out without its contents. Assumes nothing.
+-- What of a call may be handed out without its contents.
 use Rattle.std.specs.Prelude.{Bool, true, false, List, map, ℕ, take, Result}
 use Rattle.bits.specs.Pick.{pick}
 use Rattle.frames.specs.Cut.{cut}

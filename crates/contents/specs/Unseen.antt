@@ -1,4 +1,4 @@
--- That contents do not show in what is told of a call. Assumes nothing.
+-- That contents do not show in what is told of a call.
 use Rattle.std.specs.Prelude.{◌≡◌, List, ◌++◌, ℕ, length, get_or, drop}
 use Rattle.rules.specs.Call.{host_frame}
 use Rattle.device.specs.Lent.{Lent, lent, Gave}

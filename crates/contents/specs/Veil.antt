@@ -1,4 +1,4 @@
--- Calls with their contents blanked: medium bytes, the payloads of host data, and what a reply buffer held. Assumes nothing.
+-- Calls with their contents blanked: medium bytes, the payloads of host data, and what a reply buffer held.
 use Rattle.std.specs.Prelude.{List, ◌++◌, ℕ, ◌-◌, eqb, length, get_or, take, replicate}
 use Rattle.bits.specs.Pick.{pick}
 use Rattle.rules.specs.Call.{Call, host_frame, happens}

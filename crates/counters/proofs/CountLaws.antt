@@ -1,4 +1,4 @@
--- Laws of amounts: each row counts by itself, and in any order. Assumes nothing.
+-- Laws of amounts: each row counts by itself, and in any order.
 use Rattle.std.proofs.Common.{◌≡◌, refl, sym, ap, ◌∙◌, true, false, eqb, eqb-true, List, [], ◌∷◌, ⊎_elim, ℕ, zero, suc, ◌+◌, ◌≤◌, ◌<◌, length, get_or, get_or-set_same, get_or-set_other, set, take, replicate, add-one, arith}
 use lib.ListN.{get_or-eq_default}
 use Rattle.std.proofs.lemmas.List.{set_past, get_or-replicate}

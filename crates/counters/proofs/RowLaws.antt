@@ -1,4 +1,4 @@
--- Laws of the sixteen rows: each identifier has its row, and no other number has one. Assumes nothing.
+-- Laws of the sixteen rows: each identifier has its row, and no other number has one.
 use Rattle.std.proofs.Common.{◌≡◌, refl, ap, sym, ◌∙◌, Bool, false, ℕ, ◌<◌, length, Option, Some, None, T, eqb, ltb, ltb→lt, eqb-true, arith}
 use Rattle.std.proofs.lemmas.List.Quantifiers.{position-Some}
 use Rattle.bits.proofs.Tables.{below_all}

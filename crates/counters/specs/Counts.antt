@@ -1,4 +1,4 @@
--- Counters are 32 bits wide and stay at the top once there. Assumes nothing.
+-- Counters are 32 bits wide and stay at the top once there.
 use Rattle.std.specs.Prelude.{List, [], ◌∷◌, ℕ, ◌+◌, min, eqb, set, replicate}
 use Rattle.bits.specs.Pick.{pick}
 

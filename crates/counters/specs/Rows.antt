@@ -1,4 +1,4 @@
--- The sixteen rows of page 11h, in the order in which the page has them. Assumes nothing.
+-- The sixteen rows of page 11h, in the order in which the page has them.
 use Rattle.std.specs.Prelude.{ℕ, Bool, ◌&&◌, List, [], ◌∷◌, get_or, eqb, Option, Some, None, position}
 use Rattle.bits.specs.Bit.{bit_in}
 use Rattle.bits.specs.Answer.{Answer}

@@ -1,4 +1,4 @@
--- What page 11h shows of a counter. Assumes nothing.
+-- What page 11h shows of a counter.
 use Rattle.std.specs.Prelude.{ℕ, List, get_or, Option, Some, None}
 use Rattle.bits.specs.Pick.{pick}
 use Rattle.counters.specs.Rows.{kept, row_of}

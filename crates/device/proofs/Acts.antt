@@ -1,4 +1,4 @@
--- SRST, release, a halt and its end, a media error and zeroed counters leave a state that does not contradict itself. Assumes nothing.
+-- SRST, release, a halt and its end, a media error and zeroed counters leave a state that does not contradict itself.
 use Rattle.std.proofs.Common.{Option, is_none, unwrap_or, ◌≡◌, Bool, true, false, not, ◌&&◌, ℕ, eqb, ltb, arith}
 use Rattle.bits.specs.Bit.{bit_in}
 use Rattle.counters.specs.Counts.{single}

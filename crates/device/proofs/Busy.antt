@@ -1,4 +1,4 @@
--- What is known of an outstanding command in a state that does not contradict itself. Assumes nothing.
+-- What is known of an outstanding command in a state that does not contradict itself.
 use Rattle.std.proofs.Common.{is_none, unwrap_or, ◌≡◌, Bool, true, false, ℕ, ◌+◌, ◌-◌, ◌*◌, ◌%◌, ◌≤◌, ◌<◌, min, arith}
 use Rattle.bits.specs.Bit.{bit_in}
 use Rattle.device_state.specs.State.{whole_of}

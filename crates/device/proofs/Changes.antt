@@ -1,4 +1,4 @@
--- A command accepted, opened, moved on or finished leaves a state that does not contradict itself. Assumes nothing.
+-- A command accepted, opened, moved on or finished leaves a state that does not contradict itself.
 use Rattle.std.proofs.Common.{Some, None, is_some, is_none, unwrap_or, ◌≡◌, true, false, ℕ, ◌%◌, ◌^◌, ◌<◌, min, leb, eqb}
 use Rattle.bits.specs.Pick.{pick}
 use Rattle.bits.specs.Bit.{bit_in, with_bit_in, clear_in}

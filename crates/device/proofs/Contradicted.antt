@@ -1,4 +1,4 @@
--- Every call on a state that contradicts itself is refused with 1, and leaves all as it was. Assumes nothing.
+-- Every call on a state that contradicts itself is refused with 1, and leaves all as it was.
 use Rattle.std.proofs.Common.{Option, Some, Err, ◌≡◌, sym, ap, ◌∙◌, true}
 use mathlib.Core.Path.{subst⁻¹}
 use Rattle.refusals.specs.First.{unless}

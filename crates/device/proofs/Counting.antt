@@ -1,4 +1,4 @@
--- What `counter` and `outstanding_count` refuse, by their lists. Assumes nothing.
+-- What `counter` and `outstanding_count` refuse, by their lists.
 use Rattle.std.proofs.Common.{Option, Result, sym, subst, ℕ}
 use Rattle.refusals.specs.First.{FirstExactly, refusal_in}
 use Rattle.refusals.specs.Ladders.{power_ladder}

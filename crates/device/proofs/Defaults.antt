@@ -1,4 +1,4 @@
--- A device by default is all zeros. Assumes nothing.
+-- A device by default is all zeros.
 use Rattle.std.proofs.Common.{rules, ◌≡◌, sym, ◌∙◌, List, ℕ, ◌<◌, arith, replicate, ext_get_or}
 use lib.ListN.{length-replicate}
 use Rattle.std.specs.Array.{AllOfLen}

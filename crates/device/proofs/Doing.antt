@@ -1,4 +1,4 @@
--- From what a call comes to, to the contract: a refusal leaves all as it was; of an act that is done the replies are all sent, and its state is handed back. Assumes nothing.
+-- From what a call comes to, to the contract: a refusal leaves all as it was; of an act that is done the replies are all sent, and its state is handed back.
 use Rattle.std.proofs.Common.{Result, Ok, Err, ◌≡◌, refl, sym, ap, subst, ◌∙◌, Bool, true, false, List, [], ⊎_elim, ℕ, leb, length, arith}
 use Rattle.std.specs.Result.{IsErrAnd}
 use Rattle.std.proofs.lemmas.Result.{err_from_is_err_and}

@@ -1,4 +1,4 @@
--- The host data that is due, in plain numbers. Assumes nothing.
+-- The host data that is due, in plain numbers.
 use Rattle.std.proofs.Common.{Option, Some, None, is_some, unwrap_or, ◌≡◌, ap, ◌∙◌, true, false, not, ℕ, ◌≤◌, min, arith}
 use Rattle.bits.proofs.Picks.{by_test, and_left, pick_yes, pick_no}
 use Rattle.rules.specs.Positions.{left_of}

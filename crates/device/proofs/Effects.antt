@@ -1,4 +1,4 @@
--- What each change of the state does, said of its parts; and of every act: settings, record, bytes. Assumes nothing.
+-- What each change of the state does, said of its parts; and of every act: settings, record, bytes.
 use Rattle.std.proofs.Common.{None, ◌≡◌, refl, sym, subst, Bool, true, false, true≢false, List, ℕ, ◌<◌, lit<, replicate, arith}
 use Rattle.bits.specs.Pick.{pick}
 use Rattle.bits.specs.Bit.{bit_in}

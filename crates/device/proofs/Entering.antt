@@ -1,4 +1,4 @@
--- The entry of a queued command that is taken is right for its tag: its bytes name that tag and its range. Assumes nothing.
+-- The entry of a queued command that is taken is right for its tag: its bytes name that tag and its range.
 use Rattle.std.proofs.Common.{◌≡◌, refl, false, ℕ, ◌+◌, ◌^◌, ◌≤◌, ◌<◌, arith, ltb, leb, eqb, eq-eqb, ltb-false}
 use Rattle.frames.specs.Shared.{tag_of, sectors_of}
 use Rattle.frames.specs.declared.shapes.HostReg.{HostReg}

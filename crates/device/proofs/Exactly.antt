@@ -1,4 +1,4 @@
--- Each call gives each refusal of its row exactly when that test holds and none before it does, none exactly when none holds, and no other. Assumes nothing.
+-- Each call gives each refusal of its row exactly when that test holds and none before it does, none exactly when none holds, and no other.
 use Rattle.std.proofs.Common.{sym, subst}
 use Rattle.refusals.specs.First.{FirstExactly}
 use Rattle.refusals.specs.Ladders.{power_ladder}

@@ -1,4 +1,4 @@
--- Every reply of a taken call can be written: nothing is left out. Assumes nothing.
+-- Every reply of a taken call can be written: nothing is left out.
 use Rattle.std.proofs.Common.{Some, Result, Ok, ◌≡◌, refl, Bool, true, false, not, ◌&&◌, ◌||◌, List, [], ◌∷◌, ℕ, zero, suc, ◌<◌, arith, eqb, length, get_or, lt-ltb, ltb-true, ltb-false}
 use Rattle.bits.specs.Little.{byte_of, Bytes}
 use Rattle.bits.proofs.Picks.{by_test, and_left, or_left, or_right}

@@ -1,4 +1,4 @@
--- A device that has nothing to do answers IDENTIFY DEVICE with its page, and stays as it is. Assumes nothing.
+-- A device that has nothing to do answers IDENTIFY DEVICE with its page, and stays as it is.
 use Rattle.std.proofs.Common.{None, Ok, ◌≡◌, refl, ap, ◌∙◌, true, false, List, [], ◌∷◌, ℕ, ◌≤◌, length, eq-eqb, le-ltb}
 use Rattle.bits.proofs.Picks.{pick_yes}
 use Rattle.refusals.specs.First.{first_of}

@@ -1,4 +1,4 @@
--- Taken link events never make a state that contradicts itself. Assumes nothing.
+-- Taken link events never make a state that contradicts itself.
 use Rattle.std.proofs.Common.{◌≡◌, true, false, ◌||◌, List, ℕ, ◌<◌, get_or, arith}
 use Rattle.counters.specs.Rows.{kept, keeps_both}
 use Rattle.counters.specs.Counts.{tallied, single}

@@ -1,4 +1,4 @@
--- A kept device is known by its device, and an answer by the outcome that it stands for. Assumes nothing.
+-- A kept device is known by its device, and an answer by the outcome that it stands for.
 use Rattle.std.proofs.Common.{Option, Some, None, Result, Ok, Err, ◌≡◌, sym, ap, ◌∙◌, true, false, true≢false, ℕ, arith}
 use mathlib.Core.Bool.{Bool-set}
 use mathlib.Core.HLevel.{is_prop→PathP}

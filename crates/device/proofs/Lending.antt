@@ -1,4 +1,4 @@
--- A call that reads nothing of the medium leaves it as it was, whatever it holds; one that is lent no reply buffer leaves that too. Assumes nothing.
+-- A call that reads nothing of the medium leaves it as it was, whatever it holds; one that is lent no reply buffer leaves that too.
 use Rattle.std.proofs.Common.{Result, Ok, Err, ◌≡◌, refl, sym, ap, subst, ◌∙◌, true, false, true≢false, List, [], ℕ, length}
 use Rattle.bits.specs.Laid.{overlay}
 use Rattle.frames.specs.Cut.{joined_bytes}

@@ -1,4 +1,4 @@
--- What moves, in plain numbers: of a command 512 × count bytes less what has moved are left, and the next one stands at 512 × first and what has moved. Assumes nothing.
+-- What moves, in plain numbers: of a command 512 × count bytes less what has moved are left, and the next one stands at 512 × first and what has moved.
 use Rattle.std.proofs.Common.{Option, Some, None, Result, Ok, is_none, unwrap_or, ◌≡◌, refl, sym, ap, ◌∙◌, Bool, true, false, List, [], ◌∷◌, ◌++◌, ℕ, ◌+◌, ◌-◌, ◌*◌, ◌%◌, ◌≤◌, min, arith, ltb, length, get_or, take, drop, length-drop, le-leb, le-ltb, eq-eqb}
 use Rattle.bits.specs.Pick.{pick}
 use Rattle.bits.proofs.Picks.{not_leb}

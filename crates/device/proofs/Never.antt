@@ -1,4 +1,4 @@
--- A state that power-on makes never contradicts itself. Assumes nothing.
+-- A state that power-on makes never contradicts itself.
 use Rattle.std.proofs.Common.{None, ◌≡◌, refl, Bool, true, false, not, ℕ, lit<, replicate}
 use mathlib.Core.Bool.{and-false}
 use lib.ListN.{get_or-replicate}

@@ -1,4 +1,4 @@
--- A taken call never makes a state that contradicts itself. Assumes nothing.
+-- A taken call never makes a state that contradicts itself.
 use Rattle.std.proofs.Common.{None, Ok, ◌≡◌, refl, ap, ◌∙◌, false, List, ℕ, ◌^◌, ◌<◌, length}
 use Rattle.frames.proofs.ReadLaws.{read_data}
 use Rattle.rules.specs.Call.{Call, host_frame}

@@ -1,4 +1,4 @@
--- As many tags are outstanding as the table holds commands, and never more than the depth. Assumes nothing.
+-- As many tags are outstanding as the table holds commands, and never more than the depth.
 use Rattle.std.proofs.Common.{◌≡◌, refl, sym, ap, ◌∙◌, Bool, true, false, List, [], ◌∷◌, ⊎_elim, ℕ, ◌+◌, ◌*◌, ◌/◌, ◌%◌, ◌^◌, ◌≤◌, ◌<◌, mod-lt, div-le_self, div-add-mod', lt_of_le_of_lt, lt_of_lt_of_le, arith, leb, eqb, pow_pos, pow_mono, shr-shr}
 use native.Mathlib.Nat.{zero-div, div-eq_of_lt}
 use lib.Count.{ones, ones-le}

@@ -1,4 +1,4 @@
--- Laws of outcomes: they are known by their parts, and a call answers once. Assumes nothing.
+-- Laws of outcomes: they are known by their parts, and a call answers once.
 use Rattle.std.proofs.Common.{◌≡◌, ℕ, List, arith}
 use Rattle.device.specs.Lent.{gave}
 use Rattle.device.specs.Step.{Step, Gives}

@@ -1,4 +1,4 @@
--- The clauses of a state that does not contradict itself, one by one, and such a state from its clauses. Assumes nothing.
+-- The clauses of a state that does not contradict itself, one by one, and such a state from its clauses.
 use Rattle.std.proofs.Common.{arith, ◌≡◌, false, List, ℕ, ◌<◌}
 use Rattle.device_state.specs.Contradictory.{tag_bad, table_bad, status_bad, record_bad, contradictory}
 use Rattle.device_state.specs.declared.shapes.Entry.{Entry}

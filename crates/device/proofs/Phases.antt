@@ -1,4 +1,4 @@
--- The open phase: what tests of it tell. Assumes nothing.
+-- The open phase: what tests of it tell.
 use Rattle.std.proofs.Common.{Option, Some, None, is_some, is_none, unwrap_or, ◌≡◌, refl, Bool, true, false, not, List, ℕ, eqb, eq-eqb, arith}
 use Rattle.bits.specs.Pick.{pick}
 use Rattle.device_state.specs.Table.{entry_of}

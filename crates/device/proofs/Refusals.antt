@@ -1,4 +1,4 @@
--- What a refusal hands back: the very state that came in, no frames, and every byte as it was. Assumes nothing.
+-- What a refusal hands back: the very state that came in, no frames, and every byte as it was.
 use Rattle.std.proofs.Common.{Option, None, ◌≡◌, refl, ap, ◌∙◌, List, [], ℕ, length, arith}
 use Rattle.bits.specs.Laid.{overlay}
 use Rattle.frames.specs.Cut.{joined_bytes}

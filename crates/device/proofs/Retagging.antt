@@ -1,4 +1,4 @@
--- The test of any one tag, after a command is accepted, opened, moved on or finished. Assumes nothing.
+-- The test of any one tag, after a command is accepted, opened, moved on or finished.
 use Rattle.std.proofs.Common.{Option, Some, None, is_none, unwrap_or, ◌≡◌, Bool, true, false, not, List, ℕ, ◌%◌, ◌^◌, ◌<◌, min, leb, eqb, arith}
 use Rattle.bits.specs.Pick.{pick}
 use Rattle.bits.specs.Bit.{bit_in, with_bit_in, clear_in}

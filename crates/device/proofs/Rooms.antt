@@ -1,4 +1,4 @@
--- Every taken call that replies has room for its replies, and its place in the medium. Assumes nothing.
+-- Every taken call that replies has room for its replies, and its place in the medium.
 use Rattle.std.proofs.Common.{Ok, is_none, unwrap_or, ◌≡◌, true, false, ℕ, ◌+◌, ◌*◌, ◌≤◌, arith, leb, eqb, length, ltb-false, le-leb, eqb-true}
 use borrow.Author.Tests.{not-false}
 use Rattle.bits.specs.Bit.{bit_in}

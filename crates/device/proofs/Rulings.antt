@@ -1,4 +1,4 @@
--- What each rule and each device event keeps: its replies can be written, what it puts into the state is of bytes, and the state does not contradict itself. Assumes nothing.
+-- What each rule and each device event keeps: its replies can be written, what it puts into the state is of bytes, and the state does not contradict itself.
 use Rattle.std.proofs.Common.{Option, Some, None, Result, is_none, unwrap_or, ◌≡◌, refl, subst, sym, Bool, ◌&&◌, false, true, true≢false, List, [], ◌%◌, ◌*◌, ◌+◌, ◌<◌, ◌^◌, ◌≤◌, min, ℕ, arith, eqb, leb, ltb, lit<, length, take, drop, length-drop, length-take, eq-eqb, eqb-true, le-leb, le-ltb}
 use Rattle.bits.specs.Bit.{bit_in}
 use Rattle.bits.proofs.Picks.{and_right}

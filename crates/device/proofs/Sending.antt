@@ -1,4 +1,4 @@
--- What a call replies stands in the buffer whole, frame by frame. Assumes nothing.
+-- What a call replies stands in the buffer whole, frame by frame.
 use Rattle.std.proofs.Common.{Ok, Err, ◌≡◌, subst, List, map, ℕ, length, take}
 use Rattle.frames.specs.Cut.{cut, joined_bytes}
 use Rattle.frames.proofs.ReadLaws.{read_data}

@@ -1,4 +1,4 @@
--- What the machine's own widths give of a device. Assumes nothing.
+-- What the machine's own widths give of a device.
 use Rattle.std.proofs.Common.{◌≡◌, ◌^◌, ◌<◌, length}
 use Rattle.bits.specs.Little.{Bytes}
 use Rattle.device_state.specs.State.{placed_bytes}

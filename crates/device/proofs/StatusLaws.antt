@@ -1,4 +1,4 @@
--- The test of the status, after a command is accepted, opened, moved on or finished. Assumes nothing.
+-- The test of the status, after a command is accepted, opened, moved on or finished.
 use Rattle.std.proofs.Common.{Option, Some, None, is_some, is_none, unwrap_or, ◌≡◌, Bool, true, false, not, ℕ, arith, eqb}
 use Rattle.bits.specs.Pick.{pick}
 use Rattle.bits.specs.Bit.{bit_in, clear_in}

@@ -1,4 +1,4 @@
--- Host data: what is known of a frame that was taken, where it goes, and when 6 is given, by what the rules go by. Assumes nothing.
+-- Host data: what is known of a frame that was taken, where it goes, and when 6 is given, by what the rules go by.
 use Rattle.std.proofs.Common.{Option, Some, None, Result, Ok, Err, is_none, ◌≡◌, refl, sym, ap, ◌∙◌, true, false, true≢false, List, ◌++◌, ⊎_elim, ℕ, ◌+◌, ◌-◌, ◌≤◌, arith, ltb, lit<, length, get_or, take, drop, length-drop, drop-drop, le-leb, ltb-false}
 use Rattle.bits.specs.Pick.{pick}
 use Rattle.refusals.specs.First.{first_of, unless}

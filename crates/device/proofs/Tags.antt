@@ -1,4 +1,4 @@
--- Tests of single tags: bits of the set outstanding, and entries as they are accepted, move and are opened. Assumes nothing.
+-- Tests of single tags: bits of the set outstanding, and entries as they are accepted, move and are opened.
 use Rattle.std.proofs.Common.{◌≡◌, Bool, true, false, not, ◌&&◌, ◌||◌, ℕ, ◌-◌, ◌/◌, ◌%◌, ◌^◌, ◌<◌, min, arith, ltb, eqb, lt-ltb, le-ltb, ltb-true}
 use Rattle.bits.specs.Bit.{bit_in, with_bit_in, clear_in}
 use Rattle.std.proofs.lemmas.Nat.Bits.{bit_at-lt}

@@ -1,4 +1,4 @@
--- A link tally does what as many link events would do, in any order, and is refused where one of them would be. Assumes nothing.
+-- A link tally does what as many link events would do, in any order, and is refused where one of them would be.
 use Rattle.std.proofs.Common.{Some, None, Ok, ◌≡◌, refl, sym, ap, ◌∙◌, Bool, true, false, List, [], ◌∷◌, ⊎_elim, ℕ, zero, suc, ◌+◌, ◌≤◌, ◌<◌, arith, eqb, eq-eqb, length, get_or, ext_get_or}
 use mathlib.Core.Bool.{false≢true}
 use mathlib.Core.Path.{subst⁻¹}

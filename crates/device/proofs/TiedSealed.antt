@@ -1,4 +1,4 @@
--- The same of the calls of a device that is kept. Assumes nothing.
+-- The same of the calls of a device that is kept.
 use Rattle.std.proofs.Common.{[], refl}
 use Rattle.device.specs.Lent.{answered}
 use Rattle.device.proofs.Outcomes.{given_once}

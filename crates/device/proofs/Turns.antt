@@ -1,4 +1,4 @@
--- What a call comes to: a refusal, or an act that one of the rules gives. Assumes nothing.
+-- What a call comes to: a refusal, or an act that one of the rules gives.
 use Rattle.std.proofs.Common.{Some, None, Result, Ok, Err, ◌≡◌, refl, sym, subst, ◌∙◌, arith}
 use Rattle.refusals.specs.First.{first_of, refusal_in}
 use Rattle.refusals.specs.declared.reasons.Refusal.{Refusal}

@@ -1,4 +1,4 @@
--- Arguments of their types, by what a call is handed. Assumes nothing.
+-- Arguments of their types, by what a call is handed.
 use Rattle.std.proofs.Common.{List, [], ℕ, ◌^◌, ◌<◌, arith, lit<}
 use Rattle.bits.specs.Little.{Bytes}
 

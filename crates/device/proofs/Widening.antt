@@ -1,4 +1,4 @@
--- What the types give of a device holds after every call: the error record and each command's bytes are bytes. Assumes nothing.
+-- What the types give of a device holds after every call: the error record and each command's bytes are bytes.
 use Rattle.std.proofs.Common.{Option, Some, None, Ok, List, ℕ, lit<, length}
 use Rattle.refusals.specs.declared.reasons.Refusal.{Refusal}
 use Rattle.frames.proofs.ReadLaws.{read_data}

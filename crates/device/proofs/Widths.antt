@@ -1,4 +1,4 @@
--- Bytes that stay bytes: the record and the table of commands. Assumes nothing.
+-- Bytes that stay bytes: the record and the table of commands.
 use Rattle.std.proofs.Common.{◌≡◌, refl, List, ⊎_elim, ℕ, ◌≤◌, ◌<◌, arith, eqb, length, replicate}
 use mathlib.Core.Path.{subst⁻¹}
 use Rattle.std.proofs.lemmas.Bool.{cases_lt}

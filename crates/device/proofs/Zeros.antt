@@ -1,4 +1,4 @@
--- Every call on the zeros of a refused power-on is refused with 1. Assumes nothing.
+-- Every call on the zeros of a refused power-on is refused with 1.
 use Rattle.std.proofs.Common.{Some, ◌≡◌}
 use Rattle.refusals.specs.declared.reasons.Refusal.TheVariants.{Contradiction}
 use Rattle.device.specs.Device.{zero_device}

@@ -1,4 +1,4 @@
--- The state after an act. Assumes nothing.
+-- The state after an act.
 use Rattle.std.specs.Prelude.{Bool, true, false, List, ℕ, replicate, Some, None}
 use Rattle.bits.specs.Pick.{pick}
 use Rattle.bits.specs.Bit.{bit_in}

@@ -1,4 +1,4 @@
--- A counter by its number, and how many commands are outstanding. Assumes nothing.
+-- A counter by its number, and how many commands are outstanding.
 use Rattle.std.specs.Prelude.{◌≡◌, List, ℕ, Option, Result}
 use Rattle.std.specs.Int.Count.{ones}
 use Rattle.refusals.specs.First.{Rung, first_of, unless, refusal_in}

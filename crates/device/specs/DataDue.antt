@@ -1,4 +1,4 @@
--- The host data that is due. Assumes nothing.
+-- The host data that is due.
 use Rattle.std.specs.Prelude.{Bool, ◌&&◌, ℕ, Option, Some, None, is_some}
 use Rattle.bits.specs.Pick.{pick}
 use Rattle.device_state.specs.Progress.{due_in}

@@ -1,4 +1,4 @@
--- The device's state, and power-on. Assumes nothing.
+-- The device's state, and power-on.
 use Rattle.std.specs.Prelude.{Bool, false, replicate, Option, Some, None}
 use Rattle.device_state.specs.State.{zero_entry, blank_record}
 use Rattle.device_state.specs.UnderWay.{none_under_way}

@@ -1,4 +1,4 @@
--- What a decision looks at, of a device and of what is lent to a call. Assumes nothing.
+-- What a decision looks at, of a device and of what is lent to a call.
 use Rattle.std.specs.Prelude.{Bool, not, List, ℕ, eqb, ltb, length, Option, Some, None}
 use Rattle.device_state.specs.State.{zero_entry, medium_size}
 use Rattle.device_state.specs.Table.{entry_of}

@@ -1,4 +1,4 @@
--- A call with what is lent to it, and what came back. Assumes nothing.
+-- A call with what is lent to it, and what came back.
 use Rattle.std.specs.Prelude.{List, ℕ, ◌^◌, ◌<◌, Some, None, Result, Ok, Err}
 use Rattle.bits.specs.Little.{Bytes}
 use Rattle.refusals.specs.declared.reasons.Refusal.{Refusal}

@@ -1,4 +1,4 @@
--- How many commands the table holds. Assumes nothing.
+-- How many commands the table holds.
 use Rattle.std.specs.Prelude.{List, [], ◌∷◌, ℕ, ◌+◌, eqb}
 use Rattle.bits.specs.Pick.{pick}
 use Rattle.device_state.specs.declared.shapes.Entry.{Entry}

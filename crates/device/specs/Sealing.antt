@@ -1,4 +1,4 @@
--- How a device comes to be kept: a state that is given, and power-on. Assumes nothing.
+-- How a device comes to be kept: a state that is given, and power-on.
 use Rattle.std.specs.Prelude.{◌≡◌, true, Result, Ok, Err, Some, None, MatchResult}
 use Rattle.refusals.specs.declared.reasons.Refusal.{Refusal}
 use Rattle.refusals.specs.declared.reasons.Refusal.TheVariants.{Contradiction}

@@ -1,4 +1,4 @@
--- All that a call leaves behind, as one function of what came in. Assumes nothing.
+-- All that a call leaves behind, as one function of what came in.
 use Rattle.std.specs.Prelude.{◌≡◌, List, [], ℕ, length, Option, Some, None, Result, Ok, Err}
 use Rattle.bits.specs.Laid.{overlay}
 use Rattle.frames.specs.Write.{FrameValue}

@@ -1,4 +1,4 @@
--- Entries that are cleared one by one. Assumes nothing.
+-- Entries that are cleared one by one.
 use Rattle.std.proofs.Common.{◌≡◌, refl, sym, ◌∙◌, true, false, List, ℕ, zero, suc, ◌<◌, ◌^◌, arith, ⊎_elim, eqb, eqb-true, length, set, get_or-set_same, get_or-set_other, ext_get_or}
 use borrow.Author.Tests.{eqb-false}
 use Rattle.bits.proofs.Masks.{no_bit}

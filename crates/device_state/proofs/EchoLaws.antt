@@ -1,4 +1,4 @@
--- The bytes that are kept of a command name what the command named. Assumes nothing.
+-- The bytes that are kept of a command name what the command named.
 use Rattle.std.proofs.Common.{◌≡◌, refl, ap, ap₂, ◌∙◌, true, ◌&&◌, ℕ, ◌+◌, ◌*◌, ◌^◌, ◌<◌, arith}
 use Rattle.bits.proofs.Picks.{and_left, and_right}
 use Rattle.bits.proofs.Littles.{le_bytes_from}

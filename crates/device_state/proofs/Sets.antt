@@ -1,4 +1,4 @@
--- A walk over the tags of a set, the lowest first. Assumes nothing.
+-- A walk over the tags of a set, the lowest first.
 use Rattle.std.proofs.Common.{◌≡◌, ◌≢◌, sym, ap, true, false, ℕ, ◌<◌, ◌^◌, ◌*◌, ◌%◌, ◌&&◌, arith, eqb, ltb, w32}
 use Rattle.std.proofs.lemmas.Bool.Decides.{nat_tests}
 use Rattle.std.proofs.lemmas.Nat.{and_le_l}

@@ -1,4 +1,4 @@
--- A payload laid into the medium, for a frame of any length. Assumes nothing.
+-- A payload laid into the medium, for a frame of any length.
 use Rattle.std.proofs.Common.{◌≡◌, refl, List, [], ◌++◌, ⊎_elim, ℕ, ◌≤◌, ◌<◌, arith, length, take, drop, drop_of_length-le, le-leb, take-append-drop}
 use borrow.Author.Tests.{lt-leb}
 use Rattle.std.proofs.lemmas.Bool.{cases_lt}

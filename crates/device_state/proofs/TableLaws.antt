@@ -1,4 +1,4 @@
--- Laws of tests over a table. Assumes nothing.
+-- Laws of tests over a table.
 use Rattle.std.proofs.Common.{◌≡◌, refl, sym, ap, ◌∙◌, Bool, true, false, ℕ, zero, suc, ◌+◌, ◌≤◌, ◌<◌, add-one, arith, List, [], ◌∷◌, ⊎_elim, eq-or-lt_of_le, eqb, length, get_or, set, length-append, length-set, ext_get_or, get_or-set_same, get_or-set_other, eqb-true, ne_eqb}
 use lib.ListN.{get_or-append}
 use lib.Seq.{get_or_at}

@@ -1,4 +1,4 @@
--- A walk over a table, place by place, tests every place. Assumes nothing.
+-- A walk over a table, place by place, tests every place.
 use Rattle.std.proofs.Common.{◌≡◌, refl, sym, ap, ap₂, ◌∙◌, Bool, ◌||◌, List, [], ◌∷◌, ℕ, zero, suc, ◌+◌, ◌<◌, length, get_or, arith, suc-le-suc, zero-lt-suc}
 use Rattle.std.proofs.Math.Bool.{or-false, or_assoc}
 use Rattle.std.specs.List.{list_any, enumerate_from}

@@ -1,4 +1,4 @@
--- A state contradicts itself if one of these clauses holds, each in the words of the rules. Assumes nothing.
+-- A state contradicts itself if one of these clauses holds, each in the words of the rules.
 use Rattle.std.specs.Prelude.{Bool, false, not, ◌&&◌, ◌||◌, List, ℕ, ◌+◌, ◌%◌, ltb, leb, eqb, get_or, Option, Some, None}
 use Rattle.bits.specs.Pick.{pick}
 use Rattle.bits.specs.Bit.{bit_in}

@@ -1,4 +1,4 @@
--- Of the whole of a command's bytes: what is left, and what moves next. Assumes nothing.
+-- Of the whole of a command's bytes: what is left, and what moves next.
 use Rattle.std.specs.Prelude.{Bool, ℕ, ◌+◌, ◌-◌, min, leb, eqb}
 use Rattle.device_state.specs.declared.progress.Progress.{Progress}
 

@@ -1,4 +1,4 @@
--- Sectors against a range. Assumes nothing.
+-- Sectors against a range.
 use Rattle.std.specs.Prelude.{Bool, ◌||◌, ℕ, ◌+◌, ltb, leb}
 
 -- queued command, 3: first sector + count above capacity [queued-range]

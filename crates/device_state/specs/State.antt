@@ -1,4 +1,4 @@
--- What the state holds of a command and of an error. Assumes nothing.
+-- What the state holds of a command and of an error.
 use Rattle.std.specs.Prelude.{false, List, [], ◌∷◌, ℕ, ◌*◌, min}
 use Rattle.bits.specs.Little.{byte_of}
 use Rattle.frames.specs.Shared.{task_of, tag_of}

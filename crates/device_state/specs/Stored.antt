@@ -1,4 +1,4 @@
--- Where a command's bytes stand in the medium, and a payload that goes there. Assumes nothing.
+-- Where a command's bytes stand in the medium, and a payload that goes there.
 use Rattle.std.specs.Prelude.{◌&&◌, List, ◌++◌, ℕ, ◌+◌, ◌*◌, leb, length, take, drop}
 use Rattle.bits.specs.Pick.{pick}
 use Rattle.bits.specs.Laid.{overlay_with_room}

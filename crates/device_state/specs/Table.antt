@@ -1,4 +1,4 @@
--- The table of entries, and tests over a table. Assumes nothing.
+-- The table of entries, and tests over a table.
 use Rattle.std.specs.Prelude.{Bool, false, ◌||◌, List, [], ◌∷◌, ◌++◌, ℕ, zero, suc, eqb, get_or}
 use Rattle.bits.specs.Pick.{pick}
 use Rattle.bits.specs.Bit.{bit_in}

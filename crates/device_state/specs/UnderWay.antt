@@ -1,4 +1,4 @@
--- What is under way, and how it changes. Assumes nothing.
+-- What is under way, and how it changes.
 use Rattle.std.specs.Prelude.{Bool, ℕ, eqb, Option, Some, None, is_some}
 use Rattle.std.specs.Option.{option_eq}
 use Rattle.bits.specs.Bit.{with_bit_in, clear_in}

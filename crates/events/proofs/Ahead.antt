@@ -1,4 +1,4 @@
--- What was read ahead, and what is read where that was nothing. Assumes nothing.
+-- What was read ahead, and what is read where that was nothing.
 use Rattle.std.proofs.Common.{List, ℕ, [], Option, Some, None, Result, Ok, Err, refl, subst}
 use Rattle.std.proofs.KnownBytes.{Consumes-kept, Consumes-nil}
 use Rattle.std.specs.Io.KnownBytes.{Consumes, Keeps}

@@ -1,4 +1,4 @@
--- An input is events and a rest in one way, and what a run writes for it is one text. Assumes nothing.
+-- An input is events and a rest in one way, and what a run writes for it is one text.
 use Rattle.std.proofs.Common.{◌≡◌, ℕ, Bool, true, false, List, [], ◌∷◌, ◌++◌, flat_map, Option, Some, None, refl, sym, ap, ap₂, subst, ◌∙◌, append_assoc, IfSome}
 use Rattle.std.proofs.lemmas.List.{append_cancel_right}
 use Rattle.std.specs.Io.KnownBytes.{Appends, Consumes}

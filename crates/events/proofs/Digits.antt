@@ -1,4 +1,4 @@
--- The decimal digits of short numbers. Assumes nothing.
+-- The decimal digits of short numbers.
 use Rattle.std.proofs.Common.{◌≡◌, ℕ, ◌+◌, ◌<◌, ◌≤◌, ◌/◌, ◌%◌, [], ◌∷◌, decimal, Option, arith, refl}
 use Rattle.std.proofs.lemmas.Fmt.{decimal_digit, decimal_step}
 use Rattle.refusals.specs.Number.{number_told}

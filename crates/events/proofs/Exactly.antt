@@ -1,4 +1,4 @@
--- A settings record is refused exactly when the rules say. Assumes nothing.
+-- A settings record is refused exactly when the rules say.
 use Rattle.std.proofs.Common.{Bool, true, false, not, ◌||◌, Err}
 use Rattle.bits.specs.Pick.{pick}
 use Rattle.refusals.specs.First.{FirstExactly, first_of}

@@ -1,4 +1,4 @@
--- The turns of the loop that writes the fields of a line's replies. Assumes nothing.
+-- The turns of the loop that writes the fields of a line's replies.
 use Rattle.std.proofs.Common.{◌≡◌, ℕ, ◌<◌, Bool, List, ◌∷◌, ◌++◌, length, take, drop, arith, ◌∙◌, append_assoc}
 use Rattle.frames.specs.Cut.{first_length, cut}
 use Rattle.frames.proofs.CutLaws.{cut_next}

@@ -1,4 +1,4 @@
--- The frame of host data. Assumes nothing.
+-- The frame of host data.
 use Rattle.std.proofs.Common.{unwrap_or, ◌≤◌, lit≤}
 use Rattle.device.specs.DataDue.{data_due}
 use Rattle.device.specs.declared.state.Device.{Device}

@@ -1,4 +1,4 @@
--- What the known bytes begin with, by what was read of them. Assumes nothing.
+-- What the known bytes begin with, by what was read of them.
 use Rattle.std.proofs.Common.{◌≡◌, ℕ, ◌+◌, ◌<◌, ◌≤◌, true, false, true≢false, List, [], ◌∷◌, ◌++◌, length, length-append, drop, get_or, take, length-take-le, slice_get, take-append-drop, Option, Some, None, IfSome, refl, sym, ap, ◌∙◌, append-nil, arith, ⊎_elim}
 use Rattle.std.proofs.lemmas.Bool.Decides.{nat_tests}
 use Rattle.std.specs.Io.KnownBytes.{Consumes, IsAtEnd}

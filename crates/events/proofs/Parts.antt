@@ -1,4 +1,4 @@
--- A record as it is read: the byte of its kind, and its body behind it. Assumes nothing.
+-- A record as it is read: the byte of its kind, and its body behind it.
 use Rattle.std.proofs.Common.{◌≡◌, ℕ, ◌+◌, ◌<◌, ◌≤◌, List, [], ◌∷◌, length, take, drop, take_all, length-take, length-drop, Option, IfSome, sym, subst, arith, get_or}
 use Rattle.std.proofs.KnownBytes.{Consumes-trans}
 use Rattle.std.specs.Io.KnownBytes.{Consumes}

@@ -1,4 +1,4 @@
--- Where a run stands behind the events that it has played. Assumes nothing.
+-- Where a run stands behind the events that it has played.
 use Rattle.std.proofs.Common.{◌≡◌, ℕ, ◌+◌, ◌-◌, ◌^◌, Bool, false, true≢false, List, [], ◌∷◌, ◌++◌, flat_map, length, length-append, append-nil, Option, IfSome, Result, IsErr, IsErrAnd, refl, sym, ap₂, subst, ◌∙◌, arith, Ok, Err}
 use Rattle.std.proofs.KnownBytes.{Appends-nil, Appends-trans, Consumes-nil, Consumes-trans}
 use Rattle.std.specs.Io.KnownBytes.{Appends, Consumes}

@@ -1,4 +1,4 @@
--- A settings record is read as it was written, and none begins other bytes. Assumes nothing.
+-- A settings record is read as it was written, and none begins other bytes.
 use Rattle.std.proofs.Common.{◌≡◌, ℕ, ◌*◌, ◌^◌, ◌<◌, ◌≤◌, true, false, true≢false, List, ◌∷◌, ◌++◌, length, take, take_all, drop, get_or, take-append-drop, Some, sym, ap, ap₂, ◌∙◌, arith, ⊎_elim}
 use Rattle.std.proofs.lemmas.Bool.Decides.{nat_tests}
 use Rattle.bits.specs.Little.{Bytes, le_at, le_bytes}

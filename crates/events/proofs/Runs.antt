@@ -1,4 +1,4 @@
--- A run grows by one event. Assumes nothing.
+-- A run grows by one event.
 use Rattle.std.proofs.Common.{◌≡◌, ℕ, suc, ◌+◌, Bool, List, [], ◌∷◌, ◌++◌, length, flat_map, Option, Some, None, IfSome, sym, refl, ap, ◌∙◌, append-nil, append_assoc, arith}
 use Rattle.events.specs.Grammar.{event_bytes, Fits}
 use Rattle.events.specs.declared.asked.Event.{Event}

@@ -1,4 +1,4 @@
--- What is read and what is written of an event are one: its bytes are taken as it, and what is taken are its bytes. Assumes nothing.
+-- What is read and what is written of an event are one: its bytes are taken as it, and what is taken are its bytes.
 use Rattle.std.proofs.Common.{◌≡◌, ℕ, zero, suc, ◌+◌, ◌<◌, ◌≤◌, List, [], ◌∷◌, ◌++◌, length, take, drop, drop-cons, take_all, length-take, length-take-le, get_or, Some, refl, sym, ap, ap₂, ◌∙◌, subst, arith, ⊎_elim}
 use Rattle.std.proofs.lemmas.Bool.{cases_lt}
 use Rattle.std.proofs.lemmas.Bool.Decides.{nat_tests}

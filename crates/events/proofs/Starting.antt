@@ -1,4 +1,4 @@
--- What a run begins with: its settings, and power-on by these. Assumes nothing.
+-- What a run begins with: its settings, and power-on by these.
 use Rattle.std.proofs.Common.{◌≡◌, ℕ, Bool, true, false, true≢false, List, [], ◌++◌, Option, Some, None, IfSome, Result, Ok, Err, subst, sym, refl, ap, ◌∙◌, append-nil, length, take, length-take-le, ◌≤◌, arith, replicate, option_copied, Bor}
 use Rattle.std.proofs.lemmas.Bool.Decides.{nat_tests}
 use Rattle.std.specs.Io.KnownBytes.{Consumes}

@@ -1,4 +1,4 @@
--- Where lines are missing, and there alone, a run complains and its status is 4. Assumes nothing.
+-- Where lines are missing, and there alone, a run complains and its status is 4.
 use Rattle.std.proofs.Common.{◌≡◌, [], Result, arith}
 use Rattle.streams.specs.Lost.{complaint}
 use Rattle.events.specs.Runs.{said_of, exit_status_of}

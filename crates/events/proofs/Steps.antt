@@ -1,4 +1,4 @@
--- What the device gives for an event is what a run keeps and tells of it; an event that carries a frame whole is the call of a host frame. Assumes nothing.
+-- What the device gives for an event is what a run keeps and tells of it; an event that carries a frame whole is the call of a host frame.
 use Rattle.std.proofs.Common.{◌≡◌, ℕ, Bool, List, length, take, drop, ap, ap₂, ◌∙◌, sym, Option, Some, Result, Ok, Err, arith}
 use lib.Seq.{take-append_seam}
 use Rattle.std.specs.Result.{result_err, result_unwrap_or}

@@ -1,4 +1,4 @@
--- Each public function's own contract: it asks nothing, and two answers which it allows are equal. Assumes nothing.
+-- Each public function's own contract: it asks nothing, and two answers which it allows are equal.
 use Rattle.std.proofs.Common.{◌≡◌, ℕ, ◌∙◌, List, length, length-take-le, Option, Some, None, sym, ap, refl}
 use Rattle.device.specs.Lent.{answered}
 use Rattle.bits.specs.Contract.{Sole}

@@ -1,4 +1,4 @@
--- What each contract says, by any reader and any writer: a read or a write may go more than one way. That a run has one text is a law of its own. Assumes nothing.
+-- What each contract says, by any reader and any writer: a read or a write may go more than one way. That a run has one text is a law of its own.
 use Rattle.std.proofs.Common.{[], refl, ◌≡◌, ◌++◌, OnOk}
 use denote.RattleType.{RattleType}
 use denote.Param.Laws.{Laws}

@@ -1,4 +1,4 @@
--- Which call of the device an event makes, and what it leaves behind. Assumes nothing.
+-- Which call of the device an event makes, and what it leaves behind.
 use Rattle.std.specs.Prelude.{List, ℕ, Option, Some, None}
 use Rattle.rules.specs.Call.{Call, host_frame, happens}
 use Rattle.device.specs.Lent.{lent}

@@ -1,4 +1,4 @@
--- The bytes of an event behind the settings, in the direction in which they are written. Assumes nothing.
+-- The bytes of an event behind the settings, in the direction in which they are written.
 use Rattle.std.specs.Prelude.{◌≡◌, ◌<◌, ◌≤◌, ◌^◌, List, [], ◌∷◌, ◌++◌, ℕ, length, take, get_or, Option, Some, None}
 use Rattle.bits.specs.Little.{Bytes, le_bytes}
 use Rattle.events.specs.declared.asked.Event.{Event}

@@ -1,4 +1,4 @@
--- Host data of the length due. Assumes nothing.
+-- Host data of the length due.
 use Rattle.std.specs.Prelude.{List, ◌∷◌, ℕ, replicate, unwrap_or}
 use Rattle.device.specs.DataDue.{data_due}
 use Rattle.device.specs.declared.state.Device.{Device}

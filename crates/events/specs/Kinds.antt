@@ -1,4 +1,4 @@
--- How an event is taken from its bytes, by the kind that the first of them names: what the grammar says of its bytes is said in `event_bytes`, and that both agree is proved. Assumes nothing.
+-- How an event is taken from its bytes, by the kind that the first of them names: what the grammar says of its bytes is said in `event_bytes`, and that both agree is proved.
 use Rattle.std.specs.Prelude.{List, ℕ, eqb, get_or, Option, Some, None}
 use Rattle.bits.specs.Little.{le_at}
 use Rattle.bits.specs.Pick.{pick}

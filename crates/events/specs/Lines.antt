@@ -1,4 +1,4 @@
--- The line of an event. Assumes nothing.
+-- The line of an event.
 use Rattle.std.specs.Prelude.{Bool, true, false, List, [], ◌∷◌, ◌++◌, ℕ, decimal, flat_map, length, get_or, Option}
 use Rattle.bits.specs.Little.{byte_of}
 use Rattle.refusals.specs.Number.{number_told}

@@ -1,4 +1,4 @@
--- What is written of a text, left of it, or lost. Assumes nothing.
+-- What is written of a text, left of it, or lost.
 use Rattle.std.specs.Prelude.{◌≡◌, ℕ, List, ◌++◌, Option}
 use Rattle.std.specs.Io.KnownBytes.{Appends}
 use Rattle.streams.specs.Fronts.{AppendsFront, AppendsSome}

@@ -1,4 +1,4 @@
--- What is told of the settings record, and of the next event. Assumes nothing.
+-- What is told of the settings record, and of the next event.
 use Rattle.std.specs.Prelude.{◌≡◌, ◌+◌, List, [], ◌∷◌, ℕ, take, IfSome, Option, Some, None, Result, Ok, Err}
 use Rattle.std.specs.Io.KnownBytes.{Consumes, Keeps}
 use Rattle.device_state.specs.declared.shapes.Settings.{Settings}

@@ -1,4 +1,4 @@
--- What is written for the events of a run. Assumes nothing.
+-- What is written for the events of a run.
 use Rattle.std.specs.Prelude.{◌≡◌, Bool, true, false, List, [], ◌∷◌, ◌++◌, ℕ, suc, ◌+◌, length, flat_map, replicate, is_some, codes}
 use Rattle.bits.specs.Pick.{pick}
 use Rattle.bits.specs.Laid.{overlay}

@@ -1,4 +1,4 @@
--- What a run writes for what it reads, for each way in which it may end. Assumes nothing.
+-- What a run writes for what it reads, for each way in which it may end.
 use Rattle.std.specs.Prelude.{◌≡◌, Bool, false, List, [], ◌++◌, ◌⊎◌, ℕ, ◌-◌, ◌^◌, Option, Some, Result, Ok, Err, IfSome}
 use Rattle.std.specs.declared.io.Error.{Error}
 use Rattle.std.specs.Io.KnownBytes.{Appends, Consumes}

@@ -1,4 +1,4 @@
--- The settings record. Assumes nothing.
+-- The settings record.
 use Rattle.std.specs.Prelude.{◌≡◌, ◌<◌, ◌^◌, Bool, List, ◌∷◌, ◌++◌, ℕ, leb, get_or, take, Option, Some, None}
 use Rattle.bits.specs.Little.{le_at, le_bytes}
 use Rattle.device_state.specs.declared.shapes.Settings.{Settings}

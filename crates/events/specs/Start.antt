@@ -1,4 +1,4 @@
--- Power-on by the settings record. Assumes nothing.
+-- Power-on by the settings record.
 use Rattle.std.specs.Prelude.{Err}
 use Rattle.bits.specs.Pick.{pick}
 use Rattle.refusals.specs.declared.reasons.Refusal.TheVariants.{Contradiction}

@@ -1,4 +1,4 @@
--- When a run ends with `stop`, and when its settings record is refused, in the words of the rules. Assumes nothing.
+-- When a run ends with `stop`, and when its settings record is refused, in the words of the rules.
 use Rattle.std.specs.Prelude.{Bool, true, not, ◌&&◌, ◌||◌, List, ℕ, ◌+◌, eqb, leb, length, get_or, Option, Some, None}
 use Rattle.device_state.specs.Contradictory.{settings_out}
 use Rattle.device_state.specs.declared.shapes.Settings.{Settings}

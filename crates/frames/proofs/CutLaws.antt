@@ -1,4 +1,4 @@
--- The cut of several frames: nothing is lost, and every piece has a byte. Assumes nothing.
+-- The cut of several frames: nothing is lost, and every piece has a byte.
 use Rattle.std.proofs.Common.{◌≡◌, refl, sym, ap, ◌∙◌, true, false, List, [], ◌∷◌, ◌++◌, ⊎_elim, ℕ, zero, suc, ◌-◌, ◌≤◌, ◌<◌, arith, eqb, length, get_or, take, drop, length-drop, take-append-drop, eqb-true, ne_eqb, Some, None, unwrap_or}
 use borrow.Author.Tests.{eqb-false}
 use Rattle.bits.proofs.Picks.{pick_no, tested}

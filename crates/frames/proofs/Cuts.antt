@@ -1,4 +1,4 @@
--- Frames that were sent one behind the other come back from the cut. Assumes nothing.
+-- Frames that were sent one behind the other come back from the cut.
 use Rattle.std.proofs.Common.{◌≡◌, refl, ap, ap₂, ◌∙◌, true, List, [], ◌∷◌, ◌++◌, map, append-nil, ℕ, zero, suc, ◌≤◌, ◌<◌, arith, length, take, drop, length-append, take_at, drop_at}
 use Rattle.frames.specs.Size.{fixed_size}
 use Rattle.frames.specs.Cut.{first_length, cut_to, cut, joined_bytes}

@@ -1,4 +1,4 @@
--- Registers by default are all zeros. Assumes nothing.
+-- Registers by default are all zeros.
 use Rattle.std.proofs.Common.{rules, ◌≡◌}
 use Rattle.frames.specs.contracts.shared.RegistersDefault.TheImpl
 use Rattle.frames.specs.declared.shared.Registers.{Registers}

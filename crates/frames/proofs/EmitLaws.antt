@@ -1,4 +1,4 @@
--- Laws of every writer. Assumes nothing.
+-- Laws of every writer.
 use Rattle.std.proofs.Common.{◌≡◌, refl, ◌∙◌, Bool, true, false, List, ℕ, ◌≤◌, ◌<◌, length, Some, None, Result, Ok, ⊎_elim, lt-ltb, le-ltb}
 use Rattle.bits.specs.Laid.{overlay}
 use Rattle.std.proofs.lemmas.Bool.{cases_lt}

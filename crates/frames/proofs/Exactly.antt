@@ -1,4 +1,4 @@
--- Refusal 24, exactly when its clause holds. Assumes nothing.
+-- Refusal 24, exactly when its clause holds.
 use Rattle.std.proofs.Common.{◌≡◌, ap, ◌∙◌, List, ℕ, Result, arith}
 use Rattle.refusals.specs.First.{first_of, refusal_in, FirstExactly}
 use Rattle.refusals.specs.Number.{number_told}

@@ -1,4 +1,4 @@
--- Refusals 25 and 26, of every writer: each exactly when its clause holds and none before it; and a refused write keeps everything. Assumes nothing.
+-- Refusals 25 and 26, of every writer: each exactly when its clause holds and none before it; and a refused write keeps everything.
 use Rattle.std.proofs.Common.{◌≡◌, ◌∙◌, Bool, List, ℕ, length, Result, Err}
 use Rattle.refusals.specs.First.{refusal_in, FirstExactly}
 use Rattle.refusals.specs.declared.reasons.Refusal.{Refusal}

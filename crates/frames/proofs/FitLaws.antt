@@ -1,4 +1,4 @@
--- The two halves of an LBA, in a register frame. Assumes nothing.
+-- The two halves of an LBA, in a register frame.
 use Rattle.std.proofs.Common.{◌≡◌, true, ℕ, ◌/◌, ◌%◌, ◌^◌, arith, lt-ltb, ltb}
 use Rattle.std.proofs.lemmas.Bool.Decides.{nat_tests}
 use Rattle.frames.proofs.Defaults.{default_zeros}

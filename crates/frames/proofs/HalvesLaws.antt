@@ -1,4 +1,4 @@
--- The status of an A1h is written by its halves: where it fits they are the whole, and where it does not nothing is written. Assumes nothing.
+-- The status of an A1h is written by its halves: where it fits they are the whole, and where it does not nothing is written.
 use Rattle.std.proofs.Common.{◌≡◌, sym, subst, Bool, true, false, List, ℕ, Result, bit_and, eqb, eqb-true}
 use Rattle.refusals.specs.First.{first_of}
 use Rattle.refusals.specs.declared.reasons.Refusal.{Refusal}

@@ -1,4 +1,4 @@
--- There and back, for every layout. Assumes nothing.
+-- There and back, for every layout.
 use Rattle.std.proofs.Common.{◌≡◌, refl, sym, ap, ◌∙◌, true, List, [], ◌∷◌, ◌++◌, ℕ, zero, suc, ◌+◌, ◌*◌, ◌^◌, ◌<◌, ◌≤◌, arith, length, get_or, take, drop, replicate, append_assoc, append-nil, drop_of_length-le, length-append, length-drop, take_at, drop_at, mod-eq_of_lt, eqb, eqb-true, ltb-true, lt-ltb, bit_and}
 use native.Mathlib.Nat.{mod-one}
 use lib.Bits.{and_mask}

@@ -1,4 +1,4 @@
--- Laws of a queued command's tag and sector count. Assumes nothing.
+-- Laws of a queued command's tag and sector count.
 use Rattle.std.proofs.Common.{◌≡◌, ℕ, ◌+◌, ◌*◌, ◌/◌, ◌%◌, ◌≤◌, ◌<◌, arith, eqb}
 use Rattle.bits.specs.Pick.{pick}
 use Rattle.frames.specs.Shared.{tag_of, sectors_of}

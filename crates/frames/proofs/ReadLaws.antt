@@ -1,4 +1,4 @@
--- Laws of the reader. Assumes nothing.
+-- Laws of the reader.
 use Rattle.std.proofs.Common.{rules, ◌≡◌, refl, true, false, List, ℕ, ◌-◌, length, get_or, Option, Some, None, Result, Ok, Err}
 use Rattle.std.specs.Option.{option_map_or}
 use Rattle.bits.specs.Pick.{pick}

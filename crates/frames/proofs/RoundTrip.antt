@@ -1,4 +1,4 @@
--- What a writer wrote, the reader reads again. Assumes nothing.
+-- What a writer wrote, the reader reads again.
 use Rattle.std.proofs.Common.{Ok, ◌≡◌, refl, ap, ◌∙◌, true, List, [], ℕ, ◌-◌, arith, length, get_or, take, drop, take_at, Some}
 use mathlib.Core.Path.{fun_ext}
 use Rattle.frames.specs.Layout.{masks, all_hold}

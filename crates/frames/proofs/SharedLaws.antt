@@ -1,4 +1,4 @@
--- Laws of the pieces that frames share. Assumes nothing.
+-- Laws of the pieces that frames share.
 use Rattle.std.proofs.Common.{◌≡◌, refl, sym, ◌∙◌, Bool, false, ◌&&◌, ⊎_elim, ℕ, ◌*◌, ◌/◌, ◌^◌, ◌≤◌, ◌<◌, div-lt_iff_lt-mul, arith, eqb, ltb, pow_pos, eq-eqb, ne_eqb, lt-ltb, le-ltb, bit_and}
 use native.Mathlib.Nat.{div-eq_of_lt}
 use Rattle.std.proofs.lemmas.Nat.Bits.{bit_at_above, bit_at_and}

@@ -1,4 +1,4 @@
--- Laws of kinds and of the lengths of frames. Assumes nothing.
+-- Laws of kinds and of the lengths of frames.
 use Rattle.std.proofs.Common.{◌≡◌, true, ℕ, ◌-◌, ◌≤◌, arith, Some}
 use Rattle.frames.specs.Size.{kind_named, payload_size}
 use Rattle.frames.specs.declared.kinds.FrameKind.{FrameKind}

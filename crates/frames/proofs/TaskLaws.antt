@@ -1,4 +1,4 @@
--- What is written of a command's bytes is read again. Assumes nothing.
+-- What is written of a command's bytes is read again.
 use Rattle.std.proofs.Common.{◌≡◌, true, List, [], ◌∷◌, ◌++◌, ℕ, ◌^◌, ◌<◌, arith, ltb-true}
 use Rattle.bits.specs.Little.{Bytes, bytes_from, le_bytes}
 use Rattle.frames.specs.Shared.{task_of, register_bytes, is_below, task_fits}

@@ -1,4 +1,4 @@
--- What was read, written again, is the frame with its dropped bits zeroed. Assumes nothing.
+-- What was read, written again, is the frame with its dropped bits zeroed.
 use Rattle.std.proofs.Common.{Result, Ok, Err, Some, ◌≡◌, T, true, false, List, ℕ, ◌+◌, ◌*◌, ◌/◌, ◌%◌, ◌^◌, ◌<◌, ◌≤◌, arith, bit_and, eqb, eqb→eq, length, get_or, drop, drop_of_length-le, length-drop}
 use Rattle.bits.specs.Bit.{bit_in}
 use Rattle.bits.specs.Little.{le_at, Bytes}

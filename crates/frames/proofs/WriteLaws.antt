@@ -1,4 +1,4 @@
--- Laws of the writers. Assumes nothing.
+-- Laws of the writers.
 use Rattle.std.proofs.Common.{◌≡◌, List, ℕ, ◌+◌, length, arith}
 use Rattle.frames.specs.Write.{payload, encode}
 

@@ -1,4 +1,4 @@
--- Several frames one behind the other, cut by kind and length. Assumes nothing.
+-- Several frames one behind the other, cut by kind and length.
 use Rattle.std.specs.Prelude.{List, [], ◌∷◌, ◌++◌, ℕ, zero, suc, length, get_or, take, drop, eqb, min, unwrap_or}
 use Rattle.bits.specs.Pick.{pick}
 use Rattle.frames.specs.Size.{fixed_size}

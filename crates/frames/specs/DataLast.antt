@@ -1,4 +1,4 @@
--- Frames one behind the other. Assumes nothing.
+-- Frames one behind the other.
 use Rattle.std.specs.Prelude.{◌≡◌, Bool, true, false, List, [], ◌∷◌}
 use Rattle.frames.specs.Write.{FrameValue, payload}
 

@@ -1,4 +1,4 @@
--- What every writer answers, and what its buffer then holds. Assumes nothing.
+-- What every writer answers, and what its buffer then holds.
 use Rattle.std.specs.Prelude.{◌≡◌, Bool, not, List, [], ◌∷◌, ℕ, length, ltb, Option, Result, is_none}
 use Rattle.bits.specs.Pick.{pick}
 use Rattle.bits.specs.Laid.{overlay}

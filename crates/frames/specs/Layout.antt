@@ -1,4 +1,4 @@
--- A layout, the pieces of some bytes one behind the other: what is written, what is read, and which bits are named. Assumes nothing.
+-- A layout, the pieces of some bytes one behind the other: what is written, what is read, and which bits are named.
 use Rattle.std.specs.Prelude.{Bool, true, false, ◌&&◌, List, [], ◌∷◌, ◌++◌, ℕ, ◌+◌, ◌*◌, ◌^◌, length, get_or, replicate, eqb, ltb}
 use Rattle.std.specs.Int.Bits.{bit_and}
 use Rattle.bits.specs.Pick.{pick}

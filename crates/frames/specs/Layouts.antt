@@ -1,4 +1,4 @@
--- The layout of each kind, to be laid beside the tables of the rules. Assumes nothing.
+-- The layout of each kind, to be laid beside the tables of the rules.
 use Rattle.std.specs.Prelude.{List, [], ◌∷◌, ℕ}
 use Rattle.frames.specs.Layout.{Piece, byte, bits, number, unnamed, got, piece_at}
 use Rattle.frames.specs.declared.kinds.FrameKind.{FrameKind}

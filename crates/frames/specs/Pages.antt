@@ -1,4 +1,4 @@
--- The log pages that the device keeps, by their numbers. Assumes nothing.
+-- The log pages that the device keeps, by their numbers.
 use Rattle.std.specs.Prelude.{ℕ, eqb, Option, Some, None}
 use Rattle.bits.specs.Pick.{pick}
 use Rattle.frames.specs.declared.log_pages.LogPage.{LogPage}

@@ -1,4 +1,4 @@
--- The frames as they are read: unnamed bits and bytes are dropped. Assumes nothing.
+-- The frames as they are read: unnamed bits and bytes are dropped.
 use Rattle.std.specs.Prelude.{not, ◌≡◌, List, [], ◌∷◌, ◌++◌, ℕ, ◌-◌, length, get_or, Result, Ok, Err}
 use Rattle.std.specs.Option.{option_map_or}
 use Rattle.bits.specs.Pick.{pick}

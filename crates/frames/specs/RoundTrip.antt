@@ -1,4 +1,4 @@
--- There and back: what the reader sees of a frame that was sent, and the frame that is sent again of one that was read. Assumes nothing.
+-- There and back: what the reader sees of a frame that was sent, and the frame that is sent again of one that was read.
 use Rattle.std.specs.Prelude.{List, [], ◌∷◌, ℕ, suc, length, get_or, drop}
 use Rattle.std.specs.Int.Bits.{bit_and}
 use Rattle.std.specs.Option.{option_map_or}

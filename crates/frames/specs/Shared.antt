@@ -1,4 +1,4 @@
--- The parts that several frames share. Numbers are little-endian. Assumes nothing.
+-- The parts that several frames share. Numbers are little-endian.
 use Rattle.std.specs.Prelude.{◌≡◌, Bool, ◌&&◌, List, [], ◌∷◌, ℕ, ◌+◌, ◌*◌, ◌/◌, ◌%◌, ◌^◌, ◌<◌, eqb, ltb}
 use Rattle.bits.specs.Pick.{pick}
 use Rattle.bits.specs.Bit.{bit_in, bit_byte}

@@ -1,4 +1,4 @@
--- Kinds and their lengths. Assumes nothing.
+-- Kinds and their lengths.
 use Rattle.std.specs.Prelude.{Bool, false, ◌&&◌, ℕ, ◌-◌, ◌%◌, length, eqb, leb, Option, Some, None}
 use Rattle.std.specs.Option.{option_eq, option_and_then, option_map_or}
 use Rattle.bits.specs.Pick.{pick}

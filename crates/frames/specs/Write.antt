@@ -1,4 +1,4 @@
--- The frames as they are written: unnamed bits and bytes are 0. Assumes nothing.
+-- The frames as they are written: unnamed bits and bytes are 0.
 use Rattle.std.specs.Prelude.{Bool, false, List, [], ◌∷◌, ◌++◌, ℕ, length, Result}
 use Rattle.frames.specs.Layout.{bytes_of, all_hold}
 use Rattle.frames.specs.Layouts.{layout_of}

@@ -1,4 +1,4 @@
--- What the device's own contracts allow, and sequences of such results: what is said of the code. Assumes nothing.
+-- What the device's own contracts allow, and sequences of such results: what is said of the code.
 use Rattle.std.specs.Prelude.{List, ℕ, Option, Result}
 use contract.Lifetimes.{Lfts}
 use Rattle.std.specs.Borrow.{Bor, MutBor}

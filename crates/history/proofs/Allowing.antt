@@ -1,4 +1,4 @@
--- Sequences of results that the contracts allow exist, whatever the settings and the calls: what is said of all of them is said of some. Assumes nothing.
+-- Sequences of results that the contracts allow exist, whatever the settings and the calls: what is said of all of them is said of some.
 use Rattle.std.proofs.Common.{◌≡◌, refl, sym, ap, false, List, [], ◌∷◌, ℕ}
 use Rattle.std.specs.Borrow.{Bor, MutBor}
 use Rattle.bits.specs.Laid.{overlay}

@@ -1,4 +1,4 @@
--- Laws of what holds of every command of a history. Assumes nothing.
+-- Laws of what holds of every command of a history.
 use Rattle.std.proofs.Common.{◌≡◌, true, List, [], ◌∷◌, map}
 use Rattle.bits.proofs.Picks.{by_test}
 use Rattle.history.specs.Seen.{Seen, accepts}

@@ -1,4 +1,4 @@
--- A history splits at the error that waits, and what was outstanding before that error was given up at it. Assumes nothing.
+-- A history splits at the error that waits, and what was outstanding before that error was given up at it.
 use Rattle.std.proofs.Common.{◌≡◌, ◌∙◌, Bool, true, false, ◌&&◌, ◌||◌, List, [], ◌∷◌, ◌++◌, map, ⊎_elim, ℕ, ◌≤◌, ◌<◌, arith, eqb, ltb-true}
 use mathlib.Core.Bool.{or-false, false≢true}
 use Rattle.bits.proofs.Picks.{by_test, tested}

@@ -1,4 +1,4 @@
--- Every taken call is answered what the history before it says: its replies, and the bytes of them in the reply buffer. Assumes nothing.
+-- Every taken call is answered what the history before it says: its replies, and the bytes of them in the reply buffer.
 use Rattle.std.proofs.Common.{zero-add, is_none, Ok, Some, unwrap_or, ◌≡◌, refl, sym, ap, ap₂, subst, ◌∙◌, Bool, true, false, not, ◌&&◌, ◌||◌, List, [], ◌∷◌, ◌++◌, map, append-nil, ℕ, suc, ◌+◌, ◌-◌, ◌*◌, ◌<◌, min, arith, eqb, ltb, leb, length, get_or, take, drop}
 use mathlib.Core.Bool.{false≢true}
 use Rattle.bits.specs.Pick.{pick}

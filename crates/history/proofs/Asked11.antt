@@ -1,4 +1,4 @@
--- What the state shows of a counter's number is what the history tells. Assumes nothing.
+-- What the state shows of a counter's number is what the history tells.
 use Rattle.std.proofs.Common.{Option, ◌≡◌, refl, ap, ◌∙◌, false, List, ℕ, arith}
 use Rattle.counters.specs.Rows.{row_of}
 use Rattle.counters.specs.Shown.{on_row, shown_for}

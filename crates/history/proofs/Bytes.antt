@@ -1,4 +1,4 @@
--- Laws of the byte of a position: of what is written at a place, and of what was sent from it. Assumes nothing.
+-- Laws of the byte of a position: of what is written at a place, and of what was sent from it.
 use Rattle.std.proofs.Common.{Option, Some, ◌≡◌, refl, sym, ap, ◌∙◌, List, [], ◌∷◌, ◌++◌, ℕ, zero, suc, ◌+◌, ◌-◌, ◌≤◌, ◌<◌, suc-add, zero-add, arith, le-leb, get_or, length, take, drop, slice_get}
 use Rattle.std.specs.Option.{option_or}
 use Rattle.std.proofs.Math.Nat.{suc-sub-suc}

@@ -1,4 +1,4 @@
--- What each change of the state does to settings, commands, phase and halt. Assumes nothing.
+-- What each change of the state does to settings, commands, phase and halt.
 use Rattle.std.proofs.Common.{Some, None, is_none, unwrap_or, ◌≡◌, refl, ap, ◌∙◌, Bool, true, false, List, ℕ, ◌+◌, ◌*◌, ◌<◌, min, arith, eqb, leb, eq-eqb, ne_eqb}
 use Rattle.std.proofs.lemmas.Bool.{false_from_ne_true}
 use Rattle.bits.specs.Pick.{pick}

@@ -1,4 +1,4 @@
--- What a call can do, as a history is read: eleven kinds of effect. A new call or command comes to one of them. Assumes nothing.
+-- What a call can do, as a history is read: eleven kinds of effect. A new call or command comes to one of them.
 use Rattle.std.proofs.Common.{Some, None, ◌≡◌, Bool, true, false, not, ◌&&◌, ◌||◌, ℕ, ◌+◌, ◌*◌, ◌^◌, ◌≤◌, ◌<◌, eqb, leb}
 use Rattle.bits.specs.Pick.{pick}
 use Rattle.bits.specs.Bit.{bit_in, with_bit_in, clear_in}

@@ -1,4 +1,4 @@
--- The tables leave a device no choice: a history that keeps them is that of the definitions over the same calls, and so all that holds of every run holds of it. Assumes nothing.
+-- The tables leave a device no choice: a history that keeps them is that of the definitions over the same calls, and so all that holds of every run holds of it.
 use Rattle.std.proofs.Common.{◌≡◌, sym, subst, List, map}
 use Rattle.device_state.specs.declared.shapes.Settings.{Settings}
 use Rattle.device.specs.Lent.{Lent}

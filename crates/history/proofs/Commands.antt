@@ -1,4 +1,4 @@
--- Laws of the commands of a history: what one more event does to all of them, and to how many are outstanding. Assumes nothing.
+-- Laws of the commands of a history: what one more event does to all of them, and to how many are outstanding.
 use Rattle.std.proofs.Common.{◌≡◌, refl, sym, ap, ap₂, ◌∙◌, Bool, true, ◌&&◌, List, [], ◌∷◌, map, ℕ, zero, suc, ◌+◌, ◌<◌, zero-add, add-zero, arith, eqb, eq-eqb, ne_eqb}
 use mathlib.Core.Bool.{and-true}
 use Rattle.bits.specs.Pick.{pick}

@@ -1,4 +1,4 @@
--- The data of one call: read, they are what the medium held at the command's place; written, the medium holds them there, whole, and is otherwise as it was. Assumes nothing.
+-- The data of one call: read, they are what the medium held at the command's place; written, the medium holds them there, whole, and is otherwise as it was.
 use Rattle.std.proofs.Common.{Option, Some, None, ◌≡◌, refl, ap, ◌∙◌, true, not, List, ℕ, ◌+◌, ◌*◌, ◌<◌, arith, eqb, eqb-true}
 use mathlib.Core.Path.{subst⁻¹}
 use Rattle.bits.specs.Pick.{pick}

@@ -1,4 +1,4 @@
--- From contracts to runs: what the public calls' contracts allow, call by call, is the run of the definitions. Assumes nothing.
+-- From contracts to runs: what the public calls' contracts allow, call by call, is the run of the definitions.
 use Rattle.std.proofs.Common.{Option, Result, ◌≡◌, refl, sym, ap, subst, ◌∙◌, List, [], ◌∷◌, map, ℕ}
 use Rattle.device_state.specs.declared.shapes.Settings.{Settings}
 use Rattle.rules.specs.Call.{happens}

@@ -1,4 +1,4 @@
--- The set outstanding and the halt of a device, held together with its history: kept by each of the eleven kinds of effect. Assumes nothing.
+-- The set outstanding and the halt of a device, held together with its history: kept by each of the eleven kinds of effect.
 use Rattle.std.proofs.Common.{◌≡◌, refl, sym, ap, ◌∙◌, Bool, true, false, not, ◌&&◌, ◌||◌, true≢false, List, [], ◌∷◌, ℕ, ◌-◌, ◌^◌, ◌<◌, zero-add, lt_of_le_of_lt, eqb, ltb, lit<, eqb-true, eq-eqb, lt-ltb, arith}
 use mathlib.Core.Bool.{and-true, and-false, false≢true}
 use lib.Bits.{or_lt, and_le_l}

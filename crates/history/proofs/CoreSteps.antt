@@ -1,4 +1,4 @@
--- What one more event does to SActive, to how many are outstanding and to a waiting error, by what is seen of it; and the ones of a set of tags. Assumes nothing.
+-- What one more event does to SActive, to how many are outstanding and to a waiting error, by what is seen of it; and the ones of a set of tags.
 use Rattle.std.proofs.Common.{◌≡◌, refl, sym, ap, ap₂, ◌∙◌, Bool, true, false, not, ◌&&◌, ◌||◌, List, ◌∷◌, ℕ, zero, suc, ◌+◌, ◌/◌, ◌%◌, ◌^◌, ◌<◌, div-one, add-one, arith, eqb, ltb, shr_lt}
 use lib.Arith.{lt-one, bin_ind}
 use lib.Count.{ones, ones_in, ones_step}

@@ -1,4 +1,4 @@
--- The truth of the counters, for every run of typed calls from any power-on. Assumes nothing.
+-- The truth of the counters, for every run of typed calls from any power-on.
 use Rattle.std.proofs.Common.{List, []}
 use Rattle.device_state.specs.declared.shapes.Settings.{Settings}
 use Rattle.device.specs.Device.{power_on}

@@ -1,4 +1,4 @@
--- Over every call the counters go on telling the events since their zeroing. Assumes nothing.
+-- Over every call the counters go on telling the events since their zeroing.
 use Rattle.std.proofs.Common.{Ok, Err, ◌≡◌, refl, ap, Bool, false, List, ◌∷◌, ℕ, length}
 use Rattle.bits.specs.Laid.{overlay}
 use Rattle.rules.specs.Call.{Call}

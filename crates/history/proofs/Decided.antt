@@ -1,4 +1,4 @@
--- What a call leaves behind, by how it was decided: refused, or taken by one of the rules. Assumes nothing.
+-- What a call leaves behind, by how it was decided: refused, or taken by one of the rules.
 use Rattle.std.proofs.Common.{None, Result, Ok, Err, is_none, ◌≡◌, ap}
 use mathlib.Core.Bool.{false≢true}
 use Rattle.refusals.specs.declared.reasons.Refusal.{Refusal}

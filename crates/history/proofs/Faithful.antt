@@ -1,4 +1,4 @@
--- All that is promised: over every run of the definitions from power-on, and over every sequence of results that the public calls' contracts allow. Assumes nothing.
+-- All that is promised: over every run of the definitions from power-on, and over every sequence of results that the public calls' contracts allow.
 use Rattle.std.proofs.Common.{Option, Result, List, ℕ, ◌≡◌, sym, subst}
 use Rattle.device_state.specs.declared.shapes.Settings.{Settings}
 use Rattle.device.specs.declared.state.Device.{Device}

@@ -1,4 +1,4 @@
--- Every command accepted has exactly one of four fates, and leaves "outstanding" once and for all. Assumes nothing.
+-- Every command accepted has exactly one of four fates, and leaves "outstanding" once and for all.
 use Rattle.std.proofs.Common.{◌≡◌, refl, false, ◌&&◌, ◌||◌, List, [], ◌∷◌, ℕ, arith}
 use Rattle.device.specs.declared.state.Device.{Device}
 use Rattle.history.specs.Seen.{Seen, errs}

@@ -1,4 +1,4 @@
--- From reply bytes to frames: what is read of an event's bytes is what the step sent. Assumes nothing.
+-- From reply bytes to frames: what is read of an event's bytes is what the step sent.
 use Rattle.std.proofs.Common.{◌≡◌, refl, ap, ap₂, ◌∙◌, List, [], map, ℕ, length}
 use Rattle.bits.specs.Pick.{pick}
 use Rattle.frames.specs.Cut.{cut}

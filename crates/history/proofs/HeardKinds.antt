@@ -1,4 +1,4 @@
--- Test 4 of a host frame by its bytes (Refused) and by what the reader answers of it. Assumes nothing.
+-- Test 4 of a host frame by its bytes (Refused) and by what the reader answers of it.
 use Rattle.std.proofs.Common.{Option, Some, None, Result, Ok, Err, ◌≡◌, refl, sym, ap, ◌∙◌, Bool, true, false, not, ◌&&◌, List, ⊎_elim, ℕ, ◌-◌, ◌%◌, arith, eqb, leb, eqb-true, length, get_or}
 use Rattle.std.specs.Option.{option_map_or}
 use Rattle.bits.specs.Pick.{pick}

@@ -1,4 +1,4 @@
--- What the history reads of a host frame is what its act does to the counters; and only page 11h is read as such. Assumes nothing.
+-- What the history reads of a host frame is what its act does to the counters; and only page 11h is read as such.
 use Rattle.std.proofs.Common.{Ok, ◌≡◌, refl, sym, subst, ◌∙◌, Bool, true, false, ◌&&◌, List, [], ℕ, ◌%◌, arith}
 use mathlib.Core.Bool.{false≢true, and-false}
 use Rattle.bits.specs.Bit.{bit_in}

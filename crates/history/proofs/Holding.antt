@@ -1,4 +1,4 @@
--- Reset is held by the state where it is by the history: what each call does to it. Assumes nothing.
+-- Reset is held by the state where it is by the history: what each call does to it.
 use Rattle.std.proofs.Common.{Ok, ◌≡◌, refl, sym, ◌∙◌, Bool, true, false, ◌||◌, List, [], ◌∷◌, ℕ, ne_eqb, arith}
 use Rattle.bits.specs.Pick.{pick}
 use Rattle.bits.specs.Bit.{bit_in}

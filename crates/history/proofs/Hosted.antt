@@ -1,4 +1,4 @@
--- All that is proved of a host frame that is not turned down: one row a rule. Assumes nothing.
+-- All that is proved of a host frame that is not turned down: one row a rule.
 use Rattle.std.proofs.Common.{Option, Some, None, Ok, ◌≡◌, refl, sym, subst, Bool, true, false, not, List, [], inl, inr, ℕ, leb, get_or, eqb-true}
 use mathlib.Core.Bool.{false≢true}
 use Rattle.bits.specs.Bit.{bit_in}

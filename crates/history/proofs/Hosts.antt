@@ -1,4 +1,4 @@
--- What a host frame asks for and its act, where it is not turned down, come to one of the eleven kinds. Assumes nothing.
+-- What a host frame asks for and its act, where it is not turned down, come to one of the eleven kinds.
 use Rattle.std.proofs.Common.{Option, Some, None, is_some, is_none, unwrap_or, ◌≡◌, refl, sym, ap, subst, ◌∙◌, Bool, true, false, not, ◌||◌, List, [], ℕ, ◌-◌, ◌/◌, ◌%◌, ◌^◌, ◌<◌, min, arith, eqb, ltb, lit<, lt-ltb}
 use Rattle.std.proofs.lemmas.Bool.{false_from_ne_true}
 use native.Mathlib.Nat.{zero-div}

@@ -1,4 +1,4 @@
--- Every page of IDENTIFY DEVICE that is sent tells depth and capacity. Assumes nothing.
+-- Every page of IDENTIFY DEVICE that is sent tells depth and capacity.
 use Rattle.std.proofs.Common.{Ok, ◌≡◌, sym, ap, subst, ◌∙◌, true, false, ◌&&◌, List, [], ℕ, is_none}
 use mathlib.Core.Bool.{false≢true}
 use Rattle.bits.proofs.Picks.{pick_yes, and_left, and_right}

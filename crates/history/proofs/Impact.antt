@@ -1,4 +1,4 @@
--- What a call does to the counters is what the history reads of it. Assumes nothing.
+-- What a call does to the counters is what the history reads of it.
 use Rattle.std.proofs.Common.{◌≡◌, refl, sym, ap, ◌∙◌, Bool, true, false, List, ℕ, ◌<◌, get_or}
 use lib.ListN.{length-replicate}
 use mathlib.Core.Path.{subst⁻¹}

@@ -1,4 +1,4 @@
--- What a call leaves in the medium, host data at the place of the open phase, whole, and every other byte as it was; and what it sends of it. Assumes nothing.
+-- What a call leaves in the medium, host data at the place of the open phase, whole, and every other byte as it was; and what it sends of it.
 use Rattle.std.proofs.Common.{None, Result, Ok, is_none, ◌≡◌, refl, sym, ap, subst, List, [], ℕ, ◌-◌, arith, length, get_or, drop, length-drop}
 use Rattle.bits.specs.Pick.{pick}
 use Rattle.bits.proofs.Picks.{by_test}

@@ -1,4 +1,4 @@
--- Sequences of calls of a device that is kept: what their contracts allow is a sequence as the one contract promises it. Assumes nothing.
+-- Sequences of calls of a device that is kept: what their contracts allow is a sequence as the one contract promises it.
 use Rattle.std.proofs.Common.{◌≡◌, refl, subst, sym, List, [], ◌∷◌, ℕ, Result, Ok}
 use contract.Lifetimes.{Lfts}
 use Rattle.std.specs.Borrow.{Bor, MutBor}

@@ -1,4 +1,4 @@
--- What the device keeps of its business is what the history tells of it (ByHistory): the commands outstanding, what has moved of them, their ranges, and the open phase. Assumes nothing.
+-- What the device keeps of its business is what the history tells of it (ByHistory): the commands outstanding, what has moved of them, their ranges, and the open phase.
 use Rattle.std.proofs.Common.{◌≡◌, refl, sym, ap, ap₂, ◌∙◌, Bool, true, false, not, ◌&&◌, ◌||◌, List, [], ◌∷◌, map, ⊎_elim, ℕ, zero, suc, ◌+◌, ◌*◌, ◌<◌, arith, eqb, ltb, leb, length, eqb-true, ltb-true, ltb-false}
 use mathlib.Core.Bool.{and-true}
 use Rattle.bits.proofs.Picks.{tested}

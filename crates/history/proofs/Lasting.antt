@@ -1,4 +1,4 @@
--- The medium over a whole history: at every position stands the newest byte brought there, a read sends it, and a finished write's stand until others are brought there. Assumes nothing.
+-- The medium over a whole history: at every position stands the newest byte brought there, a read sends it, and a finished write's stand until others are brought there.
 use Rattle.std.proofs.Common.{Option, Some, None, ◌≡◌, refl, sym, ap, subst, ◌∙◌, Bool, true, false, List, [], ◌∷◌, ◌++◌, append-nil, map, ℕ, slice_get}
 use mathlib.Core.Path.{subst⁻¹}
 use Rattle.std.specs.Option.{option_or}

@@ -1,4 +1,4 @@
--- The error record of the state is what the history tells of the last error: what each call does to it. Assumes nothing.
+-- The error record of the state is what the history tells of the last error: what each call does to it.
 use Rattle.std.proofs.Common.{Ok, Err, ◌≡◌, refl, ap₂, subst, ◌∙◌, true, false, not, List, [], ◌∷◌, map, ℕ, ◌<◌, ◌^◌, arith, eqb, ltb}
 use mathlib.Core.Bool.{and-false}
 use Rattle.bits.specs.Bit.{bit_in}

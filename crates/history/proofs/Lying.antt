@@ -1,4 +1,4 @@
--- Every event's data stand at the place that the history before it tells: sent, they are what the medium held there; brought, the medium holds them there and is otherwise as it was. Assumes nothing.
+-- Every event's data stand at the place that the history before it tells: sent, they are what the medium held there; brought, the medium holds them there and is otherwise as it was.
 use Rattle.std.proofs.Common.{Option, Some, None, Ok, Err, ◌≡◌, refl, sym, ap, subst, ◌∙◌, Bool, true, false, ⊎_elim, List, [], ◌∷◌, map, ℕ, get_or, ◌<◌, arith, length, length-drop, take, drop}
 use Rattle.std.specs.Option.{option_map_or}
 use Rattle.bits.proofs.Picks.{tested, by_test, and_left, and_right}

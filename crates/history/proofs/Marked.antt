@@ -1,4 +1,4 @@
--- While the device is halted its record is set, and so page 10h tells an error. Assumes nothing.
+-- While the device is halted its record is set, and so page 10h tells an error.
 use Rattle.std.proofs.Common.{Ok, ◌≡◌, true, false, List, [], ℕ, length, eq-eqb, arith}
 use mathlib.Core.Path.{subst⁻¹}
 use Rattle.bits.proofs.Picks.{pick_yes}

@@ -1,4 +1,4 @@
--- What each kind of effect does to the table, as far as the carried positions need it. Assumes nothing.
+-- What each kind of effect does to the table, as far as the carried positions need it.
 use Rattle.std.proofs.Common.{Some, None, ◌≡◌, refl, sym, ap, ap₂, ◌∙◌, subst, ⊎_elim, Bool, true, false, not, ◌||◌, true≢false, List, [], ◌++◌, append-nil, ℕ, ◌+◌, ◌*◌, ◌≤◌, eqb, eqb-true, eq-eqb, arith}
 use mathlib.Core.Bool.{false≢true}
 use borrow.Author.Tests.{eqb-false}

@@ -1,4 +1,4 @@
--- The bytes that the state keeps of a command are what the history tells of it: what each call does to them. Assumes nothing.
+-- The bytes that the state keeps of a command are what the history tells of it: what each call does to them.
 use Rattle.std.proofs.Common.{ne_eqb, Ok, Err, is_none, unwrap_or, ◌≡◌, refl, sym, ap, subst, ◌∙◌, true, false, not, ◌&&◌, ◌||◌, List, [], ◌∷◌, ⊎_elim, ℕ, ◌^◌, ◌<◌, eqb, eqb-true, arith}
 use mathlib.Core.Bool.{and-false}
 use borrow.Author.Tests.{eqb-false, not-true}

@@ -1,4 +1,4 @@
--- Two histories of the same calls that keep the tables are one. Laws about the tables alone, with no device in them. Assumes nothing.
+-- Two histories of the same calls that keep the tables are one. Laws about the tables alone, with no device in them.
 use Rattle.std.proofs.Common.{Option, None, is_none, ◌≡◌, refl, sym, ap, ap₂, subst, ◌∙◌, List, [], ◌∷◌, map, ℕ, length}
 use Rattle.bits.specs.Pick.{pick}
 use Rattle.bits.specs.Laid.{overlay}

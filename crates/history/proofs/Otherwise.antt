@@ -1,4 +1,4 @@
--- What a command that is not queued is answered, by the tests of its rules; and those tests by the fields that were read. Assumes nothing.
+-- What a command that is not queued is answered, by the tests of its rules; and those tests by the fields that were read.
 use Rattle.std.proofs.Common.{Option, Some, None, ◌≡◌, refl, Bool, true, false, not, ◌&&◌, List, [], ◌∷◌, ◌++◌, ℕ, ◌%◌, ◌^◌, ◌<◌, arith, eqb, ltb-true}
 use Rattle.bits.specs.Pick.{pick}
 use Rattle.bits.specs.Little.{byte_of}

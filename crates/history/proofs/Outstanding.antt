@@ -1,4 +1,4 @@
--- What the clauses of refusal 1 tell of the entry of an outstanding command, and of an idle tag's. Assumes nothing.
+-- What the clauses of refusal 1 tell of the entry of an outstanding command, and of an idle tag's.
 use Rattle.std.proofs.Common.{arith, ◌≡◌, sym, ◌∙◌, true, false, ℕ, ◌<◌}
 use Rattle.bits.specs.Bit.{bit_in}
 use Rattle.bits.proofs.Picks.{pick_no}

@@ -1,4 +1,4 @@
--- All that is proved of a device event that is taken: one row an event. Assumes nothing.
+-- All that is proved of a device event that is taken: one row an event.
 use Rattle.std.proofs.Common.{Some, ◌≡◌, refl, Bool, true, false, List, [], ◌∷◌, inl, inr, ℕ, get_or}
 use mathlib.Core.Bool.{false≢true}
 use Rattle.bits.specs.Bit.{bit_in}

@@ -1,4 +1,4 @@
--- Each position that a command carried is that of a byte which one data frame of its own moved. Assumes nothing.
+-- Each position that a command carried is that of a byte which one data frame of its own moved.
 use Rattle.std.proofs.Common.{Option, Some, ◌≡◌, refl, sym, ap, subst, ◌∙◌, Bool, true, false, not, ⊎_elim, List, [], ◌∷◌, ◌++◌, map, ℕ, zero, suc, ◌+◌, ◌≤◌, ◌<◌, add-zero, eq-or-lt_of_le, arith, eqb, get_or, length, find}
 use mathlib.Core.Path.{subst⁻¹}
 use mathlib.Core.Bool.{false≢true}

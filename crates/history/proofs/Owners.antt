@@ -1,4 +1,4 @@
--- Whose data are under way: those of the one outstanding command of the open phase's tag. Assumes nothing.
+-- Whose data are under way: those of the one outstanding command of the open phase's tag.
 use Rattle.std.proofs.Common.{Option, Some, None, ◌≡◌, refl, ap, ap₂, ◌∙◌, Bool, not, ◌&&◌, List, [], ◌∷◌, ℕ, ◌+◌, ◌<◌, eqb, arith}
 use mathlib.Core.Path.{subst⁻¹}
 use Rattle.bits.specs.Bit.{bit_in}

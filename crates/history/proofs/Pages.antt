@@ -1,4 +1,4 @@
--- Every page 11h that is sent shows the events since the last zeroing before it. Assumes nothing.
+-- Every page 11h that is sent shows the events since the last zeroing before it.
 use Rattle.std.proofs.Common.{Option, Some, None, Result, Ok, ◌≡◌, refl, sym, ap, ◌∙◌, subst, Bool, true, false, List, [], ◌∷◌, map, append-nil, ℕ, ◌<◌, arith, get_or}
 use mathlib.Core.Bool.{false≢true}
 use Rattle.std.specs.Option.{option_map}

@@ -1,4 +1,4 @@
--- Data at a place: sent, they are what the medium held there; brought, the medium holds them there and is otherwise as it was. What each reply sends. Assumes nothing.
+-- Data at a place: sent, they are what the medium held there; brought, the medium holds them there and is otherwise as it was. What each reply sends.
 use Rattle.std.proofs.Common.{◌≡◌, refl, sym, ap, ◌∙◌, Bool, List, [], ◌∷◌, ◌++◌, append-nil, ℕ, zero, suc, ◌+◌, ◌≤◌, ◌<◌, add-zero, arith, length, take, drop, take-append-drop}
 use Rattle.frames.specs.declared.shared.Task.{Task}
 use Rattle.frames.specs.Write.{payload}

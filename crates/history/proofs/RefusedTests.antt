@@ -1,4 +1,4 @@
--- Each test of the table of refusals, by the history (Refused) and by the state. Assumes nothing.
+-- Each test of the table of refusals, by the history (Refused) and by the state.
 use Rattle.std.proofs.Common.{None, Ok, is_none, unwrap_or, ◌≡◌, refl, sym, ap, ap₂, ◌∙◌, Bool, true, false, not, ◌&&◌, ◌||◌, List, ℕ, zero, suc, ◌*◌, arith, eqb, ltb, get_or}
 use mathlib.Core.Bool.{not-not, or_assoc, or_comm}
 use borrow.Author.Tests.{not-false}

@@ -1,4 +1,4 @@
--- Every event is turned down for what the table of refusals says of the history before it (Refused). Assumes nothing.
+-- Every event is turned down for what the table of refusals says of the history before it (Refused).
 use Rattle.std.proofs.Common.{Some, ◌≡◌, refl, sym, ap, ◌∙◌, Bool, true, false, not, ◌||◌, List, ◌∷◌, ℕ, eqb, arith}
 use Rattle.refusals.specs.First.{Rung, rung, first_of}
 use Rattle.refusals.specs.declared.reasons.Refusal.{Refusal}

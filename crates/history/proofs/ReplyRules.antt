@@ -1,4 +1,4 @@
--- Every call says no more than it may, and what it must: as an event of the history. Assumes nothing.
+-- Every call says no more than it may, and what it must: as an event of the history.
 use Rattle.std.proofs.Common.{Ok, Err, ◌≡◌, refl, sym, ap, ap₂, ◌∙◌, Bool, true, false, ◌&&◌, true≢false, List, [], map, ℕ}
 use mathlib.Core.Path.{subst⁻¹}
 use mathlib.Core.Bool.{false≢true}

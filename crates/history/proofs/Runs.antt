@@ -1,4 +1,4 @@
--- What is promised, over every run from power-on. Assumes nothing.
+-- What is promised, over every run from power-on.
 use Rattle.std.proofs.Common.{None, ◌≡◌, refl, ap, subst, ◌∙◌, List, [], ◌∷◌, map, ◌≤◌, le_trans, le_of_eq, arith, ltb}
 use lib.Count.{ones}
 use Rattle.device_state.specs.declared.shapes.Settings.{Settings}

@@ -1,4 +1,4 @@
--- What an event may say, as far as its kind tells. Assumes nothing.
+-- What an event may say, as far as its kind tells.
 use Rattle.std.proofs.Common.{◌≡◌, refl, sym, ap, ◌∙◌, Bool, true, false, ◌||◌, List, ℕ, ◌+◌, ◌<◌, arith}
 use mathlib.Core.Bool.{false≢true}
 use Rattle.device.specs.declared.state.Device.{Device}

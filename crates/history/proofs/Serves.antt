@@ -1,4 +1,4 @@
--- Every state that does not contradict itself serves its commands by their own bytes: of the definitions, and of the code. Assumes nothing.
+-- Every state that does not contradict itself serves its commands by their own bytes: of the definitions, and of the code.
 use Rattle.std.proofs.Common.{Option, Some, None, Ok, is_none, unwrap_or, ◌≡◌, refl, sym, ap, ap₂, subst, ◌∙◌, Bool, true, false, not, ◌||◌, List, [], ◌∷◌, ◌++◌, map, ℕ, ◌+◌, ◌-◌, ◌*◌, ◌≤◌, ◌<◌, min, arith, eqb, length, get_or, take, drop, take_at, length-drop, eq-eqb, eqb-true, le-ltb, Result, append-nil}
 use borrow.Author.Tests.{not-false}
 use Rattle.bits.specs.Pick.{pick}

@@ -1,4 +1,4 @@
--- Sets of 32 tags, and the empty one; and the test whether something is there. Assumes nothing.
+-- Sets of 32 tags, and the empty one; and the test whether something is there.
 use Rattle.std.proofs.Common.{Option, None, is_none, ◌≡◌, sym, ap, ◌∙◌, true, false, true≢false, ℕ, ◌/◌, ◌%◌, ◌^◌, ◌<◌, arith, eqb, lit<, lt-ltb}
 use native.Mathlib.Nat.{zero-div}
 use borrow.Author.Tests.{eqb-false}

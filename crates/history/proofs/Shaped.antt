@@ -1,4 +1,4 @@
--- When replies are of a shape that they may have: one of those that the call may have; a 34h with ERR answers a command, one without it none but a queued one, and a 5Fh has no ERR. Assumes nothing.
+-- When replies are of a shape that they may have: one of those that the call may have; a 34h with ERR answers a command, one without it none but a queued one, and a 5Fh has no ERR.
 use Rattle.std.proofs.Common.{Ok, ◌≡◌, sym, ◌∙◌, Bool, true, false, not, true≢false, List, [], ◌∷◌, map, inl, ℕ, arith}
 use mathlib.Core.Bool.{false≢true}
 use Rattle.frames.specs.declared.shared.Task.{Task}

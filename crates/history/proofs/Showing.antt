@@ -1,4 +1,4 @@
--- Every page 10h that is sent tells the record that the history before it tells. Assumes nothing.
+-- Every page 10h that is sent tells the record that the history before it tells.
 use Rattle.std.proofs.Common.{Ok, ◌≡◌, refl, sym, ap, subst, ◌∙◌, Bool, true, false, List, [], append-nil, ℕ, arith, length, drop, take_at}
 use mathlib.Core.Bool.{false≢true}
 use Rattle.bits.specs.Laid.{overlay}

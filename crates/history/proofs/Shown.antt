@@ -1,4 +1,4 @@
--- The settings that are kept decide which counters are shown: those of power-on, over every call. Assumes nothing.
+-- The settings that are kept decide which counters are shown: those of power-on, over every call.
 use Rattle.std.proofs.Common.{refl, ap, ◌∙◌, true≢false, List, [], ◌∷◌, ℕ}
 use Rattle.device_state.specs.Contradictory.{settings_out}
 use Rattle.device_state.specs.declared.shapes.Settings.{Settings}

@@ -1,4 +1,4 @@
--- The state at the end of a run never contradicts itself; after a refused power-on it stays all zeros. Assumes nothing.
+-- The state at the end of a run never contradicts itself; after a refused power-on it stays all zeros.
 use Rattle.std.proofs.Common.{Option, Some, None, ◌≡◌, refl, sym, ap, ◌∙◌, false}
 use Rattle.refusals.specs.declared.reasons.Refusal.{Refusal}
 use Rattle.refusals.specs.declared.reasons.Refusal.TheVariants.{Contradiction}

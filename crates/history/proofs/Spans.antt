@@ -1,4 +1,4 @@
--- Laws of rising numbers, of what is under way, and of the positions that an event carries. Assumes nothing.
+-- Laws of rising numbers, of what is under way, and of the positions that an event carries.
 use Rattle.std.proofs.Common.{◌≡◌, refl, ap, ap₂, ◌∙◌, Bool, true, false, not, List, [], ◌∷◌, ◌++◌, append-nil, ℕ, zero, suc, ◌+◌, ◌<◌, zero-add, suc-add, arith, ltb, ne_eqb}
 use mathlib.Core.Bool.{false≢true}
 use Rattle.bits.specs.Pick.{pick}

@@ -1,4 +1,4 @@
--- When a call says no more than it may, and what it must: by its replies. Assumes nothing.
+-- When a call says no more than it may, and what it must: by its replies.
 use Rattle.std.proofs.Common.{◌≡◌, refl, sym, ap, ◌∙◌, Bool, true, false, not, ◌&&◌, true≢false, List, [], ◌∷◌, ℕ, arith}
 use mathlib.Core.Bool.{false≢true, and-false}
 use Rattle.bits.specs.Bit.{bit_in}

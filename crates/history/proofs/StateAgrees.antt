@@ -1,4 +1,4 @@
--- The state at the end of every run is what its history tells. Assumes nothing.
+-- The state at the end of every run is what its history tells.
 use Rattle.std.proofs.Common.{◌≡◌, refl, sym, ap, ap₂, subst, ◌∙◌, Bool, true, false, not, List, ℕ, ◌≤◌, Option, Some, None, is_none, is_some, ⊎_elim, arith}
 use Rattle.pages.specs.Read11.{no_number}
 use Rattle.refusals.specs.First.{first_of, unless}

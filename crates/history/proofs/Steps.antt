@@ -1,4 +1,4 @@
--- Every call, taken or refused, comes to one of the eleven kinds, seen from its call and its reply bytes; and a halt keeps its record. Assumes nothing.
+-- Every call, taken or refused, comes to one of the eleven kinds, seen from its call and its reply bytes; and a halt keeps its record.
 use Rattle.std.proofs.Common.{None, Ok, is_none, ◌≡◌, refl, sym, ap, subst, ◌∙◌, true, false, List, [], ⊎_elim, ℕ}
 use Rattle.bits.proofs.Picks.{tested}
 use Rattle.rules.specs.Call.{Call}

@@ -1,4 +1,4 @@
--- No stray data: whatever is sent or brought is of the Setup under way, in its direction, and within what is left of it. Assumes nothing.
+-- No stray data: whatever is sent or brought is of the Setup under way, in its direction, and within what is left of it.
 use Rattle.std.proofs.Common.{◌≡◌, refl, sym, ap, ◌∙◌, Bool, true, false, not, List, ℕ, ◌+◌, ◌*◌, ◌≤◌, arith}
 use mathlib.Core.Path.{subst⁻¹}
 use Rattle.bits.specs.Pick.{pick}

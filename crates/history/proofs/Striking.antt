@@ -1,4 +1,4 @@
--- Refused calls struck out of a sequence change no later refusal, reply, medium or state. Assumes nothing.
+-- Refused calls struck out of a sequence change no later refusal, reply, medium or state.
 use Rattle.std.proofs.Common.{is_none, ◌≡◌, refl, sym, ap, subst, ◌∙◌, true, false, List, [], ◌∷◌, ⊎_elim}
 use Rattle.bits.proofs.Picks.{tested}
 use Rattle.device_state.specs.declared.shapes.Settings.{Settings}

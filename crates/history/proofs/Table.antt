@@ -1,4 +1,4 @@
--- The commands of a history against the device's table: what each carried is what its entry says has moved. Assumes nothing.
+-- The commands of a history against the device's table: what each carried is what its entry says has moved.
 use Rattle.std.proofs.Common.{None, ◌≡◌, sym, ap, ap₂, ◌∙◌, ⊎_elim, Bool, true, false, List, [], ◌∷◌, ◌++◌, ℕ, ◌*◌, ◌≤◌, arith}
 use mathlib.Core.Bool.{false≢true}
 use Rattle.std.proofs.lemmas.Bool.{or_left}

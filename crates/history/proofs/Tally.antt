@@ -1,4 +1,4 @@
--- What an event does to the sixteen counters, and that they then tell the events since the last zeroing. Assumes nothing.
+-- What an event does to the sixteen counters, and that they then tell the events since the last zeroing.
 use Rattle.std.proofs.Common.{◌≡◌, refl, ◌∙◌, Bool, true, false, List, [], ◌∷◌, ⊎_elim, ℕ, ◌+◌, ◌^◌, ◌≤◌, ◌<◌, min, arith, length, get_or, replicate}
 use lib.ListN.{length-replicate, get_or-eq_default}
 use Rattle.bits.specs.Pick.{pick}

@@ -1,4 +1,4 @@
--- A page is sent only while nothing is outstanding, and in a halt page 10h alone. Assumes nothing.
+-- A page is sent only while nothing is outstanding, and in a halt page 10h alone.
 use Rattle.std.proofs.Common.{Ok, ◌≡◌, refl, sym, ◌∙◌, Bool, true, false, List, ℕ, eqb-true}
 use mathlib.Core.Bool.{false≢true}
 use Rattle.frames.specs.Write.{FrameValue}

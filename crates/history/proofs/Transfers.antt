@@ -1,4 +1,4 @@
--- What is under way, by the history and by the state: each kind of effect keeps them equal. Assumes nothing.
+-- What is under way, by the history and by the state: each kind of effect keeps them equal.
 use Rattle.std.proofs.Common.{Option, Some, None, is_some, true≢false, ◌≡◌, refl, sym, ap, ap₂, ◌∙◌, Bool, true, false, not, ◌&&◌, ◌||◌, List, [], ◌∷◌, ℕ, ◌+◌, ◌*◌, eqb, ltb, leb, arith}
 use Rattle.bits.specs.Pick.{pick}
 use Rattle.bits.specs.Bit.{bit_in}

@@ -1,4 +1,4 @@
--- What the host sees of replies that were sent: the reader's view of the frames, and what is read of them. Assumes nothing.
+-- What the host sees of replies that were sent: the reader's view of the frames, and what is read of them.
 use Rattle.std.proofs.Common.{Ok, ◌≡◌, refl, ap, ap₂, ◌∙◌, Bool, true, false, ◌||◌, List, [], ◌∷◌, ◌++◌, map, append-nil, ℕ, ◌+◌, length, arith}
 use Rattle.bits.specs.Pick.{pick}
 use Rattle.bits.specs.Bit.{bit_in}

@@ -1,4 +1,4 @@
--- What every call is answered, byte for byte, by the history before it: from settings, calls, what is lent to them, and the refusals and replies of the calls before it. Assumes nothing.
+-- What every call is answered, byte for byte, by the history before it: from settings, calls, what is lent to them, and the refusals and replies of the calls before it.
 use Rattle.std.specs.Prelude.{◌≡◌, Bool, true, false, not, ◌&&◌, ◌||◌, List, [], ◌∷◌, ◌++◌, map, ℕ, ◌+◌, ◌/◌, ◌%◌, ◌^◌, min, eqb, leb, ltb, length, take, drop, Ok}
 use Rattle.bits.specs.Pick.{pick}
 use Rattle.bits.specs.Laid.{overlay}

@@ -1,4 +1,4 @@
--- What an event asks for, and the host data that it brings. Assumes nothing.
+-- What an event asks for, and the host data that it brings.
 use Rattle.std.specs.Prelude.{List, [], ℕ}
 use Rattle.bits.specs.Pick.{pick}
 use Rattle.history.specs.Event.{Event, taken}

@@ -1,4 +1,4 @@
--- What a history tells of the device's business: which tags are outstanding, what has moved of them, which phase is open, and whether reset is held. From calls, refusals and frames alone. Assumes nothing.
+-- What a history tells of the device's business: which tags are outstanding, what has moved of them, which phase is open, and whether reset is held. From calls, refusals and frames alone.
 use Rattle.std.specs.Prelude.{Bool, true, false, not, ◌&&◌, ◌||◌, List, [], ◌∷◌, map, ℕ, ◌+◌, ◌-◌, eqb, leb, ltb, length, Ok}
 use Rattle.bits.specs.Pick.{pick}
 use Rattle.frames.specs.Shared.{srst_of}

@@ -1,4 +1,4 @@
--- The bytes that a command's data frames carried: positions from DMA Setup and the lengths of the data frames that follow it. Assumes nothing.
+-- The bytes that a command's data frames carried: positions from DMA Setup and the lengths of the data frames that follow it.
 use Rattle.std.specs.Prelude.{◌≡◌, Bool, true, false, not, ◌&&◌, ◌||◌, List, [], ◌∷◌, ◌++◌, ℕ, zero, suc, ◌+◌, ◌*◌, ◌≤◌, ◌<◌, eqb, ltb}
 use Rattle.bits.specs.Pick.{pick}
 use Rattle.history.specs.Seen.{Seen, Transfer, no_transfer, under_way, errs}

@@ -1,4 +1,4 @@
--- The events that a counter has counted since its zeroing, from calls and replies alone. Assumes nothing.
+-- The events that a counter has counted since its zeroing, from calls and replies alone.
 use Rattle.std.specs.Prelude.{Bool, ◌&&◌, List, [], ◌∷◌, map, ℕ, ◌+◌, min, Option, Some, None}
 use Rattle.bits.specs.Pick.{pick}
 use Rattle.counters.specs.Rows.{kept, row_of}

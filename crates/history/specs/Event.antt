@@ -1,4 +1,4 @@
--- A history: calls with what was lent to them, and what came back. Nothing of a device stands here. Assumes nothing.
+-- A history: calls with what was lent to them, and what came back. Nothing of a device stands here.
 use Rattle.std.specs.Prelude.{Bool, List, ℕ, take, Option, is_none}
 use Rattle.refusals.specs.declared.reasons.Refusal.{Refusal}
 use Rattle.rules.specs.Call.{Call}

@@ -1,4 +1,4 @@
--- What is promised of a history, and the truth of the counters: of calls, refusals and bytes. The newest event stands first. Assumes nothing.
+-- What is promised of a history, and the truth of the counters: of calls, refusals and bytes. The newest event stands first.
 use Rattle.std.specs.Prelude.{◌≡◌, Bool, true, false, ◌||◌, List, [], ◌∷◌, ◌++◌, map, ℕ, ◌+◌, ◌≤◌, ◌<◌, ltb, length, take, drop, Ok}
 use Rattle.std.specs.Option.{option_map}
 use Rattle.pages.specs.Read11.{read_counter, row_value, no_number}

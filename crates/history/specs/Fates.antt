@@ -1,4 +1,4 @@
--- Commands, each known by its accepting call, and what became of them. Histories stand with the newest event first. Assumes nothing.
+-- Commands, each known by its accepting call, and what became of them. Histories stand with the newest event first.
 use Rattle.std.specs.Prelude.{Bool, true, false, not, ◌&&◌, ◌||◌, List, [], ◌∷◌, map, ℕ, ◌+◌, eqb}
 use Rattle.bits.specs.Pick.{pick}
 use Rattle.history.specs.Seen.{Seen, errs, accepts}

@@ -1,4 +1,4 @@
--- Sequences of results: each call given the state that the last one returned. Assumes nothing.
+-- Sequences of results: each call given the state that the last one returned.
 use Rattle.std.specs.Prelude.{◌≡◌, List, [], ◌∷◌, map}
 use Rattle.device_state.specs.declared.shapes.Settings.{Settings}
 use Rattle.device.specs.Device.{power_on}

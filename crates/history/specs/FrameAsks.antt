@@ -1,4 +1,4 @@
--- What can be asked for, as far as a history is read for it. Assumes nothing.
+-- What can be asked for, as far as a history is read for it.
 use Rattle.std.specs.Prelude.{Bool, true, false, not, ◌&&◌, ◌||◌, ℕ, eqb}
 use Rattle.frames.specs.Shared.{tag_of, sectors_of, srst_of}
 use Rattle.frames.specs.declared.shapes.HostReg.{HostReg}

@@ -1,4 +1,4 @@
--- How a history reads a host frame: one row a kind. Assumes nothing.
+-- How a history reads a host frame: one row a kind.
 use Rattle.std.specs.Prelude.{Bool, true, false, ◌&&◌, List, [], ◌∷◌, ℕ, Ok}
 use Rattle.bits.specs.Pick.{pick}
 use Rattle.frames.specs.Shared.{srst_of}

@@ -1,4 +1,4 @@
--- What every page of IDENTIFY DEVICE tells: the settings of power-on. From calls, refusals and frames alone. Assumes nothing.
+-- What every page of IDENTIFY DEVICE tells: the settings of power-on. From calls, refusals and frames alone.
 use Rattle.std.specs.Prelude.{◌≡◌, true, ◌&&◌, List, [], ◌∷◌, ℕ, Ok}
 use Rattle.identity.specs.Page.{identity_page}
 use Rattle.identity.specs.Read.{all_told, read_identity}

@@ -1,4 +1,4 @@
--- What stands in the medium after a history whose calls are each lent the medium as the last one left it: what the host wrote last. Assumes nothing.
+-- What stands in the medium after a history whose calls are each lent the medium as the last one left it: what the host wrote last.
 use Rattle.std.specs.Prelude.{◌≡◌, Bool, true, false, List, [], ◌∷◌, ◌++◌, map, ℕ, ◌+◌, ◌≤◌, ◌<◌, slice_get, Option, Some, None}
 use Rattle.std.specs.Option.{option_or}
 use Rattle.bits.specs.Pick.{pick}

@@ -1,4 +1,4 @@
--- What page 10h tells, whenever it is sent: the last error that was raised since the last reset, with the bytes of the command that raised it. From calls, refusals and frames alone. Assumes nothing.
+-- What page 10h tells, whenever it is sent: the last error that was raised since the last reset, with the bytes of the command that raised it. From calls, refusals and frames alone.
 use Rattle.std.specs.Prelude.{◌≡◌, Bool, true, false, not, ◌&&◌, List, [], ◌∷◌, map, ℕ, eqb, Ok}
 use Rattle.bits.specs.Pick.{pick}
 use Rattle.frames.specs.declared.shared.Task.{Task}

@@ -1,4 +1,4 @@
--- What a command asks of the logs: which page, and whether the counters are zeroed. Assumes nothing.
+-- What a command asks of the logs: which page, and whether the counters are zeroed.
 use Rattle.std.specs.Prelude.{Bool, ◌&&◌, ℕ, ◌%◌, eqb}
 use Rattle.bits.specs.Bit.{bit_in}
 use Rattle.frames.specs.declared.shapes.HostReg.{HostReg}

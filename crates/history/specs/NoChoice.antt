@@ -1,4 +1,4 @@
--- The tables leave a device no choice: what they say of a history decides all that comes back of its calls. Assumes nothing.
+-- The tables leave a device no choice: what they say of a history decides all that comes back of its calls.
 use Rattle.std.specs.Prelude.{◌≡◌, List, map, ℕ}
 use Rattle.device.specs.Lent.{Lent, lent}
 use Rattle.history.specs.Event.{Event}

@@ -1,4 +1,4 @@
--- Where in the medium the data that are under way stand: a command's range, from its first byte on. Assumes nothing.
+-- Where in the medium the data that are under way stand: a command's range, from its first byte on.
 use Rattle.std.specs.Prelude.{Bool, ◌&&◌, List, ◌++◌, map, ℕ, ◌+◌, ◌-◌, leb, length, take, drop, find, slice_get, Option, None}
 use Rattle.std.specs.Option.{option_map_or}
 use Rattle.bits.specs.Pick.{pick}

@@ -1,4 +1,4 @@
--- What the calls that only ask are answered, by the settings and the history alone. Assumes nothing.
+-- What the calls that only ask are answered, by the settings and the history alone.
 use Rattle.std.specs.Prelude.{Bool, false, not, ◌&&◌, List, [], ◌∷◌, map, ℕ, min, leb, Option, Some, None, Result}
 use Rattle.bits.specs.Pick.{pick}
 use Rattle.refusals.specs.First.{rung, first_of, unless}

@@ -1,4 +1,4 @@
--- Power-on by the settings alone. Assumes nothing.
+-- Power-on by the settings alone.
 use Rattle.std.specs.Prelude.{◌≡◌, [], ◌∷◌, ℕ, Option}
 use Rattle.refusals.specs.First.{rung, first_of}
 use Rattle.refusals.specs.declared.reasons.Refusal.{Refusal}

@@ -1,4 +1,4 @@
--- All that is promised of a sequence of calls from power-on, in one place. Assumes nothing.
+-- All that is promised of a sequence of calls from power-on, in one place.
 use Rattle.std.specs.Prelude.{List, ℕ}
 use Rattle.device_state.specs.declared.shapes.Settings.{Settings}
 use Rattle.device.specs.declared.state.Device.{Device}

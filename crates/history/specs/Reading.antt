@@ -1,4 +1,4 @@
--- How a history reads a call: one row a call. Assumes nothing.
+-- How a history reads a call: one row a call.
 use Rattle.std.specs.Prelude.{Bool, false, List, [], ◌∷◌, ℕ, eqb, get_or}
 use Rattle.bits.specs.Pick.{pick}
 use Rattle.bits.specs.Bit.{bit_in}

@@ -1,4 +1,4 @@
--- What every event is turned down for, by the history before it: the table of refusals, from settings, calls, lengths, and the refusals and frames of the calls before it. Assumes nothing.
+-- What every event is turned down for, by the history before it: the table of refusals, from settings, calls, lengths, and the refusals and frames of the calls before it.
 use Rattle.std.specs.Prelude.{◌≡◌, Bool, true, false, not, ◌&&◌, ◌||◌, List, [], ◌∷◌, ℕ, zero, suc, ◌*◌, ◌%◌, eqb, leb, ltb, length, get_or, Ok}
 use Rattle.bits.specs.Pick.{pick}
 use Rattle.bits.specs.Bit.{bit_in}

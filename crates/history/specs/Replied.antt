@@ -1,4 +1,4 @@
--- What the replies of a call say: its reply bytes cut into frames, each read by the frame reader's own definition. Assumes nothing.
+-- What the replies of a call say: its reply bytes cut into frames, each read by the frame reader's own definition.
 use Rattle.std.specs.Prelude.{Bool, true, false, ◌||◌, List, [], ◌∷◌, ◌++◌, map, ℕ, drop, Result, Ok}
 use Rattle.bits.specs.Pick.{pick}
 use Rattle.bits.specs.Bit.{bit_in}

@@ -1,5 +1,5 @@
 -- What an event may say after those before it: which replies, in which order, and which tags, errors and pages they may tell of.
--- All of it follows from the tables (`reply_rules_follow`): Answered says every byte. Here it stands in the words of the rules, for whoever reads an archive frame by frame. Assumes nothing.
+-- All of it follows from the tables (`reply_rules_follow`): Answered says every byte. Here it stands in the words of the rules, for whoever reads an archive frame by frame.
 use Rattle.std.specs.Prelude.{◌≡◌, true, false, ◌||◌, List, [], ◌∷◌, map, ℕ, ◌+◌, ◌<◌, Result, Ok, Err}
 use Rattle.bits.specs.Bit.{bit_in}
 use Rattle.pages.specs.Page10.{read_log}

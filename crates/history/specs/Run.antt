@@ -1,4 +1,4 @@
--- Runs of the definitions: any sequence of calls of the device, each given the state that the last one returned. Assumes nothing.
+-- Runs of the definitions: any sequence of calls of the device, each given the state that the last one returned.
 use Rattle.std.specs.Prelude.{List, [], ◌∷◌, map, length}
 use Rattle.bits.specs.Laid.{overlay}
 use Rattle.device_state.specs.declared.shapes.Settings.{Settings}

@@ -1,4 +1,4 @@
--- All that is read of an event in a history: what a taken call asks for, and what its replies say. Assumes nothing.
+-- All that is read of an event in a history: what a taken call asks for, and what its replies say.
 use Rattle.std.specs.Prelude.{Bool, true, not, ◌&&◌, ◌||◌, List, [], ◌∷◌, ℕ, ◌+◌, eqb, length}
 use Rattle.bits.specs.Bit.{bit_in}
 use Rattle.frames.specs.declared.shapes.SetBits.{SetBits}

@@ -1,4 +1,4 @@
--- What a device does for the commands that its state holds, whichever calls led to that state, or none: each is served by the range that its own bytes name. Assumes nothing.
+-- What a device does for the commands that its state holds, whichever calls led to that state, or none: each is served by the range that its own bytes name.
 use Rattle.std.specs.Prelude.{◌≡◌, Bool, true, false, not, ◌&&◌, List, [], ◌++◌, ℕ, ◌+◌, ◌-◌, ◌*◌, ◌≤◌, ◌<◌, min, leb, ltb, eqb, length, get_or, take, drop, Some, None}
 use Rattle.bits.specs.Pick.{pick}
 use Rattle.bits.specs.Bit.{bit_in}

@@ -1,4 +1,4 @@
--- Replies by the kinds of their frames, and those that a taken command or control frame may have, in their order. Assumes nothing.
+-- Replies by the kinds of their frames, and those that a taken command or control frame may have, in their order.
 use Rattle.std.specs.Prelude.{◌≡◌, Bool, List, [], ◌∷◌, map, ◌⊎◌, ℕ, Ok, Err}
 use Rattle.bits.specs.Pick.{pick}
 use Rattle.frames.specs.declared.shapes.Frame.TheVariants.{Host, Device, Bits, Setup, Activate, Data, Bist, Pio}

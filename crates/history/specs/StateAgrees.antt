@@ -1,4 +1,4 @@
--- The state against the history: what the device keeps is what its calls, refusals and reply bytes tell. Assumes nothing.
+-- The state against the history: what the device keeps is what its calls, refusals and reply bytes tell.
 use Rattle.std.specs.Prelude.{◌≡◌, false, List, map, ℕ, ◌≤◌, ◌<◌, get_or, Option, None, Result}
 use Rattle.std.specs.Int.Count.{ones}
 use Rattle.bits.specs.Bit.{bit_in}

@@ -1,4 +1,4 @@
--- Refused calls struck out of a sequence: a refused event counts as not having happened. Each call keeps what was lent to it. Assumes nothing.
+-- Refused calls struck out of a sequence: a refused event counts as not having happened. Each call keeps what was lent to it.
 use Rattle.std.specs.Prelude.{◌≡◌, List, [], ◌∷◌, is_none}
 use Rattle.bits.specs.Pick.{pick}
 use Rattle.device_state.specs.declared.shapes.Settings.{Settings}

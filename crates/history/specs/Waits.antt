@@ -1,4 +1,4 @@
--- The host's SActive register, and whether an error waits to be read: from frames and resets alone. Assumes nothing.
+-- The host's SActive register, and whether an error waits to be read: from frames and resets alone.
 use Rattle.std.specs.Prelude.{Bool, false, not, ◌&&◌, ◌||◌, List, [], ◌∷◌, ℕ, ltb}
 use Rattle.bits.specs.Pick.{pick}
 use Rattle.history.specs.Seen.{Seen, asks_for}

@@ -1,4 +1,4 @@
--- The hours of the table, each by its place. Assumes nothing.
+-- The hours of the table, each by its place.
 use Rattle.std.proofs.Common.{◌≡◌, refl, ℕ, ◌+◌, ◌-◌, ◌<◌, List, [], ◌∷◌, length, get_or, None, arith}
 use Rattle.std.proofs.lemmas.List.FromFn.{length-range_with_len, get_or-range_with_len}
 use Rattle.hourly_table.specs.Samples.{Sampled}

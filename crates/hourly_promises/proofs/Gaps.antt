@@ -1,4 +1,4 @@
--- An hour of which there is no sample has no change, nor has the hour behind it. Assumes nothing.
+-- An hour of which there is no sample has no change, nor has the hour behind it.
 use Rattle.std.proofs.Common.{◌≡◌, ℕ, ◌+◌, ◌<◌, suc, List, length, get_or, None, add-one}
 use Rattle.hourly_table.specs.Samples.{Sampled, page_before}
 use Rattle.hourly_table.specs.Changes.{change_in}

@@ -1,4 +1,4 @@
--- A table is given where nothing is wrong with what it is made from. Assumes nothing.
+-- A table is given where nothing is wrong with what it is made from.
 use Rattle.std.proofs.Common.{◌≡◌, refl, ap, subst, ℕ, suc, ◌+◌, ◌<◌, ◌≤◌, Bool, true, false, not, eqb, ltb, List, [], ◌∷◌, length, get_or, None, Ok, is_err, arith, le-ltb, zero-lt-suc, suc-le-suc, add-one}
 use Rattle.std.specs.List.{list_any, zip}
 use Rattle.refusals.specs.First.{first_of, rung, unless}

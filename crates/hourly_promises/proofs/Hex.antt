@@ -1,4 +1,4 @@
--- The three hex digits of a counter's number. Assumes nothing.
+-- The three hex digits of a counter's number.
 use Rattle.std.proofs.Common.{◌≡◌, refl, ℕ, zero, suc, ◌/◌, ◌%◌, ◌<◌, ◌≤◌, Bool, true, false, T, eqb, leb, leb-true, eqb-true, length, get_or, arith, lit<, mod-lt}
 use Rattle.std.specs.Char.{digit_value}
 use Rattle.std.specs.Str.Parse.{digits_value}

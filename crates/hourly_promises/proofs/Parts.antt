@@ -1,4 +1,4 @@
--- A row, part by part. Assumes nothing.
+-- A row, part by part.
 use Rattle.std.proofs.Common.{◌≡◌, ℕ, [], ◌∷◌, ◌++◌, append_assoc, decimal, Option}
 use Rattle.hourly_table.specs.Rows.{hex_number, field_text, row_text}
 

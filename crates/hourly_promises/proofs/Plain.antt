@@ -1,4 +1,4 @@
--- No field of a row needs quotes. Assumes nothing.
+-- No field of a row needs quotes.
 use Rattle.std.proofs.Common.{◌≡◌, refl, ap, ℕ, ◌/◌, ◌%◌, ◌<◌, ◌^◌, Bool, true, false, not, List, [], ◌∷◌, decimal, Option, Some, None, arith, T, eqb, ne_eqb, append_assoc, append-nil, lit<, mod-lt}
 use Rattle.std.specs.Char.{digit_value}
 use Rattle.std.specs.List.{list_any}

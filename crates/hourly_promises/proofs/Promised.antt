@@ -1,4 +1,4 @@
--- The theorems that the check finds for a promise by itself. Assumes nothing.
+-- The theorems that the check finds for a promise by itself.
 use Rattle.hourly_table.proofs.AllRead.{all_read}
 use Rattle.hourly_table.proofs.ChangeLaws.{change_exactly, empty_absent_before, empty_absent, empty_fallen, empty_old_top, empty_new_top}
 use Rattle.hourly_table.proofs.Exactly.{first_exactly}

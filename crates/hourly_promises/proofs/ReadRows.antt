@@ -1,4 +1,4 @@
--- What the library's reader reads of rows, one behind the other. Assumes nothing.
+-- What the library's reader reads of rows, one behind the other.
 use Rattle.std.proofs.Common.{◌≡◌, refl, ap, ◌∙◌, subst, ℕ, zero, suc, ◌+◌, ◌*◌, ◌<◌, ◌≤◌, ◌^◌, Bool, false, ◌==◌, List, [], ◌∷◌, ◌++◌, length, get_or, map, Option, Some, None, arith, append_assoc, length-append, decimal, ◌||◌, zero-lt-suc, suc-le-suc}
 use Rattle.std.proofs.lemmas.Fmt.{decimal_nonempty}
 use Rattle.bits.proofs.Picks.{or_left, or_right}

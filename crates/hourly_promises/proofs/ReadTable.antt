@@ -1,4 +1,4 @@
--- What the library's reader reads of a table. Assumes nothing.
+-- What the library's reader reads of a table.
 use Rattle.std.proofs.Common.{◌≡◌, refl, ap, ◌∙◌, ℕ, suc, ◌+◌, ◌-◌, ◌*◌, ◌<◌, ◌^◌, List, [], ◌∷◌, ◌++◌, length, get_or, codes, arith, lit<, length-append, suc-le-suc}
 use Rattle.std.proofs.lemmas.List.FromFn.{length-range_with_len, get_or-range_with_len}
 use Rattle.csv.specs.Reading.{default_config, records, records_from}

@@ -1,4 +1,4 @@
--- The public functions' own contracts: what they say. Assumes nothing.
+-- The public functions' own contracts: what they say.
 use Rattle.std.specs.Prelude.{◌+◌, ◌≤◌, List, [], None, Ok, Option, Some, codes, decimal, false, get_or, is_err, length, true, ℕ, ◌++◌, ◌<◌, ◌^◌, ◌∷◌, ◌≡◌}
 use Rattle.std.specs.Str.Parse.{digits_value}
 use Rattle.refusals.specs.First.{Iff}

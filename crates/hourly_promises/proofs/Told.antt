@@ -1,4 +1,4 @@
--- A field is the decimal of what was counted, and empty where nothing is known to have been. Assumes nothing.
+-- A field is the decimal of what was counted, and empty where nothing is known to have been.
 use Rattle.std.proofs.Common.{◌≡◌, refl, ap, ℕ, List, [], Option, Some, None, decimal}
 use Rattle.hourly_table.specs.Samples.{Sampled}
 use Rattle.hourly_table.specs.Changes.{change_in}

@@ -1,4 +1,4 @@
--- The rows of the table as records of the library `csv`. Assumes nothing.
+-- The rows of the table as records of the library `csv`.
 use Rattle.std.specs.Prelude.{ℕ, ◌<◌, ◌^◌, List, [], ◌∷◌, map, length, get_or, codes, decimal, Option}
 use Rattle.std.specs.List.{flat_map}
 use Rattle.csv.specs.Writing.{default_writer, with_terminator}

@@ -1,4 +1,4 @@
--- A text, line by line. Assumes nothing.
+-- A text, line by line.
 use Rattle.std.proofs.Common.{◌≡◌, refl, sym, ap, ◌∙◌, ℕ, suc, ◌+◌, ◌<◌, true, false, List, [], ◌∷◌, ◌++◌, length, take, drop, Some, None, Result, Ok, Err, arith, append-nil, append_assoc, ap₂, subst, inl, inr, min, leb, leb-true, leb-false, take_all, drop_of_length-le, zero-lt-suc, ⊎_elim}
 use Rattle.std.specs.List.{position_or_len}
 use Rattle.bits.proofs.Picks.{tested}

@@ -1,4 +1,4 @@
--- The number that digits tell, one digit behind the other. Assumes nothing.
+-- The number that digits tell, one digit behind the other.
 use Rattle.std.proofs.Common.{◌≡◌, refl, sym, ap, ◌∙◌, ℕ, zero, suc, ◌+◌, ◌-◌, ◌*◌, ◌<◌, ◌≤◌, ◌^◌, Bool, true, false, ◌&&◌, leb, List, [], ◌∷◌, length, get_or, drop, Some, None, arith, not-suc-le-zero, le_of_suc-le-suc, zero-lt-suc, suc-le-suc, le-ltb, lt-ltb, le-leb, drop-cons, drop_of_length-le, add-one, leb-true, ⊎_elim}
 use Rattle.std.proofs.lemmas.Str.{digit_value_digit}
 use Rattle.std.specs.Int.{IsInRange}

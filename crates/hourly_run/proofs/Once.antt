@@ -1,4 +1,4 @@
--- What an input tells is one thing: of lines of hex whatever it is, and of files whose bytes are known wherever it is a table. Assumes nothing.
+-- What an input tells is one thing: of lines of hex whatever it is, and of files whose bytes are known wherever it is a table.
 use Rattle.std.proofs.Common.{◌≡◌, refl, sym, ap, ◌∙◌, subst, ℕ, true, List, [], ◌∷◌, is_some, Option, Some, None, Result, Ok, Err}
 use Rattle.hourly_table.specs.Samples.{Sampled}
 use Rattle.hourly_run.specs.Entries.{entry_of}

@@ -1,4 +1,4 @@
--- What is owed an input, from what was read of it. Assumes nothing.
+-- What is owed an input, from what was read of it.
 use Rattle.std.proofs.Common.{◌≡◌, refl, sym, ap₂, ◌∙◌, subst, ℕ, ◌-◌, List, [], ◌++◌, length, IfSome, Option, Some, None, Result, Ok, Err, arith}
 use Rattle.hourly_table.specs.Samples.{Sampled}
 use Rattle.hourly_table.specs.Table.{table, table_size}

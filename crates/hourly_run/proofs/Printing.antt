@@ -1,4 +1,4 @@
--- What a run prints. Assumes nothing.
+-- What a run prints.
 use Rattle.std.proofs.Common.{◌≡◌, refl, sym, subst, ℕ, List, [], append-nil, arith, inl, inr, Option, Some, None, Ok, Err}
 use Rattle.std.specs.Io.KnownBytes.{Appends}
 use Rattle.streams.specs.Fronts.{AppendsFront}

@@ -1,4 +1,4 @@
--- The run's own contract: what it says. It reads from any reader and any shelf and writes to any writer, and may go more than one way. Assumes nothing.
+-- The run's own contract: what it says. It reads from any reader and any shelf and writes to any writer, and may go more than one way.
 use denote.RattleType.{RattleType}
 use denote.Param.Laws.{Laws}
 use mir.Syntax.{Dict}

@@ -1,4 +1,4 @@
--- A line of samples: an hour, a blank, and what stands behind it. Assumes nothing.
+-- A line of samples: an hour, a blank, and what stands behind it.
 use Rattle.std.specs.Prelude.{ℕ, ◌+◌, ◌-◌, ◌^◌, ◌==◌, Bool, ◌&&◌, if◌then◌else◌, List, length, take, drop, get_or, ltb, leb, Option, Some, None}
 use Rattle.std.specs.List.{position}
 use Rattle.std.specs.Option.{option_map, option_and_then}

@@ -1,4 +1,4 @@
--- Samples that own their pages: how the code keeps them, and no part of what is owed. Assumes nothing.
+-- Samples that own their pages: how the code keeps them, and no part of what is owed.
 use Rattle.std.specs.Prelude.{ℕ, List, Vec, map, Option, Result, Ok, Err}
 use Rattle.std.specs.Option.{option_map}
 use Rattle.std.specs.Borrow.{Bor}

@@ -1,4 +1,4 @@
--- The lines of a text. Assumes nothing.
+-- The lines of a text.
 use Rattle.std.specs.Prelude.{ℕ, Bool, ◌==◌, if◌then◌else◌, List, [], ◌∷◌}
 
 abbrev pub is_lf : ℕ → Bool

@@ -1,4 +1,4 @@
--- What is owed an input: what is printed of it, and what is said on standard error. Assumes nothing.
+-- What is owed an input: what is printed of it, and what is said on standard error.
 use Rattle.std.specs.Prelude.{◌≡◌, ℕ, ◌^◌, List, [], ◌++◌, codes, decimal, IfSome, Option, Result, Ok, Err}
 use Rattle.hourly_table.specs.Samples.{Sampled}
 use Rattle.hourly_table.specs.Refused.{table_number}

@@ -1,4 +1,4 @@
--- The page that stands behind an hour: in hex, or in a file of that name. Assumes nothing.
+-- The page that stands behind an hour: in hex, or in a file of that name.
 use Rattle.std.specs.Prelude.{◌≡◌, ⊤, ℕ, List, take, IfSome, Option, Some, None}
 use Rattle.std.specs.Borrow.{Bor}
 use Rattle.std.specs.Option.{option_map}

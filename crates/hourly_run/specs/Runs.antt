@@ -1,4 +1,4 @@
--- What a run writes for what it reads, for each way in which it may go. Assumes nothing.
+-- What a run writes for what it reads, for each way in which it may go.
 use Rattle.std.specs.Prelude.{◌≡◌, ◌⊎◌, ℕ, List, Option, Result, Ok, Err}
 use Rattle.std.specs.Io.KnownBytes.{Appends}
 use Rattle.streams.specs.Fronts.{AppendsFront}

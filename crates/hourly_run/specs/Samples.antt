@@ -1,4 +1,4 @@
--- The samples that a text may tell. Assumes nothing.
+-- The samples that a text may tell.
 use Rattle.std.specs.Prelude.{◌≡◌, ℕ, List, [], ◌∷◌, Option, Some, None, Result, Ok, Err}
 use Rattle.std.specs.Option.{option_map}
 use Rattle.hourly_table.specs.Samples.{Sampled}

@@ -1,4 +1,4 @@
--- Where a table is given no page of it was refused for a number asked: an empty field hides no refusal. Assumes nothing.
+-- Where a table is given no page of it was refused for a number asked: an empty field hides no refusal.
 use Rattle.std.proofs.Common.{◌≡◌, refl, ℕ, ◌<◌, Bool, false, not, eqb, length, get_or, List, [], ◌∷◌, zero, suc, is_err, Ok, lit<, not-suc-le-zero, le_of_suc-le-suc}
 use Rattle.std.specs.List.{list_any}
 use Rattle.bits.proofs.Picks.{or_left, or_right}

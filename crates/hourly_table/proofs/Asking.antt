@@ -1,4 +1,4 @@
--- The tests over samples and numbers: the first that holds, and a page that is refused behind the others is damaged. Assumes nothing.
+-- The tests over samples and numbers: the first that holds, and a page that is refused behind the others is damaged.
 use Rattle.std.proofs.Common.{◌≡◌, refl, sym, ap, ap₂, ◌∙◌, ℕ, Bool, true, false, not, ◌||◌, eqb, length, List, [], ◌∷◌, map, drop, ltb, is_err, Result, Ok, Err}
 use Rattle.std.specs.List.{list_any, zip}
 use Rattle.bits.proofs.Picks.{or_left, or_right}

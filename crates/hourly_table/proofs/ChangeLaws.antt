@@ -1,4 +1,4 @@
--- A change is told exactly where it was counted, and the field is empty in each case in which it was not. Assumes nothing.
+-- A change is told exactly where it was counted, and the field is empty in each case in which it was not.
 use Rattle.std.proofs.Common.{◌≡◌, refl, sym, ap, ◌∙◌, ℕ, ◌+◌, ◌-◌, ◌<◌, ◌^◌, Bool, true, false, ◌||◌, if◌then◌else◌, ltb, List, [], lit<, Option, Some, None, Result, Ok, Err, arith, ltb-false, lt-ltb, le-ltb, ⊎_elim, codes, decimal}
 use Rattle.std.proofs.lemmas.Fmt.{decimal_injective, decimal_digit}
 use Rattle.bits.proofs.Picks.{tested, or_left, or_right}

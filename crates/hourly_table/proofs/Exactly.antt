@@ -1,4 +1,4 @@
--- Each refusal of a table is given exactly when it should be, and behind none a page was refused. Assumes nothing.
+-- Each refusal of a table is given exactly when it should be, and behind none a page was refused.
 use Rattle.std.proofs.Common.{◌≡◌, refl, sym, ap, ◌∙◌, subst, ℕ, ◌<◌, Bool, true, false, not, ◌||◌, eqb, T, List, length, get_or, Option, Some, None, eqb-true, eq-eqb, ⊎_elim}
 use Rattle.bits.proofs.Picks.{tested}
 use Rattle.bits.proofs.Tables.{all_below, below_all}

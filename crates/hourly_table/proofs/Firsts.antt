@@ -1,4 +1,4 @@
--- The first of the tests that holds. Assumes nothing.
+-- The first of the tests that holds.
 use Rattle.std.proofs.Common.{◌≡◌, refl, true, false, List, [], ◌∷◌, ℕ, zero, suc, ◌<◌, length, get_or, Option, Some, None, suc-le-suc, le_of_suc-le-suc, not-suc-le-zero, zero-lt-suc, ⊎_elim, Ok, Err}
 use Rattle.bits.proofs.Picks.{tested}
 use Rattle.hourly_table.specs.Refused.{TableTest, no_test, NoneBefore, first_refusal, unless_refused}

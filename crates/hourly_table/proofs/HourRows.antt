@@ -1,4 +1,4 @@
--- The rows of an hour, by the pages that it was given. Assumes nothing.
+-- The rows of an hour, by the pages that it was given.
 use Rattle.std.proofs.Common.{◌≡◌, refl, ℕ, List, Option}
 use Rattle.std.specs.Borrow.{Bor}
 use Rattle.std.specs.List.{flat_map}

@@ -1,4 +1,4 @@
--- What is left of a room, a text behind the other. Assumes nothing.
+-- What is left of a room, a text behind the other.
 use Rattle.std.proofs.Common.{◌≡◌, refl, sym, ap, ◌∙◌, ℕ, ◌+◌, ◌-◌, ◌<◌, ◌≤◌, true, false, leb, List, [], ◌∷◌, ◌++◌, append-nil, length, get_or, take, drop, Option, Some, None, arith, leb-true, leb-false, le-leb, ⊎_elim, length-append, take_all, take-append-drop}
 use borrow.Author.Tests.{lt-leb}
 use Rattle.std.specs.List.{flat_map, range_with_len}

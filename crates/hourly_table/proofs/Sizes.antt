@@ -1,4 +1,4 @@
--- The size of the table, by the tests and by what is left of the room. Assumes nothing.
+-- The size of the table, by the tests and by what is left of the room.
 use Rattle.std.proofs.Common.{◌≡◌, refl, sym, ap, ◌∙◌, Bool, true, false, ltb, List, [], ◌∷◌, ◌++◌, ℕ, ◌-◌, ◌≤◌, length, Some, None, Ok, Err, arith, lt-ltb, ltb-false, le-ltb, ⊎_elim}
 use Rattle.bits.proofs.Picks.{tested}
 use Rattle.hourly_table.specs.Samples.{Sampled}

@@ -1,4 +1,4 @@
--- A change is a number of 64 bits, so that a field that reads `0` is 0. Assumes nothing.
+-- A change is a number of 64 bits, so that a field that reads `0` is 0.
 use Rattle.std.proofs.Common.{◌≡◌, refl, ap, subst, ℕ, ◌+◌, ◌*◌, ◌<◌, ◌≤◌, ◌^◌, Bool, true, false, eqb, List, [], ◌∷◌, length, get_or, filter, Option, Some, None, Ok, arith, lit<, zero-lt-suc, suc-le-suc, suc, ⊎_elim, codes}
 use Rattle.std.proofs.Math.Nat.{pow-le-pow_right}
 use Rattle.std.specs.List.{last_or}

@@ -1,4 +1,4 @@
--- Hours of which none is lower than the one before it. Assumes nothing.
+-- Hours of which none is lower than the one before it.
 use Rattle.std.proofs.Common.{◌≡◌, sym, ◌∙◌, ℕ, zero, suc, ◌<◌, ◌≤◌, Bool, false, ltb, ltb-false, List, [], ◌∷◌, length, get_or, map, drop, add-one, arith, lit<, None}
 use Rattle.std.specs.List.{list_any, zip}
 use Rattle.std.specs.List.Sorted.{IsNonDecreasingBy}

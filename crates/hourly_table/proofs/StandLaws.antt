@@ -1,4 +1,4 @@
--- Which page stands for an hour. Assumes nothing.
+-- Which page stands for an hour.
 use Rattle.std.proofs.Common.{◌≡◌, refl, ap, ℕ, zero, suc, ◌<◌, true, false, eqb, List, [], ◌∷◌, ◌++◌, length, get_or, filter, Option, Some, None, arith, ne_eqb, eq-eqb, zero-lt-suc, suc-le-suc, ⊎_elim}
 use Rattle.std.specs.List.{last_or}
 use Rattle.std.specs.List.Sorted.{IsNonDecreasingBy}

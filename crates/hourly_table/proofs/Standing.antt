@@ -1,4 +1,4 @@
--- Which sample stands for an hour: of hours that do not fall, the last that is no later, where it is of that hour. Assumes nothing.
+-- Which sample stands for an hour: of hours that do not fall, the last that is no later, where it is of that hour.
 use Rattle.std.proofs.Common.{◌≡◌, refl, sym, ap, ◌∙◌, ℕ, zero, suc, ◌-◌, ◌<◌, ◌≤◌, Bool, true, false, leb, eqb, List, [], ◌∷◌, length, get_or, take, length-take-le, filter, map, Option, Some, None, arith, zero-lt-suc, suc-le-suc, le_of_suc-le-suc, not-suc-le-zero, ne_eqb, eqb-true, leb-true, leb-false, ltb, ltb-true, ltb-false, eq-eqb, ⊎_elim}
 use Rattle.std.proofs.lemmas.List.{get_or_default, get_or-take}
 use Rattle.std.proofs.lemmas.Bool.{eqb-false}

@@ -1,4 +1,4 @@
--- What the writer promises is one answer and one buffer. Assumes nothing.
+-- What the writer promises is one answer and one buffer.
 use Rattle.std.proofs.Common.{◌≡◌, sym, ap, ◌∙◌, ℕ, List, Result}
 use Rattle.hourly_table.specs.Samples.{Sampled}
 use Rattle.hourly_table.specs.Table.{table, written, TableGiven}

@@ -1,4 +1,4 @@
--- Texts written one behind the other. Assumes nothing.
+-- Texts written one behind the other.
 use Rattle.std.proofs.Common.{◌≡◌, refl, sym, ap, ◌∙◌, ℕ, ◌+◌, ◌-◌, ◌<◌, ◌≤◌, List, ◌++◌, length, get_or, take, arith, length-append, length-drop, take_all}
 use borrow.Rule.Slice.PartMut.{mid_of, put_mid}
 use Rattle.std.specs.List.{flat_map}

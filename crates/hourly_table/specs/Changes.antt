@@ -1,4 +1,4 @@
--- How much a counter has changed from one hour to the next. Assumes nothing.
+-- How much a counter has changed from one hour to the next.
 use Rattle.std.specs.Prelude.{ℕ, ◌-◌, ◌||◌, if◌then◌else◌, ltb, List, Option, Some, None, Result, Ok, Err}
 use Rattle.refusals.specs.declared.reasons.Refusal.{Refusal}
 use Rattle.pages.specs.Read11.{read_counter}

@@ -1,4 +1,4 @@
--- What a change in the table says. Assumes nothing.
+-- What a change in the table says.
 use Rattle.std.specs.Prelude.{◌≡◌, ℕ, ◌+◌, ◌<◌, false, List, length, get_or, Some, Ok}
 use Rattle.bits.specs.Little.{Bytes}
 use Rattle.pages.specs.Read11.{read_counter}

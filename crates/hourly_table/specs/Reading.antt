@@ -1,4 +1,4 @@
--- How the code goes about the reading of pages, and no part of what a table means. Assumes nothing.
+-- How the code goes about the reading of pages, and no part of what a table means.
 use Rattle.std.specs.Prelude.{ℕ, Bool, ◌||◌, List, is_err, Option, None, Result, Ok, Err}
 use Rattle.std.specs.List.{list_any}
 use Rattle.pages.specs.Read11.{read_counter}

@@ -1,4 +1,4 @@
--- Why no table is given: the tests in their order, of which the first that holds counts. Assumes nothing.
+-- Why no table is given: the tests in their order, of which the first that holds counts.
 use Rattle.std.specs.Prelude.{◌≡◌, ℕ, ◌<◌, Bool, true, false, not, ◌||◌, List, [], ◌∷◌, length, drop, get_or, eqb, ltb, Option, Some, None, Result, Ok, Err}
 use Rattle.refusals.specs.First.{Iff}
 use Rattle.std.specs.List.{find, list_any, zip}

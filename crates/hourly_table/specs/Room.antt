@@ -1,4 +1,4 @@
--- How the code goes about the room that it has, and the hours, and no part of what a table means. Assumes nothing.
+-- How the code goes about the room that it has, and the hours, and no part of what a table means.
 use Rattle.std.specs.Prelude.{ℕ, ◌+◌, ◌-◌, leb, length, if◌then◌else◌, List, [], Option, Some, None}
 use Rattle.std.specs.List.{flat_map, range_with_len}
 use Rattle.hourly_table.specs.Samples.{Sampled}

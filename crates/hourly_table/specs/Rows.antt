@@ -1,4 +1,4 @@
--- A row of the table. Assumes nothing.
+-- A row of the table.
 use Rattle.std.specs.Prelude.{ℕ, ◌/◌, ◌%◌, List, [], ◌∷◌, ◌++◌, decimal, codes, get_or, Option, Some, None}
 
 -- an upper-case hex digit

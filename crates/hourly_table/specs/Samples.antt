@@ -1,4 +1,4 @@
--- Samples, and which of them stands for an hour. Assumes nothing.
+-- Samples, and which of them stands for an hour.
 use Rattle.std.specs.Prelude.{ℕ, zero, suc, ◌==◌, List, filter, Option, None}
 use Rattle.std.specs.List.{last_or}
 use Rattle.std.specs.Option.{option_map}

@@ -1,4 +1,4 @@
--- The hourly table. Assumes nothing.
+-- The hourly table.
 use Rattle.std.specs.Prelude.{◌≡◌, ℕ, ◌+◌, ◌-◌, List, [], ◌∷◌, ◌++◌, codes, length, ltb, Result, Ok, Err}
 use Rattle.std.specs.List.{flat_map, range_with_len}
 use Rattle.bits.specs.Laid.{overlay}

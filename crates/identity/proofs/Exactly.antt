@@ -1,4 +1,4 @@
--- Each refusal of the reader is given exactly when it should be, and what a page does not tell has no value. Assumes nothing.
+-- Each refusal of the reader is given exactly when it should be, and what a page does not tell has no value.
 use Rattle.std.proofs.Common.{Some, None, ◌≡◌, refl, ap, ◌∙◌, ◌⊎◌, ⊎_elim, List, ℕ, ◌+◌, ◌/◌, ◌%◌, ◌^◌, ◌&&◌, not, eqb, Result, Ok, false, arith}
 use mathlib.Core.Bool.{and-false}
 use Rattle.bits.specs.Bit.{bit_in}

@@ -1,4 +1,4 @@
--- The page as it is filled, word by word, in place. Assumes nothing.
+-- The page as it is filled, word by word, in place.
 use Rattle.std.proofs.Common.{◌≡◌, refl, ap, ◌∙◌, List, ◌++◌, ℕ, zero, suc, ◌+◌, ◌*◌, ◌-◌, ◌<◌, append-nil, arith, length, length-append, replicate, add-one}
 use borrow.Rule.Slice.PartMut.{mid_of, put_mid}
 use Rattle.bits.specs.Laid.{overlay_with_room}

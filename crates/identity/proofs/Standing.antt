@@ -1,4 +1,4 @@
--- What stands where on the page as it is made. Assumes nothing.
+-- What stands where on the page as it is made.
 use Rattle.std.proofs.Common.{◌≡◌, sym, ap, ◌∙◌, ⊎_elim, Bool, true, false, if◌then◌else◌, ℕ, zero, suc, ◌+◌, ◌-◌, ◌*◌, ◌%◌, ◌^◌, ◌<◌, leb, arith, leb-true, leb-false, length, length-set, get_or, get_or-set_other, get_or-append-add}
 use lib.ListN.{get_or-append}
 use Rattle.bits.specs.Little.{le_bytes}

@@ -1,4 +1,4 @@
--- The page, there and back. Assumes nothing.
+-- The page, there and back.
 use Rattle.std.proofs.Common.{Ok, Some, Option, ◌≡◌, refl, ap, ap₂, ◌∙◌, true, List, ℕ, ◌+◌, ◌*◌, ◌/◌, ◌%◌, ◌-◌, ◌^◌, ◌<◌, arith, length, take, drop, take_at, eq-eqb}
 use Rattle.bits.specs.Little.{le_at}
 use Rattle.refusals.specs.First.{first_of}

@@ -1,4 +1,4 @@
--- The features that a host can turn on and off, as a word of IDENTIFY DEVICE tells them. Assumes nothing.
+-- The features that a host can turn on and off, as a word of IDENTIFY DEVICE tells them.
 use Rattle.std.specs.Prelude.{false, ℕ, ◌+◌}
 use Rattle.bits.specs.Bit.{bit_byte}
 use Rattle.identity.specs.declared.features.Features.{Features}

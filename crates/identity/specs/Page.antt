@@ -1,4 +1,4 @@
--- The page of IDENTIFY DEVICE as it is made. Assumes nothing.
+-- The page of IDENTIFY DEVICE as it is made.
 use Rattle.std.specs.Prelude.{ℕ, zero, suc, List, [], ◌++◌, Result, Ok, Err}
 use Rattle.bits.specs.Pick.{pick}
 use Rattle.bits.specs.Little.{le_bytes}

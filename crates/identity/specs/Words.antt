@@ -1,4 +1,4 @@
--- The 256 words of IDENTIFY DEVICE: the table. Assumes nothing.
+-- The 256 words of IDENTIFY DEVICE: the table.
 use Rattle.std.specs.Prelude.{Bool, ◌&&◌, ◌||◌, if◌then◌else◌, ℕ, ◌-◌, ◌/◌, ◌%◌, ◌^◌, eqb, leb, min}
 use Rattle.frames.specs.Shared.{is_below}
 use Rattle.identity.specs.Features.{features_word, no_features}

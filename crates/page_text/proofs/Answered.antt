@@ -1,4 +1,4 @@
--- Where the sixteen lines of page 11h are told, each is the page's own answer for its number, and none is a refusal. Assumes nothing.
+-- Where the sixteen lines of page 11h are told, each is the page's own answer for its number, and none is a refusal.
 use Rattle.std.proofs.Common.{◌≡◌, ℕ, zero, suc, ◌<◌, List, [], ◌∷◌, length, get_or, refl, Option, None, Result, Ok, Err, arith}
 use Rattle.std.specs.List.{count_by}
 use Rattle.refusals.specs.declared.reasons.Refusal.{Refusal}

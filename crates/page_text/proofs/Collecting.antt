@@ -1,4 +1,4 @@
--- The digits of a text, as far as it was gone through. Assumes nothing.
+-- The digits of a text, as far as it was gone through.
 use Rattle.std.proofs.Common.{◌≡◌, ℕ, ◌+◌, ◌<◌, true, false, List, [], ◌∷◌, ◌++◌, length, get_or, take, drop, sym, ap, ◌∙◌, arith, length-append, append-nil, take-append-drop, length-take-le, not, filter}
 use Rattle.std.proofs.lemmas.List.Elements.{filter_more, filter-append}
 use Rattle.std.specs.Char.{is_ascii_whitespace}

@@ -1,4 +1,4 @@
--- What the hex digits of a page's text are. Assumes nothing.
+-- What the hex digits of a page's text are.
 use Rattle.std.proofs.Common.{◌≡◌, ℕ, ◌<◌, ◌/◌, ◌%◌, true, [], ◌∷◌}
 use Rattle.std.proofs.lemmas.Fmt.{hex_byte}
 use Rattle.std.specs.Fmt.{digit_glyph}

@@ -1,4 +1,4 @@
--- The sections of files, one behind the other. Assumes nothing.
+-- The sections of files, one behind the other.
 use Rattle.std.proofs.Common.{map, take, drop, length, length-append, get_or, ◌<◌, ◌≤◌, ◌+◌, ltb, subst, take-append-drop, ◌≡◌, ℕ, Bool, List, [], ◌∷◌, ◌++◌, max, Option, Some, None, refl, sym, ap, ◌∙◌, append-nil, append_assoc, arith, take_all, codes}
 use Rattle.std.proofs.lemmas.List.{map_more, map-append}
 use Rattle.std.proofs.KnownBytes.{Appends-trans}

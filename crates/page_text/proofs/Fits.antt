@@ -1,4 +1,4 @@
--- No text of a page is longer than 1,024 bytes. Assumes nothing.
+-- No text of a page is longer than 1,024 bytes.
 use Rattle.std.proofs.Common.{ℕ, ◌≤◌, List, length, arith}
 use Rattle.bits.specs.Little.{Bytes}
 use Rattle.page_text.proofs.Longest.{fields_most, counters_most}

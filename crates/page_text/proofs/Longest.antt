@@ -1,4 +1,4 @@
--- How long a page's text is at most. Assumes nothing.
+-- How long a page's text is at most.
 use Rattle.std.proofs.Common.{◌≡◌, ℕ, ◌+◌, ◌*◌, ◌^◌, ◌<◌, ◌≤◌, Bool, true, List, [], ◌∷◌, length, get_or, refl, sym, ap, Option, Some, None, Ok, arith, length-append, decimal, codes, lt_of_lt_of_le, ltb, pow_mono, ltb-true}
 use Rattle.std.proofs.lemmas.Fmt.{length-decimal-le}
 use Rattle.std.specs.List.{list_all, count_by}

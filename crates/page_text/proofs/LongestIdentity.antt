@@ -1,4 +1,4 @@
--- How long the text of a page of IDENTIFY DEVICE is at most. Assumes nothing.
+-- How long the text of a page of IDENTIFY DEVICE is at most.
 use Rattle.std.proofs.Common.{ℕ, ◌+◌, ◌%◌, ◌^◌, ◌<◌, ◌≤◌, List, length, Option, Some, None, Result, arith, length-append}
 use Rattle.std.proofs.lemmas.Fmt.{length-decimal-le}
 use Rattle.bits.specs.Little.{le_at, Bytes}

@@ -1,4 +1,4 @@
--- How long the pieces of a page's text are. Assumes nothing.
+-- How long the pieces of a page's text are.
 use Rattle.std.proofs.Common.{◌≡◌, ℕ, zero, suc, ◌+◌, ◌/◌, ◌%◌, ◌^◌, ◌<◌, ◌≤◌, true, List, [], ◌∷◌, length, refl, Result, Ok, Err, arith, length-append, pow-suc, eq-eqb}
 use lib.ListN.{length-replicate}
 use Rattle.std.proofs.lemmas.Fmt.{length-decimal-le}

@@ -1,4 +1,4 @@
--- The sixteen numbers of page 11h, asked one after the other. Assumes nothing.
+-- The sixteen numbers of page 11h, asked one after the other.
 use Rattle.std.proofs.Common.{◌≡◌, ℕ, ◌+◌, ◌<◌, ◌≤◌, List, [], ◌∷◌, ◌++◌, length, drop, take, map, set, get_or, None, arith, refl, sym, ap, ◌∙◌, append_assoc, append-nil, add-one, drop-cons, Option, Result, Ok, Err, drop_of_length-le, take_all, ext_get_or}
 use lib.Seq.{map-set_same}
 use Rattle.std.proofs.lemmas.List.{take_more_set, get_or-map, length-map}

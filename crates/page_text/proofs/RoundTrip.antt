@@ -1,4 +1,4 @@
--- A page that was written in hex is read back. Assumes nothing.
+-- A page that was written in hex is read back.
 use Rattle.std.proofs.Common.{◌≡◌, ℕ, zero, suc, ◌/◌, ◌%◌, true, false, not, List, [], ◌∷◌, length, slice_index, Some, refl, ap, ◌∙◌, arith}
 use Rattle.std.specs.Char.{is_ascii_whitespace}
 use Rattle.std.specs.List.{All, list_all}

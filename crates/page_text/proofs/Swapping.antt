@@ -1,4 +1,4 @@
--- One word of a page after the other, its bytes swapped. Assumes nothing.
+-- One word of a page after the other, its bytes swapped.
 use Rattle.std.proofs.Common.{◌≡◌, ℕ, ◌+◌, ◌*◌, ◌<◌, ◌≤◌, List, ◌++◌, length, get_or, take, drop, sym, arith, append_assoc, append-nil, drop-set-lt, take_all}
 use Rattle.std.proofs.lemmas.List.{drop_all}
 use Rattle.std.proofs.lemmas.List.Edits.{swap_is}

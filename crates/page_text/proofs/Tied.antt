@@ -1,4 +1,4 @@
--- Each public function's own contract, over any writer: what it says. A write may fail, and then the contract says nothing. Assumes nothing.
+-- Each public function's own contract, over any writer: what it says. A write may fail, and then the contract says nothing.
 use Rattle.std.proofs.Common.{[], ◌≡◌, OnOk, IfOk}
 use denote.Param.Laws.{Laws}
 use denote.RattleType.{RattleType}

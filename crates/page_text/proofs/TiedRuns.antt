@@ -1,4 +1,4 @@
--- The public functions' own contracts: what they say. A run reads from any reader and any shelf and writes to any writer, and may go more than one way. Assumes nothing.
+-- The public functions' own contracts: what they say. A run reads from any reader and any shelf and writes to any writer, and may go more than one way.
 use Rattle.std.proofs.Common.{refl, ◌≡◌, [], map}
 use denote.Param.Laws.{Laws}
 use denote.RattleType.{RattleType}

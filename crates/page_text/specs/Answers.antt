@@ -1,4 +1,4 @@
--- How the telling of a page went, and what is written of it. Assumes nothing.
+-- How the telling of a page went, and what is written of it.
 use Rattle.std.specs.Prelude.{ℕ, List, codes, Option, Some, None}
 use Rattle.refusals.specs.First.{refusal_in}
 use Rattle.refusals.specs.declared.reasons.Refusal.{Refusal}

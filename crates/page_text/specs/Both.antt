@@ -1,4 +1,4 @@
--- Two answers about one page, either of which may refuse it. Assumes nothing.
+-- Two answers about one page, either of which may refuse it.
 use Rattle.std.specs.Prelude.{Result, Ok, Err}
 use Rattle.refusals.specs.declared.reasons.Refusal.{Refusal}
 

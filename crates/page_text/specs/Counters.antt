@@ -1,4 +1,4 @@
--- What is printed of page 11h. Assumes nothing.
+-- What is printed of page 11h.
 use Rattle.std.specs.Prelude.{ℕ, List, [], ◌∷◌, ◌++◌, if◌then◌else◌, decimal, codes, flat_map, Option, Some, None, Result, Ok, Err}
 use Rattle.refusals.specs.declared.reasons.Refusal.{Refusal}
 use Rattle.counters.specs.Rows.{ids}

@@ -1,4 +1,4 @@
--- What is printed of page 10h. Assumes nothing.
+-- What is printed of page 10h.
 use Rattle.std.specs.Prelude.{ℕ, List, ◌++◌, decimal, codes, Result, Ok, Err}
 use Rattle.bits.specs.Answer.{bit_number}
 use Rattle.refusals.specs.declared.reasons.Refusal.{Refusal}

@@ -1,4 +1,4 @@
--- A log page told in hex, byte for byte or in words. Assumes nothing.
+-- A log page told in hex, byte for byte or in words.
 use Rattle.std.specs.Prelude.{ℕ, ◌%◌, ◌==◌, Bool, not, if◌then◌else◌, List, length, filter}
 use Rattle.std.specs.Char.{is_ascii_whitespace}
 use Rattle.std.specs.List.{slice_split, list_all}

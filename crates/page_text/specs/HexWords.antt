@@ -1,4 +1,4 @@
--- Words of two bytes. Assumes nothing.
+-- Words of two bytes.
 use Rattle.std.specs.Prelude.{ℕ, List, [], ◌∷◌}
 
 -- the two bytes of each word, the other first [text-hex]

@@ -1,4 +1,4 @@
--- What is printed of a page of IDENTIFY DEVICE. Assumes nothing.
+-- What is printed of a page of IDENTIFY DEVICE.
 use Rattle.std.specs.Prelude.{ℕ, List, ◌++◌, decimal, codes, Option, Some, None, Result, Ok, Err}
 use Rattle.refusals.specs.declared.reasons.Refusal.{Refusal}
 use Rattle.identity.specs.Read.{read_identity}

@@ -1,4 +1,4 @@
--- The page that an input holds. Assumes nothing.
+-- The page that an input holds.
 use Rattle.std.specs.Prelude.{ℕ, List, length, ltb, if◌then◌else◌, Option, Some, None}
 use Rattle.page_text.specs.declared.parsing.Notation.{Notation}
 use Rattle.page_text.specs.HexText.{page_of}

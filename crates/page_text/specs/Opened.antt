@@ -1,4 +1,4 @@
--- What opening a name gives. Assumes nothing.
+-- What opening a name gives.
 use Rattle.std.specs.Prelude.{◌≡◌, ℕ, List, IfSome, Option, Some, None, Result, Ok, Err}
 use Rattle.std.specs.Option.{option_map}
 

@@ -1,4 +1,4 @@
--- What is owed an input, by what was read of it. Assumes nothing.
+-- What is owed an input, by what was read of it.
 use Rattle.std.specs.Prelude.{◌≡◌, ℕ, List, take, IfSome, Option, Some, None}
 use Rattle.page_text.specs.declared.answers.Answer.{Answer}
 use Rattle.page_text.specs.declared.answers.Answer.TheVariants.{NotAPage, Stopped}

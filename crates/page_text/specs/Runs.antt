@@ -1,4 +1,4 @@
--- What a run writes for what it reads, for each way in which it may go. Assumes nothing.
+-- What a run writes for what it reads, for each way in which it may go.
 use Rattle.std.specs.Prelude.{◌≡◌, ltb, ℕ, List, [], ◌++◌, length, Option, Result, Ok, Err}
 use Rattle.std.specs.Io.KnownBytes.{Appends, Keeps}
 use Rattle.streams.specs.Fronts.{AppendsFront}

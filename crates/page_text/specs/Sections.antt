@@ -1,4 +1,4 @@
--- What is owed to named files: a section each. Assumes nothing.
+-- What is owed to named files: a section each.
 use Rattle.std.specs.Prelude.{◌≡◌, ℕ, Bool, List, [], ◌∷◌, ◌++◌, max, codes, if◌then◌else◌, Option, Some, None}
 use Rattle.page_text.specs.declared.answers.Answer.{Answer}
 use Rattle.page_text.specs.declared.answers.Answer.TheVariants.{Unopened}

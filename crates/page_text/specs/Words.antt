@@ -1,4 +1,4 @@
--- What lines of a page's text are made of. Assumes nothing.
+-- What lines of a page's text are made of.
 use Rattle.std.specs.Prelude.{ℕ, ◌^◌, ◌-◌, true, false, List, [], ◌++◌, decimal, codes}
 use Rattle.std.specs.Fmt.{digits, padded_integral, format_spec}
 use Rattle.refusals.specs.Number.{number}

@@ -1,4 +1,4 @@
--- What of an answer's text is written. Assumes nothing.
+-- What of an answer's text is written.
 use Rattle.std.specs.Prelude.{ℕ, List, Option}
 use Rattle.std.specs.Io.KnownBytes.{Appends}
 use Rattle.streams.specs.Fronts.{AppendsFront}

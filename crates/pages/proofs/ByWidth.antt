@@ -1,4 +1,4 @@
--- A number is read as it was written: one law over the width. Assumes nothing.
+-- A number is read as it was written: one law over the width.
 use Rattle.std.proofs.Common.{◌≡◌, refl, ◌∙◌, List, ℕ, zero, suc, ◌+◌, ◌*◌, ◌^◌, ◌<◌, arith, get_or}
 use Rattle.bits.specs.Little.{le_at, le_bytes}
 use Rattle.bits.proofs.Littles.{le_le_bytes}

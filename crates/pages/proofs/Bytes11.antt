@@ -1,4 +1,4 @@
--- What stands where in page 11h as it is made: 512 bytes, a sum of 0, each kept row, and then zeros. Assumes nothing.
+-- What stands where in page 11h as it is made: 512 bytes, a sum of 0, each kept row, and then zeros.
 use Rattle.std.proofs.Common.{◌≡◌, refl, ap, ◌∙◌, true, ⊎_elim, List, ◌++◌, ℕ, zero, suc, ◌+◌, ◌-◌, ◌<◌, ◌≤◌, arith, leb-true, leb-false, leb, length, get_or, replicate, length-set, get_or-set_other, get_or-append-add}
 use lib.ListN.{get_or-replicate, get_or-append}
 use Rattle.bits.specs.Little.{le_bytes}

@@ -1,4 +1,4 @@
--- The count of the entries that are none of the sixteen counters, over the walk. Assumes nothing.
+-- The count of the entries that are none of the sixteen counters, over the walk.
 use Rattle.std.proofs.Common.{◌≡◌, refl, ap, sym, ◌∙◌, Bool, true, false, List, [], ◌∷◌, length, ℕ, zero, suc, ◌+◌, ◌-◌, ◌≤◌, Option, Some, None, Result, Ok, Err, cond, arith, eq-eqb, zero-add}
 use Rattle.std.specs.List.{count_by}
 use Rattle.std.proofs.lemmas.List.Sums.{sum_by-cons, count_by-le-length}

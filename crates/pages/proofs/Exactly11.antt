@@ -1,4 +1,4 @@
--- Each refusal of page 11h is given exactly when it should be. Assumes nothing.
+-- Each refusal of page 11h is given exactly when it should be.
 use Rattle.std.proofs.Common.{◌≡◌, ap, ◌∙◌, List, ℕ, Option, Result, arith}
 use Rattle.refusals.specs.First.{first_of, refusal_in, FirstExactly}
 use Rattle.refusals.specs.Number.{number_told}

@@ -1,4 +1,4 @@
--- Page 11h as it is filled, kept row by kept row, in place. Assumes nothing.
+-- Page 11h as it is filled, kept row by kept row, in place.
 use Rattle.std.proofs.Common.{◌≡◌, refl, ap, ap₂, sym, ◌∙◌, Bool, true, false, List, [], ◌∷◌, ◌++◌, append_assoc, append-nil, ℕ, zero, suc, ◌+◌, ◌*◌, ◌-◌, ◌<◌, ◌≤◌, le_of_eq, add-one, arith, length, get_or, replicate, take, drop, length-append, drop_of_length-le, take_all, take_at, drop_at, Bor, length-take-le}
 use lib.ListN.{length-replicate}
 use Rattle.std.specs.List.{All, enumerate_from, zip, filter, flat_map}

@@ -1,4 +1,4 @@
--- A value is said to be at the top exactly where it is the largest of the entry that it was read from. Assumes nothing.
+-- A value is said to be at the top exactly where it is the largest of the entry that it was read from.
 use Rattle.std.proofs.Common.{Some, None, Ok, ◌≡◌, ap, sym, ◌∙◌, true, false, ⊎_elim, List, [], ◌∷◌, ℕ, suc, ◌*◌, ◌-◌, ◌^◌, ◌<◌, ◌≤◌, min, suc-le-suc, zero-lt-suc, arith, ltb, lit<, length, get_or, ltb-false, eqb-true, eq-eqb}
 use Rattle.std.specs.List.{list_any}
 use Rattle.refusals.specs.First.{first_of, Iff}

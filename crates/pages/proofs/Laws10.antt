@@ -1,4 +1,4 @@
--- Laws of page 10h. Assumes nothing.
+-- Laws of page 10h.
 use Rattle.std.proofs.Common.{◌≡◌, ap, ◌∙◌, List, ◌++◌, ℕ, ◌%◌, ◌<◌, lit≤, eqb, eqb→eq, bit_and, length, replicate}
 use Rattle.bits.specs.Pick.{pick}
 use Rattle.bits.specs.Bit.{bit_in}

@@ -1,4 +1,4 @@
--- The other bytes of page 10h: how many there can be, and what holds where there are none. Assumes nothing.
+-- The other bytes of page 10h: how many there can be, and what holds where there are none.
 use Rattle.std.proofs.Common.{Ok, ◌≡◌, refl, sym, ap, ◌∙◌, ℕ, suc, ◌+◌, ◌≤◌, List, [], ◌∷◌, length, get_or, set, drop, drop-cons, cond, arith, lit<, bit_and, eqb-true}
 use borrow.Author.Tests.{not-false}
 use Rattle.std.specs.List.{count_by, zip}

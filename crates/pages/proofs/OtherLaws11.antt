@@ -1,4 +1,4 @@
--- The entries that are none of the sixteen counters are just those that no row's number asks for. Assumes nothing.
+-- The entries that are none of the sixteen counters are just those that no row's number asks for.
 use Rattle.std.proofs.Common.{◌≡◌, refl, sym, true, false, List, length, get_or, ℕ, ◌<◌, ◌≤◌, Option, Some, None, cond, arith, eq-eqb, ne_eqb}
 use Rattle.std.specs.List.{count_by}
 use Rattle.std.specs.Option.{is_none}

@@ -1,4 +1,4 @@
--- What is read where of page 11h as it is made: each kept row's identifier and value, and 0000h behind the last. Assumes nothing.
+-- What is read where of page 11h as it is made: each kept row's identifier and value, and 0000h behind the last.
 use Rattle.std.proofs.Common.{◌≡◌, ◌∙◌, true, List, ℕ, suc, ◌+◌, ◌^◌, ◌<◌, arith, get_or}
 use Rattle.bits.specs.Little.{le_at}
 use Rattle.counters.specs.Rows.{id_of, kept}

@@ -1,4 +1,4 @@
--- The answer for a list of entries, with what is found so far, entry by entry: from it the four clauses of refusal 22 follow. Assumes nothing.
+-- The answer for a list of entries, with what is found so far, entry by entry: from it the four clauses of refusal 22 follow.
 use Rattle.std.proofs.Common.{◌≡◌, refl, ap, sym, ◌∙◌, Bool, true, false, List, [], ◌∷◌, ℕ, suc, Option, Some, None, Result, Ok, Err, cond, ◌||◌, one-add, zero-add, leb, arith}
 use Rattle.std.specs.List.{count_by}
 use Rattle.std.proofs.lemmas.List.Sums.{sum_by-cons}

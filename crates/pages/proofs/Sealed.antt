@@ -1,4 +1,4 @@
--- The sum byte does what it is for. Assumes nothing.
+-- The sum byte does what it is for.
 use Rattle.std.proofs.Common.{◌≡◌, ap, ℕ, ◌<◌, List, length, get_or, set, arith}
 use Rattle.std.proofs.lemmas.List.Sums.{sum_by-set}
 use Rattle.pages.specs.Sum.{sum_byte, sum256, sealed_page}

@@ -1,4 +1,4 @@
--- Places are even, so that no identifier straddles 508: of refusal 22's second clause only values' ends are left. Assumes nothing.
+-- Places are even, so that no identifier straddles 508: of refusal 22's second clause only values' ends are left.
 use Rattle.std.proofs.Common.{◌≡◌, refl, Bool, false, List, ℕ, zero, suc, ◌+◌, ◌%◌, arith, ltb}
 use Rattle.std.proofs.lemmas.Bool.Decides.{nat_tests}
 use Rattle.pages.specs.Entries.{CounterEntry, entry_at, end_of, entries_from, entries}

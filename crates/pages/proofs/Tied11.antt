@@ -1,4 +1,4 @@
--- Each public function's own contract: it asks nothing, and two answers which it allows are equal; and where nothing that is proved goes by it, what it says. Assumes nothing.
+-- Each public function's own contract: it asks nothing, and two answers which it allows are equal; and where nothing that is proved goes by it, what it says.
 use Rattle.std.proofs.Common.{refl}
 use Rattle.pages.specs.Read11.{PageCounterGiven}
 use Rattle.bits.specs.Contract.{Sole, Tied}

@@ -1,4 +1,4 @@
--- The contracts of the two functions over the held walk. Assumes nothing.
+-- The contracts of the two functions over the held walk.
 use Rattle.std.proofs.Common.{◌≡◌, refl, Option, Result, List, ℕ, Bor, arith}
 use Rattle.bits.specs.Contract.{Sole}
 use Rattle.bits.proofs.Tying.{same, sole}

@@ -1,4 +1,4 @@
--- Page 10h, there and back, and its refusals exactly. Assumes nothing.
+-- Page 10h, there and back, and its refusals exactly.
 use Rattle.std.proofs.Common.{Ok, ◌≡◌, refl, ap, ◌∙◌, Bool, true, not, ◌&&◌, ◌||◌, List, ℕ, ◌%◌, ◌<◌, arith, bit_and, eqb, length, take, drop, length-set, take_at, eq-eqb}
 use Rattle.bits.specs.Pick.{pick}
 use Rattle.bits.specs.Bit.{bit_in}

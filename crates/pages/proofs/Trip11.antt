@@ -1,4 +1,4 @@
--- The round trip of page 11h: of every number 1 to 4095, a kept row's value is read, and any other number is absent. Assumes nothing.
+-- The round trip of page 11h: of every number 1 to 4095, a kept row's value is read, and any other number is absent.
 use Rattle.std.proofs.Common.{Option, Some, None, Ok, ◌≡◌, refl, ap, sym, ◌∙◌, Bool, true, false, ◌&&◌, ⊎_elim, List, ℕ, zero, suc, ◌+◌, ◌^◌, ◌<◌, ◌≤◌, arith, ne_eqb, eqb-true, eqb, get_or}
 use borrow.Author.Tests.{lt-leb, eqb-false}
 use Rattle.bits.specs.Pick.{pick}

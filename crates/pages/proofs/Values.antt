@@ -1,4 +1,4 @@
--- The value of an entry is read at each width: one law over the width, for every page. Assumes nothing.
+-- The value of an entry is read at each width: one law over the width, for every page.
 use Rattle.std.proofs.Common.{Some, None, Ok, cond, ◌≡◌, true, ◌||◌, List, [], ◌∷◌, ℕ, zero, suc, ◌+◌, ◌*◌, ◌^◌, ◌≤◌, ◌<◌, not-suc-le-zero, le_of_suc-le-suc, arith, leb, lit<, length, get_or, leb-false}
 use Rattle.refusals.specs.First.{first_of}
 use Rattle.bits.specs.Little.{le_bytes}

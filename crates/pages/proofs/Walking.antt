@@ -1,4 +1,4 @@
--- The reader's walk: an entry lies within 508 bytes and leads on, and one step of the walk is one entry of the page. Assumes nothing.
+-- The reader's walk: an entry lies within 508 bytes and leads on, and one step of the walk is one entry of the page.
 use Rattle.std.proofs.Common.{◌≡◌, refl, ap, ap₂, sym, ◌∙◌, Bool, true, false, List, [], ◌∷◌, ℕ, zero, suc, ◌+◌, ◌-◌, ◌<◌, ◌≤◌, length, arith, Option, Some, None, Result, Ok, Err, ◌||◌, ⊎_elim, min, leb, eqb, le-leb, le-ltb, eq-eqb}
 use Rattle.std.proofs.lemmas.Bool.Decides.{nat_tests}
 use Rattle.bits.specs.Pick.{pick}

@@ -1,4 +1,4 @@
--- Page 11h as a writer wrote it, read for any number: the value of a kept row, and else absent. Assumes nothing.
+-- Page 11h as a writer wrote it, read for any number: the value of a kept row, and else absent.
 use Rattle.std.proofs.Common.{Option, Some, None, Ok, ◌≡◌, refl, false, List, ℕ, ◌^◌, ◌<◌, arith, length, get_or, take, drop, take_at}
 use Rattle.std.proofs.lemmas.Bool.Decides.{nat_tests}
 use Rattle.frames.specs.Emit.{WriteGiven}

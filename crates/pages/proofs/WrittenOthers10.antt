@@ -1,4 +1,4 @@
--- A page 10h as a writer wrote it has no bit set but those of its fields and of its sum. Assumes nothing.
+-- A page 10h as a writer wrote it has no bit set but those of its fields and of its sum.
 use Rattle.std.proofs.Common.{◌≡◌, not, refl, sym, ap, ap₂, ◌∙◌, ℕ, ◌%◌, ◌<◌, true, false, List, length, take, drop, Ok, arith, mod-eq_of_lt, bit_and, eq-eqb, take_at}
 use lib.Bits.{and_mask}
 use Rattle.bits.specs.Pick.{pick}

@@ -1,4 +1,4 @@
--- A page 11h as a writer wrote it has no entry but the sixteen counters'. Assumes nothing.
+-- A page 11h as a writer wrote it has no entry but the sixteen counters'.
 use Rattle.std.proofs.Common.{◌≡◌, refl, ap, ◌∙◌, true, false, List, length, take, drop, ℕ, zero, suc, ◌+◌, ◌<◌, ◌≤◌, Ok, arith, take_at}
 use Rattle.frames.specs.Emit.{WriteGiven}
 use Rattle.frames.proofs.EmitLaws.{wrote_all}

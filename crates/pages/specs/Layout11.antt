@@ -1,4 +1,4 @@
--- Log page 11h as it is made. Assumes nothing.
+-- Log page 11h as it is made.
 use Rattle.std.specs.Prelude.{ℕ, zero, suc, ◌+◌, ◌-◌, List, [], ◌++◌, length, get_or, replicate, Result, Ok, Err}
 use Rattle.bits.specs.Pick.{pick}
 use Rattle.bits.specs.Little.{le_bytes}

@@ -1,4 +1,4 @@
--- The bytes of page 10h of which a bit is set that no field is named for. Assumes nothing.
+-- The bytes of page 10h of which a bit is set that no field is named for.
 use Rattle.std.specs.Prelude.{◌≡◌, ℕ, Bool, not, List, Result, count_by}
 use Rattle.std.specs.List.{zip}
 use Rattle.frames.specs.Layout.{bits, masks, holds}

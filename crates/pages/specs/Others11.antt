@@ -1,4 +1,4 @@
--- The entries of page 11h that are none of the sixteen counters. Assumes nothing.
+-- The entries of page 11h that are none of the sixteen counters.
 use Rattle.std.specs.Prelude.{◌≡◌, ℕ, Bool, not, ◌||◌, List, [], ◌∷◌, length, eqb, Result, count_by}
 use Rattle.std.specs.Option.{is_none}
 use Rattle.refusals.specs.First.{Rung, first_of, rung, unless, refusal_in}

@@ -1,4 +1,4 @@
--- Log page 11h as it is read: a counter's value, or absent, or a refusal. Assumes nothing.
+-- Log page 11h as it is read: a counter's value, or absent, or a refusal.
 use Rattle.std.specs.Prelude.{◌≡◌, ℕ, ◌+◌, Bool, not, ◌||◌, List, [], ◌∷◌, length, ltb, leb, eqb, Option, Some, None, Result, Ok, Err, count_by}
 use Rattle.std.specs.List.{find, list_any}
 use Rattle.std.specs.Option.{option_map}

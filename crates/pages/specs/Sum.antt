@@ -1,4 +1,4 @@
--- The sum of a page: all bytes sum to 0 modulo 256, byte 511 sees to it. Assumes nothing.
+-- The sum of a page: all bytes sum to 0 modulo 256, byte 511 sees to it.
 use Rattle.std.specs.Prelude.{ℕ, ◌-◌, ◌%◌, List, set, sum}
 
 -- the sum of all bytes, modulo 256 [page-sum]

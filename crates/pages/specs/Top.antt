@@ -1,4 +1,4 @@
--- Values of page 11h that stand at the top of their width. Assumes nothing.
+-- Values of page 11h that stand at the top of their width.
 use Rattle.std.specs.Prelude.{ℕ, ◌*◌, ◌-◌, ◌^◌, min, Bool, eqb}
 use Rattle.pages.specs.declared.value.CounterValue.{CounterValue}
 

@@ -1,4 +1,4 @@
--- One step of the walk over page 11h: how the code goes about it, and no part of what the page means. Assumes nothing.
+-- One step of the walk over page 11h: how the code goes about it, and no part of what the page means.
 use Rattle.std.specs.Prelude.{◌≡◌, ℕ, ◌+◌, Bool, ◌||◌, List, Option, Some, None, Result, Ok, Err}
 use Rattle.bits.specs.Pick.{pick}
 use Rattle.refusals.specs.declared.reasons.Refusal.{Refusal}

@@ -1,4 +1,4 @@
--- The theorems that the check finds for a promise by itself. Assumes nothing.
+-- The theorems that the check finds for a promise by itself.
 use Rattle.frames.proofs.RoundTrip.{read_encoded}
 use Rattle.pages.proofs.Trip10.{read_page}
 use Rattle.identity.proofs.Trip.{read_identified}

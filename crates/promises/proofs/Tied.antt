@@ -1,4 +1,4 @@
--- What each promise says. Assumes nothing.
+-- What each promise says.
 use Rattle.std.specs.Prelude.{◌≡◌, List, ℕ, map, ◌<◌, ◌^◌, ◌/◌, ◌⊎◌, true, false, get_or, Some, None, Ok}
 use Rattle.device_state.specs.declared.shapes.Settings.{Settings}
 use Rattle.device.specs.Device.{power_on, contradictory_device}

@@ -1,4 +1,4 @@
--- The law of refusals: what `first_of` gives is given exactly when it should be. Assumes nothing.
+-- The law of refusals: what `first_of` gives is given exactly when it should be.
 use Rattle.std.proofs.Common.{◌≡◌, refl, sym, ap, Bool, true, false, not, List, [], ◌∷◌, ℕ, zero, suc, ◌<◌, length, get_or, Option, Some, None, Result, Ok, Err, suc-le-suc, not-suc-le-zero, le_of_suc-le-suc, zero-lt-suc, T, eqb, eq-eqb}
 use Rattle.bits.proofs.Picks.{by_test}
 use Rattle.bits.proofs.Tables.{both_left, both_right}

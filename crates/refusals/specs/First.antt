@@ -1,4 +1,4 @@
--- A list of tests, each with its refusal: the refusal of the first that holds. Assumes nothing.
+-- A list of tests, each with its refusal: the refusal of the first that holds.
 use Rattle.std.specs.Prelude.{◌≡◌, Bool, true, false, ◌&&◌, not, List, [], ◌∷◌, ℕ, ◌<◌, eqb, length, get_or, Option, Some, None, Result, Ok, Err}
 use Rattle.bits.specs.Pick.{pick}
 use Rattle.refusals.specs.Number.{number}

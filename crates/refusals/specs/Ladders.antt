@@ -1,4 +1,4 @@
--- Each call's refusals in the order in which they are tried. Each test is a clause of the refusal table. Assumes nothing.
+-- Each call's refusals in the order in which they are tried. Each test is a clause of the refusal table.
 use Rattle.std.specs.Prelude.{Bool, List, [], ◌∷◌}
 use Rattle.refusals.specs.First.{Rung, rung}
 use Rattle.refusals.specs.declared.reasons.Refusal.TheVariants.{Contradiction, MediumLength, ReplyShort, NoHostFrame, WrongTime, TooLong, TagIdle, PhaseOpen, AllMoved, NoReadPhase, SetUnready, OutsideCommand, NoRow, NoCounter}

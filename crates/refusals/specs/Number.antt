@@ -1,4 +1,4 @@
--- The number of each refusal. Assumes nothing.
+-- The number of each refusal.
 use Rattle.std.specs.Prelude.{ℕ, Option, Some, None}
 use Rattle.refusals.specs.declared.reasons.Refusal.{Refusal}
 use Rattle.refusals.specs.declared.reasons.Refusal.TheVariants.{Contradiction, MediumLength, ReplyShort, NoHostFrame, WrongTime, TooLong, TagIdle, PhaseOpen, AllMoved, NoReadPhase, SetUnready, OutsideCommand, NoRow, PageLength, PageSum, PageDamaged, NoCounter, NoFrame, Unfit, BufferShort}

@@ -1,4 +1,4 @@
--- What each act's replies ask of it, so that every one of them can be written. Assumes nothing.
+-- What each act's replies ask of it, so that every one of them can be written.
 use Rattle.std.proofs.Common.{◌≡◌, true, List, [], ◌∷◌, ℕ, ◌^◌, ◌<◌, length}
 use Rattle.bits.specs.Little.{Bytes}
 use Rattle.frames.specs.Shared.{task_fits}

@@ -1,4 +1,4 @@
--- Every reply that fits is sent, whole and in its place: none is left out. Assumes nothing.
+-- Every reply that fits is sent, whole and in its place: none is left out.
 use Rattle.std.proofs.Common.{◌≡◌, refl, sym, ap, ap₂, ◌∙◌, Bool, true, false, not, true≢false, List, [], ◌∷◌, ◌++◌, map, ℕ, ◌^◌, ◌<◌, arith, length, take, drop, take_at, lt-ltb}
 use Rattle.bits.specs.Little.{Bytes}
 use Rattle.bits.proofs.Picks.{pick_yes}

@@ -1,4 +1,4 @@
--- A device register reply repeats bytes 4-10 and 12-13 of the command. Assumes nothing.
+-- A device register reply repeats bytes 4-10 and 12-13 of the command.
 use Rattle.std.proofs.Common.{Option, ◌≡◌, refl, ap, true, List, [], ◌∷◌, ℕ}
 use Rattle.frames.specs.Shared.{task_fits}
 use Rattle.frames.specs.declared.shared.Task.{Task}

@@ -1,4 +1,4 @@
--- The room that every call asks for is enough for the replies of any act. Assumes nothing.
+-- The room that every call asks for is enough for the replies of any act.
 use Rattle.std.proofs.Common.{◌≡◌, refl, Bool, true, false, not, List, [], ◌∷◌, ⊎_elim, ℕ, ◌+◌, ◌≤◌, ◌<◌, arith, length}
 use Rattle.bits.specs.Pick.{pick}
 use Rattle.bits.proofs.Picks.{by_test}

@@ -1,4 +1,4 @@
--- Laws of frames sent one behind the other. Assumes nothing.
+-- Laws of frames sent one behind the other.
 use Rattle.std.proofs.Common.{◌≡◌, refl, sym, ap, ap₂, ◌∙◌, Bool, true, false, List, [], ◌∷◌, ◌++◌, append-nil, append_assoc, ℕ, ◌+◌, ◌-◌, ◌≤◌, arith, length, take, drop, length-append, length-drop, length-take-le, Result, Ok, Err}
 use borrow.Rule.Slice.PartMut.{mid_of, put_mid}
 use Rattle.std.specs.Result.{result_unwrap_or}

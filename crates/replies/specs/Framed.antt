@@ -1,4 +1,4 @@
--- A reply as a frame value. Assumes nothing.
+-- A reply as a frame value.
 use Rattle.frames.specs.Write.{FrameValue, device, set_bits, setup, activate, payload, pio}
 use Rattle.replies.specs.declared.reply.Reply.{Reply}
 use Rattle.replies.specs.declared.reply.Reply.TheVariants.{Register, Bits, Setup, Activate, Pio, Data}

@@ -1,4 +1,4 @@
--- Replies as frame values, and their bytes. Assumes nothing.
+-- Replies as frame values, and their bytes.
 use Rattle.std.specs.Prelude.{◌≡◌, Bool, true, false, not, List, [], ◌∷◌, ◌++◌, map, ℕ, length}
 use Rattle.bits.specs.Pick.{pick}
 use Rattle.bits.specs.Laid.{overlay}

@@ -1,4 +1,4 @@
--- What the code that sends frames is told to send, and what it has sent once it is done. Assumes nothing.
+-- What the code that sends frames is told to send, and what it has sent once it is done.
 use Rattle.std.specs.Prelude.{List, ℕ, ◌≤◌, length}
 use Rattle.frames.specs.Write.{FrameValue}
 use Rattle.replies.specs.Replies.{sent_all, RepliesGiven}

@@ -1,4 +1,4 @@
--- What replies show of the state. Assumes nothing.
+-- What replies show of the state.
 use Rattle.std.specs.Prelude.{Bool, List, ℕ}
 use Rattle.device_state.specs.declared.shapes.ErrorRecord.{ErrorRecord}
 use Rattle.identity.specs.declared.words.Identity.{Identity}

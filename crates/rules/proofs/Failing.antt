@@ -1,4 +1,4 @@
--- The bytes of a command with another LBA. Assumes nothing.
+-- The bytes of a command with another LBA.
 use Rattle.std.proofs.Common.{◌≡◌, ℕ, ◌<◌, arith}
 use Rattle.device_state.specs.State.{task_in, echo_of}
 use Rattle.device_state.specs.declared.shapes.Echo.{Echo}

@@ -1,4 +1,4 @@
--- A call is refused by the first of its tests that holds. Assumes nothing.
+-- A call is refused by the first of its tests that holds.
 use Rattle.std.proofs.Common.{◌≡◌, sym, subst, true}
 use Rattle.refusals.specs.First.{first_of, FirstExactly, refusal_in}
 use Rattle.refusals.proofs.FirstLaws as firsts

@@ -1,4 +1,4 @@
--- How a call is decided: the rule that holds, with what it found. A proof about calls goes by these cases. Assumes nothing.
+-- How a call is decided: the rule that holds, with what it found. A proof about calls goes by these cases.
 use Rattle.std.proofs.Common.{Some, None, is_none, Result, Ok, Err, ◌≡◌, Bool, true, false, not, ◌&&◌, ◌||◌, true≢false, List, [], ℕ, ◌+◌, eqb, ltb, leb, lit<, arith}
 use borrow.Author.Tests.{not-false, not-true}
 use Rattle.bits.specs.Pick.{pick}

@@ -1,4 +1,4 @@
--- What a command comes to, by the page that it asks for. Assumes nothing.
+-- What a command comes to, by the page that it asks for.
 use Rattle.std.proofs.Common.{Option, Some, None, Result, Ok, Err, ◌≡◌, refl, true, false}
 use Rattle.std.specs.Option.{ok_or}
 use Rattle.rules.specs.OtherRule.{asks_errors, asks_counters, asks_identity}

@@ -1,4 +1,4 @@
--- What holds of every call's row of the refusal table. Assumes nothing.
+-- What holds of every call's row of the refusal table.
 use Rattle.std.proofs.Common.{Some, ◌≡◌, refl, Bool, true, false, ◌&&◌, true≢false, List, [], ◌∷◌, T, ltb, arith}
 use Rattle.refusals.specs.First.{Rung, first_of, fresh, apart}
 use Rattle.refusals.specs.Number.{number}

@@ -1,4 +1,4 @@
--- Each public function's own contract: it asks nothing, and two answers which it allows are equal. Assumes nothing.
+-- Each public function's own contract: it asks nothing, and two answers which it allows are equal.
 use Rattle.std.proofs.Common.{refl}
 use Rattle.bits.specs.Contract.{Sole}
 use Rattle.bits.proofs.Tying.{same, sole}

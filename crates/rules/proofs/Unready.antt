@@ -1,4 +1,4 @@
--- A walk over the tags of a set tests every tag. Assumes nothing.
+-- A walk over the tags of a set tests every tag.
 use Rattle.std.proofs.Common.{◌≡◌, refl, sym, ap, ap₂, ◌∙◌, Bool, true, false, true≢false, ◌||◌, List, ℕ, zero, suc, ◌<◌, ◌^◌, arith, ⊎_elim, eqb, eqb-true}
 use Rattle.std.proofs.lemmas.Bool.{eqb-false}
 use Rattle.bits.specs.Bit.{bit_in}

@@ -1,4 +1,4 @@
--- What a call makes the device do: refused by the first of its tests that holds, and otherwise done. Assumes nothing.
+-- What a call makes the device do: refused by the first of its tests that holds, and otherwise done.
 use Rattle.std.specs.Prelude.{ℕ, Some, Result}
 use Rattle.bits.specs.Little.{byte_of}
 use Rattle.refusals.specs.First.{first_of, unless}

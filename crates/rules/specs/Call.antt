@@ -1,4 +1,4 @@
--- The calls of the device: what is asked of it. Assumes nothing.
+-- The calls of the device: what is asked of it.
 use Rattle.std.specs.Prelude.{List, ℕ}
 use Rattle.rules.specs.declared.event.DeviceEvent.{DeviceEvent}
 

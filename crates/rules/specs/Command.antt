@@ -1,4 +1,4 @@
--- The commands that the device tells apart, by their bytes. Assumes nothing.
+-- The commands that the device tells apart, by their bytes.
 use Rattle.std.specs.Prelude.{ℕ, eqb, Option, Some, None}
 use Rattle.bits.specs.Pick.{pick}
 use Rattle.rules.specs.declared.command.Command.{Command}

@@ -1,4 +1,4 @@
--- What a host frame makes the device do where it is not turned down: the first rule that holds. Assumes nothing.
+-- What a host frame makes the device do where it is not turned down: the first rule that holds.
 use Rattle.std.specs.Prelude.{Bool, not, ◌&&◌, ◌||◌, ℕ, eqb, Option, Some, None, Result, Ok, Err}
 use Rattle.bits.specs.Pick.{pick}
 use Rattle.bits.specs.Bit.{bit_in}

@@ -1,4 +1,4 @@
--- The errors of bad commands, by their bytes. Assumes nothing.
+-- The errors of bad commands, by their bytes.
 use Rattle.std.specs.Prelude.{ℕ}
 use Rattle.rules.specs.declared.errors.CommandError.{CommandError}
 use Rattle.rules.specs.declared.errors.CommandError.TheVariants.{Aborted, IdNotFound}

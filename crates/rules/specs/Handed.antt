@@ -1,4 +1,4 @@
--- What each call is handed: arguments, medium, reply buffer. Assumes nothing.
+-- What each call is handed: arguments, medium, reply buffer.
 use Rattle.std.specs.Prelude.{Bool, true, false, List, [], ℕ, Option, Some, None}
 use Rattle.rules.specs.Call.{Call, host_frame, happens}
 use Rattle.rules.specs.declared.event.DeviceEvent.TheVariants.{OpenPhase, SendData, FinishTags, MediaError, LinkEvent, LinkTally, Comreset}

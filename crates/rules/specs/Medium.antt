@@ -1,4 +1,4 @@
--- What an act takes from the medium, or puts there. Assumes nothing.
+-- What an act takes from the medium, or puts there.
 use Rattle.std.specs.Prelude.{List, [], ℕ, take, drop}
 unfoldable pub use Rattle.device_state.specs.Stored.{stored_medium}
 use Rattle.rules.specs.declared.acts.Move.{Move}

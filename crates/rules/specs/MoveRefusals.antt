@@ -1,4 +1,4 @@
--- What is refused for what has moved of a command, in bytes. Assumes nothing.
+-- What is refused for what has moved of a command, in bytes.
 use Rattle.std.specs.Prelude.{Bool, not, ◌&&◌, ◌||◌, ℕ, ltb}
 use Rattle.device_state.specs.Progress.{wholly}
 

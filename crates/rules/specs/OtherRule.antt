@@ -1,4 +1,4 @@
--- Which rule holds for a command that is not queued. Assumes nothing.
+-- Which rule holds for a command that is not queued.
 use Rattle.std.specs.Prelude.{Bool, true, false, not, ◌&&◌, ℕ, Option, Some, Result, Err}
 use Rattle.std.specs.Option.{ok_or}
 use Rattle.bits.specs.Pick.{pick}

@@ -1,4 +1,4 @@
--- Positions of a command: what is left, and where. What has moved is kept in bytes. Assumes nothing.
+-- Positions of a command: what is left, and where. What has moved is kept in bytes.
 use Rattle.std.specs.Prelude.{Bool, true, false, ℕ, Option, None, unwrap_or}
 use Rattle.bits.specs.Pick.{pick}
 use Rattle.device_state.specs.Progress.{left_in, part_in, last_in, moved_on}

@@ -1,4 +1,4 @@
--- Which rule holds for a queued command. Assumes nothing.
+-- Which rule holds for a queued command.
 use Rattle.std.specs.Prelude.{Bool, ◌||◌, ℕ, leb, Result, Ok, Err}
 use Rattle.bits.specs.Pick.{pick}
 use Rattle.rules.specs.declared.errors.CommandError.TheVariants.{Aborted, IdNotFound}

@@ -1,4 +1,4 @@
--- The record of a fault. Assumes nothing.
+-- The record of a fault.
 use Rattle.std.specs.Prelude.{true, is_none, unwrap_or}
 use Rattle.device_state.specs.declared.shapes.ErrorRecord.{ErrorRecord}
 use Rattle.rules.specs.declared.acts.Fault.{Fault}

@@ -1,4 +1,4 @@
--- What a call is turned down for: its row of the refusal table, in the order in which it is tried. Assumes nothing.
+-- What a call is turned down for: its row of the refusal table, in the order in which it is tried.
 use Rattle.std.specs.Prelude.{Bool, true, false, not, ◌&&◌, ◌||◌, List, [], ◌∷◌, ℕ, eqb, is_none, Result, Ok}
 use Rattle.refusals.specs.First.{Rung, rung}
 use Rattle.refusals.specs.declared.reasons.Refusal.{Refusal}

@@ -1,4 +1,4 @@
--- Fronts of a text. Assumes nothing.
+-- Fronts of a text.
 use Rattle.std.proofs.Common.{◌≡◌, ℕ, ◌+◌, ◌<◌, List, ◌++◌, Option, length, length-append, take, sym, ap, subst, ◌∙◌, arith}
 use Rattle.std.proofs.KnownBytes.{Appends-trans}
 use lib.Seq.{take-append_seam, take-append-add}

@@ -1,4 +1,4 @@
--- A text that is written in pieces: what was written, and the rest that is still to come. Assumes nothing.
+-- A text that is written in pieces: what was written, and the rest that is still to come.
 use Rattle.std.proofs.Common.{◌≡◌, ℕ, ◌-◌, ◌<◌, List, [], ◌++◌, Option, length, take, drop, sym, ap, subst, ◌∙◌, append_assoc, take-append-drop}
 use Rattle.std.proofs.lemmas.List.{take_rest}
 use Rattle.std.specs.Io.KnownBytes.{Appends, Keeps}

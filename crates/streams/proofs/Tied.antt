@@ -1,4 +1,4 @@
--- The contracts over any writer and any reader: what they say. A write or a read may go more than one way. Assumes nothing.
+-- The contracts over any writer and any reader: what they say. A write or a read may go more than one way.
 use Rattle.std.proofs.Common.{[], ◌≡◌, length, OnOk, OnErr, IfOk}
 use denote.Param.Laws.{Laws}
 use denote.RattleType.{RattleType}

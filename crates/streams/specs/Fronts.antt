@@ -1,4 +1,4 @@
--- What is written of a text, and what is read into a buffer. Assumes nothing.
+-- What is written of a text, and what is read into a buffer.
 use Rattle.std.specs.Prelude.{ℕ, ◌<◌, ◌≤◌, List, [], ◌∷◌, length, take, Option, Some, None}
 use Rattle.std.specs.Io.KnownBytes.{Appends, Consumes, IsAtEnd}
 

@@ -1,4 +1,4 @@
--- What is said of output that is lost. Assumes nothing.
+-- What is said of output that is lost.
 use Rattle.std.specs.Prelude.{ℕ, List, codes}
 
 -- a write failed [event-lost]

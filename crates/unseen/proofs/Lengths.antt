@@ -1,4 +1,4 @@
--- What a call leaves of medium and reply buffer is as long whatever contents are. Assumes nothing.
+-- What a call leaves of medium and reply buffer is as long whatever contents are.
 use Rattle.std.proofs.Common.{Result, Ok, Err, ◌≡◌, refl, ◌&&◌, List, ◌++◌, ℕ, ◌≤◌, arith, leb, length, take, drop, length-append, length-take, length-drop, leb-true}
 use Rattle.bits.specs.Laid.{overlay, overlay_with_room}
 use Rattle.bits.proofs.Picks.{by_test, and_right}

@@ -1,4 +1,4 @@
--- Runs of the event program that differ in contents alone. Assumes nothing.
+-- Runs of the event program that differ in contents alone.
 use Rattle.std.proofs.Common.{◌≡◌, refl, sym, ap, ap₂, ◌∙◌, true, false, List, [], ◌∷◌, ◌++◌, map, ℕ, ◌+◌, arith, length, get_or, replicate, unwrap_or}
 use Rattle.std.proofs.lemmas.List.{length-replicate}
 use Rattle.bits.proofs.Picks.{pick_no}

@@ -1,4 +1,4 @@
--- Sequences of calls that differ in contents alone. Assumes nothing.
+-- Sequences of calls that differ in contents alone.
 use Rattle.std.proofs.Common.{◌≡◌, refl, sym, ap, ap₂, subst, ◌∙◌, Bool, true, false, ⊎_elim, Option, Result, Ok, Err, List, [], ◌∷◌, ◌++◌, append-nil, map, ℕ, ◌-◌, arith, length}
 use Rattle.bits.specs.Pick.{pick}
 use Rattle.bits.proofs.Picks.{by_test, pick_no, tested}

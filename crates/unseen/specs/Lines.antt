@@ -1,4 +1,4 @@
--- That contents do not show in the lines of the event program. Assumes nothing.
+-- That contents do not show in the lines of the event program.
 use Rattle.std.specs.Prelude.{◌≡◌, true, false, List, [], ◌∷◌, ◌++◌, map, ℕ, ◌+◌}
 use Rattle.device.specs.Step.{bytes_of}
 use Rattle.events.specs.declared.asked.Event.{Event}

@@ -1,4 +1,4 @@
--- That contents do not show in any sequence of calls. Assumes nothing.
+-- That contents do not show in any sequence of calls.
 use Rattle.std.specs.Prelude.{◌≡◌, List, map, ℕ, Option, Result}
 use Rattle.refusals.specs.declared.reasons.Refusal.{Refusal}
 use Rattle.device_state.specs.declared.shapes.Settings.{Settings}

@@ -1,4 +1,4 @@
--- The examples hold: each side computes to the other. Assumes nothing.
+-- The examples hold: each side computes to the other.
 use Rattle.std.proofs.Common.{Result, Ok, Err, ◌≡◌, refl, sym, ap, subst, ◌∙◌, Bool, false, List, [], ℕ, ◌*◌, length, take, drop, arith, eq-eqb}
 use lib.ListN.{length-replicate}
 use Rattle.refusals.specs.First.{first_of}

@@ -1,4 +1,4 @@
--- More of what the theorems over every run speak of comes up in two further runs, computed by the definitions. Assumes nothing.
+-- More of what the theorems over every run speak of comes up in two further runs, computed by the definitions.
 use Rattle.std.proofs.Common.{refl}
 use Rattle.refusals.specs.First.{first_of}
 use Rattle.bits.specs.Laid.{overlay_with_room}

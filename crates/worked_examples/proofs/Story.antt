@@ -1,4 +1,4 @@
--- The theorems over every run are not empty: a run in which all that they speak of comes up, computed by the definitions. Assumes nothing.
+-- The theorems over every run are not empty: a run in which all that they speak of comes up, computed by the definitions.
 use Rattle.std.proofs.Common.{◌≡◌, refl, Bool, true, ◌&&◌, List, [], ◌∷◌, ℕ, zero, suc, ◌^◌, arith, ltb}
 use Rattle.bits.specs.Little.{Bytes}
 use Rattle.rules.specs.Call.{Call}

@@ -1,4 +1,4 @@
--- Each frame and each page is its bytes, and the bytes are read as it. Assumes nothing.
+-- Each frame and each page is its bytes, and the bytes are read as it.
 use Rattle.std.proofs.Common.{refl}
 use Rattle.refusals.specs.First.{first_of}
 use Rattle.frames.specs.Cut.{joined_bytes, cut, cut_to, first_length}

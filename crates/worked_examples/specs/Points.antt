@@ -1,4 +1,4 @@
--- The eleven proved examples: pages and replies of the machine's own calls. Assumes nothing.
+-- The eleven proved examples: pages and replies of the machine's own calls.
 use Rattle.std.specs.Prelude.{◌≡◌, false, List, [], ◌∷◌, map, ℕ, ◌*◌, get_or, take, drop, replicate, Option, Result}
 use Rattle.bits.specs.Little.{le_bytes}
 use Rattle.refusals.specs.declared.reasons.Refusal.{Refusal}

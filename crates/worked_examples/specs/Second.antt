@@ -1,5 +1,5 @@
 -- Two more runs of the device from power-on. One, of twelve calls, has a held reset and its release, and three errors that each wait and are read:
--- at a command that is not queued, at a queued one past the capacity, and at one of a tag in use. The other, of nine, moves a read and a write of 17 sectors, each in two data frames. Assumes nothing.
+-- at a command that is not queued, at a queued one past the capacity, and at one of a tag in use. The other, of nine, moves a read and a write of 17 sectors, each in two data frames.
 use Rattle.std.specs.Prelude.{◌≡◌, Bool, true, false, List, [], ◌∷◌, ◌++◌, map, reverse, ℕ, ◌-◌, ◌*◌, length, get_or, drop, replicate, Some, None, Ok}
 use Rattle.frames.specs.declared.shared.Task.{Task}
 use Rattle.device_state.specs.declared.shapes.Settings.{Settings}

@@ -1,4 +1,4 @@
--- One run of the device from power-on, of seventeen calls, in which each fate comes up, an error waits and is read, a tag is reused and a page shows counters. Assumes nothing.
+-- One run of the device from power-on, of seventeen calls, in which each fate comes up, an error waits and is read, a tag is reused and a page shows counters.
 use Rattle.std.specs.Prelude.{◌≡◌, Bool, true, false, List, [], ◌∷◌, ◌++◌, map, reverse, ℕ, zero, suc, ◌-◌, ◌*◌, length, get_or, drop, replicate, Some, None, Ok}
 use Rattle.bits.specs.Pick.{pick}
 use Rattle.device_state.specs.declared.shapes.Settings.{Settings}

@@ -1,5 +1,5 @@
 -- Frames and pages in full, no two fields alike: which byte and which bits each field has, of what is written and of what is read. Byte k of a frame and of page 10h is 10h + k
--- wherever a field fills it. Assumes nothing.
+-- wherever a field fills it.
 use Rattle.std.specs.Prelude.{◌≡◌, true, false, List, [], ◌∷◌, ◌++◌, map, ℕ, replicate, Some, Option, Result, Ok, Err}
 use Rattle.bits.specs.Laid.{overlay}
 use Rattle.refusals.specs.Number.{number}

@@ -1,4 +1,4 @@
--- A page of IDENTIFY DEVICE in full, of 27 tags and a capacity of which no two bytes are alike. Assumes nothing.
+-- A page of IDENTIFY DEVICE in full, of 27 tags and a capacity of which no two bytes are alike.
 use Rattle.std.specs.Prelude.{List, [], ◌∷◌, ◌++◌, ℕ, replicate}
 use Rattle.identity.specs.declared.words.Identity.{Identity}
 
