@@ -24,7 +24,7 @@ fn play_event(device: Device, event: DeviceEvent, medium: &mut [u8], reply: &mut
     match Sealed::try_from(device) {
         Ok(mut sealed) => {
             let answer = sealed.event(event, medium, reply);
-            sealed.device.with(answer)
+            Device::from(sealed).with(answer)
         }
         Err(refusal) => device.with(Err(refusal)),
     }

@@ -1,6 +1,7 @@
 // One event each, with any medium and any reply buffer: what is proved is what the contracts of `events` tell a caller.
 
 ghost use Rattle.device.specs.Lent.{gave, answered};
+ghost use Rattle.device.specs.Sealing.{state_of};
 ghost use Rattle.events.specs.Settings.{in_limit};
 ghost use Rattle.caller.specs.Playing.{play as played, BeginsBy, PlayContinues, PlaysContinue, GivenPlaysHold, GivenPlaysTold};
 
@@ -24,7 +25,7 @@ pub fn play(
     medium: &mut [u8],
     reply: &mut [u8],
 ) -> Result<usize, Refusal>
-    ensures { PlayContinues sealed.old.device (played event medium.old reply.old (gave (answered sealed.new.device result) medium.new reply.new)) }
+    ensures { PlayContinues (state_of sealed.old) (played event medium.old reply.old (gave (answered (state_of sealed.new) result) medium.new reply.new)) }
 {
     events::play(sealed, event, medium, reply)
 }

@@ -1,10 +1,11 @@
 -- The same of the calls of a device that is kept.
-use Rattle.std.proofs.Common.{[], refl}
+use Rattle.std.proofs.Common.{[], ◌≡◌, refl}
 use Rattle.device.specs.Lent.{answered}
+use Rattle.device.specs.Sealing.{state_of}
 use Rattle.device.proofs.Outcomes.{given_once}
 use Rattle.device.proofs.Kept.{kept_once, sealed_once, same_answer, same_state, powered_once}
-use Rattle.bits.specs.Contract.{Sole}
-use Rattle.bits.proofs.Tying.{same, sole}
+use Rattle.bits.specs.Contract.{Sole, Says}
+use Rattle.bits.proofs.Tying.{same, sole, say}
 use Rattle.device.proofs.sealed
 use Rattle.device.specs.contracts.sealed as sealed-said
 
@@ -40,3 +41,10 @@ tied_power_on = sole (λ κs a. tt) (λ κs a r r' ws ws' p q. (powered_once r r
 
 pub tied_try_from : Sole sealed-said.SealedTryFromDevice.try_from.ended sealed.SealedTryFromDevice.try_from.Reads.Asked sealed.SealedTryFromDevice.try_from.Reads.Post
 tied_try_from = sole (λ κs a. tt) (λ κs a r r' ws ws' p q. (sealed_once a.0 r r' p q, refl))
+
+pub tied_from : Sole sealed-said.DeviceFromSealed.from.ended sealed.DeviceFromSealed.from.Reads.Asked sealed.DeviceFromSealed.from.Reads.Post
+tied_from = sole (λ κs a. tt) (λ κs a r r' ws ws' p q. (same p q, refl))
+
+-- its state is lent as it stands
+pub tied_state : Says sealed-said.Sealed.state.ended sealed.Sealed.state.Reads.Asked sealed.Sealed.state.Reads.Post (λ κs a r ws. r.now ≡ state_of a.0.now)
+tied_state = say (λ κs a. tt) (λ κs a r ws p. p)

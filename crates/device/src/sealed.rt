@@ -12,8 +12,8 @@ use refusals::Refusal;
 /// capacity (`Settings::medium_size`), and `reply` at least 8,196 (`Device::REPLY_SIZE`).
 #[derive(Debug, Drop, PartialEq, Eq)]
 pub struct Sealed {
-    /// its state
-    pub device: Device,
+    // lent by `state` alone, so that nothing but a call changes it
+    pub(crate) device: Device,
     ghost sound: { contradictory_device device ≡ false },
 }
 
@@ -30,5 +30,27 @@ impl TryFrom<Device> for Sealed {
             return Err(Refusal::Contradiction);
         }
         Ok(Sealed { device })
+    }
+}
+
+/// The state by value, as the calls left it.
+impl From<Sealed> for Device {
+    ghost use Rattle.device.specs.Sealing.{state_of};
+
+    ghost from_gives = { λ sealed device. device ≡ state_of sealed };
+
+    fn from(sealed: Sealed) -> Device {
+        sealed.device
+    }
+}
+
+impl Sealed {
+    ghost use Rattle.device.specs.Sealing.{state_of};
+
+    /// Its state, of which the questions are methods (`Device::counter`, `outstanding_count`, `data_due`).
+    pub fn state(&self) -> &Device
+        ensures { result.now ≡ state_of self.now }
+    {
+        &self.device
     }
 }

@@ -12,7 +12,7 @@ ghost use Rattle.device.specs.Lent.{lent, gave, answered};
 ghost use Rattle.device.specs.FactsOf.{entry_meant, medium_wrong, facts_with, unready_in};
 ghost use Rattle.device.specs.After.{after_of};
 ghost use Rattle.device.specs.Step.{state_shown, act_of, Given, GivenReplying, GivenAlone};
-ghost use Rattle.device.specs.Sealing.{powered_of};
+ghost use Rattle.device.specs.Sealing.{powered_of, state_of};
 
 use crate::sealed::Sealed;
 use crate::state::Device;
@@ -72,7 +72,7 @@ impl Sealed {
     // What a decision looks at, of a call about a tag's entry, if it is about one: that the device does not contradict
     // itself is known by its field.
     fn facts(&self, tag: Option<u32>, some_unready: bool, medium: &[u8], reply: &[u8]) -> Facts
-        ensures { let device = self.now.device in result ≡ facts_with device tag (medium_wrong device.settings.capacity (length medium.now)) some_unready (length reply.now) }
+        ensures { let device = state_of self.now in result ≡ facts_with device tag (medium_wrong device.settings.capacity (length medium.now)) some_unready (length reply.now) }
     {
         let device = &self.device;
         Facts {
@@ -89,7 +89,7 @@ impl Sealed {
     // What a host frame comes to: it is about the open phase.
     #[tactic(auto, using(crate::proofs::Doing::host_act))]
     fn frame_act(&self, frame: &[u8], medium: &[u8], reply: &[u8]) -> Result<Act, Refusal>
-        ensures { result ≡ act_of self.now.device (lent (host_frame frame.now) medium.now reply.now) }
+        ensures { result ≡ act_of (state_of self.now) (lent (host_frame frame.now) medium.now reply.now) }
     {
         let facts = self.facts(self.device.status.phase, false, medium, reply);
         facts.frame_act(frames::read_frame(frame))
@@ -98,7 +98,7 @@ impl Sealed {
     // The set that it names has a tag that is not ready; an event that names no set has none.
     #[tactic(auto, using(crate::proofs::Doing::none_unready))]
     fn is_unready(&self, event: DeviceEvent) -> bool
-        ensures unready { result ≡ unready_in self.now.device (happens event) }
+        ensures unready { result ≡ unready_in (state_of self.now) (happens event) }
         ensures typed { (handed (happens event)).set < 2 ^ 32 }
     {
         match event {
@@ -117,7 +117,7 @@ impl Sealed {
     // What a device event comes to.
     #[tactic(auto, unfolding(crate::specs::Step::act_of))]
     fn event_act(&self, event: DeviceEvent, medium: &[u8], reply: &[u8]) -> Result<Act, Refusal>
-        ensures act { result ≡ act_of self.now.device (lent (happens event) medium.now reply.now) }
+        ensures act { result ≡ act_of (state_of self.now) (lent (happens event) medium.now reply.now) }
         ensures typed { (handed (happens event)).set < 2 ^ 32 }
     {
         let tag = event.tag_meant(self.device.status.phase);
@@ -153,7 +153,7 @@ impl Sealed {
         medium: &mut [u8],
         reply: &mut [u8],
     ) -> Result<usize, Refusal>
-        ensures { Given self.old.device (lent (host_frame frame.now) medium.old reply.old) (gave (answered self.new.device result) medium.new reply.new) }
+        ensures { Given (state_of self.old) (lent (host_frame frame.now) medium.old reply.old) (gave (answered (state_of self.new) result) medium.new reply.new) }
     {
         let act = self.frame_act(frame, medium, reply)?;
         act.store(medium, frame);
@@ -171,7 +171,7 @@ impl Sealed {
         medium: &[u8],
         reply: &mut [u8],
     ) -> Result<usize, Refusal>
-        ensures { Given self.old.device (lent (happens event) medium.now reply.old) (gave (answered self.new.device result) medium.now reply.new) }
+        ensures { Given (state_of self.old) (lent (happens event) medium.now reply.old) (gave (answered (state_of self.new) result) medium.now reply.new) }
     {
         let act = self.event_act(event, medium, reply)?;
         Ok(self.device.done(&act, act.part(medium), reply))
@@ -182,7 +182,7 @@ impl Sealed {
     /// # Errors
     /// The first that holds of `ReplyShort` (3), `TagIdle` (7), `PhaseOpen` (8), `AllMoved` (9).
     pub fn open(&mut self, tag: u8, reply: &mut [u8]) -> Result<usize, Refusal>
-        ensures { GivenReplying self.old.device (happens (OpenPhase tag)) reply.old (answered self.new.device result) reply.new }
+        ensures { GivenReplying (state_of self.old) (happens (OpenPhase tag)) reply.old (answered (state_of self.new) result) reply.new }
     {
         self.event(DeviceEvent::OpenPhase(tag), b"", reply)
     }
@@ -192,7 +192,7 @@ impl Sealed {
     /// # Errors
     /// The first that holds of `MediumLength` (2), `ReplyShort` (3), `NoReadPhase` (10).
     pub fn send(&mut self, medium: &[u8], reply: &mut [u8]) -> Result<usize, Refusal>
-        ensures { Given self.old.device (lent (happens SendData) medium.now reply.old) (gave (answered self.new.device result) medium.now reply.new) }
+        ensures { Given (state_of self.old) (lent (happens SendData) medium.now reply.old) (gave (answered (state_of self.new) result) medium.now reply.new) }
     {
         self.event(DeviceEvent::SendData, medium, reply)
     }
@@ -202,7 +202,7 @@ impl Sealed {
     /// # Errors
     /// The first that holds of `ReplyShort` (3), `PhaseOpen` (8), `SetUnready` (11).
     pub fn finish(&mut self, set: u32, reply: &mut [u8]) -> Result<usize, Refusal>
-        ensures { GivenReplying self.old.device (happens (FinishTags set)) reply.old (answered self.new.device result) reply.new }
+        ensures { GivenReplying (state_of self.old) (happens (FinishTags set)) reply.old (answered (state_of self.new) result) reply.new }
     {
         self.event(DeviceEvent::FinishTags(set), b"", reply)
     }
@@ -219,7 +219,7 @@ impl Sealed {
         sector: u32,
         reply: &mut [u8],
     ) -> Result<usize, Refusal>
-        ensures { GivenReplying self.old.device (happens (MediaError tag error sector)) reply.old (answered self.new.device result) reply.new }
+        ensures { GivenReplying (state_of self.old) (happens (MediaError tag error sector)) reply.old (answered (state_of self.new) result) reply.new }
     {
         self.event(DeviceEvent::MediaError { tag, error, sector }, b"", reply)
     }
@@ -230,7 +230,7 @@ impl Sealed {
     /// `NoRow` (13).
     #[tactic(auto, using(crate::proofs::Lending::given_silent))]
     pub fn link_event(&mut self, row: u8) -> Result<usize, Refusal>
-        ensures { GivenAlone self.old.device (happens (LinkEvent row)) (answered self.new.device result) }
+        ensures { GivenAlone (state_of self.old) (happens (LinkEvent row)) (answered (state_of self.new) result) }
     {
         self.event(DeviceEvent::LinkEvent(row), b"", &mut [])
     }
@@ -242,7 +242,7 @@ impl Sealed {
     /// `NoRow` (13), for a row with another amount.
     #[tactic(auto, using(crate::proofs::Lending::given_silent))]
     pub fn link_tally(&mut self, amounts: Counters) -> Result<usize, Refusal>
-        ensures { GivenAlone self.old.device (happens (LinkTally amounts)) (answered self.new.device result) }
+        ensures { GivenAlone (state_of self.old) (happens (LinkTally amounts)) (answered (state_of self.new) result) }
     {
         self.event(DeviceEvent::LinkTally(amounts), b"", &mut [])
     }
@@ -252,7 +252,7 @@ impl Sealed {
     /// # Errors
     /// `ReplyShort` (3).
     pub fn comreset(&mut self, reply: &mut [u8]) -> Result<usize, Refusal>
-        ensures { GivenReplying self.old.device (happens Comreset) reply.old (answered self.new.device result) reply.new }
+        ensures { GivenReplying (state_of self.old) (happens Comreset) reply.old (answered (state_of self.new) result) reply.new }
     {
         self.event(DeviceEvent::Comreset, b"", reply)
     }

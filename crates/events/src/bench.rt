@@ -1,6 +1,7 @@
 // What a run keeps between two events.
 ghost use Rattle.std.specs.Prelude.{◌≡◌, ◌≤◌, ◌++◌, OnOk, length, take};
 ghost use Rattle.device.specs.Lent.{gave, answered};
+ghost use Rattle.device.specs.Sealing.{state_of};
 ghost use Rattle.device.specs.Step.{Gives};
 ghost use Rattle.events.specs.Running.{Kept, kept, step_of, after_step, step_told};
 
@@ -26,12 +27,12 @@ pub(crate) struct Bench<'a> {
 impl<'a> Model for Bench<'a> {
     ghost Value = { Kept };
 
-    ghost view = { λ b. kept b.sealed.device b.medium.now b.reply.now };
+    ghost view = { λ b. kept (state_of b.sealed) b.medium.now b.reply.now };
 }
 
 impl<'a> Bench<'a> {
     pub(crate) fn new(sealed: Sealed, medium: &'a mut [u8], reply: &'a mut [u8]) -> Bench<'a>
-        ensures { result ≡ kept sealed.device medium.old reply.old }
+        ensures { result ≡ kept (state_of sealed) medium.old reply.old }
     {
         Bench {
             sealed,
@@ -60,7 +61,7 @@ impl<'a> Bench<'a> {
     fn outstanding(&self) -> u32
         ensures { result ≡ self.now.device.status.outstanding }
     {
-        self.sealed.device.status.outstanding
+        self.sealed.state().status.outstanding
     }
 
     fn replies(&self, len: usize) -> &[u8]

@@ -16,7 +16,7 @@ pub fn play_by_value(device: Device, event: Event, medium: &mut [u8], reply: &mu
     match Sealed::try_from(device) {
         Ok(mut sealed) => {
             let answer = play(&mut sealed, event, medium, reply);
-            sealed.device.with(answer)
+            Device::from(sealed).with(answer)
         }
         Err(refusal) => device.with(Err(refusal)),
     }

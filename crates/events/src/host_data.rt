@@ -2,6 +2,7 @@
 ghost use Rattle.std.specs.Prelude.{◌≡◌, ◌≤◌};
 ghost use Rattle.rules.specs.Call.{host_frame};
 ghost use Rattle.device.specs.Lent.{lent, gave, answered};
+ghost use Rattle.device.specs.Sealing.{state_of};
 ghost use Rattle.device.specs.Step.{Given};
 ghost use Rattle.events.specs.HostData.{data_frame, host_data_frame};
 
@@ -31,11 +32,11 @@ pub(crate) fn host_data(
     medium: &mut [u8],
     reply: &mut [u8],
 ) -> Result<usize, Refusal>
-    ensures { Given sealed.old.device (lent (host_frame (host_data_frame sealed.old.device byte)) medium.old reply.old) (gave (answered sealed.new.device result) medium.new reply.new) }
+    ensures { Given (state_of sealed.old) (lent (host_frame (host_data_frame (state_of sealed.old) byte)) medium.old reply.old) (gave (answered (state_of sealed.new) result) medium.new reply.new) }
 {
     // with no write phase the event carries 4 payload bytes, which the device refuses: with 2 or 3 where the medium
     // or the reply buffer lent to it is no good, and else with 5
-    let size = sealed.device.data_due().unwrap_or(4);
+    let size = sealed.state().data_due().unwrap_or(4);
     let frame = lay_data(room, size, byte);
     sealed.host_frame(frame, medium, reply)
 }

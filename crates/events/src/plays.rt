@@ -1,5 +1,6 @@
 // One event to its call.
 ghost use Rattle.device.specs.Lent.{gave, answered};
+ghost use Rattle.device.specs.Sealing.{state_of};
 ghost use Rattle.device.specs.Step.{Gives};
 ghost use Rattle.events.specs.Calls.{event_step};
 
@@ -19,7 +20,7 @@ pub(crate) fn make_call(
     medium: &mut [u8],
     reply: &mut [u8],
 ) -> Result<usize, Refusal>
-    ensures { Gives (event_step sealed.old.device event medium.old reply.old) reply.old (gave (answered sealed.new.device result) medium.new reply.new) }
+    ensures { Gives (event_step (state_of sealed.old) event medium.old reply.old) reply.old (gave (answered (state_of sealed.new) result) medium.new reply.new) }
 {
     match event {
         Event::OfDevice(event) => sealed.event(event, medium, reply),
@@ -36,7 +37,7 @@ pub fn play(
     medium: &mut [u8],
     reply: &mut [u8],
 ) -> Result<usize, Refusal>
-    ensures { Gives (event_step sealed.old.device event medium.old reply.old) reply.old (gave (answered sealed.new.device result) medium.new reply.new) }
+    ensures { Gives (event_step (state_of sealed.old) event medium.old reply.old) reply.old (gave (answered (state_of sealed.new) result) medium.new reply.new) }
 {
     make_call(sealed, event, &mut [0; DATA_FRAME_LIMIT], medium, reply)
 }

@@ -59,7 +59,7 @@ fn start_with<R: BufRead, W: Write>(
         return finish(out, &lines, Ok(InputEnd::Clean));
     };
     let mut medium = [0u8; MEDIUM_LIMIT];
-    let size = sealed.device.settings.medium_size();
+    let size = sealed.state().settings.medium_size();
     let mut reply = [0u8; Device::REPLY_SIZE];
     let mut bench = Bench::new(sealed, &mut medium[..size], &mut reply);
     play_on(format, reader, out, &mut lines, &mut bench)

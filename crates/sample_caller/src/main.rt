@@ -86,7 +86,7 @@ fn write_sector<W: Write>(
     tell(out, "write", answer, reply)?;
     let answer = device.open(3, reply);
     tell(out, "open", answer, reply)?;
-    let due = device.device.data_due().unwrap_or_default();
+    let due = device.state().data_due().unwrap_or_default();
     writeln!(out, "due: {due}")?;
     let data = [0xA5u8; 512];
     let length = write_data(frame, data.get(..due).unwrap_or_default())?;
@@ -99,7 +99,7 @@ fn write_sector<W: Write>(
 
 // The calls in their order, over a medium and a reply buffer that are lent to each.
 fn serve<W: Write>(alloc: Global, out: &mut W, mut device: Sealed) -> anyhow::Result<()> {
-    let mut medium = vec![in alloc; 0u8; device.device.settings.medium_size()]?;
+    let mut medium = vec![in alloc; 0u8; device.state().settings.medium_size()]?;
     let mut reply = vec![in alloc; 0u8; Device::REPLY_SIZE]?;
     let mut frame = vec![in alloc; 0u8; DATA_FRAME_LIMIT]?;
     let answer = device.host_frame(&READ, &mut medium, &mut reply);
@@ -113,7 +113,7 @@ fn serve<W: Write>(alloc: Global, out: &mut W, mut device: Sealed) -> anyhow::Re
     let answer = device.finish(1 << 5, &mut reply);
     tell(out, "finish again", answer, &reply)?;
     write_sector(out, &mut device, &mut medium, &mut reply, &mut frame)?;
-    match device.device.counter(0x00A) {
+    match device.state().counter(0x00A) {
         Ok(Some(value)) => writeln!(out, "00Ah: {value}")?,
         Ok(None) => writeln!(out, "00Ah: absent")?,
         Err(refusal) => writeln!(out, "00Ah: refused, {}", refusal.number())?,

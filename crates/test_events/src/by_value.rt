@@ -90,7 +90,7 @@ fn play_on(device: Device, sealed: Sealed, events: &[u8]) -> Compared {
     let mut rest = events;
     let mut compared = Compared {
         played: 1,
-        same: device == sealed.device,
+        same: device == *sealed.state(),
     };
     for _ in 0..events.len() {
         let Some((event, behind)) = split_event(rest) else {
@@ -105,7 +105,7 @@ fn play_on(device: Device, sealed: Sealed, events: &[u8]) -> Compared {
         );
         compared.played = compared.played.saturating_add(1);
         compared.same = compared.same
-            && outcome == sealed.device.with(answer)
+            && outcome == sealed.state().with(answer)
             && handed.medium == kept.medium
             && handed.reply == kept.reply;
         device = outcome.state;
