@@ -133,7 +133,7 @@ tally_links d ns rs l m z e =
 -- ---- refused
 
 -- some number below n is so: which
-some_found : (p : ℕ → Bool) (n : ℕ) → some_below n p ≡ true → (i : ℕ) × ((i < n) × (p i ≡ true))
+pub some_found : (p : ℕ → Bool) (n : ℕ) → some_below n p ≡ true → (i : ℕ) × ((i < n) × (p i ≡ true))
 unfolding some_below
 some_found p zero e = absurd (false≢true e)
 some_found p (suc n) e =

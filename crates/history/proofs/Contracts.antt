@@ -35,7 +35,7 @@ allowed_given {d} (tallied ns r m b p) = unlent_both d (happens (LinkTally ns)) 
 allowed_given {d} (reset κs b r m b' p) = unlent d (happens Comreset) m b.now b' r refl p
 
 -- a sequence that the contracts allow is one of results as the one contract promises them
-allowed_follows : (xs : List Done) (d : Device) → FollowsBy Allowed d xs → FollowsBy Given d xs
+pub allowed_follows : (xs : List Done) (d : Device) → FollowsBy Allowed d xs → FollowsBy Given d xs
 unfolding FollowsBy
 allowed_follows [] d f = tt
 allowed_follows (x ∷ xs) d f = (allowed_given f.0, allowed_follows xs x.gave.outcome.state f.1)

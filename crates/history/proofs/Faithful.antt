@@ -26,6 +26,7 @@ use Rattle.history.proofs.RefusedTests.{powered}
 use Rattle.history.proofs.Runs.{run_fates, run_data, run_sactive, run_waiting, run_depth, run_single, run_reply_rules, refused_exactly, log_agrees, identity_told, held}
 use Rattle.history.proofs.StateAgrees.{told_outstanding, told_waits, told_counters, told_asked, told_depth, told_count, told_due, told_consistent}
 use Rattle.history.proofs.Lasting.{lasting}
+use Rattle.history.proofs.Tallied.{tally_is_links}
 use Rattle.history.proofs.Contracts.{for_all, began_code, counter_code, count_code}
 
 -- any settings, any calls with anything lent to them, refused ones included
@@ -60,11 +61,13 @@ promised s as' t = record {
   power = powered s;
   refusals = refused_exactly s as' t;
   answers = (held s as' t).answers;
+  replies = run_reply_rules s as' t;
   errors = log_agrees s as' t;
   identity = identity_told s as' t;
   faithful = faithful s as' t;
   lasting = λ m. lasting m (history s as') (run_data s as' t).1 (run_data s as' t).0;
   state = state_agrees s as' t;
+  tally = tally_is_links (run_from s as').state;
 }
 
 -- of every sequence of results that are as the one contract promises them, each call given the state that the last one returned
@@ -120,6 +123,6 @@ module _ (s : Settings) (r : Outcome) (xs : List Done) (b : BeganCode s r xs) wh
     pub state_agrees_code : StateAgrees s (final r.state xs) (history_of xs)
     state_agrees_code = (promised_code s r xs b t).all.state
 
-    -- what each reply may say follows
+    -- each reply says what it may
     pub reply_rules_code : AllReplyRules (history_of xs)
-    reply_rules_code = for_all s r xs (began_code s r xs b) (λ (d : Device) (h : List Event). AllReplyRules h) (run_reply_rules s (lents xs) t)
+    reply_rules_code = (promised_code s r xs b t).all.replies

@@ -74,6 +74,8 @@ pub mod NoChoice
 pub mod Closed
 -- refused calls struck out
 pub mod Striking
+-- tallies beside link events
+pub mod Tallied
 pub mod Faithful
 pub mod KeptCalls
 -- whatever state is handed in

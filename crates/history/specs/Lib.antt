@@ -27,5 +27,6 @@ pub mod IdentityTold
 pub mod Answered
 pub mod NoChoice
 pub mod StateAgrees
+pub mod Tallied
 pub mod Promised
 pub mod Serves

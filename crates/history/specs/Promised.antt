@@ -11,7 +11,10 @@ use Rattle.history.specs.Refused.{Refusals}
 use Rattle.history.specs.Logged.{LogTold}
 use Rattle.history.specs.IdentityTold.{IdentityTold}
 use Rattle.history.specs.Answered.{Answers}
+use Rattle.history.specs.ReplyRules.{AllReplyRules}
 use Rattle.history.specs.StateAgrees.{StateAgrees}
+use Rattle.history.specs.Tallied.{TallyIsLinks}
+use Rattle.device.specs.Step.{Given}
 use Rattle.history.specs.Run.{Done, AllTyped}
 use Rattle.history.specs.Follows.{final, lents, history_of, Began}
 
@@ -23,6 +26,8 @@ pub record Promised (s : Settings) (r : Outcome) (d : Device) (h : List Event) :
   pub refusals : Refusals s.depth s.capacity s.mask h
   -- and every call is answered just the bytes that the rules name
   pub answers : Answers s.depth s.capacity s.mask h
+  -- what each reply may say: answers, pages, sweeps and what is named finished
+  pub replies : AllReplyRules h
   -- every page 10h tells the error that halted last
   pub errors : LogTold h
   -- every page of IDENTIFY DEVICE tells depth and capacity
@@ -33,6 +38,8 @@ pub record Promised (s : Settings) (r : Outcome) (d : Device) (h : List Event) :
   pub lasting : (m : List ℕ) → HandedOn m h → Lasting m h
   -- what the device keeps, and every answer of the calls that only ask, is what the history tells
   pub state : StateAgrees s d h
+  -- and a link tally of that state is as many link events
+  pub tally : TallyIsLinks Given d
 
 -- so it is of every sequence of results from power-on that is as the contracts promise, whatever the settings, the calls, and what is lent to them
 abbrev pub Always : (Settings → List Event → Type 0) → Type 0

@@ -6,14 +6,17 @@ use Rattle.identity.proofs.Exactly.{untold_queue, untold_capacity}
 use Rattle.pages.proofs.Trip11.{kept_reads, unkept_absent}
 use Rattle.history.proofs.NoChoice.{no_choice}
 use Rattle.history.proofs.RefusedTests.{powered}
-use Rattle.history.proofs.Serves.{serves}
 use Rattle.history.proofs.Striking.{refused_struck}
+use Rattle.history.proofs.Tallied.{tally_is_links}
+use Rattle.promises.proofs.TurnedDown.{turned_down, due_is}
 use Rattle.worked_examples.proofs.Points.{examples}
 use Rattle.worked_examples.proofs.Second.{second_not_empty, long_not_empty}
 use Rattle.worked_examples.proofs.Story.{not_empty}
 use Rattle.worked_examples.proofs.Whole.{frames_placed, pages_placed}
 
-pub ruleset histories = (serves, no_choice, refused_struck, powered)
+pub ruleset histories = (no_choice, refused_struck, powered)
+
+pub ruleset states = (turned_down, due_is, tally_is_links)
 
 pub ruleset written = (read_identified, untold_queue, untold_capacity, kept_reads, unkept_absent, read_page, read_encoded)
 

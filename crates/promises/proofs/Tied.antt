@@ -1,7 +1,8 @@
 -- What each promise says.
 use Rattle.std.specs.Prelude.{◌≡◌, List, ℕ, map, ◌<◌, ◌^◌, ◌/◌, ◌⊎◌, true, false, get_or, Some, None, Ok}
 use Rattle.device_state.specs.declared.shapes.Settings.{Settings}
-use Rattle.device.specs.Device.{power_on, contradictory_device}
+use Rattle.device.specs.DataDue.{data_due}
+use Rattle.device.specs.Device.{power_on}
 use Rattle.device.specs.Lent.{Lent}
 use Rattle.device.specs.declared.state.Outcome.{Outcome}
 use Rattle.history.specs.Seen.{seen}
@@ -10,6 +11,7 @@ use Rattle.history.specs.Follows.{lents, Began}
 use Rattle.history.specs.Powered.{Powered}
 use Rattle.history.specs.Refused.{Refusals}
 use Rattle.history.specs.Answered.{Answers}
+use Rattle.history.specs.ReplyRules.{AllReplyRules}
 use Rattle.history.specs.Logged.{LogTold}
 use Rattle.history.specs.IdentityTold.{IdentityTold}
 use Rattle.history.specs.Faithful.{Fates, Ranges, Contents, Sactive, Waiting, Depth, OnePerTag, Counters}
@@ -18,6 +20,10 @@ use Rattle.history.specs.StateAgrees.{AgreesAsked, AgreesCount, AgreesDue, State
 use Rattle.history.specs.Promised.{Always, AtTheEnd}
 use Rattle.history.specs.NoChoice.{NoChoice}
 use Rattle.history.specs.Serves.{Serves}
+use Rattle.history.specs.Tallied.{TallyIsLinks}
+use Rattle.promises.specs.Contradicts.{Contradicts}
+use Rattle.promises.specs.DueTold.{due_told}
+use Rattle.promises.specs.TurnedDown.{TurnedDown, PowerSound}
 use Rattle.device.specs.Step.{Given}
 use Rattle.device.specs.declared.state.Device.{Device}
 use Rattle.history.specs.Struck.{StruckRun}
@@ -45,6 +51,8 @@ use Rattle.bits.specs.Contract.{Says}
 use Rattle.bits.proofs.Tying.{say}
 use Rattle.promises.proofs.histories
 use Rattle.promises.specs.contracts.histories as histories-said
+use Rattle.promises.proofs.states
+use Rattle.promises.specs.contracts.states as states-said
 use Rattle.promises.proofs.written
 use Rattle.promises.specs.contracts.written as written-said
 use Rattle.promises.proofs.examples
@@ -85,6 +93,9 @@ tied_refused_exactly = say (λ κs a. tt) (λ κs a r ws p. p)
 pub tied_answered_exactly : Says histories-said.answered_exactly.ended histories.answered_exactly.Reads.Asked histories.answered_exactly.Reads.Post (λ κs a r ws. Always (λ s h. Answers s.depth s.capacity s.mask h))
 tied_answered_exactly = say (λ κs a. tt) (λ κs a r ws p. p)
 
+pub tied_reply_rules : Says histories-said.reply_rules.ended histories.reply_rules.Reads.Asked histories.reply_rules.Reads.Post (λ κs a r ws. Always (λ s h. AllReplyRules h))
+tied_reply_rules = say (λ κs a. tt) (λ κs a r ws p. p)
+
 pub tied_powered_exactly : Says histories-said.powered_exactly.ended histories.powered_exactly.Reads.Asked histories.powered_exactly.Reads.Post (λ κs a r ws. (s : Settings) → Powered s.depth s.capacity s.mask (power_on s).refusal (power_on s).len)
 tied_powered_exactly = say (λ κs a. tt) (λ κs a r ws p. p)
 
@@ -103,8 +114,19 @@ tied_no_choice_left = say (λ κs a. tt) (λ κs a r ws p. p)
 pub tied_exists_always : Says histories-said.exists_always.ended histories.exists_always.Reads.Asked histories.exists_always.Reads.Post (λ κs a r ws. (s : Settings) (as' : List Lent) → (r : Outcome) × ((xs : List Done) × (Began s r xs × (lents xs ≡ as'))))
 tied_exists_always = say (λ κs a. tt) (λ κs a r ws p. p)
 
-pub tied_any_state_serves : Says histories-said.any_state_serves.ended histories.any_state_serves.Reads.Asked histories.any_state_serves.Reads.Post (λ κs a r ws. (d : Device) → contradictory_device d ≡ false → Serves Given d)
+-- ---- any state that is handed in
+
+pub tied_any_state_refused : Says states-said.any_state_refused.ended states.any_state_refused.Reads.Asked states.any_state_refused.Reads.Post (λ κs a r ws. ((d : Device) → TurnedDown Given d) × PowerSound)
+tied_any_state_refused = say (λ κs a. tt) (λ κs a r ws p. (p.0, p.1))
+
+pub tied_any_state_serves : Says states-said.any_state_serves.ended states.any_state_serves.Reads.Asked states.any_state_serves.Reads.Post (λ κs a r ws. (d : Device) → (Contradicts d → ⊥) → Serves Given d)
 tied_any_state_serves = say (λ κs a. tt) (λ κs a r ws p. p)
+
+pub tied_any_state_due : Says states-said.any_state_due.ended states.any_state_due.Reads.Asked states.any_state_due.Reads.Post (λ κs a r ws. (d : Device) → data_due d ≡ due_told d)
+tied_any_state_due = say (λ κs a. tt) (λ κs a r ws p. p)
+
+pub tied_tally_is_links : Says states-said.tally_is_links.ended states.tally_is_links.Reads.Asked states.tally_is_links.Reads.Post (λ κs a r ws. (d : Device) → TallyIsLinks Given d)
+tied_tally_is_links = say (λ κs a. tt) (λ κs a r ws p. p)
 
 -- ---- written and read back
 

@@ -1,12 +1,10 @@
 // Of every sequence of calls from power-on, each given the state that the last returned, and each as the one contract of the calls promises it: whatever the settings, the calls, and
-// what is lent to them. That the contract of each public function is that one is proved below (history:Contracts). And of any state at all.
+// what is lent to them. That the contract of each public function is that one is proved below (history:Contracts).
 #![tactic(auto, using(crate::proofs::Promised::histories))]
 
-ghost use Rattle.std.specs.Prelude.{◌≡◌, false, List, ℕ, map};
+ghost use Rattle.std.specs.Prelude.{◌≡◌, List, ℕ, map};
 ghost use Rattle.device_state.specs.declared.shapes.Settings.{Settings};
-ghost use Rattle.device.specs.Device.{power_on, contradictory_device};
-ghost use Rattle.device.specs.Step.{Given};
-ghost use Rattle.device.specs.declared.state.Device.{Device};
+ghost use Rattle.device.specs.Device.{power_on};
 ghost use Rattle.device.specs.Lent.{Lent};
 ghost use Rattle.device.specs.declared.state.Outcome.{Outcome};
 ghost use Rattle.history.specs.Seen.{seen};
@@ -15,6 +13,7 @@ ghost use Rattle.history.specs.Follows.{final, lents, history_of, Began};
 ghost use Rattle.history.specs.Powered.{Powered};
 ghost use Rattle.history.specs.Refused.{Refusals};
 ghost use Rattle.history.specs.Answered.{Answers};
+ghost use Rattle.history.specs.ReplyRules.{AllReplyRules};
 ghost use Rattle.history.specs.Logged.{LogTold};
 ghost use Rattle.history.specs.IdentityTold.{IdentityTold};
 ghost use Rattle.history.specs.Faithful.{Fates, Ranges, Contents, Sactive, Waiting, Depth, OnePerTag, Counters};
@@ -22,7 +21,6 @@ ghost use Rattle.history.specs.Lasting.{HandedOn, Lasting};
 ghost use Rattle.history.specs.StateAgrees.{AgreesAsked, AgreesCount, AgreesDue, StateAgrees};
 ghost use Rattle.history.specs.Promised.{Always, AtTheEnd};
 ghost use Rattle.history.specs.NoChoice.{NoChoice};
-ghost use Rattle.history.specs.Serves.{Serves};
 ghost use Rattle.history.specs.Struck.{taken_of, lent_taken, StruckRun};
 
 /// Every queued command accepted is exactly one of four: outstanding, finished, given up at an error, dropped by a reset; and what is no longer outstanding never changes.
@@ -82,6 +80,11 @@ pub fn answered_exactly()
     ensures { Always (λ s h. Answers s.depth s.capacity s.mask h) }
 {}
 
+/// Every reply is one that the rules give its call: a queued command gets one answer, a finish names what was outstanding and asked for, a page answers a command that asks for one, an error tells of a command.
+pub fn reply_rules()
+    ensures { Always (λ s h. AllReplyRules h) }
+{}
+
 /// Power-on is refused with 1 exactly where its settings are out of bounds, and replies nothing.
 pub fn powered_exactly()
     ensures { (s : Settings) → Powered s.depth s.capacity s.mask (power_on s).refusal (power_on s).len }
@@ -112,9 +115,4 @@ pub fn no_choice_left()
 /// Whatever the settings, the calls, and what is lent to them, there is such a sequence; `every_fate_occurs` has one whose medium is handed on from call to call.
 pub fn exists_always()
     ensures { (s : Settings) (as' : List Lent) → (r : Outcome) × ((xs : List Done) × (Began s r xs × (lents xs ≡ as'))) }
-{}
-
-/// A state that is handed in and does not contradict itself, reached or not, serves each outstanding command by the range that the command's own bytes name.
-pub fn any_state_serves()
-    ensures { (d : Device) → contradictory_device d ≡ false → Serves Given d }
 {}

@@ -1,0 +1,130 @@
+-- What contradicts itself is turned down, and nothing else is. Assumes nothing.
+use Rattle.std.proofs.Common.{◌≡◌, refl, sym, ap, ◌∙◌, true, false, ⊎_elim, List, [], ◌∷◌, ℕ, zero, suc, ◌<◌, get_or, length, arith, lit<, slice_get, Option, Some, None, Result, Ok, Err, option_and_then, IfOk}
+use Rattle.bits.proofs.Picks.{tested}
+use Rattle.refusals.specs.First.{Rung, rung, no_rung, first_of, Iff}
+use Rattle.refusals.specs.declared.reasons.Refusal.{Refusal}
+use Rattle.refusals.specs.declared.reasons.Refusal.TheVariants.{Contradiction}
+use Rattle.rules.specs.Call.{Call, host_frame, happens}
+use Rattle.rules.specs.declared.event.DeviceEvent.TheVariants.{SendData}
+use Rattle.rules.specs.Tests.{tests}
+use Rattle.rules.specs.declared.facts.Facts.{Facts}
+use Rattle.device_state.specs.State.{zero_entry}
+use Rattle.device_state.specs.declared.shapes.Entry.{Entry}
+use Rattle.device.specs.Counter.{counter_of, count_of, CounterGiven, CountGiven}
+use Rattle.device.specs.DataDue.{data_due}
+use Rattle.device.specs.Device.{contradictory_device, power_on}
+use Rattle.device.specs.FactsOf.{facts_of}
+use Rattle.device.specs.Lent.{Lent, Gave, Typed}
+use Rattle.device.specs.Sealing.{Seals}
+use Rattle.device.specs.Step.{step, Given}
+use Rattle.device.specs.declared.state.Device.{Device}
+use Rattle.device.specs.declared.sealed.Sealed.{Sealed}
+use Rattle.device.proofs.Contradicted.{contradicted}
+use Rattle.device.proofs.Exactly.{first_exactly}
+use Rattle.device.proofs.Refusals.{Unchanged, refused_unchanged}
+use Rattle.device.proofs.Turns.{none_some}
+use Rattle.device.proofs.Never.{never_contradicts_power}
+use Rattle.device.proofs.NeverCalls.{never_contradicts_call}
+use Rattle.history.specs.Serves.{Serves}
+use Rattle.history.proofs.Allowed.{Allowed}
+use Rattle.history.proofs.Contracts.{allowed_given}
+use Rattle.history.proofs.Serves.{serves}
+use Rattle.promises.specs.Contradicts.{Contradicts}
+use Rattle.promises.specs.DueTold.{due_of, due_told}
+use Rattle.promises.specs.TurnedDown.{AsItWas, TurnedDown, PowerSound}
+use Rattle.promises.proofs.Agrees.{none_holds}
+use Rattle.promises.proofs.Found.{some_holds}
+
+-- the first test of every call is that of 1
+first_rung : (v : Facts) (c : Call) → (get_or (tests v c) 0 no_rung ≡ rung Contradiction v.contradicts) × (0 < length (tests v c))
+unfolding tests
+first_rung v (host_frame f) = (refl, lit< tt)
+first_rung v (happens SendData) = (refl, lit< tt)
+first_rung v _ = (refl, lit< tt)
+
+module _ (d : Device) where
+  -- the clauses of the rules, and the test that the device goes by
+  agrees : Iff (contradictory_device d ≡ true) (Contradicts d)
+  agrees =
+      (some_holds d, λ c. ⊎_elim (λ (b : contradictory_device d ≡ true). b) (λ (b : contradictory_device d ≡ false). absurd (none_holds d b c)) (tested (contradictory_device d)))
+
+  -- ---- a call
+  stepped : (l : Lent) → Iff ((step d l).refusal ≡ Some Contradiction) (contradictory_device d ≡ true)
+  stepped l =
+      let r = first_rung (facts_of d l) l.call in
+      let e = (first_exactly d l).each 0 r.1 in
+      let test : (get_or (tests (facts_of d l) l.call) 0 no_rung).0 ≡ contradictory_device d = ap (λ (x : Rung). x.0) r.0 in
+      let name : (get_or (tests (facts_of d l) l.call) 0 no_rung).1 ≡ Contradiction = ap (λ (x : Rung). x.1) r.0 in
+      (λ z. sym test ∙ (e.0 (z ∙ ap Some (sym name))).0, contradicted d l)
+
+  refused : (l : Lent) (g : Gave) → Given d l g → Iff (g.outcome.refusal ≡ Some Contradiction) (Contradicts d)
+  refused l g p = (λ z. agrees.0 ((stepped l).0 (sym p.refusal ∙ z)), λ c. p.refusal ∙ (stepped l).1 (agrees.1 c))
+
+  kept : (l : Lent) (g : Gave) → Given d l g → Contradicts d → AsItWas d l g
+  kept l g p c =
+      let u : Unchanged d l g = refused_unchanged d l g p (λ z. none_some Contradiction (sym ((refused l g p).1 c) ∙ z)) in
+      record { state = u.state; len = u.len; medium = u.medium; buffer = u.reply }
+
+  leaves : (l : Lent) (g : Gave) → Typed l.call → Given d l g → g.outcome.refusal ≡ None → Contradicts g.outcome.state → ⊥
+  leaves l g t p z = none_holds g.outcome.state (ap contradictory_device p.state ∙ never_contradicts_call d l t.1 (sym p.refusal ∙ z))
+
+  -- ---- a question
+  counted : (number : ℕ) → Iff (counter_of d number ≡ Err Contradiction) (contradictory_device d ≡ true)
+  unfolding counter_of first_of
+  counted number = (λ z. grind arith, λ h. rw h)
+
+  summed : Iff (count_of d ≡ Err Contradiction) (contradictory_device d ≡ true)
+  unfolding count_of first_of
+  summed = (λ z. grind arith, λ h. rw h)
+
+  counter : (number : ℕ) (c : Result (Option ℕ) Refusal) → CounterGiven d number c → Iff (c ≡ Err Contradiction) (Contradicts d)
+  counter number c p = (λ z. agrees.0 ((counted number).0 (sym p.answer ∙ z)), λ k. p.answer ∙ (counted number).1 (agrees.1 k))
+
+  count : (c : Result ℕ Refusal) → CountGiven d c → Iff (c ≡ Err Contradiction) (Contradicts d)
+  count c p = (λ z. agrees.0 (summed.0 (sym p.answer ∙ z)), λ k. p.answer ∙ summed.1 (agrees.1 k))
+
+  -- ---- a device to keep
+  sealed : (k : Result Sealed Refusal) → Seals d k → Iff (k ≡ Err Contradiction) (Contradicts d) × IfOk k (λ s. s.device ≡ d)
+  sealed (Ok s) p = ((λ z. absurd (ok_err s z), λ c. absurd (none_holds d (ap contradictory_device (sym p) ∙ s.sound) c)), p)
+    where
+      ok_err : (s : Sealed) → ◌≡◌ {A = Result Sealed Refusal} (Ok s) (Err Contradiction) → ⊥
+      ok_err s e = cc
+  sealed (Err e) p = ((λ z. agrees.0 p.1, λ c. ap Err p.0), tt)
+
+  pub turned_down : TurnedDown Given d
+  turned_down = record { refused = refused; kept = kept; counter = counter; count = count; sealed = sealed; leaves = leaves }
+
+  -- and of the code
+  pub turned_down_code : TurnedDown Allowed d
+  turned_down_code = record {
+    refused = λ l g p. refused l g (allowed_given p);
+    kept = λ l g p. kept l g (allowed_given p);
+    counter = counter;
+    count = count;
+    sealed = sealed;
+    leaves = λ l g t p. leaves l g t (allowed_given p);
+  }
+
+-- so any other state serves its commands
+pub others_serve : (d : Device) → (Contradicts d → ⊥) → Serves Given d
+others_serve d n = serves d (⊎_elim (λ (b : contradictory_device d ≡ true). absurd (n (some_holds d b))) (λ (b : contradictory_device d ≡ false). b) (tested (contradictory_device d)))
+
+-- power-on
+pub power_sound : PowerSound
+power_sound s z = none_holds (power_on s).state (never_contradicts_power s z)
+
+-- ---- the host data that is due
+
+-- an entry that is not there is as idle as one of zeros
+due_there : (es : List Entry) (t : ℕ) → due_of (get_or es t zero_entry) ≡ option_and_then due_of (slice_get es t)
+due_there [] t = refl
+due_there (e ∷ es) zero = refl
+due_there (e ∷ es) (suc t) = due_there es t
+
+due_meant : (d : Device) (p : Option ℕ) → d.status.phase ≡ p → data_due d ≡ option_and_then due_of (option_and_then (slice_get d.entries) p)
+unfolding data_due
+due_meant d None e = rw e
+due_meant d (Some t) e = rw e (due_there d.entries t)
+
+pub due_is : (d : Device) → data_due d ≡ due_told d
+due_is d = due_meant d d.status.phase refl

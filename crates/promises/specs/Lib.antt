@@ -1,0 +1,3 @@
+pub mod Contradicts
+pub mod TurnedDown
+pub mod DueTold

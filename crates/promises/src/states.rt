@@ -1,0 +1,33 @@
+// Of any state that is handed in, whoever made it, also one that no call led to.
+#![tactic(auto, using(crate::proofs::Promised::states))]
+
+ghost use Rattle.std.specs.Prelude.{◌≡◌};
+ghost use Rattle.device.specs.DataDue.{data_due};
+ghost use Rattle.device.specs.Step.{Given};
+ghost use Rattle.device.specs.declared.state.Device.{Device};
+ghost use Rattle.history.specs.Serves.{Serves};
+ghost use Rattle.history.specs.Tallied.{TallyIsLinks};
+ghost use Rattle.promises.specs.Contradicts.{Contradicts};
+ghost use Rattle.promises.specs.DueTold.{due_told};
+ghost use Rattle.promises.specs.TurnedDown.{PowerSound, TurnedDown};
+
+/// A state is refused with 1 by every call and both questions, and is no device to keep, exactly if it contradicts itself in one of eighteen ways; all is then as it was. No power-on and no call that is taken leaves one.
+pub fn any_state_refused()
+    ensures states { (d : Device) → TurnedDown Given d }
+    ensures power { PowerSound }
+{}
+
+/// Any other state, reached or not, serves each outstanding command by the range that the command's own bytes name.
+pub fn any_state_serves()
+    ensures { (d : Device) → (Contradicts d → ⊥) → Serves Given d }
+{}
+
+/// The host data that is due is told of every state: of an open write phase 8,192 bytes, or what is left if less; else none.
+pub fn any_state_due()
+    ensures { (d : Device) → data_due d ≡ due_told d }
+{}
+
+/// A link tally does what as many link events do, in any order, each of which is taken; and it is refused with 13 exactly if one of them would be.
+pub fn tally_is_links()
+    ensures { (d : Device) → TallyIsLinks Given d }
+{}
