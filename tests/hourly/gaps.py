@@ -57,7 +57,10 @@ def samples():
 def values_of(page):
     """The value and the top of each counter that the page has."""
     values, at = {}, 4
-    while at < 508 and (entry := int.from_bytes(page[at:at + 2], "little")):
+    while at < 508:
+        entry = int.from_bytes(page[at:at + 2], "little")
+        if entry == 0:
+            break
         width = 2 * (entry >> 12 & 7)
         value = int.from_bytes(page[at + 2:at + 2 + width], "little")
         values[f"{entry & 0xFFF:03X}"] = value, 256 ** width - 1
