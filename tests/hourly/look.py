@@ -6,8 +6,9 @@ stands in the SVG alone.
 
 Of every counter: the hours that are not known are shaded, by a pixel at least, over the whole
 height of its panel, and nothing else lies there; every other pixel has the foot, and a bar as high
-as the largest change that is known of its hours; and how many are not known is said. Exit status 1
-where it is otherwise, and a line a fault."""
+as the largest change that is known of its hours; and how many are not known is said. What shaded
+means, and how many hours stand together, is said above. Exit status 1 where it is otherwise, and
+a line a fault."""
 import re
 import sys
 import xml.etree.ElementTree as ElementTree
@@ -64,7 +65,11 @@ class Panel:
         self.known = {hour: change for hour, change in changes.items() if change is not None}
         self.most = max(self.known.values(), default=0)
         self.boxes = {"band": [], "bar": [], "foot": []}
+        self.fills = {}
         for path in group.iter(SVG + "path"):
+            if set(path.attrib) != {"class", "fill", "d"}:
+                fault(self.name, "a shape is drawn in another way")
+            self.fills[path.get("class")] = path.get("fill")
             if not re.fullmatch(f"({BOX})+", path.get("d")):
                 fault(self.name, "something that is no box of whole pixels")
             found = [tuple(map(int, box)) for box in re.findall(BOX, path.get("d"))]
@@ -140,6 +145,21 @@ def look_around(picture, panels):
             fault("something lies over the panels")
 
 
+def look_above(picture, panels, together):
+    """The shade is that of a sample above the panels, and told from bars and from white."""
+    white, sample = picture.findall(SVG + "rect")[:2]
+    shade = sample.get("fill")
+    if white.get("fill") != "white" or min(bytes.fromhex(shade[1:])) > 0xB0:
+        fault("the shade", shade, "is hardly seen")
+    for panel in panels:
+        others = panel.fills.get("bar"), panel.fills.get("foot")
+        if panel.fills.get("band", shade) != shade or shade in others:
+            fault(panel.name, "is not drawn in the shade of the sample, or bars are")
+    said = [text.text for text in picture.findall(SVG + "text")][1]
+    if not said.startswith("not known") or (together > 1) != (f" {together} hours: " in said):
+        fault("above the panels stands", said)
+
+
 def main(table_path, picture_path):
     table, picture = table_of(table_path), ElementTree.parse(picture_path).getroot()
     groups = picture.findall(SVG + "g")
@@ -151,6 +171,7 @@ def main(table_path, picture_path):
     boxes = [box for panel in panels for box in panel.all_boxes()]
     left, right = min(box[0] for box in boxes), max(box[0] + box[2] for box in boxes)
     columns = columns_of(left, right, list(next(iter(table.values()))))
+    look_above(picture, panels, len(columns[0][1]))
     for panel in panels:
         panel.look_across(left, right)
         for column, hours in columns:
