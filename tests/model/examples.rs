@@ -75,7 +75,7 @@ fn two_counters() -> bool {
     values[9] = 3;
     let mut page = [0; pages::PAGE];
     let written = pages::write_11h(0x0201, &values, &mut page);
-    let read = |number| pages::read_11h(&page, number);
+    let read = |number| pages::read_11h(&page, number).map(|found| found.map(|counted| counted.value));
     written == Ok(pages::PAGE)
         && page[511] == 0xB2
         && (read(0x001), read(0x00A), read(0x002)) == (Ok(Some(0)), Ok(Some(3)), Ok(None))

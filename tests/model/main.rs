@@ -14,7 +14,7 @@
 //!   --calls FILE               what the script of calls prints (`-`: from the
 //!                              standard input)
 //!   --check-calls FILE..       the lines of scripts that print something else
-//!                              than what stands behind `->`
+//!                              than what stands behind `->`, or are at fault
 //!   --hourly FILE COUNTER..    the hourly table of the samples of a file
 //!   --hourly-samples SEED N    samples of a seed for it
 
@@ -137,20 +137,25 @@ fn run_calls(script: &str) {
     }
 }
 
-/// Each script by itself; status 1 if a line differs.
+/// Each script by itself; status 1 if a line differs or is at fault, 2 if one cannot be read or nothing is asked for.
 fn check_calls(scripts: &[&str]) {
-    let (mut asked, mut differing) = (0, 0);
+    let (mut asked, mut differing, mut faults) = (0, 0, 0);
     for script in scripts {
         match calls::check::file(script) {
             Ok(found) => {
                 asked += found.asked;
                 differing += found.differing;
+                faults += found.faults;
             }
             Err(error) => fail(&format!("model: {}: {}", script, error)),
         }
     }
-    println!("{} lines asked for, {} differ", asked, differing);
-    if differing != 0 {
+    if asked == 0 {
+        fail("model: no line says what it is to print");
+    }
+    let told = if faults == 0 { String::new() } else { format!(", {faults} faults") };
+    println!("{asked} lines asked for, {differing} differ{told}");
+    if differing != 0 || faults != 0 {
         exit(1);
     }
 }

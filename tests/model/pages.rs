@@ -131,10 +131,17 @@ pub fn write_11h(mask: u16, values: &[u32; 16], buffer: &mut [u8]) -> Result<usi
     place(&seal(page), buffer)
 }
 
+/// What the page says of a counter: its value, and whether that is the largest of its own width.
+#[derive(Clone, Copy, Debug, PartialEq, Eq)]
+pub struct Counted {
+    pub value: u64,
+    pub top: bool,
+}
+
 /// One counter met on the walk.
 struct Entry {
     identifier: u16,
-    value: u64,
+    counted: Counted,
 }
 
 impl Entry {
@@ -177,7 +184,9 @@ fn walk(area: &[u8]) -> Option<Vec<Entry>> {
             break;
         }
         let end = 2 + value_length(identifier)?;
-        let entry = Entry { identifier, value: little_endian(rest.get(2..end)?) };
+        let bytes = rest.get(2..end)?;
+        let top = bytes.iter().all(|&byte| byte == 0xFF);
+        let entry = Entry { identifier, counted: Counted { value: little_endian(bytes), top } };
         if !entry.lawful() {
             return None;
         }
@@ -188,16 +197,16 @@ fn walk(area: &[u8]) -> Option<Vec<Entry>> {
 }
 
 /// Reads counter `number` from page 11h: refusals 20, 23, 21, 22 in this
-/// order; otherwise its value, or `None` if it is absent.
-pub fn read_11h(bytes: &[u8], number: u16) -> Result<Option<u64>, u8> {
+/// order; otherwise what the page says of it, or `None` if it is absent.
+pub fn read_11h(bytes: &[u8], number: u16) -> Result<Option<Counted>, u8> {
     check_length(bytes)?;
     if !(1..=0xFFF).contains(&number) {
         return Err(BAD_NUMBER);
     }
     check_sum(bytes)?;
     let entries = walk(&bytes[FIRST..LAST]).ok_or(BAD_WALK)?;
-    let hits: Vec<u64> =
-        entries.iter().filter(|e| !e.vendor() && e.number() == number).map(|e| e.value).collect();
+    let asked = entries.iter().filter(|e| !e.vendor() && e.number() == number);
+    let hits: Vec<Counted> = asked.map(|e| e.counted).collect();
     match hits.len() {
         0 => Ok(None),
         1 => Ok(Some(hits[0])),

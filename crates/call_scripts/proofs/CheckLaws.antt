@@ -4,7 +4,6 @@ use Rattle.std.specs.Bool.{◌==◌}
 use mathlib.Core.Bool.{false≢true}
 use Rattle.std.specs.Io.KnownBytes.{Appends}
 use Rattle.std.proofs.KnownBytes.{Appends-nil, Appends-trans}
-use Rattle.streams.specs.Fronts.{AppendsFront, AppendsSome}
 use Rattle.events.proofs.Fronts.{loses_first, loses_then}
 use Rattle.events.specs.Output.{Loses}
 use Rattle.events.specs.declared.errors.RunError.{RunError}
@@ -13,7 +12,7 @@ use Rattle.call_scripts.specs.Bench.{Kept}
 use Rattle.call_scripts.specs.Lines.{after_line}
 use Rattle.call_scripts.specs.Parts.{before, behind, lines_of}
 use Rattle.call_scripts.specs.Scripts.{fresh}
-use Rattle.call_scripts.specs.Checks.{line_told, line_check, differences, found_of, unchecked, check_text, Checked, HasChecked}
+use Rattle.call_scripts.specs.Checks.{line_told, line_check, differences, found_of, unchecked, check_text, Checked, IsAllOf, HasChecked}
 use Rattle.call_scripts.specs.declared.found.Found.{Found}
 use Rattle.call_scripts.specs.declared.checking.Check.{Check}
 use Rattle.call_scripts.proofs.PartLaws.{lines_first}
@@ -85,19 +84,22 @@ pub check_none : (name : List ℕ) (first : Kept) (script : List ℕ) (old : Opt
 check_none name first script old = (0, Appends-nil old)
 
 -- a script is what was read, where that is known
-pub known_as : (known : Option (List ℕ)) (script bytes : List ℕ) → script ≡ bytes → IfSome known (λ input. bytes ≡ input) → IfSome known (λ input. script ≡ input)
+pub known_as : (known : Option (List ℕ)) (script bytes : List ℕ) → script ≡ bytes → IfSome known (λ input. bytes ≡ input) → IsAllOf known script
 known_as None script bytes e k = tt
 known_as (Some input) script bytes e k = e ∙ k
 
--- the check is that of the script
-pub check_read : (name : List ℕ) (known old new : Option (List ℕ)) (script : List ℕ) (r : Result Found RunError) → IfSome known (λ input. script ≡ input) → Checked name (fresh 262144) script old new r → HasChecked name known old new r
-check_read name None old new script (Ok f) e c = tt
-check_read name None old new script (Err (Input x)) e c = absurd c
-check_read name None old new script (Err (Output x)) e c = tt
-check_read name None old new script (Err Memory) e c = tt
-check_read name None old new script (Err TooMany) e c = c
-check_read name (Some input) old new script (Ok f) e c = subst (λ (s : List ℕ). Checked name (fresh 262144) s old new (Ok f)) e c
-check_read name (Some input) old new script (Err (Input x)) e c = absurd c
-check_read name (Some input) old new script (Err (Output x)) e c = subst (λ (s : List ℕ). AppendsFront old new (check_text name (fresh 262144) s)) e c
-check_read name (Some input) old new script (Err Memory) e c = subst (λ (s : List ℕ). AppendsSome old new (check_text name (fresh 262144) s)) e c
-check_read name (Some input) old new script (Err TooMany) e c = c
+-- the check is that of a script that may have been read
+pub check_read : (name : List ℕ) (Read : List ℕ → Type 0) (old new : Option (List ℕ)) (script : List ℕ) (r : Result Found RunError) → Read script → Checked name (fresh 262144) script old new r → HasChecked name Read old new r
+check_read name Read old new script (Ok f) e c = (script, e, c)
+check_read name Read old new script (Err (Input x)) e c = absurd c
+check_read name Read old new script (Err (Output x)) e c = (script, e, c)
+check_read name Read old new script (Err Memory) e c = (script, e, c)
+check_read name Read old new script (Err TooMany) e c = (script, e, c)
+
+-- what may have been read by one account may have been by another
+pub check_by : (name : List ℕ) (Read Read' : List ℕ → Type 0) (old new : Option (List ℕ)) (r : Result Found RunError) → ((script : List ℕ) → Read script → Read' script) → HasChecked name Read old new r → HasChecked name Read' old new r
+check_by name Read Read' old new (Ok f) h c = (c.0, h c.0 c.1, c.2)
+check_by name Read Read' old new (Err (Input x)) h c = c
+check_by name Read Read' old new (Err (Output x)) h c = (c.0, h c.0 c.1, c.2)
+check_by name Read Read' old new (Err Memory) h c = (c.0, h c.0 c.1, c.2)
+check_by name Read Read' old new (Err TooMany) h c = (c.0, h c.0 c.1, c.2)

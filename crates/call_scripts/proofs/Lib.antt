@@ -9,5 +9,6 @@ pub mod AnswerLaws
 pub mod WriteLaws
 pub mod Came
 pub mod CheckLaws
+pub mod NamedLaws
 pub mod OneText
 pub mod Tied

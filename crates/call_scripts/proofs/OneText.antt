@@ -3,8 +3,8 @@ use Rattle.std.proofs.Common.{◌≡◌, ℕ, List, ◌++◌, Option, Some, Ok, 
 use Rattle.std.proofs.lemmas.List.{append_cancel_right}
 use Rattle.events.proofs.Cuts.{appended}
 use Rattle.call_scripts.specs.Bench.{Kept}
-use Rattle.call_scripts.specs.Scripts.{whole_text, stop_text, Ran, Broken}
-use Rattle.call_scripts.specs.Checks.{HasChecked}
+use Rattle.call_scripts.specs.Scripts.{fresh, whole_text, stop_text, Ran, Broken}
+use Rattle.call_scripts.specs.Checks.{check_text, check_found, IsAllOf, HasChecked}
 use Rattle.call_scripts.specs.declared.found.Found.{Found}
 
 -- the input ended
@@ -18,5 +18,7 @@ broken_once k input left old new new' a b =
     appended old _ _ new new' (ap (λ (part : List ℕ). whole_text k part ++ stop_text) read) a.2 b.2
 
 -- a check ended
-pub check_once : (name script old : List ℕ) (new new' : Option (List ℕ)) (found found' : Found) → HasChecked name (Some script) (Some old) new (Ok found) → HasChecked name (Some script) (Some old) new' (Ok found') → (new ≡ new') × (found ≡ found')
-check_once name script old new new' found found' a b = (appended old _ _ new new' refl a.0 b.0, a.1 ∙ sym b.1)
+pub check_once : (name script old : List ℕ) (new new' : Option (List ℕ)) (found found' : Found) → HasChecked name (IsAllOf (Some script)) (Some old) new (Ok found) → HasChecked name (IsAllOf (Some script)) (Some old) new' (Ok found') → (new ≡ new') × (found ≡ found')
+check_once name script old new new' found found' a b =
+    let read = a.1 ∙ sym b.1 in
+    (appended old _ _ new new' (ap (λ (s : List ℕ). check_text name (fresh 262144) s) read) a.2.0 b.2.0, a.2.1 ∙ ap (λ (s : List ℕ). check_found (fresh 262144) s) read ∙ sym b.2.1)

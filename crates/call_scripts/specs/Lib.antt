@@ -24,4 +24,7 @@ pub mod Scripts
 pub mod Parts
 pub mod Wanted
 pub mod Told
+pub mod Found
 pub mod Checks
+pub mod Named
+pub mod CheckEnds

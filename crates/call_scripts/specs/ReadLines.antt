@@ -1,8 +1,7 @@
 -- What is printed of what is read.
 use Rattle.std.specs.Prelude.{ℕ, false, List, [], ◌∷◌, ◌++◌, codes, decimal, Option, Some, None, Result, Ok, Err}
-use Rattle.std.specs.Option.{option_map}
-use Rattle.std.specs.Result.{result_map_both}
 use Rattle.bits.specs.Answer.{bit_number}
+use Rattle.bits.specs.Pick.{pick}
 use Rattle.refusals.specs.declared.reasons.Refusal.{Refusal}
 use Rattle.frames.specs.Cut.{cut}
 use Rattle.frames.specs.Read.{read_frame}
@@ -10,9 +9,11 @@ use Rattle.frames.specs.Shared.{tag_of, sectors_of}
 use Rattle.counters.specs.Rows.{row_of}
 use Rattle.pages.specs.Page10.{read_log}
 use Rattle.pages.specs.Read11.{read_counter}
+use Rattle.pages.specs.Top.{at_top}
 use Rattle.pages.specs.declared.page10.ErrorLog.{ErrorLog}
+use Rattle.pages.specs.declared.value.CounterValue.{CounterValue}
 use Rattle.events.specs.Lines.{fields_of}
-use Rattle.call_scripts.specs.Answers.{counter_text, refused_text}
+use Rattle.call_scripts.specs.Answers.{refused_text}
 use Rattle.call_scripts.specs.FrameText.{field_text, status_text, task_text, frame_text}
 use Rattle.call_scripts.specs.Rows.{hex_text}
 use Rattle.call_scripts.specs.declared.readings.Reading.{Reading}
@@ -36,9 +37,11 @@ abbrev pub log_text : Result ErrorLog Refusal → List ℕ
 log_text (Ok log) = log_fields log ++ codes "\n"
 log_text (Err refusal) = refused_text refusal
 
--- a counter's value on page 11h, without its width
-abbrev pub page_counter : List ℕ → ℕ → Result (Option ℕ) Refusal
-page_counter page number = result_map_both (option_map (λ found. found.value)) (λ refusal. refusal) (read_counter page number)
+-- what page 11h says of a counter: its value in decimal, with ` top` behind the largest of its own width; `absent`; or the refusal [script-read]
+abbrev pub page_counter_text : Result (Option CounterValue) Refusal → List ℕ
+page_counter_text (Ok (Some found)) = decimal found.value ++ pick (at_top found) (codes " top") [] ++ codes "\n"
+page_counter_text (Ok None) = codes "absent\n"
+page_counter_text (Err refusal) = refused_text refusal
 
 -- a row in decimal, or `none`
 abbrev pub row_text : Option ℕ → List ℕ
@@ -54,6 +57,6 @@ abbrev pub reading_text : Reading → List ℕ
 reading_text (Frame bytes) = frame_text (read_frame bytes)
 reading_text (Pieces bytes) = pieces_text bytes
 reading_text (ErrorPage page) = log_text (read_log page)
-reading_text (Counter number page) = counter_text (page_counter page number)
+reading_text (Counter number page) = page_counter_text (read_counter page number)
 reading_text (Row number) = row_text (row_of number)
 reading_text (Queued features high count) = queued_text features high count

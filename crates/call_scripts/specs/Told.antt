@@ -1,4 +1,4 @@
--- What is told of a line that prints something else than it is to.
+-- What is told of a line that prints something else than it is to, or is at fault.
 use Rattle.std.specs.Prelude.{ℕ, eqb, List, [], ◌∷◌, ◌++◌, flat_map, decimal, codes}
 use Rattle.std.specs.Str.{bytes_eq}
 use Rattle.bits.specs.Pick.{pick}
@@ -26,3 +26,15 @@ difference_text name number wanted printed = place_text name number ++ labelled 
 -- of a line that prints what it is to, nothing is told
 abbrev pub told : List ℕ → ℕ → List ℕ → List ℕ → List ℕ
 told name number wanted printed = pick (bytes_eq wanted printed) [] (difference_text name number wanted printed)
+
+-- where the line stands, and what is wrong with it [script-check]
+abbrev pub fault_text : List ℕ → ℕ → List ℕ → List ℕ
+fault_text name number said = place_text name number ++ labelled (codes "  fault ") said
+
+-- what it asks for is not held
+abbrev pub hidden_said : List ℕ
+hidden_said = codes "a -> behind # asks for nothing"
+
+-- it is no line, and does not say that it is to be none
+abbrev pub unasked_said : List ℕ
+unasked_said = codes "what? is printed, and not asked for"

@@ -1,12 +1,13 @@
 // A script held against what its lines are to print.
-ghost use Rattle.std.specs.Prelude.{◌≡◌, ◌++◌, Some, IfSome, IfOk, IfErr, OnOk};
+ghost use Rattle.std.specs.Prelude.{◌≡◌, ◌++◌, Some, None, IfSome, IfOk, IfErr, OnOk};
 ghost use Rattle.std.specs.Io.KnownBytes.{Appends};
 ghost use Rattle.events.specs.declared.errors.RunError.TheVariants.{Memory};
 ghost use Rattle.events.specs.Output.{Loses};
 ghost use Rattle.call_scripts.specs.Lines.{after_line};
 ghost use Rattle.call_scripts.specs.Scripts.{fresh};
-ghost use Rattle.call_scripts.specs.Told.{in_line, one_line, place_text, labelled, difference_text};
-ghost use Rattle.call_scripts.specs.Checks.{told_by, check_by, line_told, line_check, Checked, HasChecked};
+ghost use Rattle.call_scripts.specs.Found.{at_fault};
+ghost use Rattle.call_scripts.specs.Wanted.{wanted, is_hidden};
+ghost use Rattle.call_scripts.specs.Checks.{told_by, found_by, comment_told, line_told, line_check, Checked, IsAllOf, HasChecked};
 
 use crate::MEDIUM_SIZE;
 use crate::bench::Bench;
@@ -14,67 +15,13 @@ use crate::found::Found;
 use crate::lines::answer_line;
 use crate::parts::parts_at;
 use crate::pieces::zeros;
-use crate::wanted::{trimmed, wanted};
+use crate::told::{one_line, write_difference, write_hidden, write_unasked};
+use crate::wanted::{is_hidden, trimmed, wanted};
 use events::RunError;
-use std::alloc::{AllocError, Global};
+use std::alloc::Global;
 use std::io;
 use std::io::{Read, Write};
 use streams::put;
-
-fn push_in_line(line: &mut Vec<u8>, byte: u8) -> Result<(), AllocError>
-    ensures { OnOk result (line.new.items ≡ line.old.items ++ in_line byte) }
-{
-    match byte {
-        b'\n' => line.extend_from_slice(b" / ")?,
-        _ => line.push(byte)?,
-    }
-    Ok(())
-}
-
-// Lines in one, with ` / ` between them.
-#[tactic(auto, unfolding(crate::specs::Told::one_line))]
-fn one_line(alloc: Global, text: &[u8]) -> Result<Vec<u8>, AllocError>
-    ensures { IfOk result (λ line. line.items ≡ one_line text.now) }
-{
-    let mut line = Vec::new(alloc);
-    for byte in text {
-        push_in_line(&mut line, *byte)?;
-    }
-    Ok(line)
-}
-
-// Where a line stands.
-#[tactic(auto, unfolding(crate::specs::Told::place_text))]
-fn write_place<W: Write>(out: &mut W, name: &str, number: u64) -> io::Result<()>
-    ensures { OnOk result (Appends (W.contents out.old) (W.contents out.new) (place_text name.now number)) }
-{
-    out.write_all(name.as_bytes())?;
-    writeln!(out, ":{number}:")
-}
-
-#[tactic(auto, unfolding(crate::specs::Told::labelled))]
-fn write_labelled<W: Write>(out: &mut W, label: &[u8], text: &[u8]) -> io::Result<()>
-    ensures { OnOk result (Appends (W.contents out.old) (W.contents out.new) (labelled label.now text.now)) }
-{
-    out.write_all(label)?;
-    out.write_all(text)?;
-    out.write_all(b"\n")
-}
-
-// What is told of a line that prints something else than it is to.
-fn write_difference<W: Write>(
-    out: &mut W,
-    name: &str,
-    number: u64,
-    wanted: &[u8],
-    printed: &[u8],
-) -> io::Result<()>
-    ensures { OnOk result (Appends (W.contents out.old) (W.contents out.new) (difference_text name.now number wanted.now printed.now)) }
-{
-    write_place(out, name, number)?;
-    write_labelled(out, b"  asked ", wanted)?;
-    write_labelled(out, b"  got   ", printed)
-}
 
 /// How far a check is: the number of the line that was last, and what was found until there.
 #[derive(Clone, Copy)]
@@ -84,7 +31,7 @@ pub(crate) struct Check {
 }
 
 impl Check {
-    // A line that printed a text is held against what it is to print, and a difference stands behind what is told.
+    // A line that printed a text is held against what it is to print.
     fn compare(
         &mut self,
         alloc: Global,
@@ -93,10 +40,9 @@ impl Check {
         text: &[u8],
         told: &mut Vec<u8>,
     ) -> io::Result<()>
-        ensures check { OnOk result (self.new ≡ check_by self.old (Some wanted.now) text.now) }
-        ensures told { OnOk result (told.new.items ≡ told.old.items ++ told_by name.now self.old (Some wanted.now) text.now) }
+        ensures check { OnOk result (self.new ≡ record self.old { found = found_by self.old.found (Some wanted.now) text.now }) }
+        ensures told { OnOk result (told.new.items ≡ told.old.items ++ told_by name.now self.old.number (Some wanted.now) text.now) }
     {
-        self.number = self.number.saturating_add(1);
         let printed = one_line(alloc, trimmed(text))?;
         if self.found.hold(wanted, &printed) {
             return Ok(());
@@ -104,7 +50,50 @@ impl Check {
         write_difference(told, name, self.number, wanted, &printed)
     }
 
-    // A line is run, and held against what it is to print if it says that.
+    // A line that does not say what it is to print may be no line only if it says so.
+    fn pass(&mut self, name: &str, text: &[u8], told: &mut Vec<u8>) -> io::Result<()>
+        ensures check { OnOk result (self.new ≡ record self.old { found = found_by self.old.found None text.now }) }
+        ensures told { OnOk result (told.new.items ≡ told.old.items ++ told_by name.now self.old.number None text.now) }
+    {
+        if text != b"what?\n".as_slice() {
+            return Ok(());
+        }
+        self.found.fault();
+        write_unasked(told, name, self.number)
+    }
+
+    // What stands behind the `->` of a comment is held against nothing.
+    fn look_behind(&mut self, name: &str, line: &[u8], told: &mut Vec<u8>) -> io::Result<()>
+        ensures check { OnOk result (self.new ≡ record self.old { found = at_fault self.old.found (is_hidden line.now) }) }
+        ensures told { OnOk result (told.new.items ≡ told.old.items ++ comment_told name.now self.old.number line.now) }
+    {
+        if !is_hidden(line) {
+            return Ok(());
+        }
+        self.found.fault();
+        write_hidden(told, name, self.number)
+    }
+
+    // What a line printed is looked at, and then its comment.
+    fn look_at(
+        &mut self,
+        alloc: Global,
+        name: &str,
+        line: &[u8],
+        text: &[u8],
+        told: &mut Vec<u8>,
+    ) -> io::Result<()>
+        ensures check { OnOk result (self.new ≡ record self.old { found = at_fault (found_by self.old.found (wanted line.now) text.now) (is_hidden line.now) }) }
+        ensures told { OnOk result (told.new.items ≡ told.old.items ++ (told_by name.now self.old.number (wanted line.now) text.now ++ comment_told name.now self.old.number line.now)) }
+    {
+        match wanted(line) {
+            Some(wanted) => self.compare(alloc, name, wanted, text, told)?,
+            None => self.pass(name, text, told)?,
+        }
+        self.look_behind(name, line, told)
+    }
+
+    // A line is run, and what it prints is looked at.
     #[tactic(auto, unfolding(crate::specs::Checks::line_told, crate::specs::Checks::line_check))]
     fn check_line(
         &mut self,
@@ -121,15 +110,9 @@ impl Check {
     {
         let mut text = Vec::new(alloc);
         answer_line(alloc, bench, line, &mut text)?;
-        match wanted(line) {
-            Some(wanted) => self
-                .compare(alloc, name, wanted, &text, told)
-                .map_err(|_| RunError::Memory),
-            None => {
-                self.number = self.number.saturating_add(1);
-                Ok(())
-            }
-        }
+        self.number = self.number.saturating_add(1);
+        self.look_at(alloc, name, line, &text, told)
+            .map_err(|_| RunError::Memory)
     }
 
     // What is told of a line is written.
@@ -164,10 +147,7 @@ fn check_lines<W: Write>(
 {
     let mut check = Check {
         number: 0,
-        found: Found {
-            asked: 0,
-            differing: 0,
-        },
+        found: Found::NOTHING,
     };
     let mut rest = script;
     while !rest.is_empty() {
@@ -203,17 +183,18 @@ fn read_all<R: Read>(alloc: Global, reader: &mut R) -> io::Result<Vec<u8>>
     Ok(bytes)
 }
 
-/// Reads a script to its end, runs it from zeros on, and writes each line that prints something else than it is to, with the name of the script.
+/// Reads a script to its end, runs it from zeros on, and writes each line that prints something else than it is to or is at fault, with the
+/// name of the script.
 ///
 /// # Errors
 /// A read that failed, and nothing is written then; a write, and a front is that is not all; or no memory, and it may be all.
-pub fn check_script<R: Read, W: Write>(
+pub(crate) fn check_script<R: Read, W: Write>(
     alloc: Global,
     name: &str,
     reader: &mut R,
     out: &mut W,
 ) -> Result<Found, RunError>
-    ensures { HasChecked name.now (R.remaining reader.old) (W.contents out.old) (W.contents out.new) result }
+    ensures { HasChecked name.now (IsAllOf (R.remaining reader.old)) (W.contents out.old) (W.contents out.new) result }
 {
     match read_all(alloc, reader) {
         Ok(script) => check_bytes(alloc, MEDIUM_SIZE, name, &script, out),

@@ -8,10 +8,12 @@ mod bench;
 mod bytes;
 mod calls;
 mod changes;
+mod check_ends;
 mod checking;
 mod commands;
 mod counting;
 mod data_frames;
+mod files;
 mod found;
 mod frame_text;
 mod judging;
@@ -25,6 +27,8 @@ mod read_lines;
 mod readings;
 mod rows;
 mod running;
+mod scripts;
+mod told;
 mod verbs;
 mod wanted;
 mod words;
@@ -33,12 +37,13 @@ mod writings;
 
 pub use bytes::Bytes;
 pub use changes::Change;
-pub use checking::check_script;
+pub use check_ends::CheckEnd;
 pub use commands::Command;
 pub use found::Found;
 pub use pieces::run_script;
 pub use readings::Reading;
 pub use running::a_script_has_one_text;
+pub use scripts::check_scripts;
 pub use writings::{FrameFields, Writing};
 
 // The bytes of the medium of a bench; a call is lent a front of it.

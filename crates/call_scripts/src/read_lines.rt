@@ -1,13 +1,12 @@
 // What is read, as a line of text.
 ghost use Rattle.std.specs.Prelude.{◌≡◌, OnOk};
 ghost use Rattle.std.specs.Io.KnownBytes.{Appends};
-ghost use Rattle.call_scripts.specs.ReadLines.{pieces_text, log_fields, log_text, page_counter, row_text, queued_text, reading_text};
+ghost use Rattle.call_scripts.specs.ReadLines.{pieces_text, log_fields, log_text, page_counter_text, row_text, queued_text, reading_text};
 
-use crate::answers::write_counter;
 use crate::frame_text::{write_field, write_frame, write_status, write_task};
 use crate::readings::Reading;
 use events::Format;
-use pages::ErrorLog;
+use pages::{CounterValue, ErrorLog};
 use refusals::Refusal;
 use std::alloc::Global;
 use std::io;
@@ -52,12 +51,19 @@ fn write_log<W: Write>(out: &mut W, answer: Result<ErrorLog, Refusal>) -> io::Re
     }
 }
 
-// A counter's value on page 11h, without its width.
-fn page_counter(page: &[u8], number: u16) -> Result<Option<u64>, Refusal>
-    ensures { result ≡ page_counter page.now number }
+// A counter of page 11h. Behind a value that is the largest of its own width stands `top`: there may have been more.
+fn write_page_counter<W: Write>(
+    out: &mut W,
+    answer: Result<Option<CounterValue>, Refusal>,
+) -> io::Result<()>
+    ensures { OnOk result (Appends (W.contents out.old) (W.contents out.new) (page_counter_text answer)) }
 {
-    let found = pages::read_counter(page, number)?;
-    Ok(found.map(|counter| counter.value))
+    match answer {
+        Ok(Some(counter)) if counter.is_top() => writeln!(out, "{} top", counter.value),
+        Ok(Some(counter)) => writeln!(out, "{}", counter.value),
+        Ok(None) => writeln!(out, "absent"),
+        Err(refusal) => writeln!(out, "refused {refusal}"),
+    }
 }
 
 fn write_row<W: Write>(out: &mut W, row: Option<usize>) -> io::Result<()>
@@ -90,7 +96,7 @@ pub(crate) fn write_reading<W: Write>(
         Reading::Pieces(bytes) => write_pieces(alloc, out, bytes.as_slice()),
         Reading::ErrorPage(page) => write_log(out, pages::read_log(page.as_slice())),
         Reading::Counter { number, page } => {
-            write_counter(out, page_counter(page.as_slice(), *number))
+            write_page_counter(out, pages::read_counter(page.as_slice(), *number))
         }
         Reading::Row(number) => write_row(out, counters::row_of(*number)),
         Reading::Queued {

@@ -1,7 +1,7 @@
 // What a line of a script is to print.
 ghost use Rattle.std.specs.Prelude.{◌≡◌};
 ghost use Rattle.std.specs.Option.{option_map};
-ghost use Rattle.call_scripts.specs.Wanted.{is_arrow, trimmed, wanted_in, wanted};
+ghost use Rattle.call_scripts.specs.Wanted.{is_arrow, trimmed, wanted_in, wanted, has_arrow, is_hidden};
 
 use crate::lines::LINE_LIMIT;
 use crate::parts::parts_at;
@@ -39,4 +39,24 @@ pub(crate) fn wanted(line: &[u8]) -> Option<&[u8]>
         return None;
     }
     wanted_in(line.get(asked_text(line).len()..)?)
+}
+
+#[tactic(auto, unfolding(crate::specs::Wanted::has_arrow), using(crate::proofs::WordLaws::arrow_next))]
+fn has_arrow(text: &[u8]) -> bool
+    ensures { result ≡ has_arrow text.now }
+{
+    for at in 0..text.len() {
+        if is_arrow(&text[at..]) {
+            return true;
+        }
+    }
+    false
+}
+
+/// Whether a comment has a `->`, so that what it asks for is not held.
+pub(crate) fn is_hidden(line: &[u8]) -> bool
+    ensures { result ≡ is_hidden line.now }
+{
+    let (_, comment) = parts_at(line, b'#');
+    has_arrow(comment)
 }

@@ -1,9 +1,10 @@
-// The run of a script of calls, and its check.
+// The run of a script of calls, and the check of several.
 use crate::fakes::{Signalled, Sink, Source};
-use call_scripts::{Found, check_script, run_script};
-use events::RunError;
+use call_scripts::{check_scripts, run_script};
+use page_text::Shelf;
 use std::alloc::Global;
-use std::io::ErrorKind;
+use std::io;
+use std::io::{Error, ErrorKind};
 
 // two lines, and a third that does not end
 const SCRIPT: &[u8] = b"power 20 40 201\ncount\ncount";
@@ -86,40 +87,92 @@ fn writes_that_fail(rt: HostRuntime) {
     }
 }
 
-// Four lines say what they are to print, and two print something else; the last does not end.
+// Four lines say what they are to print, and two print something else; two are at fault, and the last does not end.
 const CHECKED: &[u8] =
-    b"power 20 40 201 -> 0 0\ncount -> 1 # not so\nlink 1\ncount\nshown\t->  what\ncount->0";
+    b"power 20 40 201 -> 0 0\ncount -> 1 # not so\nlink 1\ncount\nshown\t->  what\ngo\ncount->0 # -> 1";
 
-const DIFFERENCES: &str = "s:2:\n  asked 1\n  got   0\ns:5:\n  asked what\n  got   what?\n";
+const DIFFERENCES: &str = "s:2:\n  asked 1\n  got   0\ns:5:\n  asked what\n  got   what?\ns:6:\n  fault what? is printed, and not asked for\ns:7:\n  fault a -> behind # asks for nothing\n";
 
-fn check(alloc: Global, breaks: bool, out: &mut Sink) -> Result<Found, RunError> {
-    let mut reader = Source {
-        bytes: CHECKED,
-        breaks,
-    };
-    check_script(alloc, "s", &mut reader, out)
+const UNREAD: &str = "run_calls: broken: input failed: other error\nrun_calls: gone: input failed: entity not found\n";
+
+/// Scripts by their names.
+#[derive(Clone, Copy)]
+struct Scripts;
+
+impl Shelf for Scripts {
+    ghost use Rattle.std.specs.Prelude.{None};
+
+    type Page = Source<'static>;
+
+    ghost holds = { λ scripts name. None };
+
+    fn open(&self, name: &str) -> io::Result<Source<'static>> {
+        let (bytes, breaks) = match name {
+            "s" => (CHECKED, false),
+            "broken" => (CHECKED, true),
+            "same" => (b"count -> refused 1".as_slice(), false),
+            "unsaid" => (b"count\n".as_slice(), false),
+            _ => return Err(Error::from(ErrorKind::NotFound)),
+        };
+        Ok(Source { bytes, breaks })
+    }
 }
 
-// A check to the end; of a script that could not be read nothing is found; and a front of what differs where a write fails.
+fn check(alloc: Global, names: &[&str], out: &mut Sink, errors: &mut Sink) -> u8 {
+    check_scripts(alloc, &Scripts, names, out, errors).exit_status()
+}
+
+// Each line that differs or is at fault, with its place; and a front of all that where a write fails, which is said.
 #[test]
-fn checks(rt: HostRuntime) {
-    let found = Found {
-        asked: 4,
-        differing: 2,
-    };
-    let mut out = Sink::new(rt.alloc(), u64::MAX);
-    assert!(rt; matches!(check(rt.alloc(), false, &mut out), Ok(all) if all == found));
-    assert_eq!(rt; out.bytes.as_slice(), DIFFERENCES.as_bytes());
-    let mut out = Sink::new(rt.alloc(), u64::MAX);
-    assert!(rt; matches!(check(rt.alloc(), true, &mut out), Err(RunError::Input(_))));
-    assert!(rt; out.bytes.is_empty());
-    for (before_failure, front) in [
-        (0, ""),
-        (1, "s:2:\n  "),
-        (4, "s:2:\n  asked 1\n  got   0\n"),
+fn lines_of_a_script(rt: HostRuntime) {
+    let lost = "output failed: lines are missing\n";
+    for (before_failure, front, last, said, status) in [
+        (
+            u64::MAX,
+            DIFFERENCES,
+            "4 lines asked for, 2 differ, 2 faults\n",
+            "",
+            1,
+        ),
+        (0, "", "", lost, 4),
+        (1, "s:2:\n  ", "", lost, 4),
+        (4, "s:2:\n  asked 1\n  got   0\n", "", lost, 4),
+        (26, DIFFERENCES, "", lost, 4),
+        (27, DIFFERENCES, "4 lines", lost, 4),
     ] {
         let mut out = Sink::new(rt.alloc(), before_failure);
-        assert!(rt; matches!(check(rt.alloc(), false, &mut out), Err(RunError::Output(_))));
-        assert_eq!(rt; out.bytes.as_slice(), front.as_bytes());
+        let mut errors = Sink::new(rt.alloc(), u64::MAX);
+        assert_eq!(rt; check(rt.alloc(), &["s"], &mut out, &mut errors), status);
+        assert!(rt; out.bytes.starts_with(front.as_bytes()));
+        assert_eq!(rt; &out.bytes[front.len().min(out.bytes.len())..], last.as_bytes());
+        assert_eq!(rt; errors.bytes.as_slice(), said.as_bytes());
+    }
+}
+
+// Scripts one behind the other, and what is said of those that are unread: they are counted, and the others are checked.
+#[test]
+fn several_scripts(rt: HostRuntime) {
+    let none_asked = "run_calls: no line says what it is to print\n";
+    for (names, front, last, said, status) in [
+        (["same"].as_slice(), "", "1 lines asked for, 0 differ\n", "", 0),
+        (["unsaid", "same"].as_slice(), "", "1 lines asked for, 0 differ\n", "", 0),
+        (
+            ["same", "same", "s", "same"].as_slice(),
+            DIFFERENCES,
+            "7 lines asked for, 2 differ, 2 faults\n",
+            "",
+            1,
+        ),
+        (["unsaid"].as_slice(), "", "", none_asked, 2),
+        ([].as_slice(), "", "", none_asked, 2),
+        (["broken", "same", "gone", "s"].as_slice(), DIFFERENCES, "", UNREAD, 3),
+        (["broken", "gone"].as_slice(), "", "", UNREAD, 3),
+    ] {
+        let mut out = Sink::new(rt.alloc(), u64::MAX);
+        let mut errors = Sink::new(rt.alloc(), u64::MAX);
+        assert_eq!(rt; check(rt.alloc(), names, &mut out, &mut errors), status);
+        assert!(rt; out.bytes.starts_with(front.as_bytes()));
+        assert_eq!(rt; &out.bytes[front.len().min(out.bytes.len())..], last.as_bytes());
+        assert_eq!(rt; errors.bytes.as_slice(), said.as_bytes());
     }
 }

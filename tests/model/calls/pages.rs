@@ -12,7 +12,7 @@ pub fn read(reading: &Reading) -> String {
         Reading::Pieces(bytes) => pieces(bytes),
         Reading::ErrorPage(bytes) => pages::read_10h(bytes)
             .map_or_else(shown::refused, |values| named(pages::error_names(), &values)),
-        Reading::Counter(number, bytes) => shown::counter(pages::read_11h(bytes, *number)),
+        Reading::Counter(number, bytes) => shown::page_counter(pages::read_11h(bytes, *number)),
         Reading::Row(number) => {
             pages::row_of(*number).map_or("none".to_string(), |row| row.to_string())
         }

@@ -2,6 +2,7 @@
 
 use crate::device::{Entry, Record, State};
 use crate::frames;
+use crate::pages::Counted;
 
 use super::bench::BEFORE;
 
@@ -39,6 +40,14 @@ pub fn counter(answer: Result<Option<u64>, u8>) -> String {
         Err(number) => refused(number),
         Ok(None) => "absent".to_string(),
         Ok(Some(value)) => value.to_string(),
+    }
+}
+
+/// A counter of page 11h: the same, and `top` behind a value that is the largest of its own width.
+pub fn page_counter(answer: Result<Option<Counted>, u8>) -> String {
+    match answer {
+        Ok(Some(Counted { value, top: true })) => format!("{value} top"),
+        answer => counter(answer.map(|found| found.map(|counted| counted.value))),
     }
 }
 

@@ -20,6 +20,11 @@ pub fn wanted(line: &[u8]) -> Option<&[u8]> {
     Some(line[arrow + 2..].trim_ascii())
 }
 
+/// What stands behind the first `#`.
+pub fn comment(line: &[u8]) -> &[u8] {
+    line.iter().position(|&c| c == b'#').map_or(&[], |at| &line[at + 1..])
+}
+
 impl<'a> Words<'a> {
     pub fn of(line: &'a [u8]) -> Words<'a> {
         let split = meant(line).split(u8::is_ascii_whitespace);

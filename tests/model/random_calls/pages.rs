@@ -73,7 +73,8 @@ fn read_11(r: &mut Random) -> String {
         let vendor = r.one_of(&[0, 0, 0, 0x8000]);
         let number = r.one_of(&[1, 2, 3, 0xA, 0xFFF, 0]) as u16;
         page.extend(&(vendor | width << 12 | number).to_le_bytes());
-        page.extend(r.bytes(2 * usize::from(width)));
+        let size = 2 * usize::from(width);
+        page.extend(if r.percent(30) { vec![0xFF; size] } else { r.bytes(size) });
     }
     if r.percent(30) {
         // up to the area's end, where a value may pass it

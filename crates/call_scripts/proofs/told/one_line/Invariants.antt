@@ -1,6 +1,6 @@
 use Rattle.std.proofs.Common.{◌≡◌, take}
 use Rattle.call_scripts.specs.Told.{one_line}
-use Rattle.call_scripts.proofs.checking.one_line.Given as goal
+use Rattle.call_scripts.proofs.told.one_line.Given as goal
 
 -- the bytes so far
 abbrev pub invariant-loop-byte : goal.invariant-loop-byte
