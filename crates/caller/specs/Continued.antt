@@ -1,4 +1,4 @@
--- What a caller of the device is told: all that is promised (docs/HISTORIES.md) of the history that its call continues.
+-- What a caller of the device is told: the one record of what is promised (`Promised`), of the history that its call continues.
 use Rattle.std.specs.Prelude.{◌≡◌, List, [], ◌∷◌, ◌++◌, ℕ}
 use Rattle.device_state.specs.declared.shapes.Settings.{Settings}
 use Rattle.device.specs.declared.state.Device.{Device}
@@ -15,7 +15,7 @@ pub record Reached (s : Settings) (r : Outcome) (xs : List Done) (d : Device) : 
   pub typed : AllTyped (lents xs)
   pub last : final r.state xs ≡ d
 
--- then all that is promised holds of their history, and of d behind it [callers-told] [program-told]
+-- then that record holds of their history, and of d behind it [callers-told] [program-told]
 pub record Holds (s : Settings) (r : Outcome) (xs : List Done) (d : Device) : Type 0 where
   pub reached : Reached s r xs d
   pub promised : Promised s r d (history_of xs)

@@ -2,7 +2,7 @@
 use Rattle.std.proofs.Common.{◌≡◌, refl, sym, ◌∙◌, Bool, true, false, ◌||◌, true≢false, ⊎_elim, inl, inr, ◌⊎◌, ℕ, ◌+◌, ◌<◌, ◌≤◌, arith, eqb-true, eq-eqb, ltb-true, ltb-false, leb-true, Option, Some, None}
 use Rattle.std.proofs.lemmas.Bool.{cases_lt}
 use Rattle.bits.specs.Bit.{bit_in}
-use Rattle.bits.proofs.Picks.{tested, and_left, and_right, pick_yes, pick_no}
+use Rattle.bits.proofs.Picks.{tested, pick_yes, pick_no}
 use Rattle.device_state.specs.Contradictory as own
 use Rattle.device_state.specs.Contradictory.{busy_bad, moved_bad, idle_bad, entry_bad, tag_bad, table_bad, status_bad, record_bad, row_bad_at, rows_bad, contradictory}
 use Rattle.device_state.specs.State.{task_in, tag_in}
@@ -42,11 +42,11 @@ module _ (d : Device) where
   of_status e =
       ⊎_elim
       (λ a. ⊎_elim
-      (λ (b : own.stopped_busy d.status ≡ true). odd.stopped_busy (λ z. grind arith) (either d.status.halted d.status.held (and_left _ _ b)))
-      (λ (b : own.halted_held d.status ≡ true). odd.halted_held (and_left _ _ b) (and_right _ _ b))
+      (λ (b : own.stopped_busy d.status ≡ true). odd.stopped_busy (λ z. grind arith) (either d.status.halted d.status.held (grind arith)))
+      (λ (b : own.halted_held d.status ≡ true). odd.halted_held (grind arith) (grind arith))
       (either _ _ a))
       (λ a. ⊎_elim
-      (λ (b : own.held_record d.status d.errors.set ≡ true). odd.held_record (and_left _ _ b) (and_right _ _ b))
+      (λ (b : own.held_record d.status d.errors.set ≡ true). odd.held_record (grind arith) (grind arith))
       (λ (b : own.phase_idle d.status ≡ true). of_phase d.status.phase refl b)
       (either _ _ a))
       (either _ _ e)
@@ -61,7 +61,7 @@ module _ (d : Device) where
       ⊎_elim
       (λ a. ⊎_elim
       (λ (b : own.tag_too_large d.errors ≡ true). odd.record_tag (grind arith))
-      (λ (b : own.tag_under_nq d.errors ≡ true). odd.record_nq (and_left _ _ b) (λ z. grind arith))
+      (λ (b : own.tag_under_nq d.errors ≡ true). odd.record_nq (grind arith) (λ z. grind arith))
       (either _ _ a))
       (λ (b : own.blank_not_zero d.errors ≡ true). odd.blank_bytes (grind arith) (λ z. grind arith))
       (either _ _ e)
@@ -87,7 +87,7 @@ module _ (d : Device) where
         (either _ _ x))
         (λ x. ⊎_elim
         (λ (y : own.moved_between (entry d t) (open_for d.status.phase t) ≡ true). of_between o r y)
-        (λ (y : own.phase_done (entry d t) (open_for d.status.phase t) ≡ true). odd.phase_done t (open_named t d.status.phase (and_left _ _ y)) (let h = eqb-true _ _ (and_right (open_for d.status.phase t) _ y) in omega arith))
+        (λ (y : own.phase_done (entry d t) (open_for d.status.phase t) ≡ true). odd.phase_done t (open_named t d.status.phase (grind arith)) (grind arith))
         (either _ _ x))
         (either _ _ b)
       where

@@ -102,8 +102,8 @@ tied_powered_exactly = say (λ κs a. tt) (λ κs a r ws p. p)
 pub tied_polls_told : Says histories-said.polls_told.ended histories.polls_told.Reads.Asked histories.polls_told.Reads.Post (λ κs a r ws. (AtTheEnd AgreesAsked) × (AtTheEnd AgreesCount) × (AtTheEnd (λ s d h. AgreesDue d h)))
 tied_polls_told = say (λ κs a. tt) (λ κs a r ws p. (p.0, p.1.0, p.1.1))
 
-pub tied_state_told : Says histories-said.state_told.ended histories.state_told.Reads.Asked histories.state_told.Reads.Post (λ κs a r ws. AtTheEnd StateAgrees)
-tied_state_told = say (λ κs a. tt) (λ κs a r ws p. p)
+pub tied_state_told : Says histories-said.state_told.ended histories.state_told.Reads.Asked histories.state_told.Reads.Post (λ κs a r ws. (AtTheEnd StateAgrees) × (AtTheEnd (λ s d h. (power_on s).refusal ≡ None → Contradicts d → ⊥)))
+tied_state_told = say (λ κs a. tt) (λ κs a r ws p. (p.0, p.1))
 
 pub tied_no_refusal_matters : Says histories-said.no_refusal_matters.ended histories.no_refusal_matters.Reads.Asked histories.no_refusal_matters.Reads.Post (λ κs a r ws. (s : Settings) (as' : List Lent) → StruckRun s as')
 tied_no_refusal_matters = say (λ κs a. tt) (λ κs a r ws p. p)

@@ -19,25 +19,27 @@ pub record InBounds (s : Settings) : Type 0 where
   pub row_0 : IsOn s.mask 0
   pub row_9 : IsOn s.mask 9
 
--- the bytes of no command, the entry of none, a record without an error: all 0 [state]
+-- the bytes of no command: all 0 [state]
 abbrev pub no_bytes : Echo
 no_bytes = record { b4 = 0; b5 = 0; b6 = 0; b7 = 0; b8 = 0; b9 = 0; b10 = 0; b12 = 0; b13 = 0 }
 
+-- the entry of no command [state]
 abbrev pub no_command : Entry
 no_command = record { first = 0; count = 0; moved = 0; features = 0; features_high = 0; echo = no_bytes; write = false }
 
+-- a record in which nothing is [state]
 abbrev pub no_error : ErrorRecord
 no_error = record { set = false; nq = false; tag = 0; error = 0; echo = no_bytes }
 
--- of a command's bytes: the tag is bits 3 to 7 of byte 12 [tag-bits]
+-- the tag that a command's bytes name is bits 3 to 7 of byte 12 [tag-bits]
 abbrev pub named_tag : Echo → ℕ
 named_tag b = b.b12 / 8 % 32
 
--- the first sector is bytes 4 to 6 and 8 to 10, the lowest first [numbers]
+-- their first sector is bytes 4 to 6 and 8 to 10, the lowest first [numbers]
 abbrev pub named_first : Echo → ℕ
 named_first b = b.b4 + 2 ^ 8 * b.b5 + 2 ^ 16 * b.b6 + 2 ^ 24 * b.b8 + 2 ^ 32 * b.b9 + 2 ^ 40 * b.b10
 
--- the count is features and features high, and 0 means 65,536 [sector-count]
+-- their count is features and features high, and 0 means 65,536 [sector-count]
 abbrev pub named_count : ℕ → ℕ → ℕ
 named_count low high = if eqb (low + 256 * high) 0 then 65536 else low + 256 * high
 

@@ -2,7 +2,7 @@
 // what is lent to them. That the contract of each public function is that one is proved below (history:Contracts).
 #![tactic(auto, using(crate::proofs::Promised::histories))]
 
-ghost use Rattle.std.specs.Prelude.{◌≡◌, List, ℕ, map};
+ghost use Rattle.std.specs.Prelude.{◌≡◌, List, None, ℕ, map};
 ghost use Rattle.device_state.specs.declared.shapes.Settings.{Settings};
 ghost use Rattle.device.specs.Device.{power_on};
 ghost use Rattle.device.specs.Lent.{Lent};
@@ -21,6 +21,7 @@ ghost use Rattle.history.specs.Lasting.{HandedOn, Lasting};
 ghost use Rattle.history.specs.StateAgrees.{AgreesAsked, AgreesCount, AgreesDue, StateAgrees};
 ghost use Rattle.history.specs.Promised.{Always, AtTheEnd};
 ghost use Rattle.history.specs.NoChoice.{NoChoice};
+ghost use Rattle.promises.specs.Contradicts.{Contradicts};
 ghost use Rattle.history.specs.Struck.{taken_of, lent_taken, StruckRun};
 
 /// Every queued command accepted is exactly one of four: outstanding, finished, given up at an error, dropped by a reset; and what is no longer outstanding never changes.
@@ -80,7 +81,8 @@ pub fn answered_exactly()
     ensures { Always (λ s h. Answers s.depth s.capacity s.mask h) }
 {}
 
-/// Every reply is one that the rules give its call: a queued command gets one answer, a finish names what was outstanding and asked for, a page answers a command that asks for one, an error tells of a command.
+/// Each reply says what it may: a queued command gets one answer, a finish names what was outstanding and
+/// asked for, a page answers a command that asks for one, and a 34h with ERR answers a command.
 pub fn reply_rules()
     ensures { Always (λ s h. AllReplyRules h) }
 {}
@@ -99,7 +101,8 @@ pub fn polls_told()
 
 /// The device's outstanding tags, halt and counters are what the history tells, and after a power-on that was taken its state never contradicts itself.
 pub fn state_told()
-    ensures { AtTheEnd StateAgrees }
+    ensures agrees { AtTheEnd StateAgrees }
+    ensures consistent { AtTheEnd (λ s d h. (power_on s).refusal ≡ None → Contradicts d → ⊥) }
 {}
 
 /// Without its refused calls a sequence goes as before: the same state, and the same results of all the others.

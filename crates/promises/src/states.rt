@@ -11,23 +11,28 @@ ghost use Rattle.promises.specs.Contradicts.{Contradicts};
 ghost use Rattle.promises.specs.DueTold.{due_told};
 ghost use Rattle.promises.specs.TurnedDown.{PowerSound, TurnedDown};
 
-/// A state is refused with 1 by every call and both questions, and is no device to keep, exactly if it contradicts itself in one of eighteen ways; all is then as it was. No power-on and no call that is taken leaves one.
+/// A state is refused with 1 by every call and both questions, and is no device to keep, exactly if it
+/// contradicts itself in one of eighteen ways; all is then as it was. No power-on that is taken, and no
+/// taken call, leaves such a state.
 pub fn any_state_refused()
     ensures states { (d : Device) → TurnedDown Given d }
     ensures power { PowerSound }
 {}
 
-/// Any other state, reached or not, serves each outstanding command by the range that the command's own bytes name.
+/// Any other state, reached or not, serves each outstanding command by the range that the command's own
+/// bytes name.
 pub fn any_state_serves()
     ensures { (d : Device) → (Contradicts d → ⊥) → Serves Given d }
 {}
 
-/// The host data that is due is told of every state: of an open write phase 8,192 bytes, or what is left if less; else none.
+/// The host data that is due is told of every state: of an open write phase 8,192 bytes, or what is left
+/// if less; else none.
 pub fn any_state_due()
     ensures { (d : Device) → data_due d ≡ due_told d }
 {}
 
-/// A link tally does what as many link events do, in any order, each of which is taken; and it is refused with 13 exactly if one of them would be.
+/// A link tally that is taken does what as many link events do, in any order, each of which is taken. It
+/// is refused with 13 exactly if the event of a row whose amount is not 0 would be.
 pub fn tally_is_links()
     ensures { (d : Device) → TallyIsLinks Given d }
 {}
