@@ -14,6 +14,7 @@ pub mod ReadLaws
 pub mod WriteLaws
 pub mod RoundTrip
 pub mod TripBack
+pub mod ToldLaws
 pub mod Exactly
 pub mod Cuts
 pub mod Tied

@@ -5,6 +5,7 @@ pub mod Size
 pub mod Emit
 pub mod Cut
 pub mod Pages
+pub mod Told
 pub mod Read
 pub mod Write
 pub mod DataLast

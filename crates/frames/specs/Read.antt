@@ -6,12 +6,14 @@ use Rattle.bits.specs.Bit.{bit_in}
 use Rattle.bits.specs.Answer.{Answer, bit_number}
 use Rattle.refusals.specs.Number.{number}
 use Rattle.refusals.specs.First.{Rung, rung, first_of, refusal_in}
+use Rattle.refusals.specs.Told.{answer_unless}
 use Rattle.refusals.specs.declared.reasons.Refusal.{Refusal}
 use Rattle.refusals.specs.declared.reasons.Refusal.TheVariants.{NoFrame}
 use Rattle.frames.specs.Layout.{masks}
 use Rattle.frames.specs.Layouts.{layout_of, standing}
 use Rattle.frames.specs.Shared.{task_at}
 use Rattle.frames.specs.Size.{kind_named, readable}
+use Rattle.frames.specs.Told.{frame_told}
 use Rattle.frames.specs.declared.kinds.FrameKind.{FrameKind}
 use Rattle.frames.specs.declared.kinds.FrameKind.TheVariants as kinds
 use Rattle.frames.specs.declared.kinds.FrameKind.TheVariants.{HostRegister, DeviceRegister, SetDeviceBits, DmaSetup, DmaActivate, BistActivate, PioSetup}
@@ -66,7 +68,8 @@ unfoldable pub frame_answer : Result Frame Refusal → Answer
 frame_answer (Ok f) = record { number = 0; values = frame_values f }
 frame_answer (Err r) = record { number = number r; values = [] }
 
--- what the reader promises: the frame that the bytes are, and the refusal exactly by its list [answer-values] [frame-read]
+-- what the reader promises: the frame that the bytes are, the refusal exactly by its list, and the number and values that this tells [answer-values] [frame-read]
 pub record FrameGiven (l : List ℕ) (r : Result Frame Refusal) : Type 0 where
   pub answer : r ≡ read_frame l
   pub refusal : refusal_in r ≡ first_of (ladder24 l)
+  pub told : frame_answer r ≡ answer_unless (first_of (ladder24 l)) (frame_told l)

@@ -100,7 +100,6 @@ fn frame_of(kind: FrameKind, bytes: &[u8]) -> Frame
 ///
 /// # Errors
 /// `NoFrame` (24) where byte 0 names no kind, or its kind does not allow the length.
-#[tactic(auto, unfolding(crate::specs::Read::read_frame, crate::specs::Read::frame_by_kind, crate::specs::Size::readable, refusals::specs::First::first_of))]
 pub fn read_frame(bytes: &[u8]) -> Result<Frame, Refusal>
     ensures { FrameGiven bytes.now result }
 {

@@ -11,6 +11,7 @@ use Rattle.refusals.proofs.FirstLaws as firsts
 use Rattle.refusals.proofs.FirstLaws.{refusal_in_unless, unless_ok}
 use Rattle.identity.specs.Read.{word_in, tells_queue, tells_capacity, told_by, ladder_identity, read_identity, identity_answer, IdentityGiven}
 use Rattle.identity.specs.declared.reading.Identified.{Identified}
+use Rattle.identity.proofs.ToldLaws.{identity_tells}
 
 -- the refusal is that of the first rung that holds
 refusal_first : (l : List ℕ) → refusal_in (read_identity l) ≡ first_of (ladder_identity l)
@@ -27,7 +28,7 @@ number_told_lem r = grind arith
 
 -- the answer is all that the reader promises
 pub identity_told_lem : (l : List ℕ) (r : Result Identified Refusal) → r ≡ read_identity l → IdentityGiven l r
-identity_told_lem l r e = record { answer = e; refusal = ap refusal_in e ∙ refusal_first l }
+identity_told_lem l r e = record { answer = e; refusal = ap refusal_in e ∙ refusal_first l; told = ap identity_answer e ∙ identity_tells l }
 
 no_queue : (w : ℕ) → (w ≡ 0) ⊎ ((w ≡ 0xFFFF) ⊎ (bit_in 16 w 8 ≡ false)) → tells_queue w ≡ false
 no_queue w =

@@ -1,4 +1,5 @@
 pub mod Features
 pub mod Words
 pub mod Page
+pub mod Told
 pub mod Read

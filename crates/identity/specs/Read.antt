@@ -6,9 +6,11 @@ use Rattle.bits.specs.Little.{le_at}
 use Rattle.bits.specs.Answer.{Answer}
 use Rattle.refusals.specs.First.{Rung, first_of, rung, unless, refusal_in}
 use Rattle.refusals.specs.Number.{number}
+use Rattle.refusals.specs.Told.{answer_unless}
 use Rattle.refusals.specs.declared.reasons.Refusal.{Refusal}
 use Rattle.refusals.specs.declared.reasons.Refusal.TheVariants.{PageLength, PageSum}
 use Rattle.pages.specs.Sum.{sum256}
+use Rattle.identity.specs.Told.{value_told, page_told}
 use Rattle.identity.specs.declared.words.Identity.{Identity}
 use Rattle.identity.specs.declared.reading.Identified.{Identified}
 
@@ -49,17 +51,13 @@ ladder_identity l =
 unfoldable pub read_identity : List ℕ → Result Identified Refusal
 read_identity l = unless (first_of (ladder_identity l)) (told_by l)
 
--- 1 and the value, or 0 and none
-abbrev pub value_told : Option ℕ → List ℕ
-value_told (Some x) = 1 ∷ x ∷ []
-value_told None = 0 ∷ []
-
 -- what each answer tells: depth and capacity, each with whether it is told, or the refusal's number [answer-values]
 unfoldable pub identity_answer : Result Identified Refusal → Answer
 identity_answer (Ok i) = record { number = 0; values = value_told i.queue ++ value_told i.capacity }
 identity_answer (Err r) = record { number = number r; values = [] }
 
--- what the reader promises: what the page tells or the refusal, and the refusal exactly by its list [answer-values]
+-- what the reader promises: what the page tells or the refusal, the refusal exactly by its list, and the number and values that this tells [answer-values]
 pub record IdentityGiven (l : List ℕ) (r : Result Identified Refusal) : Type 0 where
   pub answer : r ≡ read_identity l
   pub refusal : refusal_in r ≡ first_of (ladder_identity l)
+  pub told : identity_answer r ≡ answer_unless (first_of (ladder_identity l)) (page_told l)

@@ -7,6 +7,7 @@ use Rattle.refusals.proofs.FirstLaws as firsts
 use Rattle.refusals.proofs.FirstLaws.{refusal_in_unless}
 use Rattle.pages.specs.Page10.{fields10, ladder10, read_log, log_answer, LogGiven}
 use Rattle.pages.specs.declared.page10.ErrorLog.{ErrorLog}
+use Rattle.pages.proofs.ToldLaws10.{log_tells}
 
 -- the refusal is that of the first rung that holds
 refusal_first : (l : List ℕ) → refusal_in (read_log l) ≡ first_of (ladder10 l)
@@ -23,4 +24,4 @@ number_told_lem r = grind arith
 
 -- the answer is all that the reader promises
 pub log_told_lem : (l : List ℕ) (r : Result ErrorLog Refusal) → r ≡ read_log l → LogGiven l r
-log_told_lem l r e = record { answer = e; refusal = ap refusal_in e ∙ refusal_first l }
+log_told_lem l r e = record { answer = e; refusal = ap refusal_in e ∙ refusal_first l; told = ap log_answer e ∙ log_tells l }

@@ -8,6 +8,7 @@ use Rattle.refusals.proofs.FirstLaws.{refusal_in_unless}
 use Rattle.pages.specs.Entries.{entries}
 use Rattle.pages.specs.Read11.{value_in, ladder11, read_counter, counter_answer, PageCounterGiven}
 use Rattle.pages.specs.declared.value.CounterValue.{CounterValue}
+use Rattle.pages.proofs.ToldLaws11.{counter_tells}
 
 -- the refusal is that of the first rung that holds
 refusal_first : (page : List ℕ) (number : ℕ) → refusal_in (read_counter page number) ≡ first_of (ladder11 page number)
@@ -24,4 +25,4 @@ number_told_lem r = grind arith
 
 -- the answer is all that the reader promises
 pub counter_told : (page : List ℕ) (number : ℕ) (r : Result (Option CounterValue) Refusal) → r ≡ read_counter page number → PageCounterGiven page number r
-counter_told page number r e = record { answer = e; refusal = ap refusal_in e ∙ refusal_first page number }
+counter_told page number r e = record { answer = e; refusal = ap refusal_in e ∙ refusal_first page number; told = ap counter_answer e ∙ counter_tells page number }

@@ -3,6 +3,7 @@ pub mod Filling
 pub mod Bytes11
 pub mod TiedMade
 pub mod Laws10
+pub mod ToldLaws10
 pub mod Exactly10
 pub mod Trip10
 pub mod OtherLaws10
@@ -11,7 +12,9 @@ pub mod Tied10
 pub mod Rest
 pub mod Walking
 pub mod Counting
+pub mod ToldLaws11
 pub mod Exactly11
+pub mod Apart11
 pub mod ByWidth
 pub mod Values
 pub mod Places11

@@ -15,7 +15,7 @@ abbrev pub no_entry : CounterEntry
 no_entry = counter_entry 0 0
 
 -- how a count goes on
-count_more : (number : ℕ) (e : CounterEntry) (es : List CounterEntry) → count_by (entry_asked number) (e ∷ es) ≡ cond (entry_asked number e) 1 0 + count_by (entry_asked number) es
+pub count_more : (number : ℕ) (e : CounterEntry) (es : List CounterEntry) → count_by (entry_asked number) (e ∷ es) ≡ cond (entry_asked number e) 1 0 + count_by (entry_asked number) es
 count_more number e es = sum_by-cons (λ (x : CounterEntry). cond (entry_asked number x) 1 0) e es
 
 -- a hit somewhere in a list is counted
@@ -36,7 +36,7 @@ hit_reads page number (e ∷ es) (suc i) m h t =
     grind (arith, r, c, q)
 
 -- a page that is not refused has the asked number at most once
-found_once : (page : List ℕ) (number : ℕ) → first_of (ladder11 page number) ≡ None → count_by (entry_asked number) (entries page) < 2
+pub found_once : (page : List ℕ) (number : ℕ) → first_of (ladder11 page number) ≡ None → count_by (entry_asked number) (entries page) < 2
 unfolding damaged
 found_once page number z =
     let d = (firsts.first_exactly (ladder11 page number) tt).none.0 z 3 (lit< tt) in

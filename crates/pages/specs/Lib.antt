@@ -1,8 +1,10 @@
 pub mod Sum
 pub mod Layout11
+pub mod Told10
 pub mod Page10
 pub mod Others10
 pub mod Entries
+pub mod Told11
 pub mod Read11
 pub mod WalkStep
 pub mod Top

@@ -7,9 +7,11 @@ use Rattle.frames.specs.Layout.{Piece, byte, bits, number, unnamed, got, piece_a
 use Rattle.frames.specs.Shared.{task_at, is_below, task_fits}
 use Rattle.refusals.specs.First.{Rung, first_of, rung, unless, refusal_in}
 use Rattle.refusals.specs.Number.{number as refusal-number}
+use Rattle.refusals.specs.Told.{answer_unless}
 use Rattle.refusals.specs.declared.reasons.Refusal.{Refusal}
 use Rattle.refusals.specs.declared.reasons.Refusal.TheVariants.{PageLength, PageSum, Unfit}
 use Rattle.pages.specs.Sum.{sum256, sealed_page}
+use Rattle.pages.specs.Told10.{record_told}
 use Rattle.pages.specs.declared.page10.ErrorLog.{ErrorLog}
 
 -- byte 0 bit 7 NQ, bits 4:0 tag [page-10h]
@@ -61,7 +63,8 @@ unfoldable pub log_answer : Result ErrorLog Refusal → Answer
 log_answer (Ok f) = record { number = 0; values = bit_number f.nq ∷ f.tag ∷ f.status ∷ f.error ∷ f.task.lba ∷ f.task.device ∷ f.task.count ∷ [] }
 log_answer (Err r) = record { number = refusal-number r; values = [] }
 
--- what the reader promises: the fields or the refusal, and the refusal exactly by its list [answer-values]
+-- what the reader promises: the fields or the refusal, the refusal exactly by its list, and the number and values that this tells [answer-values]
 pub record LogGiven (l : List ℕ) (r : Result ErrorLog Refusal) : Type 0 where
   pub answer : r ≡ read_log l
   pub refusal : refusal_in r ≡ first_of (ladder10 l)
+  pub told : log_answer r ≡ answer_unless (first_of (ladder10 l)) (record_told l)

@@ -6,10 +6,12 @@ use Rattle.bits.specs.Answer.{Answer}
 use Rattle.bits.specs.Little.{le_at}
 use Rattle.refusals.specs.First.{Rung, first_of, rung, unless, refusal_in}
 use Rattle.refusals.specs.Number.{number}
+use Rattle.refusals.specs.Told.{answer_unless}
 use Rattle.refusals.specs.declared.reasons.Refusal.{Refusal}
 use Rattle.refusals.specs.declared.reasons.Refusal.TheVariants.{PageLength, PageSum, PageDamaged, NoCounter}
 use Rattle.pages.specs.Sum.{sum256}
 use Rattle.pages.specs.Entries.{CounterEntry, bytes_in, wrong_width, past_end, nameless, entry_asked, entries}
+use Rattle.pages.specs.Told11.{number_told}
 use Rattle.pages.specs.declared.value.CounterValue.{CounterValue}
 
 -- 22, of any entry: width not 1 to 4, identifier or value past 508, or a non-vendor identifier other than 0000h with low 12 bits 0
@@ -48,13 +50,14 @@ ladder11 page asked =
 unfoldable pub read_counter : List ℕ → ℕ → Result (Option CounterValue) Refusal
 read_counter page asked = unless (first_of (ladder11 page asked)) (value_in page asked (entries page))
 
--- what each answer tells: a value; absent, which tells no value at all; or the refusal's number [answer-values] [absent]
+-- what each answer tells: a value and its width; absent, which tells no value at all; or the refusal's number [answer-values] [absent]
 unfoldable pub counter_answer : Result (Option CounterValue) Refusal → Answer
-counter_answer (Ok (Some v)) = record { number = 0; values = v.value ∷ [] }
+counter_answer (Ok (Some v)) = record { number = 0; values = v.value ∷ v.bytes ∷ [] }
 counter_answer (Ok None) = record { number = 0; values = [] }
 counter_answer (Err r) = record { number = number r; values = [] }
 
--- what the reader promises: value, absent or the refusal, and the refusal exactly by its list [answer-values]
+-- what the reader promises: value, absent or the refusal, the refusal exactly by its list, and the number and values that this tells [answer-values]
 pub record PageCounterGiven (page : List ℕ) (asked : ℕ) (r : Result (Option CounterValue) Refusal) : Type 0 where
   pub answer : r ≡ read_counter page asked
   pub refusal : refusal_in r ≡ first_of (ladder11 page asked)
+  pub told : counter_answer r ≡ answer_unless (first_of (ladder11 page asked)) (number_told page asked)

@@ -1,5 +1,5 @@
 -- What each promise says.
-use Rattle.std.specs.Prelude.{◌≡◌, List, ℕ, map, ◌<◌, ◌^◌, ◌/◌, ◌⊎◌, true, false, get_or, Some, None, Ok}
+use Rattle.std.specs.Prelude.{◌≡◌, List, [], ◌∷◌, ℕ, map, ◌<◌, ◌^◌, ◌/◌, ◌⊎◌, true, false, get_or, Option, Some, None, Result, Ok}
 use Rattle.device_state.specs.declared.shapes.Settings.{Settings}
 use Rattle.device.specs.DataDue.{data_due}
 use Rattle.device.specs.Device.{power_on}
@@ -28,21 +28,30 @@ use Rattle.device.specs.Step.{Given}
 use Rattle.device.specs.declared.state.Device.{Device}
 use Rattle.history.specs.Struck.{StruckRun}
 use Rattle.bits.specs.Little.{Bytes}
-use Rattle.frames.specs.Read.{read_frame}
+use Rattle.bits.specs.Answer.{bit_number}
+use Rattle.refusals.specs.First.{first_of}
+use Rattle.refusals.specs.Told.{answer_with, answer_unless}
+use Rattle.refusals.specs.declared.reasons.Refusal.{Refusal}
+use Rattle.frames.specs.Told.{frame_told}
+use Rattle.frames.specs.Read.{read_frame, ladder24, frame_answer, frame_values}
 use Rattle.frames.specs.Write.{FrameValue, encode, fits}
 use Rattle.frames.specs.RoundTrip.{read_back, again, zeroed}
 use Rattle.frames.specs.declared.shapes.Frame.{Frame}
-use Rattle.pages.specs.Page10.{page10, fits10, read_log}
+use Rattle.pages.specs.Told10.{record_told}
+use Rattle.pages.specs.Page10.{page10, fits10, ladder10, read_log, log_answer}
 use Rattle.pages.specs.declared.page10.ErrorLog.{ErrorLog}
 use Rattle.bits.specs.Bit.{bit_in}
 use Rattle.identity.specs.Words.{fits_identity}
 use Rattle.identity.specs.Page.{identity_page}
-use Rattle.identity.specs.Read.{all_told, read_identity, word_in}
+use Rattle.identity.specs.Told.{page_told}
+use Rattle.identity.specs.Read.{all_told, ladder_identity, read_identity, identity_answer, word_in}
 use Rattle.identity.specs.declared.words.Identity.{Identity}
 use Rattle.identity.specs.declared.reading.Identified.{Identified}
 use Rattle.counters.specs.Rows.{id_of, kept}
 use Rattle.pages.specs.Layout11.{page11}
-use Rattle.pages.specs.Read11.{read_counter, row_value}
+use Rattle.pages.specs.Told11.{number_told}
+use Rattle.pages.specs.Read11.{ladder11, read_counter, row_value, counter_answer}
+use Rattle.pages.specs.declared.value.CounterValue.{CounterValue}
 use Rattle.worked_examples.specs.Points.{Hold, examples as all}
 use Rattle.worked_examples.specs.Whole.{Placed, whole_frames, WholeShows}
 use Rattle.worked_examples.specs.Story.{ExampleShows}
@@ -51,8 +60,8 @@ use Rattle.bits.specs.Contract.{Says}
 use Rattle.bits.proofs.Tying.{say}
 use Rattle.promises.proofs.histories
 use Rattle.promises.specs.contracts.histories as histories-said
-use Rattle.promises.proofs.states
-use Rattle.promises.specs.contracts.states as states-said
+use Rattle.promises.proofs.told
+use Rattle.promises.specs.contracts.told as told-said
 use Rattle.promises.proofs.written
 use Rattle.promises.specs.contracts.written as written-said
 use Rattle.promises.proofs.examples
@@ -149,6 +158,27 @@ pub tied_untold_is_none : Says written-said.untold_is_none.ended written.untold_
     (λ κs a r ws. ((l : List ℕ) (i : Identified) → Ok i ≡ read_identity l → ((word_in l 76 ≡ 0) ⊎ ((word_in l 76 ≡ 0xFFFF) ⊎ (bit_in 16 (word_in l 76) 8 ≡ false))) → i.queue ≡ None)
     × ((l : List ℕ) (i : Identified) → Ok i ≡ read_identity l → ((word_in l 83 / 2 ^ 14 ≡ 1 → ⊥) ⊎ (bit_in 16 (word_in l 83) 10 ≡ false)) → i.capacity ≡ None))
 tied_untold_is_none = say (λ κs a. tt) (λ κs a r ws p. (p.0, p.1))
+
+-- ---- what readers' answers tell
+
+pub tied_answers_told : Says told-said.answers_told.ended told.answers_told.Reads.Asked told.answers_told.Reads.Post
+    (λ κs a r ws. ((l : List ℕ) → frame_answer (read_frame l) ≡ answer_unless (first_of (ladder24 l)) (frame_told l))
+    × ((l : List ℕ) → log_answer (read_log l) ≡ answer_unless (first_of (ladder10 l)) (record_told l))
+    × ((l : List ℕ) (number : ℕ) → counter_answer (read_counter l number) ≡ answer_unless (first_of (ladder11 l number)) (number_told l number))
+    × ((l : List ℕ) → identity_answer (read_identity l) ≡ answer_unless (first_of (ladder_identity l)) (page_told l)))
+tied_answers_told = say (λ κs a. tt) (λ κs a r ws p. (p.0, p.1.0, p.1.1.0, p.1.1.1))
+
+pub tied_written_told : Says told-said.written_told.ended told.written_told.Reads.Asked told.written_told.Reads.Post
+    (λ κs a r ws. ((f : FrameValue) → fits f ≡ true → frame_answer (read_frame (encode f)) ≡ answer_with (frame_values (read_back f)))
+    × ((f : ErrorLog) → fits10 f ≡ true → log_answer (read_log (page10 f)) ≡ answer_with (bit_number f.nq ∷ f.tag ∷ f.status ∷ f.error ∷ f.task.lba ∷ f.task.device ∷ f.task.count ∷ []))
+    × ((mask : ℕ) (values : List ℕ) → ((k : ℕ) → get_or values k 0 < 2 ^ 32) → (k : ℕ) → k < 16 → kept mask k ≡ true → counter_answer (read_counter (page11 mask values) (id_of k)) ≡ answer_with (get_or values k 0 ∷ 4 ∷ []))
+    × ((mask : ℕ) (values : List ℕ) → ((k : ℕ) → get_or values k 0 < 2 ^ 32) → (number : ℕ) → 0 < number → number < 4096 → ((k : ℕ) → k < 16 → id_of k ≡ number → kept mask k ≡ false) → counter_answer (read_counter (page11 mask values) number) ≡ answer_with [])
+    × ((f : Identity) → fits_identity f ≡ true → identity_answer (read_identity (identity_page f)) ≡ answer_with (1 ∷ f.depth ∷ 1 ∷ f.capacity ∷ [])))
+tied_written_told = say (λ κs a. tt) (λ κs a r ws p. (p.0, p.1.0, p.1.1.0, p.1.1.1.0, p.1.1.1.1))
+
+pub tied_counters_told_apart : Says told-said.counters_told_apart.ended told.counters_told_apart.Reads.Asked told.counters_told_apart.Reads.Post
+    (λ κs a r ws. (a b : Result (Option CounterValue) Refusal) → counter_answer a ≡ counter_answer b → a ≡ b)
+tied_counters_told_apart = say (λ κs a. tt) (λ κs a r ws p. p)
 
 -- ---- examples
 

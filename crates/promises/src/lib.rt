@@ -5,6 +5,7 @@
 mod examples;
 mod histories;
 mod states;
+mod told;
 mod written;
 
 pub use examples::{
@@ -17,6 +18,7 @@ pub use histories::{
     state_told, within_depth,
 };
 pub use states::{any_state_due, any_state_refused, any_state_serves, tally_is_links};
+pub use told::{answers_told, counters_told_apart, written_told};
 pub use written::{
     counters_read_back, errors_read_back, frames_read_back, frames_write_back, identity_read_back,
     untold_is_none,

@@ -50,7 +50,7 @@ reply_bytes s = joined_bytes (map encode s.frames)
 abbrev pub last_byte : List ℕ → List ℕ
 last_byte page = drop 511 page
 
--- an answer as its number and its values: absent has none
+-- an answer as its number and its values, which are a value and its width: absent has none
 abbrev pub said : Result (Option CounterValue) Refusal → List ℕ
 said r = (counter_answer r).number ∷ (counter_answer r).values
 
@@ -111,8 +111,8 @@ examples =
     ∷ record { name = read_setup; given = take 1 (drop 1 (reply_bytes (step reading (lent (happens (OpenPhase 5)) [] room)))); wanted = 0x20 ∷ [] }
     ∷ record { name = read_setup; given = take 4 (drop 20 (reply_bytes (step reading (lent (happens (OpenPhase 5)) [] room)))); wanted = 0x00 ∷ 0x10 ∷ 0x00 ∷ 0x00 ∷ [] }
     ∷ record { name = two_counters; given = last_byte two_rows; wanted = 0xB2 ∷ [] }
-    ∷ record { name = two_counters; given = said (read_counter two_rows 0x001); wanted = 0 ∷ 0 ∷ [] }
-    ∷ record { name = two_counters; given = said (read_counter two_rows 0x00A); wanted = 0 ∷ 3 ∷ [] }
+    ∷ record { name = two_counters; given = said (read_counter two_rows 0x001); wanted = 0 ∷ 0 ∷ 4 ∷ [] }
+    ∷ record { name = two_counters; given = said (read_counter two_rows 0x00A); wanted = 0 ∷ 3 ∷ 4 ∷ [] }
     ∷ record { name = two_counters; given = said (read_counter two_rows 0x002); wanted = 0 ∷ [] }
     ∷ record { name = whole_medium; given = answer 65536 0 0; wanted = 0x34 ∷ 0x00 ∷ 0x40 ∷ 0x00 ∷ [] }
     ∷ record { name = whole_from_one; given = answer 65536 0 1; wanted = 0x34 ∷ 0x40 ∷ 0x41 ∷ 0x10 ∷ [] }
