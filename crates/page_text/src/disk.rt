@@ -4,7 +4,8 @@ ghost use Rattle.std.specs.Prelude.{None};
 use crate::shelf::Shelf;
 use std::{fs, io};
 
-/// The files that lie where a path says. Nothing is known of them.
+/// The files that lie where a path says. Nothing is known of them, nor can a contract say which name the system is
+/// handed: that of std's `fs::open` has no clause. That it is the very name is tried (`tests/pages/run`) [text-files].
 #[derive(Drop)]
 pub struct Disk<'a> {
     /// what opens them

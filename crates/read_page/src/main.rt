@@ -28,10 +28,10 @@ fn run(rt: &HostRuntime) -> anyhow::Result<u8> {
     let Some(query) = query(alloc, &matches) else {
         return Ok(USAGE);
     };
-    let names = matches.get_strs("file").unwrap_or(&[]);
+    // The words that clap has for files are the names, as they are.
     Ok(exit_status(query.run(
         &Disk { rt },
-        names,
+        matches.get_strs("file").unwrap_or(&[]),
         &mut rt.stdin(),
         &mut rt.stdout(),
         &mut rt.stderr(),
