@@ -12,7 +12,7 @@ use self::bench::Bench;
 use std::io::{self, BufRead, ErrorKind, Write};
 
 /// All of the medium, and all of the reply buffer.
-pub const MEDIUM: usize = 0x4_0000;
+pub const MEDIUM: usize = 0x200_0000;
 pub const REPLY: usize = 0x4000;
 
 /// A line may have so many bytes before its end.

@@ -57,7 +57,7 @@ command_at words verb.TheVariants.Comreset = Some (command.TheVariants.Event Com
 command_at words verb.TheVariants.Counter = short_at words 1 >>= (λ number. Some (command.TheVariants.Counter number))
 command_at words verb.TheVariants.Count = Some command.TheVariants.Count
 command_at words verb.TheVariants.Lend = do
-  medium ← number_at words 1 262144
+  medium ← number_at words 1 33554432
   reply ← number_at words 2 16384
   Some (command.TheVariants.Lend medium reply)
 command_at words verb.TheVariants.Fill = byte_at words 1 >>= (λ byte. Some (command.TheVariants.Fill byte))

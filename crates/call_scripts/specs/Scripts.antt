@@ -81,7 +81,7 @@ fresh size = kept zero_device (replicate size 0) None
 
 -- a run of this input from there, whatever was left of it, and what was said of it [script-broken]
 abbrev pub HasRun : (known old new errors errors' : Option (List ℕ)) → Ended → Type 0
-HasRun known old new errors errors' ended = (left : Option (List ℕ)) × Ran (fresh 262144) known left old new ended.run × Said (said_of ended.run) errors errors' ended.said
+HasRun known old new errors errors' ended = (left : Option (List ℕ)) × Ran (fresh 33554432) known left old new ended.run × Said (said_of ended.run) errors errors' ended.said
 
 -- one input has one text: outputs that an end of the input allows are equal [script-run]
 abbrev pub OneText : Type 0

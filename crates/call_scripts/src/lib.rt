@@ -46,8 +46,8 @@ pub use running::a_script_has_one_text;
 pub use scripts::check_scripts;
 pub use writings::{FrameFields, Writing};
 
-// The bytes of the medium of a bench; a call is lent a front of it.
-const MEDIUM_SIZE: usize = 0x40000;
+// The bytes of the medium of a bench, the largest that a device has; a call is lent a front of it.
+const MEDIUM_SIZE: usize = 0x200_0000;
 
 // The bytes of its reply buffer.
 const REPLY_SIZE: u16 = 0x4000;

@@ -7,6 +7,7 @@ use crate::device::host::Verdict;
 use crate::device::state::{REPLY_ROOM, SECTOR};
 use crate::device::{clauses, events, host, Answer, State};
 use crate::frames;
+use std::array;
 
 /// Every byte of the reply buffer before a call.
 pub const BEFORE: u8 = 0xEE;
@@ -59,8 +60,10 @@ impl Bench {
     }
 
     fn fill(&mut self, first: u8) {
-        let first = usize::from(first);
-        self.medium = (0..MEDIUM).map(|i| ((first + i) % 251) as u8).collect();
+        let round: [u8; 251] = array::from_fn(|i| ((usize::from(first) + i) % 251) as u8);
+        for part in self.medium.chunks_mut(251) {
+            part.copy_from_slice(&round[..part.len()]);
+        }
     }
 
     /// How much of medium and reply buffer a call is lent.

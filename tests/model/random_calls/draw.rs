@@ -13,7 +13,7 @@ pub fn next(s: &mut Script) {
     match s.random.below(100) {
         0..=1 => power(s),
         2..=5 => lend(s),
-        6..=7 => fill(s),
+        6 => fill(s),
         8..=11 => s.line("show"),
         12..=14 => medium(s),
         15..=18 => counter(s),
@@ -30,12 +30,13 @@ pub fn next(s: &mut Script) {
     }
 }
 
-/// Settings, mostly in bounds, and mostly with a medium that can be lent.
+/// Settings, mostly in bounds, and mostly of few sectors; at times of more than two bytes tell, up to all.
 pub fn power(s: &mut Script) {
     let r = &mut s.random;
     let any_depth = 1 + r.below(32);
     let depth = r.one_of(&[1, 2, 4, 31, 32, 32, 32, any_depth]);
     let any_capacity = 1 + r.below(512);
+    let large = 513 + r.below(65_536 - 512);
     let capacity = r.one_of(&[1, 16, 17, 33, 64, 64, 64, 65, 512, any_capacity]);
     let some_rows = r.word() as u16 | 0x0201;
     let mask = r.one_of(&[0x0201, 0xFFFF, some_rows]);
@@ -43,13 +44,20 @@ pub fn power(s: &mut Script) {
         0 => format!("power {:x} {:x} {:x}", r.one_of(&[0, 33, 257, u32::MAX]), capacity, mask),
         1 => format!("power {:x} {:x} {:x}", depth, r.one_of(&[0, 65_537, u32::MAX]), mask),
         2 => format!("power {:x} {:x} {:x}", depth, capacity, r.one_of(&[0, 1, 0x200, 0xFDFF])),
-        3 => format!("power {:x} {:x} {:x}", depth, r.one_of(&[513, 1_024, 65_536]), mask),
+        3..=5 => {
+            let most = r.one_of(&[513, 1_024, 32_769, 65_535, 65_536, 65_536, large, large]);
+            format!("power {depth:x} {most:x} {mask:x}")
+        }
         _ => format!("power {depth:x} {capacity:x} {mask:x}"),
     };
     s.line(&line);
     if s.bench.is_told_what_to_lend() {
         let whole = whole_medium(s);
         s.line(&format!("lend {whole:x} 2004"));
+    }
+    if s.bench.state.capacity > 512 && s.random.percent(50) {
+        // the page tells the capacity, in other words where it is large
+        s.line("frame 27 80 ec 00*4 a0 00*c");
     }
 }
 
