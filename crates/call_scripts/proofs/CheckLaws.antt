@@ -88,15 +88,18 @@ pub known_as : (known : Option (List ℕ)) (script bytes : List ℕ) → script 
 known_as None script bytes e k = tt
 known_as (Some input) script bytes e k = e ∙ k
 
--- the check is that of the script
-pub check_read : (name : List ℕ) (known old new : Option (List ℕ)) (script : List ℕ) (r : Result Found RunError) → IfSome known (λ input. script ≡ input) → Checked name (fresh 33554432) script old new r → HasChecked name known old new r
-check_read name None old new script (Ok f) e c = tt
-check_read name None old new script (Err (Input x)) e c = absurd c
-check_read name None old new script (Err (Output x)) e c = tt
-check_read name None old new script (Err Memory) e c = tt
-check_read name None old new script (Err TooMany) e c = c
-check_read name (Some input) old new script (Ok f) e c = subst (λ (s : List ℕ). Checked name (fresh 33554432) s old new (Ok f)) e c
-check_read name (Some input) old new script (Err (Input x)) e c = absurd c
-check_read name (Some input) old new script (Err (Output x)) e c = subst (λ (s : List ℕ). AppendsFront old new (check_text name (fresh 33554432) s)) e c
-check_read name (Some input) old new script (Err Memory) e c = subst (λ (s : List ℕ). AppendsSome old new (check_text name (fresh 33554432) s)) e c
-check_read name (Some input) old new script (Err TooMany) e c = c
+-- the check is that of a script that may have been read
+pub check_read : (name : List ℕ) (Read : List ℕ → Type 0) (old new : Option (List ℕ)) (script : List ℕ) (r : Result Found RunError) → Read script → Checked name (fresh 33554432) script old new r → HasChecked name Read old new r
+check_read name Read old new script (Ok f) e c = (script, e, c)
+check_read name Read old new script (Err (Input x)) e c = absurd c
+check_read name Read old new script (Err (Output x)) e c = (script, e, c)
+check_read name Read old new script (Err Memory) e c = (script, e, c)
+check_read name Read old new script (Err TooMany) e c = (script, e, c)
+
+-- what may have been read by one account may have been by another
+pub check_by : (name : List ℕ) (Read Read' : List ℕ → Type 0) (old new : Option (List ℕ)) (r : Result Found RunError) → ((script : List ℕ) → Read script → Read' script) → HasChecked name Read old new r → HasChecked name Read' old new r
+check_by name Read Read' old new (Ok f) h c = (c.0, h c.0 c.1, c.2)
+check_by name Read Read' old new (Err (Input x)) h c = c
+check_by name Read Read' old new (Err (Output x)) h c = (c.0, h c.0 c.1, c.2)
+check_by name Read Read' old new (Err Memory) h c = (c.0, h c.0 c.1, c.2)
+check_by name Read Read' old new (Err TooMany) h c = (c.0, h c.0 c.1, c.2)

@@ -21,4 +21,4 @@ broken_once k input left old new new' a b =
 pub check_once : (name script old : List ℕ) (new new' : Option (List ℕ)) (found found' : Found) → HasChecked name (IsAllOf (Some script)) (Some old) new (Ok found) → HasChecked name (IsAllOf (Some script)) (Some old) new' (Ok found') → (new ≡ new') × (found ≡ found')
 check_once name script old new new' found found' a b =
     let read = a.1 ∙ sym b.1 in
-    (appended old _ _ new new' (ap (λ (s : List ℕ). check_text name (fresh 262144) s) read) a.2.0 b.2.0, a.2.1 ∙ ap (λ (s : List ℕ). check_found (fresh 262144) s) read ∙ sym b.2.1)
+    (appended old _ _ new new' (ap (λ (s : List ℕ). check_text name (fresh 33554432) s) read) a.2.0 b.2.0, a.2.1 ∙ ap (λ (s : List ℕ). check_found (fresh 33554432) s) read ∙ sym b.2.1)

@@ -70,13 +70,14 @@ abbrev pub Checked : List ℕ → Kept → List ℕ → (old new : Option (List 
 Checked name k script old new (Ok found) = Appends old new (check_text name k script) × (found ≡ check_found k script)
 Checked name k script old new (Err e) = Loses e old new (check_text name k script)
 
--- a check of this input from zeros on; of one that could not be read nothing is written [script-check]
-abbrev pub HasChecked : List ℕ → (known old new : Option (List ℕ)) → Result Found RunError → Type 0
-HasChecked name known old new (Ok found) = IfSome known (λ script. Checked name (fresh 33554432) script old new (Ok found))
-HasChecked name known old new (Err (Input e)) = Keeps old new
-HasChecked name known old new (Err (Output e)) = IfSome known (λ script. AppendsFront old new (check_text name (fresh 33554432) script))
-HasChecked name known old new (Err Memory) = IfSome known (λ script. AppendsSome old new (check_text name (fresh 33554432) script))
-HasChecked name known old new (Err TooMany) = ⊥
+-- a script is all that a reader had left, where that is known
+abbrev pub IsAllOf : Option (List ℕ) → List ℕ → Type 0
+IsAllOf known script = IfSome known (λ input. script ≡ input)
+
+-- a check, from zeros on, of a script that may have been read (Read); of one that could not be read nothing is written [script-check]
+abbrev pub HasChecked : List ℕ → (Read : List ℕ → Type 0) → (old new : Option (List ℕ)) → Result Found RunError → Type 0
+HasChecked name Read old new (Err (Input e)) = Keeps old new
+HasChecked name Read old new result = (script : List ℕ) × Read script × Checked name (fresh 33554432) script old new result
 
 -- one script has one text, and one thing is found in it [script-check]
 abbrev pub OneFound : Type 0

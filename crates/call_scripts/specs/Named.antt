@@ -22,7 +22,7 @@ MayCome held (Err why) = Unit
 
 -- what is written of a script [script-files]
 abbrev pub named_text : List ℕ → Result (List ℕ) (List ℕ) → List ℕ
-named_text name (Ok script) = check_text name (fresh 262144) script
+named_text name (Ok script) = check_text name (fresh 33554432) script
 named_text name (Err why) = []
 
 -- a line of which program and of which file it is, and why the file is unread
@@ -40,7 +40,7 @@ named_said name (Err why) = unread_text name why
 
 -- what is found in it [script-files]
 abbrev pub named_found : Result (List ℕ) (List ℕ) → Found
-named_found (Ok script) = check_found (fresh 262144) script
+named_found (Ok script) = check_found (fresh 33554432) script
 named_found (Err why) = one_unread
 
 -- so of all of them, in their order [script-files]

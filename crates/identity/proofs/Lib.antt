@@ -1,6 +1,6 @@
 pub mod Laying
 pub mod Standing
 pub mod Trip
-pub mod ToldLaws
+pub mod Made
 pub mod Exactly
 pub mod Tied

@@ -39,7 +39,7 @@ module _ (f : Identity) where
       (tested (leb (suc k) n))
 
   -- the page's bytes but the last are those of the words
-  byte_stands : (i : ℕ) → i < 511 → get_or (identity_page f) i 0 ≡ get_or (words_to f 256) i 0
+  pub byte_stands : (i : ℕ) → i < 511 → get_or (identity_page f) i 0 ≡ get_or (words_to f 256) i 0
   unfolding identity_page sealed_page
   byte_stands i h = get_or-set_other (words_to f 256) 511 i (sum_byte (words_to f 256)) 0 (λ e. omega arith)
 

@@ -33,13 +33,16 @@ module _ (f : Identity) (h : fits_identity f ≡ true) where
   unfolding word_of
   queue_back = rw (is 76 (omega arith), is 75 (omega arith)) (ap (λ (d : ℕ). Some d) depth_back)
 
+  -- words 100 to 103 are the capacity
+  pub capacity_stands : le_at (identity_page f) 200 8 ≡ f.capacity
+  unfolding word_of
+  capacity_stands =
+      four_words (identity_page f)
+      ∙ rw (is 100 (omega arith), is 101 (omega arith), is 102 (omega arith), is 103 (omega arith)) (four_bits f.capacity small_capacity)
+
   capacity_back : capacity_told (identity_page f) ≡ Some f.capacity
   unfolding word_of
-  capacity_back =
-      rw (is 83 (omega arith))
-      (ap (λ (c : ℕ). Some c)
-      (four_words (identity_page f)
-      ∙ rw (is 100 (omega arith), is 101 (omega arith), is 102 (omega arith), is 103 (omega arith)) (four_bits f.capacity small_capacity)))
+  capacity_back = rw (is 83 (omega arith)) (ap (λ (c : ℕ). Some c) capacity_stands)
 
   pub read_identified : read_identity (identity_page f) ≡ Ok (all_told f)
   unfolding read_identity first_of

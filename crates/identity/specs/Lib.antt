@@ -3,3 +3,4 @@ pub mod Words
 pub mod Page
 pub mod Told
 pub mod Read
+pub mod Made

@@ -2,6 +2,7 @@
 use Rattle.frames.proofs.RoundTrip.{read_encoded}
 use Rattle.pages.proofs.Trip10.{read_page}
 use Rattle.identity.proofs.Trip.{read_identified}
+use Rattle.identity.proofs.Made.{same_else}
 use Rattle.identity.proofs.Exactly.{untold_queue, untold_capacity}
 use Rattle.pages.proofs.Trip11.{kept_reads, unkept_absent}
 use Rattle.frames.proofs.Exactly.{frame_tells}
@@ -24,7 +25,7 @@ pub ruleset histories = (no_choice, refused_struck, powered)
 
 pub ruleset states = (turned_down, due_is, tally_is_links)
 
-pub ruleset written = (read_identified, untold_queue, untold_capacity, kept_reads, unkept_absent, read_page, read_encoded)
+pub ruleset written = (read_identified, same_else, untold_queue, untold_capacity, kept_reads, unkept_absent, read_page, read_encoded)
 
 pub ruleset shown = (frames_placed, pages_placed, second_not_empty, long_not_empty, not_empty, examples)
 

@@ -43,8 +43,8 @@ use Rattle.pages.specs.declared.page10.ErrorLog.{ErrorLog}
 use Rattle.bits.specs.Bit.{bit_in}
 use Rattle.identity.specs.Words.{fits_identity}
 use Rattle.identity.specs.Page.{identity_page}
-use Rattle.identity.specs.Told.{page_told}
-use Rattle.identity.specs.Read.{all_told, ladder_identity, read_identity, identity_answer, word_in}
+use Rattle.identity.specs.Read.{all_told, read_identity, word_in}
+use Rattle.identity.specs.Made.{MadeOf, SameElse}
 use Rattle.identity.specs.declared.words.Identity.{Identity}
 use Rattle.identity.specs.declared.reading.Identified.{Identified}
 use Rattle.counters.specs.Rows.{id_of, kept}
@@ -153,6 +153,12 @@ tied_counters_read_back = say (λ κs a. tt) (λ κs a r ws p. (p.0, p.1))
 
 pub tied_identity_read_back : Says written-said.identity_read_back.ended written.identity_read_back.Reads.Asked written.identity_read_back.Reads.Post (λ κs a r ws. (f : Identity) → fits_identity f ≡ true → read_identity (identity_page f) ≡ Ok (all_told f))
 tied_identity_read_back = say (λ κs a. tt) (λ κs a r ws p. p)
+
+pub tied_identity_made_of : Says written-said.identity_made_of.ended written.identity_made_of.Reads.Asked written.identity_made_of.Reads.Post (λ κs a r ws. (f : Identity) → fits_identity f ≡ true → MadeOf f (identity_page f))
+tied_identity_made_of = say (λ κs a. tt) (λ κs a r ws p. p)
+
+pub tied_identity_same_else : Says written-said.identity_same_else.ended written.identity_same_else.Reads.Asked written.identity_same_else.Reads.Post (λ κs a r ws. (f g : Identity) → SameElse (identity_page f) (identity_page g))
+tied_identity_same_else = say (λ κs a. tt) (λ κs a r ws p. p)
 
 pub tied_untold_is_none : Says written-said.untold_is_none.ended written.untold_is_none.Reads.Asked written.untold_is_none.Reads.Post
     (λ κs a r ws. ((l : List ℕ) (i : Identified) → Ok i ≡ read_identity l → ((word_in l 76 ≡ 0) ⊎ ((word_in l 76 ≡ 0xFFFF) ⊎ (bit_in 16 (word_in l 76) 8 ≡ false))) → i.queue ≡ None)

@@ -11,7 +11,7 @@ pub fn eleven_examples()
     ensures { Hold all }
 {}
 
-/// A frame of each kind, both log pages and that of IDENTIFY DEVICE, no two fields alike, byte for byte.
+/// A frame of each kind and both log pages, no two fields alike, and three pages of IDENTIFY DEVICE, byte for byte.
 pub fn bytes_in_full()
     ensures frames { Placed whole_frames }
     ensures pages { WholeShows }

@@ -20,6 +20,6 @@ pub use histories::{
 pub use states::{any_state_due, any_state_refused, any_state_serves, tally_is_links};
 pub use told::{answers_told, counters_told_apart, written_told};
 pub use written::{
-    counters_read_back, errors_read_back, frames_read_back, frames_write_back, identity_read_back,
-    untold_is_none,
+    counters_read_back, errors_read_back, frames_read_back, frames_write_back, identity_made_of,
+    identity_read_back, identity_same_else, untold_is_none,
 };

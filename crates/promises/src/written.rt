@@ -13,6 +13,7 @@ ghost use Rattle.bits.specs.Bit.{bit_in};
 ghost use Rattle.identity.specs.Words.{fits_identity};
 ghost use Rattle.identity.specs.Page.{identity_page};
 ghost use Rattle.identity.specs.Read.{all_told, read_identity, word_in};
+ghost use Rattle.identity.specs.Made.{MadeOf, SameElse};
 ghost use Rattle.identity.specs.declared.words.Identity.{Identity};
 ghost use Rattle.identity.specs.declared.reading.Identified.{Identified};
 ghost use Rattle.counters.specs.Rows.{id_of, kept};
@@ -43,6 +44,17 @@ pub fn counters_read_back()
 /// A page of IDENTIFY DEVICE that can be written is read as it was.
 pub fn identity_read_back()
     ensures { (f : Identity) → fits_identity f ≡ true → read_identity (identity_page f) ≡ Ok (all_told f) }
+{}
+
+/// What a page of IDENTIFY DEVICE has of depth and capacity: word 75 is the depth less one, words 60 and 61 are the
+/// capacity as far as 28 bits can tell it, words 100 to 103 the capacity.
+pub fn identity_made_of()
+    ensures { (f : Identity) → fits_identity f ≡ true → MadeOf f (identity_page f) }
+{}
+
+/// Every other byte of it but the sum is the same whatever depth and capacity are; `bytes_in_full` has them.
+pub fn identity_same_else()
+    ensures { (f g : Identity) → SameElse (identity_page f) (identity_page g) }
 {}
 
 /// What a page of IDENTIFY DEVICE does not tell has no value: no queue depth where word 76 is 0000h or FFFFh, or its

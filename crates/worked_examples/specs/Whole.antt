@@ -14,7 +14,7 @@ use Rattle.frames.specs.RoundTrip.{read_back}
 use Rattle.identity.specs.Words.{fits_identity}
 use Rattle.identity.specs.Page.{identity_page}
 use Rattle.identity.specs.Read.{tells_queue, tells_capacity, all_told, read_identity}
-use Rattle.worked_examples.specs.WholeIdentity.{of, whole_identity, identity_bytes, identity_noisy}
+use Rattle.worked_examples.specs.WholeIdentity.{of, whole_identity, most_identity, least_identity, whole_bytes, most_bytes, least_bytes, identity_noisy}
 use Rattle.pages.specs.Page10.{page10, read_log}
 use Rattle.pages.specs.declared.page10.ErrorLog.{ErrorLog}
 use Rattle.pages.specs.Layout11.{page11}
@@ -173,9 +173,9 @@ pub record WholeShows : Type 0 where
   pub rows : page11 0xFFFF whole_values ≡ rows_bytes
   pub rows_read : map (read_counter rows_bytes) whole_numbers ≡ map read_as whole_values
   pub some_rows : page11 0xC201 whole_values ≡ some_bytes
-  -- the page of IDENTIFY DEVICE as it is written and read
-  pub identity : identity_page whole_identity ≡ identity_bytes
-  pub identity_read : map read_identity (identity_bytes ∷ identity_noisy ∷ []) ≡ Ok (all_told whole_identity) ∷ Ok (all_told whole_identity) ∷ []
+  -- pages of IDENTIFY DEVICE as they are written, and one as it is read
+  pub identity : map identity_page (whole_identity ∷ most_identity ∷ least_identity ∷ []) ≡ whole_bytes ∷ most_bytes ∷ least_bytes ∷ []
+  pub identity_read : map read_identity (whole_bytes ∷ identity_noisy ∷ []) ≡ Ok (all_told whole_identity) ∷ Ok (all_told whole_identity) ∷ []
   -- bit 8 of word 76 tells of a queue, but not in 0000h or FFFFh; bit 10 of word 83 of 48-bit addresses, behind 01b
   pub queues : map tells_queue (0x0100 ∷ 0xFFFE ∷ 0xFFFF ∷ 0x0000 ∷ 0xFEFF ∷ []) ≡ true ∷ true ∷ false ∷ false ∷ false ∷ []
   pub capacities : map tells_capacity (0x4400 ∷ 0x7FFF ∷ 0x0400 ∷ 0x8400 ∷ 0xC400 ∷ 0xFFFF ∷ 0x7BFF ∷ []) ≡ true ∷ true ∷ false ∷ false ∷ false ∷ false ∷ false ∷ []

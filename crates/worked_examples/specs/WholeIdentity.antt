@@ -1,4 +1,4 @@
--- A page of IDENTIFY DEVICE in full, of 27 tags and a capacity of which no two bytes are alike.
+-- Pages of IDENTIFY DEVICE in full.
 use Rattle.std.specs.Prelude.{List, [], ◌∷◌, ◌++◌, ℕ, replicate}
 use Rattle.identity.specs.declared.words.Identity.{Identity}
 
@@ -6,12 +6,19 @@ use Rattle.identity.specs.declared.words.Identity.{Identity}
 abbrev pub of : ℕ → ℕ → Identity
 of d c = record { depth = d; capacity = c }
 
+-- 27 tags and a capacity of which no two bytes are alike; the most that a module has; the least
 abbrev pub whole_identity : Identity
-whole_identity = record { depth = 27; capacity = 0x0C0B0A090807 }
+whole_identity = of 27 0x0C0B0A090807
 
--- its 256 words, the low byte of each first; 0x20 are the spaces of serial number, firmware and model
-abbrev pub identity_bytes : List ℕ
-identity_bytes =
+abbrev pub most_identity : Identity
+most_identity = of 32 65536
+
+abbrev pub least_identity : Identity
+least_identity = of 1 1
+
+-- the 256 words of a page, the low byte of each first, round those of words 60 and 61, word 75 and words 100 to 103, and in front of the sum byte; 0x20 are the spaces of serial number, firmware and model
+abbrev pub bytes_round : List ℕ → List ℕ → List ℕ → ℕ → List ℕ
+bytes_round by_28 deep by_48 sum =
     (0x00 ∷ 0x00 ∷ 0x00 ∷ 0x00 ∷ 0x37 ∷ 0xC8 ∷ [])
     ++ (replicate 14 0x00
     ++ (replicate 20 0x20
@@ -19,15 +26,26 @@ identity_bytes =
     ++ (replicate 48 0x20
     ++ ((0x00 ∷ 0x80 ∷ 0x00 ∷ 0x00 ∷ 0x00 ∷ 0x03 ∷ 0x00 ∷ 0x40 ∷ 0x00 ∷ 0x00 ∷ 0x00 ∷ 0x00 ∷ 0x04 ∷ [])
     ++ (replicate 13 0x00
-    ++ ((0xFF ∷ 0xFF ∷ 0xFF ∷ 0x0F ∷ [])
+    ++ (by_28
     ++ (replicate 26 0x00
-    ++ ((0x1A ∷ 0x00 ∷ 0x02 ∷ 0x05 ∷ 0x00 ∷ 0x00 ∷ 0x00 ∷ 0x00 ∷ 0x00 ∷ 0x00 ∷ 0x40 ∷ 0x00 ∷ 0x00 ∷ 0x00 ∷ 0x00 ∷ 0x00 ∷ 0x00 ∷ 0x44 ∷ 0x20 ∷ 0x40 ∷ 0x00 ∷ 0x00 ∷ 0x00 ∷ 0x04 ∷ 0x20 ∷ 0x40 ∷ 0x3F ∷ 0x20 ∷ [])
+    ++ (deep
+    ++ ((0x02 ∷ 0x05 ∷ 0x00 ∷ 0x00 ∷ 0x00 ∷ 0x00 ∷ 0x00 ∷ 0x00 ∷ 0x40 ∷ 0x00 ∷ 0x00 ∷ 0x00 ∷ 0x00 ∷ 0x00 ∷ 0x00 ∷ 0x44 ∷ 0x20 ∷ 0x40 ∷ 0x00 ∷ 0x00 ∷ 0x00 ∷ 0x04 ∷ 0x20 ∷ 0x40 ∷ 0x3F ∷ 0x20 ∷ [])
     ++ (replicate 22 0x00
-    ++ ((0x07 ∷ 0x08 ∷ 0x09 ∷ 0x0A ∷ 0x0B ∷ 0x0C ∷ [])
-    ++ (replicate 304 0x00
-    ++ (0xA5 ∷ 0x08 ∷ [])))))))))))))
+    ++ (by_48
+    ++ (replicate 302 0x00
+    ++ (0xA5 ∷ sum ∷ []))))))))))))))
 
--- what tells as much of another drive: every bit that is not looked at is on
+-- the page of each
+abbrev pub whole_bytes : List ℕ
+whole_bytes = bytes_round (0xFF ∷ 0xFF ∷ 0xFF ∷ 0x0F ∷ []) (0x1A ∷ 0x00 ∷ []) (0x07 ∷ 0x08 ∷ 0x09 ∷ 0x0A ∷ 0x0B ∷ 0x0C ∷ 0x00 ∷ 0x00 ∷ []) 0x08
+
+abbrev pub most_bytes : List ℕ
+most_bytes = bytes_round (0x00 ∷ 0x00 ∷ 0x01 ∷ 0x00 ∷ []) (0x1F ∷ 0x00 ∷ []) (0x00 ∷ 0x00 ∷ 0x01 ∷ 0x00 ∷ 0x00 ∷ 0x00 ∷ 0x00 ∷ 0x00 ∷ []) 0x46
+
+abbrev pub least_bytes : List ℕ
+least_bytes = bytes_round (0x01 ∷ 0x00 ∷ 0x00 ∷ 0x00 ∷ []) (0x00 ∷ 0x00 ∷ []) (0x01 ∷ 0x00 ∷ 0x00 ∷ 0x00 ∷ 0x00 ∷ 0x00 ∷ 0x00 ∷ 0x00 ∷ []) 0x65
+
+-- what tells as much as the first of another drive: every bit that is not looked at is on
 abbrev pub identity_noisy : List ℕ
 identity_noisy =
     replicate 150 0xFF
