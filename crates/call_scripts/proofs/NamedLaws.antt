@@ -1,4 +1,4 @@
--- Where a check of named scripts stands behind those that were looked at, and how it ends. Assumes nothing.
+-- Where a check of named scripts stands behind those that were looked at, and how it ends.
 use Rattle.std.proofs.Common.{◌≡◌, ℕ, suc, ◌+◌, ◌<◌, ◌≤◌, List, [], ◌∷◌, ◌++◌, length, get_or, take, drop, map, flat_map, append-nil, append_assoc, take_all, take-append-drop, drop-cons, add-one, Option, Some, None, Result, Ok, Err, IsErr, IsErrAnd, IfSome, inl, inr, refl, sym, subst, ap, ap₂, ◌∙◌, arith}
 use mathlib.Core.Bool.{false≢true}
 use Rattle.std.proofs.lemmas.Grind.{fold-append}

@@ -1,4 +1,4 @@
--- What a check of named scripts writes and says, for each way in which it may end. Assumes nothing.
+-- What a check of named scripts writes and says, for each way in which it may end.
 use Rattle.std.specs.Prelude.{◌≡◌, ℕ, eqb, List, [], ◌∷◌, ◌++◌, ◌⊎◌, codes, Option, Result, Ok, Err}
 use Rattle.std.specs.Io.KnownBytes.{Appends}
 use Rattle.bits.specs.Pick.{pick}

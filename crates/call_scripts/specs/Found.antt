@@ -1,4 +1,4 @@
--- What checks of scripts have found: how it adds up, the status that it comes to, and the last line. Assumes nothing.
+-- What checks of scripts have found: how it adds up, the status that it comes to, and the last line.
 use Rattle.std.specs.Prelude.{ℕ, ◌+◌, ◌-◌, ◌^◌, ◌&&◌, eqb, leb, min, Bool, List, [], ◌++◌, decimal, codes}
 use Rattle.std.specs.Str.{bytes_eq}
 use Rattle.bits.specs.Pick.{pick}

@@ -1,4 +1,4 @@
--- Named scripts: what comes of each, and what is written, said and found of all. Assumes nothing.
+-- Named scripts: what comes of each, and what is written, said and found of all.
 use Rattle.std.specs.Prelude.{◌≡◌, ℕ, List, [], ◌++◌, All, flat_map, fold, map, codes, IfSome, Option, Some, Result, Ok, Err}
 use Rattle.call_scripts.specs.Checks.{check_text, check_found}
 use Rattle.call_scripts.specs.Found.{nothing_found, one_unread, both}

@@ -1,4 +1,4 @@
--- What the reader's answer tells is what the bytes tell. Assumes nothing.
+-- What the reader's answer tells is what the bytes tell.
 use Rattle.std.proofs.Common.{◌≡◌, refl, ◌∙◌, List, ℕ, zero, suc, ◌+◌, ◌*◌, ◌/◌, ◌%◌, ◌^◌, ◌<◌, arith, get_or, eqb, lt-ltb, mod-lt, bit_and, Some, Result}
 use lib.Bits.{and_mask}
 use Rattle.std.proofs.lemmas.Nat.Bits.{bit_at_and}

@@ -1,4 +1,4 @@
--- What a frame tells by its bytes, as the tables of the rules have them: said anew, by no layout. Assumes nothing.
+-- What a frame tells by its bytes, as the tables of the rules have them: said anew, by no layout.
 use Rattle.std.specs.Prelude.{List, [], ◌∷◌, ◌++◌, ℕ, ◌+◌, ◌-◌, ◌*◌, ◌/◌, ◌%◌, ◌^◌, length, get_or}
 use Rattle.std.specs.Option.{option_map_or}
 use Rattle.bits.specs.Little.{le_at}

@@ -1,4 +1,4 @@
--- A link tally is as many link events: of each result that the one contract promises, and that a call's own contract allows. Assumes nothing.
+-- A link tally is as many link events: of each result that the one contract promises, and that a call's own contract allows.
 use Rattle.std.proofs.Common.{Some, ◌≡◌, refl, sym, ap, subst, ◌∙◌, true, false, ⊎_elim, List, [], ◌∷◌, map, ℕ, ◌+◌, eqb, cond, count_by}
 use Rattle.std.proofs.lemmas.List.Sums.{sum_by-cons}
 use Rattle.bits.specs.Pick.{pick}

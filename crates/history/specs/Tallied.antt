@@ -1,4 +1,4 @@
--- A link tally beside the link events that it stands for: what each leaves of a state, and when each is turned down. Assumes nothing.
+-- A link tally beside the link events that it stands for: what each leaves of a state, and when each is turned down.
 use Rattle.std.specs.Prelude.{◌≡◌, List, [], ◌∷◌, map, ℕ, ◌<◌, eqb, length, get_or, count_by, Some, None}
 use Rattle.refusals.specs.declared.reasons.Refusal.TheVariants.{NoRow}
 use Rattle.rules.specs.Call.{happens}

@@ -1,4 +1,4 @@
--- What depth and capacity make of the page, and that all else is the same. Assumes nothing.
+-- What depth and capacity make of the page, and that all else is the same.
 use Rattle.std.proofs.Common.{◌≡◌, refl, sym, ap, subst, ◌∙◌, ◌||◌, true, false, List, ℕ, ◌+◌, ◌*◌, ◌/◌, ◌%◌, ◌^◌, ◌<◌, ◌≤◌, min, arith, eqb, ne_eqb, get_or}
 use Rattle.bits.specs.Little.{le_at, le_bytes}
 use borrow.Author.Tests.{eqb-false}

@@ -1,4 +1,4 @@
--- What the reader of IDENTIFY DEVICE's page answers tells is what the bytes tell. Assumes nothing.
+-- What the reader of IDENTIFY DEVICE's page answers tells is what the bytes tell.
 use Rattle.std.proofs.Common.{Some, None, ◌≡◌, refl, Bool, true, false, not, ◌&&◌, ◌||◌, List, [], ◌∷◌, ℕ, zero, suc, ◌+◌, ◌/◌, ◌%◌, ◌<◌, arith, mod-lt, eqb, Result}
 use Rattle.bits.specs.Pick.{pick}
 use Rattle.bits.specs.Little.{le_at}

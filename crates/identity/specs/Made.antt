@@ -1,4 +1,4 @@
--- What depth and capacity make of the page, and that they make nothing else of it. Assumes nothing.
+-- What depth and capacity make of the page, and that they make nothing else of it.
 use Rattle.std.specs.Prelude.{◌≡◌, false, Bool, ◌||◌, List, ℕ, ◌+◌, ◌<◌, eqb, min, length, get_or}
 use Rattle.bits.specs.Little.{le_at}
 use Rattle.pages.specs.Sum.{sum256}

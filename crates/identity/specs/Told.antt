@@ -1,4 +1,4 @@
--- What a page of IDENTIFY DEVICE tells by its bytes, as the rule has them: word k stands at byte 2 k. Assumes nothing.
+-- What a page of IDENTIFY DEVICE tells by its bytes, as the rule has them: word k stands at byte 2 k.
 use Rattle.std.specs.Prelude.{List, [], ◌∷◌, ◌++◌, ℕ, ◌+◌, ◌/◌, ◌%◌, ◌&&◌, ◌||◌, eqb, Option, Some, None}
 use Rattle.bits.specs.Pick.{pick}
 use Rattle.bits.specs.Little.{le_at}

@@ -1,4 +1,4 @@
--- Answers of the reader of page 11h that tell the same are the same. Assumes nothing.
+-- Answers of the reader of page 11h that tell the same are the same.
 use Rattle.std.proofs.Common.{◌≡◌, refl, sym, ap, [], ◌∷◌, ℕ, Option, Some, None, Result, Ok, Err}
 use Rattle.bits.specs.Answer.{Answer}
 use Rattle.refusals.specs.declared.reasons.Refusal.{Refusal}

@@ -1,4 +1,4 @@
--- What the reader of page 10h answers tells is what the bytes tell. Assumes nothing.
+-- What the reader of page 10h answers tells is what the bytes tell.
 use Rattle.std.proofs.Common.{◌≡◌, refl, ◌∙◌, Bool, true, false, List, ℕ, ◌%◌, arith, get_or, eqb, bit_and, Result}
 use lib.Bits.{and_mask}
 use Rattle.bits.specs.Answer.{bit_number}

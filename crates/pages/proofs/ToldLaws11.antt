@@ -1,4 +1,4 @@
--- What the reader of page 11h answers tells is what the entries of the number tell. Assumes nothing.
+-- What the reader of page 11h answers tells is what the entries of the number tell.
 use Rattle.std.proofs.Common.{◌≡◌, refl, ap, ◌∙◌, Bool, true, false, cond, List, [], ◌∷◌, ℕ, ◌+◌, ◌<◌, arith, ⊎_elim, Option, Some, None, Result, Ok, count_by, filter, flat_map}
 use Rattle.std.proofs.lemmas.List.Concat.{flat_map-cons}
 use Rattle.bits.proofs.Picks.{tested}

@@ -1,4 +1,4 @@
--- What a page 10h tells by its bytes, as the rule has them: said anew, by no layout. Assumes nothing.
+-- What a page 10h tells by its bytes, as the rule has them: said anew, by no layout.
 use Rattle.std.specs.Prelude.{List, ◌∷◌, ℕ, ◌/◌, ◌%◌, get_or, eqb}
 use Rattle.bits.specs.Pick.{pick}
 use Rattle.frames.specs.Told.{task_told}

@@ -1,4 +1,4 @@
--- What the entries of a page 11h tell of a counter's number. Assumes nothing.
+-- What the entries of a page 11h tell of a counter's number.
 use Rattle.std.specs.Prelude.{List, [], ◌∷◌, ℕ, ◌+◌, ◌*◌, filter, flat_map}
 use Rattle.bits.specs.Little.{le_at}
 use Rattle.pages.specs.Entries.{CounterEntry, width_of, entry_asked, entries}

@@ -1,4 +1,4 @@
--- A state of which no clause of the rules holds is one that the device's own test lets pass. Assumes nothing.
+-- A state of which no clause of the rules holds is one that the device's own test lets pass.
 use Rattle.std.proofs.Common.{◌≡◌, sym, ap, ◌∙◌, if◌then◌else◌, ◌+◌, ◌*◌, true, false, true≢false, ⊎_elim, ℕ, ◌/◌, ◌%◌, ◌^◌, ◌<◌, arith, eqb, ltb, eqb-true, eq-eqb, ltb-true, lt-ltb, Bool, subst, Option, Some, None}
 use Rattle.bits.specs.Bit.{bit_in}
 use Rattle.bits.proofs.Picks.{tested, and_left, and_right, or_right}

@@ -1,4 +1,4 @@
--- Of a state that the device's own test does not let pass some clause of the rules holds. Assumes nothing.
+-- Of a state that the device's own test does not let pass some clause of the rules holds.
 use Rattle.std.proofs.Common.{◌≡◌, refl, sym, ◌∙◌, Bool, true, false, ◌||◌, true≢false, ⊎_elim, inl, inr, ◌⊎◌, ℕ, ◌+◌, ◌<◌, ◌≤◌, arith, eqb-true, eq-eqb, ltb-true, ltb-false, leb-true, Option, Some, None}
 use Rattle.std.proofs.lemmas.Bool.{cases_lt}
 use Rattle.bits.specs.Bit.{bit_in}

@@ -43,7 +43,8 @@ use Rattle.pages.specs.declared.page10.ErrorLog.{ErrorLog}
 use Rattle.bits.specs.Bit.{bit_in}
 use Rattle.identity.specs.Words.{fits_identity}
 use Rattle.identity.specs.Page.{identity_page}
-use Rattle.identity.specs.Read.{all_told, read_identity, word_in}
+use Rattle.identity.specs.Told.{page_told}
+use Rattle.identity.specs.Read.{all_told, ladder_identity, read_identity, identity_answer, word_in}
 use Rattle.identity.specs.Made.{MadeOf, SameElse}
 use Rattle.identity.specs.declared.words.Identity.{Identity}
 use Rattle.identity.specs.declared.reading.Identified.{Identified}
@@ -60,6 +61,8 @@ use Rattle.bits.specs.Contract.{Says}
 use Rattle.bits.proofs.Tying.{say}
 use Rattle.promises.proofs.histories
 use Rattle.promises.specs.contracts.histories as histories-said
+use Rattle.promises.proofs.states
+use Rattle.promises.specs.contracts.states as states-said
 use Rattle.promises.proofs.told
 use Rattle.promises.specs.contracts.told as told-said
 use Rattle.promises.proofs.written

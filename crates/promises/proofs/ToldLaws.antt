@@ -1,4 +1,4 @@
--- What the readers' answers tell, as numbers and values. Assumes nothing.
+-- What the readers' answers tell, as numbers and values.
 use Rattle.std.proofs.Common.{◌≡◌, true, false, List, [], ◌∷◌, ℕ, ◌^◌, ◌<◌, get_or}
 use Rattle.bits.specs.Answer.{bit_number}
 use Rattle.refusals.specs.Told.{answer_with}

@@ -1,4 +1,4 @@
--- What contradicts itself is turned down, and nothing else is. Assumes nothing.
+-- What contradicts itself is turned down, and nothing else is.
 use Rattle.std.proofs.Common.{◌≡◌, refl, sym, ap, ◌∙◌, true, false, ⊎_elim, List, [], ◌∷◌, ℕ, zero, suc, ◌<◌, get_or, length, arith, lit<, slice_get, Option, Some, None, Result, Ok, Err, option_and_then, IfOk}
 use Rattle.bits.proofs.Picks.{tested}
 use Rattle.refusals.specs.First.{Rung, rung, no_rung, first_of, Iff}

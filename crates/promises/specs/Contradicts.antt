@@ -1,4 +1,4 @@
--- When a state contradicts itself, written anew in the words of the rules: a clause for each, over the plain fields of the state. No test that the device goes by stands here. Assumes nothing.
+-- When a state contradicts itself, written anew in the words of the rules: a clause for each, over the plain fields of the state. No test that the device goes by stands here.
 use Rattle.std.specs.Prelude.{◌≡◌, true, false, ℕ, ◌+◌, ◌*◌, ◌/◌, ◌%◌, ◌^◌, ◌<◌, ◌≤◌, ◌⊎◌, eqb, get_or, Some, if◌then◌else◌}
 use Rattle.device_state.specs.declared.shapes.Settings.{Settings}
 use Rattle.device_state.specs.declared.shapes.Echo.{Echo}

@@ -1,4 +1,4 @@
--- The host data that is due in any state, also one that contradicts itself. Assumes nothing.
+-- The host data that is due in any state, also one that contradicts itself.
 use Rattle.std.specs.Prelude.{ℕ, ◌-◌, ◌*◌, min, slice_get, Option, Some, None, if◌then◌else◌}
 use Rattle.std.specs.Option.{option_and_then}
 use Rattle.device_state.specs.declared.shapes.Entry.{Entry}

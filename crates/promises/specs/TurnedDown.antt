@@ -1,4 +1,4 @@
--- What comes of a state that contradicts itself, and of any other, whoever hands it in. Assumes nothing.
+-- What comes of a state that contradicts itself, and of any other, whoever hands it in.
 use Rattle.std.specs.Prelude.{◌≡◌, ℕ, Option, Some, None, Result, Err, IfOk}
 use Rattle.refusals.specs.First.{Iff}
 use Rattle.refusals.specs.declared.reasons.Refusal.{Refusal}

@@ -1,4 +1,4 @@
--- Each refusal has a number of its own, and none has 0. Assumes nothing.
+-- Each refusal has a number of its own, and none has 0.
 use Rattle.std.proofs.Common.{◌≡◌, refl, sym, ap, ◌∙◌, List, [], ◌∷◌, ℕ, eqb, Some, arith}
 use Rattle.std.specs.List.{find}
 use Rattle.refusals.specs.Number.{number}

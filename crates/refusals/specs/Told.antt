@@ -1,4 +1,4 @@
--- What is told of what was answered, or refused. Assumes nothing.
+-- What is told of what was answered, or refused.
 use Rattle.std.specs.Prelude.{List, [], ℕ, Option, Some, None}
 use Rattle.bits.specs.Answer.{Answer}
 use Rattle.refusals.specs.Number.{number}
