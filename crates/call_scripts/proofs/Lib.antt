@@ -11,4 +11,5 @@ pub mod Came
 pub mod CheckLaws
 pub mod NamedLaws
 pub mod OneText
+pub mod OneCheck
 pub mod Tied

@@ -1,5 +1,5 @@
 -- Where a check of named scripts stands behind those that were looked at, and how it ends.
-use Rattle.std.proofs.Common.{◌≡◌, ℕ, suc, ◌+◌, ◌<◌, ◌≤◌, List, [], ◌∷◌, ◌++◌, length, get_or, take, drop, map, flat_map, append-nil, append_assoc, take_all, take-append-drop, drop-cons, add-one, Option, Some, None, Result, Ok, Err, IsErr, IsErrAnd, IfSome, inl, inr, refl, sym, subst, ap, ap₂, ◌∙◌, arith}
+use Rattle.std.proofs.Common.{◌≡◌, ℕ, suc, ◌+◌, ◌<◌, ◌≤◌, List, [], ◌∷◌, ◌++◌, length, get_or, take, drop, map, append-nil, append_assoc, take_all, take-append-drop, drop-cons, Option, Result, Ok, Err, IsErr, IsErrAnd, inl, inr, refl, sym, subst, ap, ap₂, ◌∙◌}
 use mathlib.Core.Bool.{false≢true}
 use Rattle.std.proofs.lemmas.Grind.{fold-append}
 use Rattle.std.proofs.lemmas.List.{map_more, map-append, flat_map_more}
@@ -11,7 +11,6 @@ use Rattle.streams.proofs.Fronts.{front_then}
 use Rattle.events.proofs.Fronts.{loses_first, loses_then}
 use Rattle.events.specs.Output.{Loses}
 use Rattle.events.specs.declared.errors.RunError.{RunError}
-use Rattle.events.specs.declared.errors.RunError.TheVariants.{Input, Output, Memory, TooMany}
 use Rattle.events.specs.Runs.{Said}
 use Rattle.call_scripts.specs.CheckEnds.{LosesOne, LookedAtAll, HasLookedAt, HasWritten, HasCheckedAll, last_behind, said_last}
 use Rattle.call_scripts.specs.Found.{both, nothing_found, last_line}

@@ -11,7 +11,7 @@ use Rattle.page_text.specs.declared.shelf.Shelf as Shelves
 use Rattle.call_scripts.specs.Commands.{command_of}
 use Rattle.call_scripts.specs.Scripts.{HasRun, OneText, OneBroken}
 use Rattle.call_scripts.specs.Checks.{OneFound}
-use Rattle.call_scripts.specs.CheckEnds.{HasCheckedAll, exit_status_of}
+use Rattle.call_scripts.specs.CheckEnds.{HasCheckedAll, OneCheck, exit_status_of}
 use Rattle.call_scripts.proofs.commands
 use Rattle.call_scripts.specs.contracts.commands as commands-said
 use Rattle.call_scripts.proofs.pieces
@@ -31,8 +31,8 @@ pub tied_run_script : (R W E : RattleType) (l : Laws R) (m : Laws W) (n : Laws E
     (λ κs a r ws. HasRun (g.remaining a.1.0) (h.contents a.1.1.0.now) (h.contents ws.1.1.0) (i.contents a.1.1.1.0.now) (i.contents ws.1.1.1.0) r)
 tied_run_script R W E l m n g d f h e i j = record { same = λ κs a b h. h; some = (([], ([], (R.lives, (W.lives, (E.lives, tt))))), λ a. ((λ x h. h), ((λ x h. h), (λ x h. h)))); says = λ κs a r ws p. p }
 
-pub tied_a_script_has_one_text : Tied running-said.a_script_has_one_text.ended running.a_script_has_one_text.Reads.Asked running.a_script_has_one_text.Reads.Post (λ κs a r ws. OneText × OneBroken × OneFound)
-tied_a_script_has_one_text = by (say (λ κs a. tt) (λ κs a r ws p. (p.0, p.1.0, p.1.1))) (λ κs a r r' ws ws' p q. (refl, refl))
+pub tied_a_script_has_one_text : Tied running-said.a_script_has_one_text.ended running.a_script_has_one_text.Reads.Asked running.a_script_has_one_text.Reads.Post (λ κs a r ws. OneText × OneBroken × OneFound × OneCheck)
+tied_a_script_has_one_text = by (say (λ κs a. tt) (λ κs a r ws p. (p.0, p.1.0, p.1.1.0, p.1.1.1))) (λ κs a r r' ws ws' p q. (refl, refl))
 
 pub tied_exit_status : Tied check_ends-said.CheckEnd.exit_status.ended check_ends.CheckEnd.exit_status.Reads.Asked check_ends.CheckEnd.exit_status.Reads.Post (λ κs a r ws. r ≡ exit_status_of a.0.now.run)
 tied_exit_status = by (say (λ κs a. tt) (λ κs a r ws p. p)) (λ κs a r r' ws ws' p q. (same p q, refl))

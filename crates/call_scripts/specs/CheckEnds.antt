@@ -1,5 +1,6 @@
 -- What a check of named scripts writes and says, for each way in which it may end.
-use Rattle.std.specs.Prelude.{◌≡◌, ℕ, eqb, List, [], ◌∷◌, ◌++◌, ◌⊎◌, codes, Option, Result, Ok, Err}
+use Rattle.std.specs.Prelude.{◌≡◌, ℕ, eqb, List, [], ◌∷◌, ◌++◌, ◌⊎◌, All, codes, Option, Some, Result, Ok, Err}
+use Rattle.std.specs.declared.io.Error.{Error}
 use Rattle.std.specs.Io.KnownBytes.{Appends}
 use Rattle.bits.specs.Pick.{pick}
 use Rattle.streams.specs.Lost.{complaint}
@@ -60,3 +61,10 @@ HasCheckedAll holds names old new errors errors' end =
 abbrev pub exit_status_of : Result Found RunError → ℕ
 exit_status_of (Ok found) = status_of found
 exit_status_of (Err e) = 4
+
+-- scripts of which all is known, and of which none was unread, have one text, and one thing is found in them [script-files]
+abbrev pub OneCheck : Type 0
+OneCheck = (holds : List ℕ → Option (Option (List ℕ))) (names : List (List ℕ)) (old : List ℕ) (new new' errors errors' errors'' : Option (List ℕ)) (found found' : Found) (said said' : Result Unit Error)
+    → All (λ name. (script : List ℕ) × (holds name ≡ Some (Some script))) names → found.unread ≡ 0 → found'.unread ≡ 0
+    → HasCheckedAll holds names (Some old) new errors errors' (record { run = Ok found; said = said }) → HasCheckedAll holds names (Some old) new' errors errors'' (record { run = Ok found'; said = said' })
+    → (new ≡ new') × (found ≡ found')

@@ -4,7 +4,7 @@ use Rattle.std.specs.Str.{bytes_eq}
 use Rattle.std.specs.Io.KnownBytes.{Appends, Keeps}
 use Rattle.bits.specs.Pick.{pick}
 use Rattle.events.specs.declared.errors.RunError.{RunError}
-use Rattle.events.specs.declared.errors.RunError.TheVariants.{Input, Output, Memory, TooMany}
+use Rattle.events.specs.declared.errors.RunError.TheVariants.{Input}
 use Rattle.events.specs.Output.{Loses}
 use Rattle.call_scripts.specs.Answers.{what_text}
 use Rattle.call_scripts.specs.Bench.{Kept}

@@ -4,6 +4,7 @@ ghost use Rattle.std.specs.Io.KnownBytes.{Appends};
 ghost use Rattle.events.specs.Output.{Loses};
 ghost use Rattle.call_scripts.specs.Scripts.{byte_text, byte_bench, byte_line, Finishes, Stops, Ran, OneText, OneBroken};
 ghost use Rattle.call_scripts.specs.Checks.{OneFound};
+ghost use Rattle.call_scripts.specs.CheckEnds.{OneCheck};
 
 use crate::bench::Bench;
 use crate::lines::{end_line, grow};
@@ -81,9 +82,11 @@ pub(crate) fn run<R: Read, W: Write>(
     stop(out, RunError::TooMany)
 }
 
-/// Of a script two outputs that one ending allows for the same bytes read are equal, and so is what two checks of it write and find.
+/// Of a script two outputs that one ending allows for the same bytes read are equal, and so is what two checks of it, or of several scripts,
+/// write and find.
 pub fn a_script_has_one_text()
     ensures over { OneText }
     ensures broken { OneBroken }
     ensures checked { OneFound }
+    ensures all_checked { OneCheck }
 {}

@@ -91,9 +91,11 @@ fn writes_that_fail(rt: HostRuntime) {
 const CHECKED: &[u8] =
     b"power 20 40 201 -> 0 0\ncount -> 1 # not so\nlink 1\ncount\nshown\t->  what\ngo\ncount->0 # -> 1";
 
-const DIFFERENCES: &str = "s:2:\n  asked 1\n  got   0\ns:5:\n  asked what\n  got   what?\ns:6:\n  fault what? is printed, and not asked for\ns:7:\n  fault a -> behind # asks for nothing\n";
+const DIFFERENCES: &str =
+    "s:2:\n  asked 1\n  got   0\ns:5:\n  asked what\n  got   what?\ns:6:\n  fault what? is printed, and not asked for\ns:7:\n  fault a -> behind # asks for nothing\n";
 
-const UNREAD: &str = "run_calls: broken: input failed: other error\nrun_calls: gone: input failed: entity not found\n";
+const UNREAD: &str =
+    "run_calls: broken: input failed: other error\nrun_calls: gone: input failed: entity not found\n";
 
 /// Scripts by their names.
 #[derive(Clone, Copy)]
@@ -137,14 +139,17 @@ fn lines_of_a_script(rt: HostRuntime) {
         (0, "", "", lost, 4),
         (1, "s:2:\n  ", "", lost, 4),
         (4, "s:2:\n  asked 1\n  got   0\n", "", lost, 4),
-        (26, DIFFERENCES, "", lost, 4),
-        (27, DIFFERENCES, "4 lines", lost, 4),
+        (23, DIFFERENCES, "", lost, 4),
+        (24, DIFFERENCES, "4 lines", lost, 4),
     ] {
         let mut out = Sink::new(rt.alloc(), before_failure);
         let mut errors = Sink::new(rt.alloc(), u64::MAX);
         assert_eq!(rt; check(rt.alloc(), &["s"], &mut out, &mut errors), status);
         assert!(rt; out.bytes.starts_with(front.as_bytes()));
-        assert_eq!(rt; &out.bytes[front.len().min(out.bytes.len())..], last.as_bytes());
+        assert_eq!(rt;
+            &out.bytes[front.len().min(out.bytes.len())..],
+            last.as_bytes()
+        );
         assert_eq!(rt; errors.bytes.as_slice(), said.as_bytes());
     }
 }
@@ -154,8 +159,20 @@ fn lines_of_a_script(rt: HostRuntime) {
 fn several_scripts(rt: HostRuntime) {
     let none_asked = "run_calls: no line says what it is to print\n";
     for (names, front, last, said, status) in [
-        (["same"].as_slice(), "", "1 lines asked for, 0 differ\n", "", 0),
-        (["unsaid", "same"].as_slice(), "", "1 lines asked for, 0 differ\n", "", 0),
+        (
+            ["same"].as_slice(),
+            "",
+            "1 lines asked for, 0 differ\n",
+            "",
+            0,
+        ),
+        (
+            ["unsaid", "same"].as_slice(),
+            "",
+            "1 lines asked for, 0 differ\n",
+            "",
+            0,
+        ),
         (
             ["same", "same", "s", "same"].as_slice(),
             DIFFERENCES,
@@ -165,14 +182,23 @@ fn several_scripts(rt: HostRuntime) {
         ),
         (["unsaid"].as_slice(), "", "", none_asked, 2),
         ([].as_slice(), "", "", none_asked, 2),
-        (["broken", "same", "gone", "s"].as_slice(), DIFFERENCES, "", UNREAD, 3),
+        (
+            ["broken", "same", "gone", "s"].as_slice(),
+            DIFFERENCES,
+            "",
+            UNREAD,
+            3,
+        ),
         (["broken", "gone"].as_slice(), "", "", UNREAD, 3),
     ] {
         let mut out = Sink::new(rt.alloc(), u64::MAX);
         let mut errors = Sink::new(rt.alloc(), u64::MAX);
         assert_eq!(rt; check(rt.alloc(), names, &mut out, &mut errors), status);
         assert!(rt; out.bytes.starts_with(front.as_bytes()));
-        assert_eq!(rt; &out.bytes[front.len().min(out.bytes.len())..], last.as_bytes());
+        assert_eq!(rt;
+            &out.bytes[front.len().min(out.bytes.len())..],
+            last.as_bytes()
+        );
         assert_eq!(rt; errors.bytes.as_slice(), said.as_bytes());
     }
 }

@@ -1,4 +1,4 @@
-use Rattle.std.proofs.Common.{List, ℕ, Result, Ok, Err, refl, sym, append-nil}
+use Rattle.std.proofs.Common.{Ok, Err, refl, sym, append-nil}
 use Rattle.call_scripts.proofs.NamedLaws.{kept_none}
 use Rattle.call_scripts.proofs.files.check_named.Goals as goal
 

@@ -1,4 +1,4 @@
-use Rattle.call_scripts.proofs.NamedLaws.{written_handed, last_handed, last_written}
+use Rattle.call_scripts.proofs.NamedLaws.{written_handed, last_handed}
 use Rattle.call_scripts.proofs.scripts.check_all.Goals as goal
 
 -- what is told of a script is lost

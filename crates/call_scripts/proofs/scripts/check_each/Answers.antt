@@ -1,5 +1,5 @@
-use Rattle.std.proofs.Common.{rules, arith}
-use Rattle.call_scripts.proofs.NamedLaws.{none_looked_at, next_looked_at, next_lost, all_looked_at, looked_handed}
+use Rattle.std.proofs.Common.{rules}
+use Rattle.call_scripts.proofs.NamedLaws.{next_looked_at, next_lost, looked_handed}
 use Rattle.call_scripts.proofs.scripts.check_each.Goals as goal
 
 -- one more is looked at
