@@ -29,6 +29,8 @@ use std::process::ExitCode;
 /// How a run went whose lines are all written.
 enum End {
     Clean,
+    /// behind `stop`, or refused settings
+    Stopped,
     ReadFailed,
 }
 
@@ -37,14 +39,14 @@ fn run(input: impl Read, out: impl Write, traced: bool, checked: bool) -> io::Re
     let mut lines = Lines::new(out, traced);
     let begun = match input.next() {
         Ok(Next::Event(record)) if record[0] == kind::SETTINGS => Bench::start(record, checked),
-        Ok(_) => return lines.stop().map(|()| End::Clean),
+        Ok(_) => return lines.stop().map(|()| End::Stopped),
         Err(_) => return lines.stop().map(|()| End::ReadFailed),
     };
     let refusal = begun.as_ref().map_or_else(|&refusal| refusal as u8, |_| 0);
     lines.line(refusal, 0, &Replies::new())?;
     match begun {
         Ok(mut bench) => play_on(&mut bench, &mut input, &mut lines),
-        Err(_) => lines.pass_on().map(|()| End::Clean),
+        Err(_) => lines.pass_on().map(|()| End::Stopped),
     }
 }
 
@@ -56,7 +58,7 @@ fn play_on<R: Read, W: Write>(bench: &mut Bench, input: &mut Input<R>, lines: &m
                 lines.line(refusal, bench.device.state.outstanding, &bench.replies)?;
             }
             Ok(Next::End) => return lines.pass_on().map(|()| End::Clean),
-            Ok(_) => return lines.stop().map(|()| End::Clean),
+            Ok(_) => return lines.stop().map(|()| End::Stopped),
             Err(_) => return lines.stop().map(|()| End::ReadFailed),
         }
     }
@@ -112,6 +114,7 @@ fn main() -> ExitCode {
     }
     match run(io::stdin().lock(), io::stdout().lock(), traced, checked) {
         Ok(End::Clean) => ExitCode::SUCCESS,
+        Ok(End::Stopped) => ExitCode::from(1),
         Ok(End::ReadFailed) => ExitCode::from(3),
         Err(_) => ExitCode::from(4),
     }

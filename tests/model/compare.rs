@@ -12,15 +12,21 @@ use std::path::{Path, PathBuf};
 use std::process::{Command, Output, Stdio};
 use std::thread;
 
-/// A program under test: its command, and what it should print for a file.
+/// A program under test: its command, and what it should print for a file, with its exit status.
 pub struct Tested {
     words: Vec<String>,
-    expected: fn(&[u8]) -> Vec<u8>,
+    expected: fn(&[u8]) -> (Vec<u8>, i32),
+}
+
+/// What is printed, and the exit status in a line of its own.
+fn with_status((mut lines, status): (Vec<u8>, i32)) -> Vec<u8> {
+    lines.extend_from_slice(format!("status {}\n", status).as_bytes());
+    lines
 }
 
 impl Tested {
     /// `command` is a path, with arguments behind blanks if it needs any.
-    fn new(command: &str, expected: fn(&[u8]) -> Vec<u8>) -> Tested {
+    fn new(command: &str, expected: fn(&[u8]) -> (Vec<u8>, i32)) -> Tested {
         Tested { words: command.split_whitespace().map(str::to_string).collect(), expected }
     }
 
@@ -36,7 +42,7 @@ impl Tested {
 
     /// The program that runs scripts of calls.
     pub fn calls(command: &str) -> Tested {
-        Tested::new(command, calls::text)
+        Tested::new(command, |script| (calls::text(script), 0))
     }
 
     /// The program, without its arguments.
@@ -44,7 +50,7 @@ impl Tested {
         &self.words[0]
     }
 
-    /// What it prints for a file, or why nothing came of it.
+    /// What it prints for a file, and its exit status in a last line; or why nothing came of it.
     pub fn lines(&self, seed: u64, file: &Path) -> Result<Vec<u8>, String> {
         let done = match seed % 2 {
             0 => self.fed_by_file(file),
@@ -52,8 +58,8 @@ impl Tested {
         };
         let done = done.map_err(|e| format!("{}: {}", self.words[0], e))?;
         match done.status.code() {
-            Some(0) => Ok(done.stdout),
-            _ => Err(format!("{}: {}", self.words[0], done.status)),
+            Some(status) => Ok(with_status((done.stdout, status))),
+            None => Err(format!("{}: {}", self.words[0], done.status)),
         }
     }
 
@@ -130,7 +136,7 @@ fn agrees(seed: u64, bytes: &[u8], tested: &[Tested], path: &PathBuf) -> Result<
     fs::write(path, bytes).map_err(|e| e.to_string())?;
     let mut good = true;
     for program in tested {
-        let expected = (program.expected)(bytes);
+        let expected = with_status((program.expected)(bytes));
         let fault = match program.lines(seed, path) {
             Ok(lines) => difference(["model", "program"], &expected, &lines),
             Err(fault) => Some(fault),

@@ -111,14 +111,15 @@ fn hide_contents(count: u64, from: u64, events: &[Tested], calls: &[Tested]) {
     }
 }
 
-/// Input and output are buffered; no input is held whole.
+/// Input and output are buffered; no input is held whole. The exit status tells how the run ended.
 fn run_events(style: Style) {
     const ROOM: usize = 1 << 16;
     let mut input = BufReader::with_capacity(ROOM, io::stdin().lock());
     let mut output = BufWriter::with_capacity(ROOM, io::stdout().lock());
-    let done = program::run(&mut input, &mut output, style).and_then(|_| output.flush());
-    if let Err(error) = done {
-        fail(&format!("model: cannot write: {}", error));
+    let done = program::run(&mut input, &mut output, style);
+    match done.and_then(|end| output.flush().map(|()| end)) {
+        Ok(end) => exit(end as i32),
+        Err(error) => fail(&format!("model: cannot write: {}", error)),
     }
 }
 

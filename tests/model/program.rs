@@ -15,26 +15,43 @@ enum Next {
     Event(Event),
     /// The input ends where an event could begin.
     End,
-    /// An unknown kind, a short body, or a read that fails.
-    Broken,
+    /// An unknown kind or a short body.
+    None,
+    /// A read that fails.
+    Unread,
+}
+
+/// How a run ends whose lines are all written; as a number, its exit status.
+#[derive(Clone, Copy)]
+pub enum End {
+    /// All of the input was played.
+    Played = 0,
+    /// Refused settings, or `stop`, but for a read that failed.
+    Stopped = 1,
+    /// `stop`, as a read failed.
+    Unread = 3,
 }
 
 /// Runs a whole input. The error is that of the output: an input that cannot
 /// be read is answered by `stop`.
-pub fn run(input: &mut impl Read, output: &mut impl Write, style: Style) -> io::Result<()> {
+pub fn run(input: &mut impl Read, output: &mut impl Write, style: Style) -> io::Result<End> {
     let mut machine = match next_event(input) {
         Next::Event(Event::Settings(settings)) => match Machine::power_on(&settings) {
             Some(machine) => machine,
-            None => return line::refused_settings(output),
+            None => return line::refused_settings(output).map(|()| End::Stopped),
         },
-        _ => return line::stop(output),
+        Next::Unread => return line::stop(output).map(|()| End::Unread),
+        _ => return line::stop(output).map(|()| End::Stopped),
     };
     line::powered(output)?;
     let mut number: u64 = 1;
     loop {
         match next_event(input) {
-            Next::End => return Ok(()),
-            Next::Broken | Next::Event(Event::Settings(_)) => return line::stop(output),
+            Next::End => return Ok(End::Played),
+            Next::Unread => return line::stop(output).map(|()| End::Unread),
+            Next::None | Next::Event(Event::Settings(_)) => {
+                return line::stop(output).map(|()| End::Stopped)
+            }
             Next::Event(event) => {
                 let refusal = machine.take(&event);
                 line::answered(output, style, number, refusal, &machine)?;
@@ -49,17 +66,18 @@ fn next_event(input: &mut impl Read) -> Next {
     match filled(input, &mut kind) {
         Some(0) => return Next::End,
         Some(_) => {}
-        None => return Next::Broken,
+        None => return Next::Unread,
     }
     let length = match event::body_length(kind[0]) {
         Some(length) => length,
-        None => return Next::Broken,
+        None => return Next::None,
     };
     let mut body = [0; LONGEST_BODY];
-    if filled(input, &mut body[..length]) != Some(length) {
-        return Next::Broken;
+    match filled(input, &mut body[..length]) {
+        Some(have) if have == length => Next::Event(event::parse(kind[0], &body)),
+        Some(_) => Next::None,
+        None => Next::Unread,
     }
-    Next::Event(event::parse(kind[0], &body))
 }
 
 /// How many bytes came before the input's end, or `None` if reading fails.
@@ -76,11 +94,11 @@ fn filled(input: &mut impl Read, buffer: &mut [u8]) -> Option<usize> {
     Some(have)
 }
 
-/// The lines of an input that is held in memory.
-pub fn text(input: &[u8], style: Style) -> Vec<u8> {
+/// The lines of an input that is held in memory, and the exit status behind them.
+pub fn text(input: &[u8], style: Style) -> (Vec<u8>, i32) {
     let mut lines = Vec::new();
-    run(&mut &input[..], &mut lines, style).expect("memory takes every line");
-    lines
+    let end = run(&mut &input[..], &mut lines, style).expect("memory takes every line");
+    (lines, end as i32)
 }
 
 /// A settings record.

@@ -2,6 +2,5 @@ pub mod Continuing
 pub mod Plays
 pub mod PlaysCode
 pub mod Programs
-pub mod ProgramCode
 pub mod Values
 pub mod Tied

@@ -1,5 +1,5 @@
 -- What each contract of a caller says. The answer itself is said by the contract of the device's call, which is tied there.
-use Rattle.std.proofs.Common.{[], IfSome}
+use Rattle.std.proofs.Common.{◌≡◌, false, [], IfSome}
 use Rattle.bits.specs.Contract.{Says, SaysOver}
 use Rattle.bits.proofs.Tying.{say}
 use Rattle.rules.specs.Call.{host_frame, happens}
@@ -11,11 +11,12 @@ use denote.RattleType.{RattleType}
 use denote.Param.Laws.{Laws}
 use mir.Syntax.{Dict}
 use Rattle.std.specs.declared.io.traits.Read as Reader
-use Rattle.std.specs.declared.io.traits.BufRead as Buffered
 use Rattle.std.specs.declared.io.traits.Write as Writer
 use Rattle.caller.specs.Continued.{Begins, Continues, ContinuesReplying, ContinuesAlone, FirstCall}
 use Rattle.caller.specs.Playing.{play as played, BeginsBy, PlayContinues, PlaysContinue, GivenPlaysHold, GivenPlaysTold}
-use Rattle.caller.specs.Program.{RunHistory}
+use Rattle.caller.specs.Program.{EachRunIsHistory}
+use Rattle.std.specs.Io.Buffered.{reader_remaining}
+use Rattle.events.specs.Runs.{Ran}
 use Rattle.caller.proofs.calling
 use Rattle.caller.specs.contracts.calling as calling-said
 use Rattle.caller.proofs.keeping
@@ -58,10 +59,10 @@ pub tied_first_link : Says calling-said.first_link.ended calling.first_link.Read
 tied_first_link = say (λ κs a. tt) (λ κs a r ws p. p)
 
 -- the event program's run, by any reader to any writer
-pub tied_run : (R W : RattleType) (l : Laws R) (m : Laws W) (b : Buffered.Ghosts R.Denot) (c : Dict) (g : Reader.Ghosts R.Denot) (d : Dict) (h : Writer.Ghosts W.Denot) (e : Dict)
-    → SaysOver (running-said.run.ended R W b c g d h e) (running.run.Reads.Asked R W l m b c g d h e) (running.run.Reads.Post R W l m b c g d h e)
-    (λ κs a r ws. IfSome (g.remaining a.1.0.now) (λ input. RunHistory a.0.traced input (h.contents a.1.1.0.now) (h.contents ws.1.1.0)))
-tied_run R W l m b c g d h e = record { same = λ κs a b h. h; some = (([], ([], (R.lives, (W.lives, tt)))), λ a. ((λ x h. h), (λ x h. h))); says = λ κs a r ws p. p }
+pub tied_run : (R W : RattleType) (l : Laws R) (m : Laws W) (g : Reader.Ghosts R.Denot) (d : Dict) (h : Writer.Ghosts W.Denot) (e : Dict)
+    → SaysOver (running-said.run.ended R W g d h e) (running.run.Reads.Asked R W l m g d h e) (running.run.Reads.Post R W l m g d h e)
+    (λ κs a r ws. (a.1.0.now.failed ≡ false → a.1.1.0.now.failed ≡ false → Ran a.0 (reader_remaining g.remaining a.1.0.now.inner) (reader_remaining g.remaining ws.1.0.inner) ws.1.0.failed ws.1.1.0.failed (h.contents a.1.1.0.now.inner) (h.contents ws.1.1.0.inner) r) × EachRunIsHistory a.0)
+tied_run R W l m g d h e = record { same = λ κs a b h. h; some = (([], ([], (R.lives, (W.lives, tt)))), λ a. ((λ x h. h), (λ x h. h))); says = λ κs a r ws p. (p.0, p.1) }
 
 -- ---- of a kept device
 

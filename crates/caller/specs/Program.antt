@@ -5,10 +5,8 @@ use Rattle.device_state.specs.declared.shapes.Settings.{Settings}
 use Rattle.device.specs.Device.{zero_device, power_on}
 use Rattle.device.specs.Lent.{lent}
 use Rattle.events.specs.Settings.{in_limit}
-use Rattle.events.specs.declared.kinds.InputEnd.TheVariants.{NoEvent}
 use Rattle.events.specs.Lines.{line_of}
-use Rattle.streams.specs.Fronts.{AppendsSome}
-use Rattle.events.specs.Running.{Kept, kept, after, told, started, start_line, Read, nothing, begun, bytes_read, run_lines, kept_after, ending, Plays}
+use Rattle.events.specs.Running.{Kept, kept, after, told, started, start_line, Read, nothing, begun, kept_after, Plays}
 use Rattle.events.specs.declared.asked.Event.{Event}
 use Rattle.events.specs.Calls.{call_of}
 use Rattle.history.specs.Event.{replied}
@@ -64,11 +62,6 @@ unfoldable pub OfHistory : Bool → Read → Type 0
 OfHistory traced nothing = Unit
 OfHistory traced (begun s es) = ByLimit (in_limit s) traced s es
 
--- of the lines of a history, and `stop`, a run has written a front, or all: how much of it, its end says [program-told]
-pub record RunHistory (traced : Bool) (input : List ℕ) (old new : Option (List ℕ)) : Type 0 where
-  pub all : Read
-  pub rest : List ℕ
-  pub begins : input ≡ bytes_read all ++ rest
-  pub plays : Plays all
-  pub history : OfHistory traced all
-  pub written : AppendsSome old new (run_lines traced all ++ ending NoEvent)
+-- whatever a run reads and plays: the lines that it owes are those of a history [program-told]
+abbrev pub EachRunIsHistory : Bool → Type 0
+EachRunIsHistory traced = (all : Read) → Plays all → OfHistory traced all

@@ -12,7 +12,10 @@ pub mod Runs
 pub mod Starting
 pub mod Statuses
 pub mod Steps
+pub mod TiedErrors
 pub mod TiedRuns
+pub mod TiedScripts
 pub mod Frames
 pub mod Exactly
 pub mod Tied
+pub mod Pushing

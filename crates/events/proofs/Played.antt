@@ -1,11 +1,12 @@
 -- Where a run stands behind the events that it has played.
-use Rattle.std.proofs.Common.{◌≡◌, ℕ, ◌+◌, ◌-◌, ◌^◌, Bool, false, true≢false, List, [], ◌∷◌, ◌++◌, flat_map, length, length-append, append-nil, Option, IfSome, Result, IsErr, IsErrAnd, refl, sym, ap₂, subst, ◌∙◌, arith, Ok, Err}
-use Rattle.std.proofs.KnownBytes.{Appends-nil, Appends-trans, Consumes-nil, Consumes-trans}
-use Rattle.std.specs.Io.KnownBytes.{Appends, Consumes}
+use Rattle.std.proofs.Common.{◌≡◌, ℕ, ◌+◌, ◌-◌, ◌^◌, Bool, true, false, true≢false, List, [], ◌∷◌, ◌++◌, flat_map, length, length-append, append-nil, Option, IfSome, Result, refl, sym, ap, subst, ◌∙◌, arith, Ok, Err}
+use Rattle.std.proofs.KnownBytes.{Consumes-kept, Consumes-nil, Consumes-trans}
+use Rattle.std.specs.Io.KnownBytes.{Consumes, Keeps}
 use Rattle.events.specs.declared.errors.RunError.{RunError}
 use Rattle.events.specs.declared.kinds.InputEnd.{InputEnd}
-use Rattle.events.specs.Ends.{Finished}
-use Rattle.events.specs.Output.{PassedOn, Loses}
+use Rattle.events.specs.Ends.{Finished, IsLost, reads_failed}
+use Rattle.streams.specs.Gathered.{Gathering, Gathered, Pushes}
+use Rattle.streams.proofs.Gathering.{pushes_none, pushes_then}
 use Rattle.events.specs.declared.errors.RunError.TheVariants.{TooMany}
 use Rattle.events.specs.Reading.{IsEnd, BreaksIn, ReadNext}
 use Rattle.events.specs.Settings.{settings_bytes, SettingsFit}
@@ -14,58 +15,51 @@ use Rattle.events.specs.declared.asked.Event.{Event}
 use Rattle.events.specs.Grammar.{event_bytes, NoEventBegins}
 use Rattle.events.specs.Running.{Kept, step_of, after_step, step_told, told, after, lines_from, kept_after, AllFit, begun, bytes_read, Plays, ReadsOn, run_lines, refused, started, start_line, NoneFollows, end_behind}
 use Rattle.events.specs.Runs.{CameTo, Ran}
-use Rattle.events.proofs.Fronts.{loses_then}
 use Rattle.events.proofs.Nexts.{known}
-use Rattle.events.proofs.Runs.{joined_more, kept_more, events_more, text_more, text_passed, told_lost, finished, finished_behind}
+use Rattle.events.proofs.Runs.{joined_more, kept_more, events_more, lines_more, lost_before, finished}
 
--- the events so far were read, and left k; their lines, and those that were left before (l), are written, but for the lines that are left; n is the next number
-pub record Played (traced : Bool) (first : Kept) (l : List ℕ) (known old now new : Option (List ℕ)) (k : Kept) (lines : List ℕ) (n : ℕ) : Type 0 where
+-- the events so far were read, and left k; their lines were gathered behind those before; n is the next number
+pub record Played (traced : Bool) (first : Kept) (old : Gathering) (known now : Option (List ℕ)) (new : Gathering) (k : Kept) (n : ℕ) : Type 0 where
   pub es : List Event
-  pub done : List ℕ
   pub number : 1 + length es ≡ n
   pub events : AllFit es
   pub state : k ≡ kept_after first es
   pub read : Consumes known now (flat_map event_bytes es)
-  pub written : Appends old new done
-  pub text : l ++ lines_from traced 1 first es ≡ done ++ lines
+  pub pushed : Pushes old new (lines_from traced 1 first es)
 
-pub none_yet : (traced : Bool) (first : Kept) (l : List ℕ) (known old : Option (List ℕ)) → Played traced first l known old known old first l 1
+pub none_yet : (traced : Bool) (first : Kept) (old : Gathering) (known : Option (List ℕ)) → Played traced first old known known old first 1
 unfolding lines_from kept_after AllFit
-none_yet traced first l known old = record { es = []; done = []; number = refl; events = tt; state = refl; read = Consumes-nil known; written = Appends-nil old; text = append-nil l }
+none_yet traced first old known = record { es = []; number = refl; events = tt; state = refl; read = Consumes-nil known; pushed = pushes_none old }
 
-module _ {traced : Bool} {first : Kept} {l : List ℕ} {known old now new : Option (List ℕ)} {k : Kept} {lines : List ℕ} {n : ℕ} (p : Played traced first l known old now new k lines n) where
+module _ {traced : Bool} {first : Kept} {old : Gathering} {known now : Option (List ℕ)} {new : Gathering} {k : Kept} {n : ℕ} (p : Played traced first old known now new k n) where
   -- one event more
-  pub one_more : {next : Result Event InputEnd} {event : Event} {now' : Option (List ℕ)} {k' : Kept} {lines' : List ℕ} → next ≡ Ok event → ReadNext now next now' → k' ≡ after_step k (step_of k event) → lines' ≡ lines ++ step_told traced n (step_of k event)
-      → Played traced first l known old now' new k' lines' (n + 1)
+  pub one_more : {next : Result Event InputEnd} {event : Event} {now' : Option (List ℕ)} {k' : Kept} {new' : Gathering} → next ≡ Ok event → ReadNext now next now' → k' ≡ after_step k (step_of k event) → Pushes new new' (step_told traced n (step_of k event))
+      → Played traced first old known now' new' k' (n + 1)
   unfolding after told
-  one_more {event = event} {now' = now'} {lines' = lines'} w came q t =
+  one_more {event = event} {now' = now'} {new' = new'} w came q t =
       let read = rw w at came in
+      let line : Pushes new new' (told traced (1 + length p.es) (kept_after first p.es) event) = rw (p.state, sym p.number) at t in
       record {
         es = p.es ++ event ∷ [];
-        done = p.done;
         number = omega (arith, p.number, length-append p.es (event ∷ []));
         events = events_more p.es event p.events read.0;
         state = rw p.state at q ∙ sym (kept_more first p.es event);
         read = rw (joined_more p.es event) (Consumes-trans known now now' (flat_map event_bytes p.es) (event_bytes event) p.read read.1);
-        written = p.written;
-        text = text_more traced first l p.es event p.done lines lines' p.text (rw (p.state, sym p.number) at t);
+        pushed = subst (Pushes old new') (sym (lines_more traced 1 first p.es event)) (pushes_then p.pushed line);
       }
 
-  -- some of the lines are written
-  pub some_passed : (new' : Option (List ℕ)) (left : List ℕ) → PassedOn new new' lines left → Played traced first l known old now new' k left n
-  some_passed new' left passed = record {
-    es = p.es;
-    done = p.done ++ passed.0;
-    number = p.number;
-    events = p.events;
-    state = p.state;
-    read = p.read;
-    written = Appends-trans old new new' p.done passed.0 p.written passed.1;
-    text = text_passed _ p.done lines passed.0 left p.text passed.2;
-  }
+  -- nothing was read
+  pub kept_there : {now' : Option (List ℕ)} → Keeps now now' → Played traced first old known now' new k n
+  kept_there {now' = now'} q =
+      record { es = p.es; number = p.number; events = p.events; state = p.state; read = Consumes-kept known now now' (flat_map event_bytes p.es) p.read q; pushed = p.pushed }
+
+  -- of the lines that are gathered some were written
+  pub passed_on : {new' : Gathering} → Pushes new new' [] → Played traced first old known now new' k n
+  passed_on {new' = new'} q =
+      record { es = p.es; number = p.number; events = p.events; state = p.state; read = p.read; pushed = subst (Pushes old new') (append-nil _) (pushes_then p.pushed q) }
 
   -- behind settings that were taken
-  module _ (s : Settings) (taken : refused s ≡ false) (from : first ≡ started s) (line : l ≡ start_line traced s) (before : Option (List ℕ)) (i : SettingsFit s) (c : Consumes before known (settings_bytes s)) where
+  module _ (s : Settings) (base before : Option (List ℕ)) (taken : refused s ≡ false) (from : first ≡ started s) (line : Gathered base (start_line traced s) old) (i : SettingsFit s) (c : Consumes before known (settings_bytes s)) where
     plays : Plays (begun s p.es)
     unfolding Plays
     plays = (i, p.events, λ t. absurd (true≢false (sym t ∙ taken)))
@@ -73,18 +67,31 @@ module _ {traced : Bool} {first : Kept} {l : List ℕ} {known old now new : Opti
     read : Consumes before now (bytes_read (begun s p.es))
     read = Consumes-trans before known now (settings_bytes s) (flat_map event_bytes p.es) c p.read
 
-    text : run_lines traced (begun s p.es) ≡ p.done ++ lines
+    text : run_lines traced (begun s p.es) ≡ start_line traced s ++ lines_from traced 1 first p.es
     unfolding run_lines
-    text = ap₂ (λ (x : List ℕ) (k : Kept). x ++ lines_from traced 1 k p.es) (sym line) (sym from) ∙ p.text
+    text = ap (λ (k : Kept). start_line traced s ++ lines_from traced 1 k p.es) (sym from)
 
-    -- lines are lost
-    pub lost : (left new' : Option (List ℕ)) (r : Result Unit RunError) (e : RunError) → IsErr r → IsErrAnd r (λ x. x ≡ e) → Loses e new new' lines → Ran traced before left old new' r
-    lost left new' r e i h l =
-        told_lost traced before left old new' r e i h (record { all = begun s p.es; now = now; events = plays; read = read; came = tt; written = subst (Loses e old new') (sym text) (loses_then e old new new' p.done lines p.written l) })
+    all : Gathered base (run_lines traced (begun s p.es)) new
+    all = subst (λ (l : List ℕ). Gathered base l new) (sym text) (p.pushed.goes base (start_line traced s) line)
+
+    -- a write failed
+    pub lost : (input : Bool) (r : Result InputEnd RunError) → input ≡ false → new.failed ≡ true → IsLost r → Ran traced before now input new.failed base new.written r
+    lost input r off on l = lost_before traced before now base new.written new.held (begun s p.es) plays read input new.failed r off on l all
 
     -- the run ends
-    pub ended : (left new' : Option (List ℕ)) (end : Result InputEnd RunError) (r : Result Unit RunError) → CameTo end (begun s p.es) now left → Finished end new new' lines r → Ran traced before left old new' r
-    ended left new' end r m f = finished traced before now left old new' (begun s p.es) plays read end r m (finished_behind old new new' p.done lines (run_lines traced (begun s p.es)) end r text p.written f)
+    pub ended : (left out : Option (List ℕ)) (input output : Bool) (end : Result InputEnd RunError) (r : Result InputEnd RunError) → input ≡ reads_failed end → CameTo end (begun s p.es) now left → Finished end new out output r → Ran traced before left input output base out r
+    ended left out input output end r e m f = finished traced before now left base out (begun s p.es) plays read input output end r e m (f.goes base (run_lines traced (begun s p.es)) all)
+
+-- and the next event was read, of which now' is left
+pub record Reads (traced : Bool) (first : Kept) (old : Gathering) (known now' : Option (List ℕ)) (new : Gathering) (k : Kept) (n : ℕ) (event : Event) : Type 0 where
+  pub now : Option (List ℕ)
+  pub played : Played traced first old known now new k n
+  pub next : ReadNext now (Ok event) now'
+
+-- it is played
+pub then_played : {traced : Bool} {first : Kept} {old : Gathering} {known now' : Option (List ℕ)} {new new' : Gathering} {k k' : Kept} {n : ℕ} {event : Event} → Reads traced first old known now' new k n event → k' ≡ after_step k (step_of k event) → Pushes new new' (step_told traced n (step_of k event))
+    → Played traced first old known now' new' k' (n + 1)
+then_played r q t = one_more r.played refl r.next q t
 
 -- what a run comes to behind settings that were taken, and events: the end of the input, a read that failed, the last number
 module _ (s : Settings) (es : List Event) (taken : refused s ≡ false) where

@@ -1,8 +1,9 @@
 -- What a run begins with: its settings, and power-on by these.
-use Rattle.std.proofs.Common.{◌≡◌, ℕ, Bool, true, false, true≢false, List, [], ◌++◌, Option, Some, None, IfSome, Result, Ok, Err, subst, sym, refl, ap, ◌∙◌, append-nil, length, take, length-take-le, ◌≤◌, arith, replicate, option_copied, Bor}
+use Rattle.std.proofs.Common.{◌≡◌, ℕ, Bool, true, false, true≢false, List, [], Option, Some, None, IfSome, Result, Ok, Err, subst, sym, refl, ap, ◌∙◌, append-nil, length, take, length-take-le, ◌≤◌, arith, replicate, option_copied, Bor}
 use Rattle.std.proofs.lemmas.Bool.Decides.{nat_tests}
 use Rattle.std.specs.Io.KnownBytes.{Consumes}
-use Rattle.std.proofs.KnownBytes.{Consumes-nil, Appends-nil}
+use Rattle.std.proofs.KnownBytes.{Appends-nil}
+use Rattle.events.specs.declared.kinds.InputEnd.{InputEnd}
 use Rattle.events.specs.declared.kinds.InputEnd.TheVariants as ends
 use Rattle.events.specs.Start.{start_of}
 use Rattle.events.specs.Settings.{settings_bytes, SettingsFit}
@@ -18,20 +19,19 @@ use Rattle.device.specs.Device.{fresh_device, power_on}
 use Rattle.device.specs.Sealing.{powered_of}
 use Rattle.device.specs.declared.sealed.Sealed.{Sealed}
 use Rattle.events.specs.declared.errors.RunError.{RunError}
-use Rattle.events.specs.Running.{nothing, begun, AllFit, lines_from, refused, started, start_line, run_lines, Plays, NoneFollows, end_behind}
-use Rattle.streams.specs.Fronts.{AppendsSome}
-use Rattle.events.specs.Runs.{Ran, WroteSoFar}
+use Rattle.events.specs.Running.{begun, AllFit, lines_from, refused, started, start_line, run_lines, Plays, NoneFollows, end_behind}
+use Rattle.streams.specs.Gathered.{Gathering, gathering, Gathered, Pushes}
+use Rattle.events.specs.Runs.{Ran}
 use Rattle.events.specs.Ends.{Finished}
 use Rattle.events.proofs.Runs.{finished}
 use Rattle.events.proofs.Steps.{same_kept}
 
--- nothing is known to be written yet, and no event is known to be read
-pub loses_all : (traced : Bool) (known w : Option (List ℕ)) → WroteSoFar traced known (AppendsSome w w)
-unfolding Plays
-loses_all traced known w = record { all = nothing; now = known; events = tt; read = Consumes-nil known; came = tt; written = (0, Appends-nil w) }
+-- no line is gathered yet
+pub none_gathered : (w : Option (List ℕ)) {h : List ℕ} {f : Bool} → f ≡ false → h ≡ [] → Gathered w [] (gathering w h f)
+none_gathered w off none = rw (off, none) ([], Appends-nil w, refl)
 
 -- refused settings end a run
-none_behind : (s : Settings) (rest : List ℕ) → refused s ≡ true → NoneFollows (begun s []) rest × (ends.Clean ≡ end_behind (begun s []) rest)
+none_behind : (s : Settings) (rest : List ℕ) → refused s ≡ true → NoneFollows (begun s []) rest × (ends.Refused ≡ end_behind (begun s []) rest)
 unfolding NoneFollows end_behind
 none_behind s rest h = (λ t. absurd (true≢false (sym h ∙ t)), rw h refl)
 
@@ -47,14 +47,14 @@ all_known : {Q : List ℕ → Type 0} (u : Option (List ℕ)) → ((l : List ℕ
 all_known None f = tt
 all_known (Some l) f = f l
 
-pub stays_refused : (traced : Bool) (s : Settings) (lines : List ℕ) (before known known' w w' : Option (List ℕ)) (r : Result Unit RunError) → refused s ≡ true → SettingsFit s → Consumes before known (settings_bytes s) → lines ≡ start_line traced s
-    → Finished (Ok ends.Clean) w w' lines r → Ran traced before known' w w' r
-stays_refused traced s lines before known known' w w' r h i c p f =
-    finished traced before known known' w w' (begun s []) (plays_refused s i)
+pub stays_refused : (traced : Bool) (s : Settings) (old : Gathering) (base before known known' new : Option (List ℕ)) (input output : Bool) (r : Result InputEnd RunError) → refused s ≡ true → input ≡ false → SettingsFit s → Consumes before known (settings_bytes s) → Gathered base (start_line traced s) old
+    → Finished (Ok ends.Refused) old new output r → Ran traced before known' input output base new r
+stays_refused traced s old base before known known' new input output r h off i c g f =
+    finished traced before known known' base new (begun s []) (plays_refused s i)
     (subst (Consumes before known) (sym (append-nil (settings_bytes s))) c)
-    (Ok ends.Clean) r
+    input output (Ok ends.Refused) r off
     (all_known known (λ rest. none_behind s rest h))
-    (subst (λ (l : List ℕ). Finished (Ok ends.Clean) w w' l r) (p ∙ sym (line_refused traced s)) f)
+    (f.goes base (run_lines traced (begun s [])) (subst (λ (l : List ℕ). Gathered base l old) (sym (line_refused traced s)) g))
 
 -- a start leaves nothing outstanding
 none_outstanding : (e : Settings) → (start_of e).state.status.outstanding ≡ 0
@@ -75,12 +75,12 @@ handed_on : (r : Result (Bor Sealed) (Bor Refusal)) → option_copied (result_er
 unfolding powered_of
 handed_on r = grind arith
 
-pub first_line : (traced : Bool) (s : Settings) {begun : Result Sealed Refusal} (r : Result (Bor Sealed) (Bor Refusal)) {o : Option (Bor Refusal)} {given : Option Refusal} {none lines : List ℕ}
-    → powered_of begun ≡ start_of s → result_copied r ≡ begun → o ≡ result_err r → given ≡ option_copied o → none ≡ [] → lines ≡ none ++ line_of traced 0 given 0 [] → lines ≡ start_line traced s
-first_line traced s r {given = given} e p q t k l =
+pub first_line : (traced : Bool) (s : Settings) (base : Option (List ℕ)) {begun : Result Sealed Refusal} (r : Result (Bor Sealed) (Bor Refusal)) {o : Option (Bor Refusal)} {given : Option Refusal} {old new : Gathering}
+    → powered_of begun ≡ start_of s → result_copied r ≡ begun → o ≡ result_err r → given ≡ option_copied o → Gathered base [] old → Pushes old new (line_of traced 0 given 0 []) → Gathered base (start_line traced s) new
+first_line traced s base r {given = given} {new = new} e p q t g l =
     let h = handed_on r in
     let same : given ≡ (start_of s).refusal = cc in
-    rw (none_outstanding s) (rw (k, same) at l)
+    rw (none_outstanding s) (rw same at l.goes base [] g)
 
 -- the medium of a run has room in the program's array
 started_in_limit : (e : Settings) → (start_of e).state.settings.capacity ≤ 64

@@ -1,5 +1,5 @@
 -- What is told of the settings record, and of the next event.
-use Rattle.std.specs.Prelude.{◌≡◌, ◌+◌, List, [], ◌∷◌, ℕ, take, IfSome, Option, Some, None, Result, Ok, Err}
+use Rattle.std.specs.Prelude.{◌≡◌, ◌+◌, ◌<◌, List, [], ◌∷◌, ℕ, length, take, IfSome, Option, Some, None, Result, Ok, Err}
 use Rattle.std.specs.Io.KnownBytes.{Consumes, Keeps}
 use Rattle.device_state.specs.declared.shapes.Settings.{Settings}
 use Rattle.events.specs.declared.kinds.InputEnd.{InputEnd}
@@ -33,6 +33,10 @@ ReadNext old (Err end) new = IfSome old (IsEnd end)
 abbrev pub ReadAhead : Option (List ℕ) → Option Event → Option (List ℕ) → Type 0
 ReadAhead old (Some event) new = ReadNext old (Ok event) new
 ReadAhead old None new = Keeps old new
+
+-- to read the next event may have to wait: few bytes lie in the reader's buffer, and no event begins them [event-reads]
+abbrev pub MayWait : List ℕ → Type 0
+MayWait buffer = (length buffer < 20) × NoEventBegins buffer
 
 -- a read failed: what came before it begins with nothing that was to be read
 abbrev pub BreaksIn : (List ℕ → Type 0) → Option (List ℕ) → Option (List ℕ) → Type 0

@@ -76,10 +76,11 @@ abbrev pub count_read : Read → ℕ
 count_read nothing = 0
 count_read (begun s es) = suc (length es)
 
--- what is written at the input's end [event-stop]
+-- what is written at a run's end [event-stop]
 unfoldable pub ending : InputEnd → List ℕ
 ending ends.NoEvent = codes "stop\n"
 ending ends.Clean = []
+ending ends.Refused = []
 
 -- the settings are refused
 abbrev pub refused : Settings → Bool
@@ -116,4 +117,4 @@ NoneFollows (begun s es) rest = refused s ≡ false → NoEventBegins rest
 -- how the input ends then: without settings never cleanly, behind refused settings always [event-stop] [event-refused]
 unfoldable pub end_behind : Read → List ℕ → InputEnd
 end_behind nothing rest = ends.NoEvent
-end_behind (begun s es) rest = pick (refused s) ends.Clean (end_at rest)
+end_behind (begun s es) rest = pick (refused s) ends.Refused (end_at rest)

@@ -1,17 +1,17 @@
 -- What a run writes for what it reads, for each way in which it may end.
-use Rattle.std.specs.Prelude.{◌≡◌, Bool, false, List, [], ◌++◌, ◌⊎◌, ℕ, ◌-◌, ◌^◌, Option, Some, Result, Ok, Err, IfSome}
-use Rattle.std.specs.declared.io.Error.{Error}
+use Rattle.std.specs.Prelude.{◌≡◌, Bool, true, false, List, [], ◌++◌, ◌⊎◌, ℕ, ◌-◌, ◌^◌, Option, Some, Result, Ok, Err, IfSome}
 use Rattle.std.specs.Io.KnownBytes.{Appends, Consumes}
 use Rattle.events.specs.declared.kinds.InputEnd.{InputEnd}
-use Rattle.events.specs.declared.ended.Ended.{Ended}
+use Rattle.events.specs.declared.kinds.InputEnd.TheVariants as ends
 use Rattle.events.specs.declared.errors.RunError.{RunError}
 use Rattle.events.specs.declared.errors.RunError.TheVariants.{Input, Output, Memory, TooMany}
 use Rattle.events.specs.Reading.{BreaksIn}
 use Rattle.events.specs.Settings.{settings_bytes, SettingsFit}
 use Rattle.device_state.specs.declared.shapes.Settings.{Settings}
-use Rattle.streams.specs.Fronts.{AppendsFront, AppendsSome}
+use Rattle.streams.specs.Fronts.{AppendsFront}
+use Rattle.streams.specs.Gathered.{Gathering, Gathered}
 use Rattle.streams.specs.Lost.{complaint}
-use Rattle.events.specs.Ends.{last_text}
+use Rattle.events.specs.Ends.{last_text, reads_failed, error_status, IsLost}
 use Rattle.events.specs.Running.{Kept, Read, bytes_read, count_read, refused, started, start_line, run_lines, Plays, ReadsOn, NoneFollows, end_behind}
 
 -- what a run came to behind all that it read and played, by what was left of the input then (now) and what is left of it (left): its end; a read that failed, behind a part that begins with none; or the last number, so that the event which has it is the last [event-stop] [event-broken]
@@ -30,23 +30,28 @@ pub record Wrote (traced : Bool) (known : Option (List ℕ)) (C : Read → Optio
   pub came : C all now
   pub written : W (run_lines traced all)
 
--- a run stopped before it came to an end: of the lines of the events that it read it is known what was written (W) [event-lost]
-abbrev pub WroteSoFar : Bool → (known : Option (List ℕ)) → (List ℕ → Type 0) → Type 0
-WroteSoFar traced known W = Wrote traced known (λ all now. Unit) W
+-- a write failed before a run came to an end: of the lines of the events that it read it is known what was written (W) [event-lost]
+abbrev pub WroteSoFar : Bool → (known left : Option (List ℕ)) → (List ℕ → Type 0) → Type 0
+WroteSoFar traced known left W = Wrote traced known (λ all now. now ≡ left) W
 
--- a run came to an end, and of its lines and its last text it is known what was written (W) [event-run]
-abbrev pub EndsWith : Bool → (known left : Option (List ℕ)) → Result InputEnd RunError → (List ℕ → Type 0) → Type 0
-EndsWith traced known left end W = Wrote traced known (λ all now. CameTo end all now left) (λ lines. W (lines ++ last_text end))
+-- a run came to an end, where a read failed (input) or not, and of its lines and its last text it is known what was written (W) [event-run]
+abbrev pub EndsWith : Bool → (known left : Option (List ℕ)) → (input : Bool) → Result InputEnd RunError → (List ℕ → Type 0) → Type 0
+EndsWith traced known left input end W = (input ≡ reads_failed end) × Wrote traced known (λ all now. CameTo end all now left) (λ lines. W (lines ++ last_text end))
 
--- the whole run by its result: it came to an end, and all is written; a write failed there, or before, and a front is; or there is no memory for a line, and some is [event-run] [event-broken] [event-lost]
-abbrev pub Ran : Bool → (known left old new : Option (List ℕ)) → Result Unit RunError → Type 0
-Ran traced known left old new (Ok u) = (end : InputEnd) × EndsWith traced known left (Ok end) (Appends old new)
-Ran traced known left old new (Err (Output e)) = WroteSoFar traced known (AppendsFront old new) ⊎ ((end : Result InputEnd RunError) × EndsWith traced known left end (AppendsFront old new))
-Ran traced known left old new (Err Memory) = WroteSoFar traced known (AppendsSome old new)
-Ran traced known left old new (Err e) = EndsWith traced known left (Err e) (Appends old new)
+-- the whole run by what failed. Where no write did: it came to an end, which is its result, and all is written. Where one did, that is its result, and a front of what was due is written and not all: at the end, or before, and then no read has failed [event-run] [event-broken] [event-lost]
+abbrev pub Ran : Bool → (known left : Option (List ℕ)) → (input output : Bool) → (old new : Option (List ℕ)) → Result InputEnd RunError → Type 0
+Ran traced known left input false old new r = EndsWith traced known left input r (Appends old new)
+Ran traced known left input true old new r = IsLost r × (((input ≡ false) × WroteSoFar traced known left (AppendsFront old new)) ⊎ ((end : Result InputEnd RunError) × EndsWith traced known left input end (AppendsFront old new)))
+
+-- the exit status of a program by its run: 0 where all was played, 1 behind `stop` and refused settings, and else that of the error [event-status]
+abbrev pub run_status : Result InputEnd RunError → ℕ
+run_status (Ok ends.Clean) = 0
+run_status (Ok ends.NoEvent) = 1
+run_status (Ok ends.Refused) = 1
+run_status (Err e) = error_status e
 
 -- what is said aloud of a run by its result: that lines are missing [event-lost]
-abbrev pub said_of : Result Unit RunError → List ℕ
+abbrev pub said_of : {T : Type 0} → Result T RunError → List ℕ
 said_of (Ok u) = []
 said_of (Err (Input e)) = []
 said_of (Err (Output e)) = complaint
@@ -58,31 +63,29 @@ abbrev pub Said : List ℕ → (errors errors' : Option (List ℕ)) → {E : Typ
 Said text errors errors' (Ok u) = Appends errors errors' text
 Said text errors errors' (Err e) = AppendsFront errors errors' text
 
--- a run of this input, whatever was left of it, and what was said of it [event-lost]
-abbrev pub HasRun : Bool → (known old new errors errors' : Option (List ℕ)) → Ended → Type 0
-HasRun traced known old new errors errors' ended =
-    (left : Option (List ℕ)) × Ran traced known left old new ended.run × Said (said_of ended.run) errors errors' ended.said
+-- a text was said; or a write of it failed, and a front of it stands there and not all [event-lost]
+abbrev pub SaidBy : (failed : Bool) → List ℕ → (errors errors' : Option (List ℕ)) → Type 0
+SaidBy false text errors errors' = Appends errors errors' text
+SaidBy true text errors errors' = AppendsFront errors errors' text
 
--- the exit status of a program by its run: 0 where the input ended, 3 where a read failed or the numbers are used up, 4 where lines are missing [event-status]
+-- the exit status of a program by the run of its scripts: 0 where they ended, and else that of the error
 abbrev pub exit_status_of : Result Unit RunError → ℕ
 exit_status_of (Ok u) = 0
-exit_status_of (Err (Input e)) = 3
-exit_status_of (Err (Output e)) = 4
-exit_status_of (Err Memory) = 4
-exit_status_of (Err TooMany) = 3
+exit_status_of (Err e) = error_status e
 
--- the run from its settings on: whatever began with their bytes, it is the whole run of that
-abbrev pub StartedWith : Bool → Settings → (known left old new : Option (List ℕ)) → Result Unit RunError → Type 0
-StartedWith traced s known left old new result = (before : Option (List ℕ)) → SettingsFit s → Consumes before known (settings_bytes s) → Ran traced before left old new result
+-- the run from its settings on, with no line gathered yet: whatever began with their bytes, it is the whole run of that
+abbrev pub StartedWith : Bool → Settings → Gathering → (known left : Option (List ℕ)) → (input output : Bool) → (new : Option (List ℕ)) → Result InputEnd RunError → Type 0
+StartedWith traced s gathered known left input output new result = (base before : Option (List ℕ)) → Gathered base [] gathered → SettingsFit s → Consumes before known (settings_bytes s) → Ran traced before left input output base new result
 
--- the run behind settings that were taken, with what is kept and a line that is not yet written: of whatever settings these are
-abbrev pub PlayedOn : Bool → Kept → List ℕ → (known left old new : Option (List ℕ)) → Result Unit RunError → Type 0
-PlayedOn traced k lines known left old new result = (s : Settings) → refused s ≡ false → k ≡ started s → lines ≡ start_line traced s → StartedWith traced s known left old new result
+-- the run behind settings that were taken, with what is kept, and of whose line it is known what was written: of whatever settings these are
+abbrev pub PlayedOn : Bool → Kept → Gathering → (known left : Option (List ℕ)) → (input output : Bool) → (new : Option (List ℕ)) → Result InputEnd RunError → Type 0
+PlayedOn traced k gathered known left input output new result =
+    (s : Settings) (base before : Option (List ℕ)) → refused s ≡ false → k ≡ started s → Gathered base (start_line traced s) gathered → SettingsFit s → Consumes before known (settings_bytes s) → Ran traced before left input output base new result
 
--- one input has one text: outputs that an end of the input allows for the same bytes read are equal [event-run]
+-- one input has one text and one end: outputs that an end of the input allows for the same bytes read are equal, and so are the ends, where nothing failed [event-run]
 abbrev pub OneText : Type 0
-OneText = (traced : Bool) (input old : List ℕ) (left left' new new' : Option (List ℕ)) → Ran traced (Some input) left (Some old) new (Ok tt) → Ran traced (Some input) left' (Some old) new' (Ok tt) → new ≡ new'
+OneText = (traced : Bool) (input old : List ℕ) (left left' new new' : Option (List ℕ)) (end end' : InputEnd) → Ran traced (Some input) left false false (Some old) new (Ok end) → Ran traced (Some input) left' false false (Some old) new' (Ok end') → (new ≡ new') × (end ≡ end')
 
--- and so are those that a failed read allows
+-- and so are the outputs that a failed read allows
 abbrev pub OneBroken : Type 0
-OneBroken = (traced : Bool) (input left old : List ℕ) (new new' : Option (List ℕ)) (e e' : Error) → Ran traced (Some input) (Some left) (Some old) new (Err (Input e)) → Ran traced (Some input) (Some left) (Some old) new' (Err (Input e')) → new ≡ new'
+OneBroken = (traced : Bool) (input left old : List ℕ) (new new' : Option (List ℕ)) (r r' : Result InputEnd RunError) → Ran traced (Some input) (Some left) true false (Some old) new r → Ran traced (Some input) (Some left) true false (Some old) new' r' → new ≡ new'

@@ -1,18 +1,20 @@
 // What a run keeps between two events.
-ghost use Rattle.std.specs.Prelude.{◌≡◌, ◌≤◌, ◌++◌, OnOk, length, take};
+ghost use Rattle.std.specs.Prelude.{◌≡◌, ◌≤◌, length, take};
 ghost use Rattle.device.specs.Lent.{gave, answered};
 ghost use Rattle.device.specs.Sealing.{state_of};
 ghost use Rattle.device.specs.Step.{Gives};
+ghost use Rattle.streams.specs.Gathered.{held_back, gathering, Pushes};
 ghost use Rattle.events.specs.Running.{Kept, kept, step_of, after_step, step_told};
 
 use crate::event_bytes::EventBytes;
-use crate::lines::{Format, Line};
 use crate::plays::make_call;
+use crate::telling::{Line, tell};
 use device::Sealed;
 use frames::DATA_FRAME_LIMIT;
 use refusals::Refusal;
-use std::alloc::AllocError;
+use std::io::Write;
 use std::marker::Model;
+use streams::{Lines, Watched};
 
 /// The device of a run, its medium, and the buffer of its replies. A contract sees these three as what a run keeps.
 #[derive(Drop)]
@@ -72,15 +74,16 @@ impl<'a> Bench<'a> {
     }
 
     /// One event played, and its line behind the lines that are gathered.
-    pub(crate) fn play_and_tell(
+    pub(crate) fn play_and_tell<W: Write>(
         &mut self,
-        format: Format,
-        lines: &mut Vec<u8>,
+        traced: bool,
+        lines: &mut Lines,
+        out: &mut Watched<W>,
         number: u64,
         event: &EventBytes,
-    ) -> Result<(), AllocError>
+    )
         ensures kept { self.new ≡ after_step self.old (step_of self.old event.now) }
-        ensures line { OnOk result (lines.new.items ≡ lines.old.items ++ step_told format.traced number (step_of self.old event.now)) }
+        ensures line { Pushes (gathering (W.contents out.old.inner) (held_back lines.old) out.old.failed) (gathering (W.contents out.new.inner) (held_back lines.new) out.new.failed) (step_told traced number (step_of self.old event.now)) }
     {
         let answer = self.play(event);
         let line = Line {
@@ -89,6 +92,6 @@ impl<'a> Bench<'a> {
             outstanding: self.outstanding(),
             replies: self.replies(answer.unwrap_or(0)),
         };
-        format.push_line(lines, &line)
+        tell(traced, lines, out, &line)
     }
 }

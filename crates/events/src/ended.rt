@@ -24,8 +24,7 @@ impl Ended {
     {
         match &self.run {
             Ok(()) => 0,
-            Err(RunError::Input(_) | RunError::TooMany) => 3,
-            Err(RunError::Output(_) | RunError::Memory) => 4,
+            Err(error) => error.exit_status(),
         }
     }
 }

@@ -1,6 +1,6 @@
 // How a run ends.
 ghost use Rattle.std.specs.Prelude.{◌≡◌};
-ghost use Rattle.events.specs.Ends.{last_text};
+ghost use Rattle.events.specs.Ends.{last_text, error_status};
 ghost use Rattle.events.specs.declared.errors.RunError.TheVariants.{Memory};
 
 use crate::InputEnd;
@@ -25,6 +25,18 @@ pub enum RunError {
     TooMany,
 }
 
+impl RunError {
+    /// The exit status of a program whose run ended so: 4 where lines are missing, else 3.
+    pub fn exit_status(&self) -> u8
+        ensures { result ≡ error_status self.now }
+    {
+        match self {
+            RunError::Output(_) | RunError::Memory => 4,
+            RunError::Input(_) | RunError::TooMany => 3,
+        }
+    }
+}
+
 /// No memory is had for lines alone.
 impl From<AllocError> for RunError {
     ghost from_gives = { λ failed error. error ≡ Memory };
@@ -40,7 +52,7 @@ pub(crate) fn last_text(end: &Result<InputEnd, RunError>) -> &'static [u8]
     ensures { result.now ≡ last_text end.now }
 {
     match end {
-        Ok(InputEnd::Clean) => b"",
+        Ok(InputEnd::Clean | InputEnd::Refused) => b"",
         Ok(InputEnd::NoEvent) | Err(_) => b"stop\n",
     }
 }

@@ -5,13 +5,15 @@ ghost use Rattle.events.specs.Kinds.{kind_named, body_of};
 /// The most bytes of an event, its kind among them.
 pub(crate) const EVENT_LIMIT: usize = 20;
 
-/// How the input of a run ends, once its rest begins with no event.
+/// How a run ends where nothing fails.
 #[derive(Clone, Copy, Debug, PartialEq, Eq)]
 pub enum InputEnd {
-    /// Behind an event.
+    /// With the input, behind an event: all of it is played.
     Clean,
-    /// With what is no event, which ends the run with `stop`.
+    /// With what is no event, or with no settings: `stop`.
     NoEvent,
+    /// With refused settings, behind their line.
+    Refused,
 }
 
 /// The kinds of events.

@@ -1,11 +1,10 @@
-// The line of an event.
+// The pieces of a line, of a fixed size each; and the replies behind lines that are gathered on the heap, as scripts do.
 ghost use Rattle.std.specs.Prelude.{◌≡◌, ◌++◌, ◌<◌, ◌≤◌, ◌∷◌, [], OnOk};
 ghost use Rattle.hex.specs.Hex.{encode_upper};
 ghost use Rattle.frames.specs.Cut.{cut};
-ghost use Rattle.events.specs.Lines.{upper8, told_of, head_of, trace_of, typed, label_of, field_of, fields_of, line_of};
+ghost use Rattle.events.specs.Lines.{upper8, told_of, trace_of, typed, label_of, field_of, fields_of};
 
 use frames::byte_of;
-use refusals::Refusal;
 use std::alloc::{AllocError, Global};
 
 const UPPER: [u8; 16] = *b"0123456789ABCDEF";
@@ -13,7 +12,7 @@ const UPPER: [u8; 16] = *b"0123456789ABCDEF";
 // A byte in two upper-case hex digits. Neither they nor the short decimal numbers below go by `write!` or `itoa`: a line's
 // pieces have a fixed size so, and are stored without a call.
 #[tactic(auto, unfolding(hex::specs::Hex::encode_with))]
-fn upper(byte: u8) -> [u8; 2]
+pub(crate) fn upper(byte: u8) -> [u8; 2]
     ensures { result ≡ encode_upper (byte ∷ []) }
 {
     [UPPER[usize::from(byte / 16)], UPPER[usize::from(byte % 16)]]
@@ -33,7 +32,7 @@ fn upper8(number: u32) -> [u8; 8]
 
 // Behind a line's number: the refusal's number, of one digit or two, and the tags outstanding.
 #[tactic(auto, using(crate::proofs::Digits::digits_one), unfolding(hex::specs::Hex::encode_with))]
-fn told_in_one(told: u8, outstanding: u32) -> [u8; 11]
+pub(crate) fn told_in_one(told: u8, outstanding: u32) -> [u8; 11]
     requires { told < 10 }
     ensures { result ≡ told_of told outstanding }
 {
@@ -42,7 +41,7 @@ fn told_in_one(told: u8, outstanding: u32) -> [u8; 11]
 }
 
 #[tactic(auto, using(crate::proofs::Digits::digits_two), unfolding(hex::specs::Hex::encode_with))]
-fn told_in_two(told: u8, outstanding: u32) -> [u8; 12]
+pub(crate) fn told_in_two(told: u8, outstanding: u32) -> [u8; 12]
     requires { (10 ≤ told) × (told < 100) }
     ensures { result ≡ told_of told outstanding }
 {
@@ -65,7 +64,7 @@ fn told_in_two(told: u8, outstanding: u32) -> [u8; 12]
 
 // A reply's type, and its length of one digit or two.
 #[tactic(auto, using(crate::proofs::Digits::digits_one), unfolding(hex::specs::Hex::encode_with))]
-fn label_in_one(kind: u8, length: u8) -> [u8; 5]
+pub(crate) fn label_in_one(kind: u8, length: u8) -> [u8; 5]
     requires { length < 10 }
     ensures { result ≡ typed kind length }
 {
@@ -74,7 +73,7 @@ fn label_in_one(kind: u8, length: u8) -> [u8; 5]
 }
 
 #[tactic(auto, using(crate::proofs::Digits::digits_two), unfolding(hex::specs::Hex::encode_with))]
-fn label_in_two(kind: u8, length: u8) -> [u8; 6]
+pub(crate) fn label_in_two(kind: u8, length: u8) -> [u8; 6]
     requires { (10 ≤ length) × (length < 100) }
     ensures { result ≡ typed kind length }
 {
@@ -87,29 +86,6 @@ fn label_in_two(kind: u8, length: u8) -> [u8; 6]
         b'0' + length / 10,
         b'0' + length % 10,
     ]
-}
-
-/// What the line of an event tells.
-#[derive(Drop)]
-pub(crate) struct Line<'a> {
-    pub(crate) number: u64,
-    pub(crate) refusal: Option<Refusal>,
-    pub(crate) outstanding: u32,
-    pub(crate) replies: &'a [u8],
-}
-
-impl<'a> Line<'a> {
-    #[tactic(auto, using(crate::proofs::Digits::told_short))]
-    fn push_head(&self, lines: &mut Vec<u8>) -> Result<(), AllocError>
-        ensures { OnOk result (lines.new.items ≡ lines.old.items ++ head_of self.now.number self.now.refusal self.now.outstanding) }
-    {
-        lines.extend_from_slice(itoa::Buffer::new().format(self.number).as_bytes())?;
-        let told = Refusal::number_told(self.refusal);
-        if told < 10 {
-            return lines.extend_from_slice(&told_in_one(told, self.outstanding));
-        }
-        lines.extend_from_slice(&told_in_two(told, self.outstanding))
-    }
 }
 
 fn push_label(lines: &mut Vec<u8>, reply: &[u8]) -> Result<(), AllocError>
@@ -167,15 +143,5 @@ impl Format {
             self.push_field(lines, reply)?;
         }
         Ok(())
-    }
-
-    /// The line, behind the lines that are gathered.
-    pub(crate) fn push_line(self, lines: &mut Vec<u8>, line: &Line) -> Result<(), AllocError>
-        ensures { OnOk result (lines.new.items ≡ lines.old.items ++ line_of self.traced line.now.number line.now.refusal line.now.outstanding line.now.replies.now) }
-    {
-        let replies = line.replies;
-        line.push_head(lines)?;
-        self.push_fields(lines, replies)?;
-        lines.extend_from_slice(b"\n")
     }
 }

@@ -1,39 +1,43 @@
-// Output in large pieces: lines are gathered, and what is written of them is always a front.
-ghost use Rattle.std.specs.Prelude.{OnOk, IfErr};
-ghost use Rattle.streams.specs.Fronts.{AppendsFront};
+// When lines are written, and the last ones.
+ghost use Rattle.std.specs.Prelude.{◌≡◌, []};
+ghost use Rattle.std.specs.Io.Buffered.{reader_buffer};
+ghost use Rattle.streams.specs.Gathered.{held_back, gathering, Pushes};
+ghost use Rattle.events.specs.Reading.{MayWait};
 ghost use Rattle.events.specs.Ends.{Finished};
-ghost use Rattle.events.specs.Output.{IsOutput, PassedOn};
 
 use crate::InputEnd;
 use crate::errors::{RunError, last_text};
-use std::io::Write;
-use streams::put;
+use crate::reading::lies_there;
+use std::io::{BufReader, Read, Write};
+use streams::{Lines, Watched};
 
-// So many bytes of lines are written at once.
-const ENOUGH: usize = 32768;
-
-/// Lines are written once there are enough of them.
-pub(crate) fn pass_on<W: Write>(out: &mut W, lines: &mut Vec<u8>) -> Result<(), RunError>
-    ensures ok { OnOk result (PassedOn (W.contents out.old) (W.contents out.new) lines.old.items lines.new.items) }
-    ensures err { IfErr result (λ e. IsOutput e × AppendsFront (W.contents out.old) (W.contents out.new) lines.old.items) }
+/// Lines are written before the next event is read where not all of it lies in the reader's buffer: that read may have to wait, and
+/// whoever waits for the events that come has every line of those that came.
+pub(crate) fn pass_on<R: Read, W: Write>(
+    reader: &Watched<BufReader<R>>,
+    out: &mut Watched<W>,
+    lines: &mut Lines,
+)
+    ensures pushed { Pushes (gathering (W.contents out.old.inner) (held_back lines.old) out.old.failed) (gathering (W.contents out.new.inner) (held_back lines.new) out.new.failed) [] }
+    ensures prompt { MayWait (reader_buffer reader.now.inner) → held_back lines.new ≡ [] }
 {
-    if lines.len() < ENOUGH {
-        return Ok(());
+    if !lies_there(reader.buffer()) {
+        lines.pass_on(out);
     }
-    put(out, lines).map_err(RunError::Output)?;
-    lines.clear();
-    Ok(())
 }
 
 /// The lines that are left, and the last text; and then the run has the result of its end.
 pub(crate) fn finish<W: Write>(
-    out: &mut W,
-    left: &[u8],
+    out: &mut Watched<W>,
+    lines: &mut Lines,
     end: Result<InputEnd, RunError>,
-) -> Result<(), RunError>
-    ensures { Finished end (W.contents out.old) (W.contents out.new) left.now result }
+) -> Result<InputEnd, RunError>
+    ensures { Finished end (gathering (W.contents out.old.inner) (held_back lines.old) out.old.failed) (W.contents out.new.inner) out.new.failed result }
 {
-    put(out, left).map_err(RunError::Output)?;
-    put(out, last_text(&end)).map_err(RunError::Output)?;
-    end.map(|_| ())
+    lines.push(out, last_text(&end));
+    lines.pass_on(out);
+    if out.has_failed() {
+        return Err(RunError::Output(lines.error()));
+    }
+    end
 }

@@ -42,6 +42,8 @@ pub(crate) struct Sink {
     pub(crate) most: usize,
     pub(crate) failure: ErrorKind,
     before_failure: u64,
+    // a write ended within a line
+    cut: bool,
 }
 
 impl Sink {
@@ -51,7 +53,18 @@ impl Sink {
             most: 7,
             failure: ErrorKind::Other,
             before_failure,
+            cut: false,
         }
+    }
+
+    /// Whether each write ended with a line.
+    pub(crate) fn got_whole_lines(&self) -> bool {
+        !self.cut
+    }
+
+    /// Whether the write that failed was the last that was tried.
+    pub(crate) fn failed_last(&self) -> bool {
+        self.before_failure == u64::MAX
     }
 }
 
@@ -62,6 +75,7 @@ impl Write for Sink {
         if fails {
             return Err(Error::from(self.failure));
         }
+        self.cut = self.cut || !buf.ends_with(b"\n");
         let taken = buf.len().min(self.most);
         self.bytes.extend_from_slice(&buf[..taken])?;
         Ok(taken)

@@ -5,9 +5,10 @@
 
 mod by_value;
 
-use events::{Format, PIECE, run_in_pieces};
-use std::io::{Read, Write};
+use events::{PIECE, run_aloud};
+use std::io::{BufReader, Read, Write};
 use std::{env, fs, io};
+use streams::Watched;
 use version::VERSION;
 
 // A file that cannot be opened is told from one whose run stops.
@@ -15,11 +16,10 @@ fn run_file(rt: HostRuntime, path: &str, traced: bool, piece: usize) -> io::Resu
     let Ok(file) = fs::open(&rt, path) else {
         return rt.stdout().write_all(b"cannot be opened\n");
     };
-    let format = Format {
-        alloc: rt.alloc(),
-        traced,
-    };
-    run_in_pieces(format, piece, file, &mut rt.stdout(), &mut rt.stderr());
+    let mut pieces = Watched::new(BufReader::with_capacity(rt.alloc(), piece, file)?);
+    let mut out = Watched::new(rt.stdout());
+    let mut errors = Watched::new(rt.stderr());
+    let _ = run_aloud(traced, &mut pieces, &mut out, &mut errors);
     Ok(())
 }
 

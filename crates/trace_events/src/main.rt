@@ -1,9 +1,11 @@
 // Runs an event file as run_events does, each reply with its bytes.
 #![tactic(auto)]
 
-use events::{Format, PIECE, run_in_pieces};
+use events::{PIECE, exit_status, run_aloud};
 use std::env;
+use std::io::BufReader;
 use std::process::ExitCode;
+use streams::Watched;
 use version::VERSION;
 
 // The exit statuses where the words of the command line ask for nothing that is known, and where the version could not be written.
@@ -22,18 +24,13 @@ fn asks_version(rt: &HostRuntime) -> Option<bool> {
 }
 
 fn run(rt: HostRuntime) -> u8 {
-    let format = Format {
-        alloc: rt.alloc(),
-        traced: true,
+    let mut errors = Watched::new(rt.stderr());
+    let Ok(pieces) = BufReader::with_capacity(rt.alloc(), PIECE, rt.stdin()) else {
+        let _ = errors.complain();
+        return LINES_MISSING;
     };
-    let ended = run_in_pieces(
-        format,
-        PIECE,
-        rt.stdin(),
-        &mut rt.stdout(),
-        &mut rt.stderr(),
-    );
-    ended.exit_status()
+    let mut out = Watched::new(rt.stdout());
+    exit_status(&run_aloud(true, &mut Watched::new(pieces), &mut out, &mut errors))
 }
 
 fn status(rt: HostRuntime) -> u8 {
