@@ -1,4 +1,4 @@
--- Named scripts that are all read have one text, and one thing is found in them. Assumes nothing.
+-- Named scripts that are all read have one text, and one thing is found in them.
 use Rattle.std.proofs.Common.{◌≡◌, ℕ, List, [], ◌∷◌, ◌++◌, map, unwrap_or, append-nil, All, fold, Option, Some, Result, Ok, Err, refl, sym, subst, ap, ap₂, ◌∙◌, arith}
 use Rattle.std.specs.declared.io.Error.{Error}
 use Rattle.std.proofs.lemmas.List.Elements.{All-head, All-tail}

@@ -1,4 +1,4 @@
--- A text of which all but a rest was pushed. Assumes nothing.
+-- A text of which all but a rest was pushed.
 use Rattle.std.proofs.Common.{◌-◌, take, arith, suc, ◌≡◌, ℕ, List, [], ◌∷◌, ◌++◌, sym, ap, ◌∙◌, ◌<◌, ◌≤◌, ◌+◌, drop_of_length-le, length, drop, drop-cons, get_or, subst, append_assoc, append-nil, refl}
 use Rattle.std.proofs.lemmas.List.{take_rest}
 use Rattle.hex.specs.Hex.{encode_lower, encode_with}

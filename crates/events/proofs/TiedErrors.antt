@@ -1,4 +1,4 @@
--- What the contract of a run's error says. Assumes nothing.
+-- What the contract of a run's error says.
 use Rattle.std.proofs.Common.{refl, ◌≡◌}
 use Rattle.bits.specs.Contract.{Tied}
 use Rattle.bits.proofs.Tying.{same, say, by}

@@ -1,4 +1,4 @@
--- What those contracts say that serve the runs of scripts alone. Assumes nothing.
+-- What those contracts say that serve the runs of scripts alone.
 use Rattle.std.proofs.Common.{[], refl, ◌≡◌, ◌++◌, OnOk}
 use denote.RattleType.{RattleType}
 use denote.Param.Laws.{Laws}

@@ -1,4 +1,4 @@
--- Lines that are gathered: a text more, and what is passed on. Assumes nothing.
+-- Lines that are gathered: a text more, and what is passed on.
 use Rattle.std.proofs.Common.{◌≡◌, ℕ, ◌<◌, ◌≤◌, min, Bool, true, false, List, [], ◌++◌, Option, length, take, take_all, ⊎_elim, drop, sym, ap, subst, ◌∙◌, append_assoc, append-nil, arith, length-append, length-drop, take-append-drop}
 use Rattle.std.specs.Io.KnownBytes.{Appends}
 use Rattle.std.proofs.KnownBytes.{Appends-trans}

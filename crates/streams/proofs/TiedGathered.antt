@@ -1,4 +1,4 @@
--- The contracts of gathered lines, over any writer: what they say. Assumes nothing.
+-- The contracts of gathered lines, over any writer: what they say.
 use Rattle.std.proofs.Common.{[], ◌≡◌}
 use denote.Param.Laws.{Laws}
 use denote.RattleType.{RattleType}

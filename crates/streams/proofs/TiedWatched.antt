@@ -1,4 +1,4 @@
--- The contracts of what is watched, over any writer and any reader: what they say. Assumes nothing.
+-- The contracts of what is watched, over any writer and any reader: what they say.
 use Rattle.std.proofs.Common.{[], ◌≡◌, ◌||◌, false, is_err, length, drop, Some, OnOk, OnErr, IfOk}
 use denote.Param.Laws.{Laws}
 use denote.RattleType.{RattleType}

@@ -1,4 +1,4 @@
--- Lines that are gathered before they are written. Assumes nothing.
+-- Lines that are gathered before they are written.
 use Rattle.std.specs.Prelude.{◌≡◌, Bool, true, false, ℕ, List, ◌++◌, take, Option}
 use Rattle.std.specs.Io.KnownBytes.{Appends}
 use Rattle.streams.specs.Fronts.{AppendsFront}
