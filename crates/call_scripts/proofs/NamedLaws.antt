@@ -12,7 +12,7 @@ use Rattle.events.proofs.Fronts.{loses_first, loses_then}
 use Rattle.events.specs.Output.{Loses}
 use Rattle.events.specs.declared.errors.RunError.{RunError}
 use Rattle.events.specs.Runs.{Said}
-use Rattle.call_scripts.specs.CheckEnds.{LosesOne, LookedAtAll, HasLookedAt, HasWritten, HasCheckedAll, last_behind, said_last}
+use Rattle.call_scripts.specs.CheckEnds.{HasCome, LosesOne, LookedAtAll, HasLookedAt, HasWritten, HasCheckedAll, last_behind, said_last}
 use Rattle.call_scripts.specs.Found.{both, nothing_found, last_line}
 use Rattle.call_scripts.specs.Named.{Named, MayCome, LookedAt, named_text, named_said, named_found, all_text, all_said, all_found}
 use Rattle.call_scripts.specs.declared.check_ends.CheckEnd.{CheckEnd}
@@ -27,10 +27,6 @@ said_by n = named_said n.name n.came
 -- before the first of them
 pub none_looked_at : (holds : List ℕ → Option (Option (List ℕ))) (old : Option (List ℕ)) (said : List ℕ) → LookedAtAll holds [] old old said said nothing_found
 none_looked_at holds old said = record { named = []; looked = record { order = refl; each = All-nil (λ (m : Named). MayCome (holds m.name) m.came) }; sum = refl; written = Appends-nil old; gathered = sym (append-nil said) }
-
--- a script that was looked at, and what may come of it
-abbrev pub HasCome : Option (Option (List ℕ)) → List ℕ → (old new : Option (List ℕ)) → (said said' : List ℕ) → Found → Type 0
-HasCome held name old new said said' found = (came : Result (List ℕ) (List ℕ)) × MayCome held came × (found ≡ named_found came) × Appends old new (named_text name came) × (said' ≡ said ++ named_said name came)
 
 module _ {holds : List ℕ → Option (Option (List ℕ))} {names : List (List ℕ)} {a b : Option (List ℕ)} {said said' : List ℕ} {found : Found} (p : LookedAtAll holds names a b said said' found) where
   before : (others : List (List ℕ)) → names ++ others ≡ map (λ (m : Named). m.name) p.named ++ others

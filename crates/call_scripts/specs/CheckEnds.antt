@@ -8,7 +8,7 @@ use Rattle.events.specs.Output.{Loses}
 use Rattle.events.specs.Runs.{Said}
 use Rattle.events.specs.declared.errors.RunError.{RunError}
 use Rattle.call_scripts.specs.Found.{status_of, last_line}
-use Rattle.call_scripts.specs.Named.{Named, MayHold, LookedAt, named_text, all_text, all_said, all_found}
+use Rattle.call_scripts.specs.Named.{Named, MayHold, MayCome, LookedAt, named_text, named_said, named_found, all_text, all_said, all_found}
 use Rattle.call_scripts.specs.declared.check_ends.CheckEnd.{CheckEnd}
 use Rattle.call_scripts.specs.declared.found.Found.{Found}
 
@@ -16,6 +16,10 @@ use Rattle.call_scripts.specs.declared.found.Found.{Found}
 abbrev pub last_behind : List (List ℕ) → Found → List ℕ
 last_behind [] found = last_line found
 last_behind (other ∷ others) found = []
+
+-- a script was looked at: what came of it, was found in it and written of it, and what is to be said behind what was
+abbrev pub HasCome : Option (Option (List ℕ)) → List ℕ → (old new : Option (List ℕ)) → (said said' : List ℕ) → Found → Type 0
+HasCome held name old new said said' found = (came : Result (List ℕ) (List ℕ)) × MayCome held came × (found ≡ named_found came) × Appends old new (named_text name came) × (said' ≡ said ++ named_said name came)
 
 -- of one script text is lost; or nothing of it is written, for it is unread and there is no memory to say so
 abbrev pub LosesOne : Option (Option (List ℕ)) → List ℕ → RunError → (old new : Option (List ℕ)) → Type 0

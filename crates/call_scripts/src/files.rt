@@ -1,11 +1,10 @@
 // A script of a shelf: run and compared, or told as unread.
-ghost use Rattle.std.specs.Prelude.{◌≡◌, ◌⊎◌, ◌++◌, [], List, ℕ, Result, IfOk, IfErr, OnOk, OnErr};
+ghost use Rattle.std.specs.Prelude.{◌≡◌, ◌++◌, List, ℕ, IfOk, IfErr, OnOk, OnErr};
 ghost use Rattle.std.specs.Io.KnownBytes.{Appends};
 ghost use Rattle.events.specs.declared.errors.RunError.TheVariants.{Memory};
-ghost use Rattle.events.specs.Output.{Loses};
 ghost use Rattle.call_scripts.specs.Checks.{HasChecked};
-ghost use Rattle.call_scripts.specs.Named.{MayHold, MayCome, named_text, named_said, named_found, cause_text, unread_text};
-ghost use Rattle.call_scripts.specs.CheckEnds.{LosesOne};
+ghost use Rattle.call_scripts.specs.Named.{MayHold, cause_text, unread_text};
+ghost use Rattle.call_scripts.specs.CheckEnds.{HasCome, LosesOne};
 
 use crate::checking::check_script;
 use crate::found::Found;
@@ -75,7 +74,7 @@ pub(crate) fn check_named<S: Shelf, W: Write>(
     out: &mut W,
     said: &mut Vec<u8>,
 ) -> Result<Found, RunError>
-    ensures ok { IfOk result (λ found. (came : Result (List ℕ) (List ℕ)) × MayCome (S.holds shelf.now name.now) came × (found ≡ named_found came) × Appends (W.contents out.old) (W.contents out.new) (named_text name.now came) × (said.new.items ≡ said.old.items ++ named_said name.now came)) }
+    ensures ok { IfOk result (λ found. HasCome (S.holds shelf.now name.now) name.now (W.contents out.old) (W.contents out.new) said.old.items said.new.items found) }
     ensures kept { OnErr result (said.new.items ≡ said.old.items) }
     ensures err { IfErr result (λ e. LosesOne (S.holds shelf.now name.now) name.now e (W.contents out.old) (W.contents out.new)) }
 {
