@@ -35,8 +35,8 @@ tied_change_exactly = say (λ κs a. tt) (λ κs a r ws p. p)
 pub tied_empty_where : Says fields-said.empty_where.ended fields.empty_where.Reads.Asked fields.empty_where.Reads.Post (λ κs a r ws. ((s : Sampled) (ss : List Sampled) (numbers : List ℕ) (number : ℕ) → first_refusal (input_tests (s ∷ ss) numbers) ≡ None → change_in (s ∷ ss) s.hour number ≡ None) × ((samples : List Sampled) (hour number : ℕ) → ((k : ℕ) (d : Sampled) → k < length samples → (get_or samples k d).hour ≡ hour → ⊥) → change_in samples hour number ≡ None) × ((samples : List Sampled) (hour number : ℕ) → ((k : ℕ) (d : Sampled) → k < length samples → (get_or samples k d).hour ≡ hour → ⊥) → change_in samples (hour + 1) number ≡ None) × ((samples : List Sampled) (hour number : ℕ) (before page : List ℕ) → page_before samples hour ≡ Some before → page_of_hour samples hour ≡ Some page → read_counter before number ≡ Ok None → change_in samples hour number ≡ None) × ((samples : List Sampled) (hour number : ℕ) (before page : List ℕ) → page_before samples hour ≡ Some before → page_of_hour samples hour ≡ Some page → read_counter page number ≡ Ok None → change_in samples hour number ≡ None) × ((samples : List Sampled) (hour number : ℕ) (before page : List ℕ) → page_before samples hour ≡ Some before → page_of_hour samples hour ≡ Some page → (old new : CounterValue) → read_counter before number ≡ Ok (Some old) → read_counter page number ≡ Ok (Some new) → new.value < old.value → change_in samples hour number ≡ None) × ((samples : List Sampled) (hour number : ℕ) (before page : List ℕ) → page_before samples hour ≡ Some before → page_of_hour samples hour ≡ Some page → (old new : CounterValue) → read_counter before number ≡ Ok (Some old) → read_counter page number ≡ Ok (Some new) → at_top old ≡ true → change_in samples hour number ≡ None) × ((samples : List Sampled) (hour number : ℕ) (before page : List ℕ) → page_before samples hour ≡ Some before → page_of_hour samples hour ≡ Some page → (old new : CounterValue) → read_counter before number ≡ Ok (Some old) → read_counter page number ≡ Ok (Some new) → at_top new ≡ true → change_in samples hour number ≡ None))
 tied_empty_where = say (λ κs a. tt) (λ κs a r ws p. (p.0, p.1.0, p.1.1.0, p.1.1.1.0, p.1.1.1.1.0, p.1.1.1.1.1.0, p.1.1.1.1.1.1.0, p.1.1.1.1.1.1.1))
 
-pub tied_later_stands : Says fields-said.later_stands.ended fields.later_stands.Reads.Asked fields.later_stands.Reads.Post (λ κs a r ws. (xs : List Sampled) (s : Sampled) (ys : List Sampled) → ((k : ℕ) (d : Sampled) → k < length ys → (get_or ys k d).hour ≡ s.hour → ⊥) → page_of_hour (xs ++ s ∷ ys) s.hour ≡ Some s.page)
-tied_later_stands = say (λ κs a. tt) (λ κs a r ws p. p)
+pub tied_later_stands : Says fields-said.later_stands.ended fields.later_stands.Reads.Asked fields.later_stands.Reads.Post (λ κs a r ws. ((xs : List Sampled) (s : Sampled) (ys : List Sampled) → ((k : ℕ) (d : Sampled) → k < length ys → (get_or ys k d).hour ≡ s.hour → ⊥) → page_of_hour (xs ++ s ∷ ys) s.hour ≡ Some s.page) × ((xs : List Sampled) (s : Sampled) (ys : List Sampled) → ((k : ℕ) (d : Sampled) → k < length ys → (get_or ys k d).hour ≡ s.hour → ⊥) → page_before (xs ++ s ∷ ys) (s.hour + 1) ≡ Some s.page) × ((samples : List Sampled) → page_before samples 0 ≡ None))
+tied_later_stands = say (λ κs a. tt) (λ κs a r ws p. (p.0, p.1.0, p.1.1))
 
 pub tied_first_exactly : Says turned_down-said.first_exactly.ended turned_down.first_exactly.Reads.Asked turned_down.first_exactly.Reads.Post (λ κs a r ws. (samples : List Sampled) (numbers : List ℕ) (room : ℕ) → FirstGiven (table_tests samples numbers room) (first_refusal (table_tests samples numbers room)))
 tied_first_exactly = say (λ κs a. tt) (λ κs a r ws p. p)
@@ -61,3 +61,6 @@ tied_every_hour = say (λ κs a. tt) (λ κs a r ws p. (p.0, p.1.0, p.1.1))
 
 pub tied_table_given : Says turned_down-said.table_given.ended turned_down.table_given.Reads.Asked turned_down.table_given.Reads.Post (λ κs a r ws. (samples : List Sampled) (numbers : List ℕ) (room : ℕ) → ((j : ℕ) → j < length numbers → 1 ≤ get_or numbers j 0) → ((j : ℕ) → j < length numbers → get_or numbers j 0 < 4096) → ((i : ℕ) (s : Sampled) → i < length samples → is_err (count_others (get_or samples i s).page) ≡ false) → ((i : ℕ) (s : Sampled) → i < length samples → (j : ℕ) → j < length numbers → is_err (read_counter (get_or samples i s).page (get_or numbers j 0)) ≡ false) → ((i : ℕ) (s : Sampled) → i + 1 < length samples → (get_or samples i s).hour ≤ (get_or samples (i + 1) s).hour) → length (table samples numbers) ≤ room → table_size samples numbers room ≡ Ok (length (table samples numbers)))
 tied_table_given = say (λ κs a. tt) (λ κs a r ws p. p)
+
+pub tied_given_only : Says turned_down-said.given_only.ended turned_down.given_only.Reads.Asked turned_down.given_only.Reads.Post (λ κs a r ws. ((samples : List Sampled) (numbers : List ℕ) (room size : ℕ) → Ok size ≡ table_size samples numbers room → (j : ℕ) → j < length numbers → (1 ≤ get_or numbers j 0) × (get_or numbers j 0 < 4096)) × ((samples : List Sampled) (numbers : List ℕ) (room size : ℕ) → Ok size ≡ table_size samples numbers room → (i : ℕ) (s : Sampled) → i < length samples → is_err (count_others (get_or samples i s).page) ≡ false) × ((samples : List Sampled) (numbers : List ℕ) (room size : ℕ) → Ok size ≡ table_size samples numbers room → (i : ℕ) (s : Sampled) → i + 1 < length samples → (get_or samples i s).hour ≤ (get_or samples (i + 1) s).hour) × ((samples : List Sampled) (numbers : List ℕ) (room size : ℕ) → Ok size ≡ table_size samples numbers room → length (table samples numbers) ≤ room) × ((samples : List Sampled) (numbers : List ℕ) (room size : ℕ) → Ok size ≡ table_size samples numbers room → size ≡ length (table samples numbers)))
+tied_given_only = say (λ κs a. tt) (λ κs a r ws p. (p.0, p.1.0, p.1.1.0, p.1.1.1.0, p.1.1.1.1))

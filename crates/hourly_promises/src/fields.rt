@@ -36,9 +36,12 @@ pub fn empty_where()
     ensures new_top { (samples : List Sampled) (hour number : ℕ) (before page : List ℕ) → page_before samples hour ≡ Some before → page_of_hour samples hour ≡ Some page → (old new : CounterValue) → read_counter before number ≡ Ok (Some old) → read_counter page number ≡ Ok (Some new) → at_top new ≡ true → change_in samples hour number ≡ None }
 {}
 
-/// Of the samples of an hour the last in the input stands, with the whole of its page.
+/// Of the samples of an hour the last in the input stands, with the whole of its page: for that hour, and as the page of the
+/// hour before for the one behind it. Hour 0 has no hour before it.
 pub fn later_stands()
-    ensures { (xs : List Sampled) (s : Sampled) (ys : List Sampled) → ((k : ℕ) (d : Sampled) → k < length ys → (get_or ys k d).hour ≡ s.hour → ⊥) → page_of_hour (xs ++ s ∷ ys) s.hour ≡ Some s.page }
+    ensures stands { (xs : List Sampled) (s : Sampled) (ys : List Sampled) → ((k : ℕ) (d : Sampled) → k < length ys → (get_or ys k d).hour ≡ s.hour → ⊥) → page_of_hour (xs ++ s ∷ ys) s.hour ≡ Some s.page }
+    ensures before { (xs : List Sampled) (s : Sampled) (ys : List Sampled) → ((k : ℕ) (d : Sampled) → k < length ys → (get_or ys k d).hour ≡ s.hour → ⊥) → page_before (xs ++ s ∷ ys) (s.hour + 1) ≡ Some s.page }
+    ensures none_before_0 { (samples : List Sampled) → page_before samples 0 ≡ None }
 {}
 
 /// A field is the decimal of what was counted, and is empty where nothing is known to have been.

@@ -9,4 +9,4 @@ mod turned_down;
 pub use csv_text::{numbers_told, row_is_csv, table_is_csv};
 pub use fields::{change_exactly, empty_where, field_exactly, later_stands, never_zero};
 pub use hours::every_hour;
-pub use turned_down::{all_read, first_exactly, table_given};
+pub use turned_down::{all_read, first_exactly, given_only, table_given};
