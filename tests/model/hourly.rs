@@ -1,5 +1,6 @@
 //! The hourly table, from its rules: pages are walked here once into a map, and
-//! the table is made hour by hour from a map of pages.
+//! the table is made hour by hour from a map of pages. Where there is none, what
+//! is said of it.
 
 use crate::pages::PAGE;
 use crate::random::Random;
@@ -40,26 +41,44 @@ fn is_top((value, width): (u64, usize)) -> bool {
     value == u64::MAX >> (64 - 8 * width)
 }
 
-/// The table, or the number of its refusal but for 71.
-fn table(samples: &[(u64, Vec<u8>)], asked: &[u16]) -> Result<String, u8> {
-    if samples.iter().any(|(_, page)| page.len() != PAGE) {
-        return Err(20);
+/// Why there is no table: the refusal's number, the sample at fault, and what is wrong.
+struct Refused {
+    number: u8,
+    at: Option<usize>,
+    why: String,
+}
+
+fn refused<T>(number: u8, at: Option<usize>, why: &str) -> Result<T, Refused> {
+    Err(Refused { number, at, why: why.to_string() })
+}
+
+/// Whether all samples and counters may be read; but for 71.
+fn ask(samples: &[(u64, Vec<u8>)], asked: &[u16]) -> Result<(), Refused> {
+    if let Some(at) = samples.iter().position(|(_, page)| page.len() != PAGE) {
+        let length = samples[at].1.len();
+        let length = if length > PAGE { "more than 512".to_string() } else { length.to_string() };
+        return refused(20, Some(at), &format!("the length of the page is {length}, not 512"));
     }
     if asked.iter().any(|number| !(1..=0xfff).contains(number)) {
-        return Err(23);
+        return refused(23, None, "not 1 to FFF");
     }
-    if samples.iter().any(|(_, page)| page.iter().fold(0u8, |sum, &byte| sum.wrapping_add(byte)) != 0) {
-        return Err(21);
+    if let Some(at) = samples.iter().position(|(_, page)| page.iter().fold(0u8, |sum, &byte| sum.wrapping_add(byte)) != 0) {
+        return refused(21, Some(at), "the bytes of the page do not add up to 0");
     }
-    let mut hours: BTreeMap<u64, Values> = BTreeMap::new();
-    let mut walked = Vec::new();
-    for (hour, page) in samples {
-        walked.push((*hour, walk(page, asked).ok_or(22)?));
+    if let Some(at) = samples.iter().position(|(_, page)| walk(page, asked).is_none()) {
+        return refused(22, Some(at), "an entry that no page may have, or two of a counter that is asked for");
     }
-    if samples.windows(2).any(|pair| pair[1].0 < pair[0].0) {
-        return Err(70);
+    for at in 1..samples.len() {
+        if samples[at].0 < samples[at - 1].0 {
+            return refused(70, Some(at), "the hour is lower than the one before it");
+        }
     }
-    hours.extend(walked);
+    Ok(())
+}
+
+fn table(samples: &[(u64, Vec<u8>)], asked: &[u16]) -> Result<String, Refused> {
+    ask(samples, asked)?;
+    let hours: BTreeMap<u64, Values> = samples.iter().filter_map(|(hour, page)| Some((*hour, walk(page, asked)?))).collect();
     let mut text = String::from("hour,counter,change\r\n");
     let (Some(&first), Some(&last)) = (hours.keys().next(), hours.keys().last()) else {
         return Ok(text);
@@ -82,19 +101,97 @@ fn table(samples: &[(u64, Vec<u8>)], asked: &[u16]) -> Result<String, u8> {
     Ok(text)
 }
 
-/// What the program prints for a text of samples whose lines are all whole.
-pub fn text(samples: &str, asked: &[u16]) -> String {
-    let samples: Vec<(u64, Vec<u8>)> = samples
-        .lines()
-        .map(|line| {
-            let (hour, digits) = line.split_once(' ').expect("an hour and a page");
-            let page = (0..digits.len() / 2).map(|i| u8::from_str_radix(&digits[2 * i..2 * i + 2], 16).expect("hex"));
-            (hour.parse().expect("an hour"), page.collect())
-        })
-        .collect();
-    match table(&samples, asked) {
-        Ok(text) => text,
-        Err(number) => format!("refused {number}\n"),
+/// What the program prints, what it says on standard error, and its exit status.
+pub struct Told {
+    pub text: String,
+    pub said: String,
+    pub status: i32,
+}
+
+/// A name as it is said: no byte of it is a terminal's command, and it is cut.
+fn shown(name: &[u8]) -> String {
+    let mut text = String::new();
+    for &byte in name.iter().take(255) {
+        match byte {
+            b'\n' => text.push_str("\\n"),
+            b'\r' => text.push_str("\\r"),
+            b'\t' => text.push_str("\\t"),
+            b'\\' | b'\'' | b'"' => {
+                text.push('\\');
+                text.push(char::from(byte));
+            }
+            b' '..=b'~' => text.push(char::from(byte)),
+            _ => {
+                let _ = write!(text, "\\x{byte:02x}");
+            }
+        }
+    }
+    if name.len() > 255 {
+        text.push_str("..");
+    }
+    text
+}
+
+/// The hour of a line, if it has one, and its page; or what is wrong.
+fn sample(line: &[u8]) -> (Option<u64>, Result<Vec<u8>, &'static str>) {
+    let Some(line) = line.strip_suffix(b"\n") else {
+        return (None, Err("it does not end in LF"));
+    };
+    let Some(blank) = line.iter().position(|&byte| byte == b' ') else {
+        return (None, Err("it has no blank"));
+    };
+    let (digits, page) = (&line[..blank], &line[blank + 1..]);
+    let number = |digits: &[u8]| std::str::from_utf8(digits).ok()?.parse::<u64>().ok();
+    let hour = Some(digits).filter(|d| d.len() <= 20 && d.iter().all(|b| b.is_ascii_digit())).and_then(number);
+    let Some(hour) = hour else {
+        return (None, Err("what stands before its first blank is no hour"));
+    };
+    let value = |byte: u8| char::from(byte).to_digit(16);
+    let bytes = page.chunks(2).map(|pair| match *pair {
+        [high, low] => Some((value(high)? * 16 + value(low)?) as u8),
+        _ => None,
+    });
+    (Some(hour), bytes.collect::<Option<Vec<u8>>>().ok_or("the page is not in hex"))
+}
+
+fn at_line(file: &str, line: usize, hour: Option<u64>, why: &str) -> String {
+    let hour = hour.map_or(String::new(), |hour| format!(", hour {hour}"));
+    format!("hourly: {}: line {}{hour}: {why}\n", shown(file.as_bytes()), line + 1)
+}
+
+/// What the program tells of a file that was read, whose pages stand in hex.
+pub fn told(file: &str, read: &[u8], words: &[&str]) -> Told {
+    let mut asked = Vec::new();
+    for word in words {
+        if !(1..=4).contains(&word.len()) || !word.bytes().all(|byte| byte.is_ascii_hexdigit()) {
+            let said = format!("hourly: counter {}: not 1 to 4 hex digits\n", shown(word.as_bytes()));
+            return Told { text: String::new(), said, status: 2 };
+        }
+        asked.push(u16::from_str_radix(word, 16).expect("hex"));
+    }
+    let mut samples = Vec::new();
+    for (line, bytes) in read.split_inclusive(|&byte| byte == b'\n').enumerate() {
+        match sample(bytes) {
+            (Some(hour), Ok(page)) => samples.push((hour, page)),
+            (hour, page) => {
+                let said = at_line(file, line, hour, page.expect_err("a fault"));
+                return Told { text: "stop\n".to_string(), said, status: 3 };
+            }
+        }
+    }
+    match table(&samples, &asked) {
+        Ok(text) => Told { text, said: String::new(), status: 0 },
+        Err(Refused { number, at, why }) => {
+            let why = format!("{why} ({number})");
+            let said = match at {
+                Some(at) => at_line(file, at, Some(samples[at].0), &why),
+                None => {
+                    let none = asked.iter().find(|number| !(1..=0xfff).contains(*number)).expect("a counter");
+                    format!("hourly: counter {none:03X}: {why}\n")
+                }
+            };
+            Told { text: format!("refused {number}\n"), said, status: 1 }
+        }
     }
 }
 
@@ -142,4 +239,42 @@ pub fn samples(seed: u64, count: u64) -> String {
         };
     }
     text
+}
+
+/// The same, with something wrong at a line or two.
+pub fn faults(seed: u64, count: u64) -> Vec<u8> {
+    let mut random = Random::seeded(seed);
+    let text = samples(seed, count);
+    let mut lines: Vec<Vec<u8>> = text.split_inclusive('\n').map(|line| line.as_bytes().to_vec()).collect();
+    for _ in 0..=random.below(2) {
+        let at = random.below(lines.len() as u32) as usize;
+        let line = &mut lines[at];
+        let place = |random: &mut Random, line: &[u8]| random.below(line.len() as u32) as usize;
+        match random.below(12) {
+            0 => line.truncate(line.len() - 1),
+            1 => line.retain(|&byte| byte != b' '),
+            2 => line.insert(0, b"+- \x1b"[random.below(4) as usize]),
+            3 => drop(line.remove(line.len() - 2)),
+            4 => line.truncate(line.len() - 3),
+            5 => line.splice(line.len() - 1.., *b"00\n").for_each(drop),
+            6 => line.splice(.., *b"7 \n").for_each(drop),
+            7 => line.splice(..0, *b"99999999999999999999").for_each(drop),
+            8 => {
+                let place = place(&mut random, line);
+                line[place] = [b'g', 0x1b, 0xff, b'\r'][random.below(4) as usize];
+            }
+            9 => {
+                let place = place(&mut random, line);
+                line[place] = b'7';
+            }
+            10 => line.splice(..0, *b"1").for_each(drop),
+            _ => {
+                let blank = line.iter().position(|&byte| byte == b' ').unwrap_or(0);
+                line.splice(blank.., *b" 000000000150").for_each(drop);
+                line.extend((0..1022 - 12).map(|_| b'0'));
+                line.extend_from_slice(b"af\n");
+            }
+        }
+    }
+    lines.concat()
 }

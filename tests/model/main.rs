@@ -15,8 +15,10 @@
 //!                              standard input)
 //!   --check-calls FILE..       the lines of scripts that print something else
 //!                              than what stands behind `->`, or are at fault
-//!   --hourly FILE COUNTER..    the hourly table of the samples of a file
+//!   --hourly FILE COUNTER..    the hourly table of the samples of a file, or why
+//!                              there is none
 //!   --hourly-samples SEED N    samples of a seed for it
+//!   --hourly-faults SEED N     the same with faults
 
 mod calls;
 mod compare;
@@ -40,7 +42,7 @@ use std::path::Path;
 use std::process::exit;
 
 const USAGE: &str = "usage: model --examples | --run | --trace | --calls FILE | --check-calls FILE.. | \
-                     --random SEED | --random-calls SEED LINES | --hourly FILE COUNTER.. | --hourly-samples SEED N";
+                     --random SEED | --random-calls SEED LINES | --hourly FILE COUNTER.. | --hourly-samples SEED N | --hourly-faults SEED N";
 
 fn main() {
     let arguments: Vec<String> = std::env::args().skip(1).collect();
@@ -63,12 +65,9 @@ fn main() {
             let tested = [Tested::calls(program)];
             return compare_drawn(&compare::CALLS, number(count), number(from), &tested);
         }
-        ["--hourly", file, ref counters @ ..] => {
-            let samples = std::fs::read_to_string(file).unwrap_or_else(|e| fail(&format!("model: {}: {}", file, e)));
-            let asked: Vec<u16> = counters.iter().map(|c| u16::from_str_radix(c, 16).unwrap_or_else(|_| fail(USAGE))).collect();
-            hourly::text(&samples, &asked).into_bytes()
-        }
+        ["--hourly", file, ref counters @ ..] => return tell_table(file, counters),
         ["--hourly-samples", seed, count] => hourly::samples(number(seed), number(count)).into_bytes(),
+        ["--hourly-faults", seed, count] => hourly::faults(number(seed), number(count)),
         ["--run"] => return run_events(Style::Run),
         ["--trace"] => return run_events(Style::Trace),
         _ => fail(USAGE),
@@ -109,6 +108,17 @@ fn hide_contents(count: u64, from: u64, events: &[Tested], calls: &[Tested]) {
     if found.mismatches != 0 || found.other_contents == 0 || found.told_apart == 0 {
         exit(1);
     }
+}
+
+/// The table, and what is said of it, with the status of the program.
+fn tell_table(file: &str, counters: &[&str]) {
+    let read = std::fs::read(file).unwrap_or_else(|e| fail(&format!("model: {}: {}", file, e)));
+    let told = hourly::told(file, &read, counters);
+    if let Err(error) = io::stdout().write_all(told.text.as_bytes()) {
+        fail(&format!("model: cannot write: {}", error));
+    }
+    eprint!("{}", told.said);
+    exit(told.status)
 }
 
 /// Input and output are buffered; no input is held whole. The exit status tells how the run ended.

@@ -31,26 +31,3 @@ pub(crate) fn command<'a>(alloc: Global) -> Result<Command<'a>, AllocError> {
         .arg(file)?
         .arg(counters)
 }
-
-// 1 to 4 hex digits, of either case.
-fn number_of(word: &str) -> Option<u16> {
-    if !word.bytes().all(|byte| byte.is_ascii_hexdigit()) {
-        return None;
-    }
-    if 4 < word.len() {
-        return None;
-    }
-    u16::from_str_radix(word, 16).ok()
-}
-
-/// The numbers that the words tell; none where one tells no number.
-pub(crate) fn numbers_of(alloc: Global, words: &[&str]) -> Result<Option<Vec<u16>>, AllocError> {
-    let mut numbers = Vec::new(alloc);
-    for word in words {
-        match number_of(word) {
-            Some(number) => numbers.push(number)?,
-            None => return Ok(None),
-        }
-    }
-    Ok(Some(numbers))
-}

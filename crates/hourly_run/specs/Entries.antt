@@ -1,9 +1,9 @@
 -- A line of samples: an hour, a blank, and what stands behind it.
-use Rattle.std.specs.Prelude.{ℕ, ◌+◌, ◌-◌, ◌^◌, ◌==◌, Bool, ◌&&◌, if◌then◌else◌, List, length, take, drop, get_or, ltb, leb, Option, Some, None}
+use Rattle.std.specs.Prelude.{ℕ, ◌+◌, ◌-◌, ◌^◌, ◌==◌, Bool, ◌&&◌, if◌then◌else◌, List, length, take, drop, get_or, ltb, leb, Option, Some, None, Result, Ok, Err}
 use Rattle.std.specs.List.{position}
-use Rattle.std.specs.Option.{option_map, option_and_then}
 use Rattle.std.specs.Str.{all_ascii_digits}
 use Rattle.std.specs.Str.Parse.{digits_value}
+use Rattle.hourly_run.specs.Faults.{no_lf, no_blank, no_hour}
 
 -- 1 to 20 decimal digits, and nothing else, whose number 64 bits hold [hourly-line]
 abbrev pub is_hour : List ℕ → Bool
@@ -21,13 +21,23 @@ whole_line line = if get_or line (length line - 1) 0 == 10 then Some (take (leng
 abbrev pub blank_in : List ℕ → Option ℕ
 blank_in entry = position (λ b. b == 32) entry
 
--- the hour in front of a blank, and what stands behind that
-abbrev pub entry_at : List ℕ → ℕ → Option (ℕ × List ℕ)
-entry_at entry blank = option_map (λ hour. (hour, drop (blank + 1) entry)) (hour_of (take blank entry))
+-- an hour and what stands behind it; or what is wrong with the line
+abbrev pub Entry : Type 0
+Entry = Result (ℕ × List ℕ) (List ℕ)
 
-abbrev pub entry_in : List ℕ → Option (ℕ × List ℕ)
-entry_in entry = option_and_then (entry_at entry) (blank_in entry)
+-- the hour in front of a blank, and what stands behind that
+abbrev pub entry_behind : List ℕ → Option ℕ → Entry
+entry_behind behind None = Err no_hour
+entry_behind behind (Some hour) = Ok (hour, behind)
+
+abbrev pub entry_at : List ℕ → Option ℕ → Entry
+entry_at entry None = Err no_blank
+entry_at entry (Some blank) = entry_behind (drop (blank + 1) entry) (hour_of (take blank entry))
+
+abbrev pub entry_in : Option (List ℕ) → Entry
+entry_in None = Err no_lf
+entry_in (Some entry) = entry_at entry (blank_in entry)
 
 -- of the first blank, in a line that ends in LF [hourly-line]
-unfoldable pub entry_of : List ℕ → Option (ℕ × List ℕ)
-entry_of line = option_and_then entry_in (whole_line line)
+unfoldable pub entry_of : List ℕ → Entry
+entry_of line = entry_in (whole_line line)

@@ -1,10 +1,12 @@
 -- Samples that own their pages: how the code keeps them, and no part of what is owed.
 use Rattle.std.specs.Prelude.{ℕ, List, Vec, map, Option, Result, Ok, Err}
-use Rattle.std.specs.Option.{option_map}
 use Rattle.std.specs.Borrow.{Bor}
 use Rattle.hourly_table.specs.Samples.{Sampled}
 use Rattle.hourly_table.specs.declared.reasons.TableRefusal.{TableRefusal}
+use Rattle.hourly_run.specs.Entries.{Entry}
 use Rattle.hourly_run.specs.Owed.{Telling, telling}
+use Rattle.hourly_run.specs.Pages.{Page}
+use Rattle.hourly_run.specs.Samples.{Told}
 use Rattle.hourly_run.specs.declared.answers.Telling.{Telling as Kept}
 use Rattle.hourly_run.specs.declared.readings.Reading.{Reading}
 
@@ -12,14 +14,30 @@ use Rattle.hourly_run.specs.declared.readings.Reading.{Reading}
 abbrev pub reading : Reading → Sampled
 reading r = record { hour = r.hour; page = r.page.items }
 
--- the bytes of a page, if there is one
-abbrev pub page_told : {A : Type 0} → Option (Vec ℕ A) → Option (List ℕ)
-page_told page = option_map (λ p. p.items) page
+-- an hour and what stands behind it, or what is wrong with the line
+abbrev pub entry_told : Result (ℕ × Bor (List ℕ)) (Bor (List ℕ)) → Entry
+entry_told (Ok entry) = Ok (entry.0, entry.1.now)
+entry_told (Err why) = Err why.now
 
--- samples, or a line
-abbrev pub readings_told : {A : Type 0} → Result (Vec Reading A) (Bor (List ℕ)) → Result (List Sampled) (List ℕ)
+-- the bytes of a page, or why there is none
+abbrev pub page_told : {A : Type 0} → Result (Vec ℕ A) (Vec ℕ A) → Page
+page_told (Ok page) = Ok page.items
+page_told (Err why) = Err why.items
+
+-- a sample, or why there is none
+abbrev pub reading_told : {A : Type 0} → Result Reading (Vec ℕ A) → Result Sampled (List ℕ)
+reading_told (Ok r) = Ok (reading r)
+reading_told (Err why) = Err why.items
+
+-- samples, or what is said of a line
+abbrev pub readings_told : {A B : Type 0} → Result (Vec Reading A) (Vec ℕ B) → Told
 readings_told (Ok readings) = Ok (map reading readings.items)
-readings_told (Err line) = Err line.now
+readings_told (Err said) = Err said.items
+
+-- the numbers of words, or a word
+abbrev pub numbers_told : {A : Type 0} → Result (Vec ℕ A) (Bor (List ℕ)) → Result (List ℕ) (List ℕ)
+numbers_told (Ok numbers) = Ok numbers.items
+numbers_told (Err word) = Err word.now
 
 -- a table, or a refusal
 abbrev pub table_told : {A : Type 0} → Result (Vec ℕ A) TableRefusal → Result (List ℕ) TableRefusal

@@ -1,7 +1,13 @@
+pub mod Shown
+pub mod Faults
 pub mod Entries
 pub mod Lines
 pub mod Pages
+pub mod Said
 pub mod Samples
+pub mod Numbers
+pub mod Blamed
 pub mod Owed
+pub mod Asked
 pub mod Kept
 pub mod Runs

@@ -1,35 +1,42 @@
 -- The samples that a text may tell.
-use Rattle.std.specs.Prelude.{◌≡◌, ℕ, List, [], ◌∷◌, Option, Some, None, Result, Ok, Err}
-use Rattle.std.specs.Option.{option_map}
+use Rattle.std.specs.Prelude.{◌≡◌, ℕ, ◌+◌, List, [], ◌∷◌, Option, Result, Ok, Err}
 use Rattle.hourly_table.specs.Samples.{Sampled}
-use Rattle.hourly_run.specs.Entries.{entry_of}
+use Rattle.hourly_run.specs.Entries.{Entry, entry_of}
 use Rattle.hourly_run.specs.Lines.{lines_of}
-use Rattle.hourly_run.specs.Pages.{Shelved, MayGive}
+use Rattle.hourly_run.specs.Pages.{Shelved, Page, MayGive}
+use Rattle.hourly_run.specs.Said.{line_said}
 
--- the sample of an hour, where it has a page
-abbrev pub sample_at : ℕ → Option (List ℕ) → Option Sampled
-sample_at hour page = option_map (λ p. record { hour = hour; page = p }) page
+-- the sample of an hour, where it has a page; or why it has none
+abbrev pub sample_at : ℕ → Page → Result Sampled (List ℕ)
+sample_at hour (Ok p) = Ok (record { hour = hour; page = p })
+sample_at hour (Err why) = Err why
 
 -- of an entry, with the page that it gave
-abbrev pub MayTell : Shelved → Option (ℕ × List ℕ) → Option Sampled → Type 0
-MayTell shelf None sample = sample ≡ None
-MayTell shelf (Some entry) sample = (page : Option (List ℕ)) × MayGive shelf entry.1 page × (sample ≡ sample_at entry.0 page)
+abbrev pub MayTell : Shelved → Entry → Result Sampled (List ℕ) → Type 0
+MayTell shelf (Err why) sample = sample ≡ Err why
+MayTell shelf (Ok entry) sample = (page : Page) × MayGive shelf entry.1 page × (sample ≡ sample_at entry.0 page)
+
+-- the samples of a text; or what is said of the first line that tells none
+abbrev pub Told : Type 0
+Told = Result (List Sampled) (List ℕ)
 
 -- a sample in front of samples
-abbrev pub in_front : Sampled → Result (List Sampled) (List ℕ) → Result (List Sampled) (List ℕ)
+abbrev pub in_front : Sampled → Told → Told
 in_front sample (Ok samples) = Ok (sample ∷ samples)
-in_front sample (Err line) = Err line
+in_front sample (Err said) = Err said
 
--- a line's sample in front of what the lines behind it tell; or the line that tells none, and no line behind it counts
-abbrev pub Joined : List ℕ → Option Sampled → (Result (List Sampled) (List ℕ) → Type 0) → Result (List Sampled) (List ℕ) → Type 0
-Joined line None Behind told = told ≡ Err line
-Joined line (Some sample) Behind told = (more : Result (List Sampled) (List ℕ)) × Behind more × (told ≡ in_front sample more)
+-- a line's sample in front of what the lines behind it tell; or what is said of the line that tells none, and no line behind it counts
+abbrev pub Joined : (List ℕ → List ℕ) → Result Sampled (List ℕ) → (Told → Type 0) → Told → Type 0
+Joined said (Err why) Behind told = told ≡ Err (said why)
+Joined said (Ok sample) Behind told = (more : Told) × Behind more × (told ≡ in_front sample more)
 
--- the samples of lines, or the first line that tells none
-unfoldable pub SamplesIn : Shelved → List (List ℕ) → Result (List Sampled) (List ℕ) → Type 0
-SamplesIn shelf [] told = told ≡ Ok []
-SamplesIn shelf (line ∷ lines) told = (sample : Option Sampled) × MayTell shelf (entry_of line) sample × Joined line sample (SamplesIn shelf lines) told
+-- the samples of lines, of which the first has the number n
+unfoldable pub SamplesIn : Shelved → ℕ → List (List ℕ) → Told → Type 0
+SamplesIn shelf n [] told = told ≡ Ok []
+SamplesIn shelf n (line ∷ lines) told =
+    (sample : Result Sampled (List ℕ)) × MayTell shelf (entry_of line) sample
+    × Joined (line_said shelf n (entry_of line)) sample (SamplesIn shelf (n + 1) lines) told
 
--- and of a text [hourly-input]
-abbrev pub SamplesOf : Shelved → List ℕ → Result (List Sampled) (List ℕ) → Type 0
-SamplesOf shelf text told = SamplesIn shelf (lines_of text) told
+-- and of a text, whose first line has the number 1 [hourly-input] [hourly-said]
+abbrev pub SamplesOf : Shelved → List ℕ → Told → Type 0
+SamplesOf shelf text told = SamplesIn shelf 1 (lines_of text) told

@@ -1,4 +1,4 @@
-// What came of an input, and what is told of it.
+// What came of a question, and what is told of it.
 ghost use Rattle.std.specs.Prelude.{◌≡◌};
 ghost use Rattle.hourly_run.specs.Owed.{status_of};
 
@@ -7,23 +7,28 @@ ghost use Rattle.hourly_run.specs.Owed.{status_of};
 pub(crate) enum Answer {
     /// The table is printed.
     Told,
-    /// It is refused: the refusal is printed, and nothing else.
+    /// It is refused: the refusal is printed, and what is to blame is said on standard error.
     Refused,
+    /// A word is no number of a counter: it is said on standard error, and nothing is printed.
+    Misasked,
     /// A line tells no sample: it is said on standard error.
     Malformed,
-    /// A read failed.
+    /// A read of the file failed.
     Stopped,
+    /// The file was not opened.
+    Unopened,
 }
 
 impl Answer {
-    /// The exit status of a program that has told it so: 0 a table, 1 refused, 3 malformed or unread.
+    /// The exit status of a program that has told it so: 0 a table, 1 refused, 2 misasked, 3 malformed or unread.
     pub(crate) fn status(self) -> u8
         ensures { result ≡ status_of self }
     {
         match self {
             Answer::Told => 0,
             Answer::Refused => 1,
-            Answer::Malformed | Answer::Stopped => 3,
+            Answer::Misasked => 2,
+            Answer::Malformed | Answer::Stopped | Answer::Unopened => 3,
         }
     }
 }

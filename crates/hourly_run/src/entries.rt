@@ -2,6 +2,7 @@
 ghost use Rattle.std.specs.Prelude.{◌≡◌, ℕ, List, option_map};
 ghost use Rattle.std.specs.Borrow.{Bor};
 ghost use Rattle.hourly_run.specs.Entries.{whole_line, blank_in, entry_of};
+ghost use Rattle.hourly_run.specs.Kept.{entry_told};
 
 use crate::hours::hour_of;
 
@@ -23,13 +24,19 @@ fn blank_in(entry: &[u8]) -> Option<usize>
     entry.iter().position(|&byte| byte == b' ')
 }
 
-/// The hour of a line that ends in LF, and what stands behind its first blank.
+/// The hour of a line that ends in LF, and what stands behind its first blank; or what is wrong with the line, in words.
 #[tactic(auto, unfolding(crate::specs::Entries::entry_of))]
-pub(crate) fn entry_of(line: &[u8]) -> Option<(u64, &[u8])>
-    ensures { option_map (λ (e : ℕ × Bor (List ℕ)). (e.0, e.1.now)) result ≡ entry_of line.now }
+pub(crate) fn entry_of(line: &[u8]) -> Result<(u64, &[u8]), &'static [u8]>
+    ensures { entry_told result ≡ entry_of line.now }
 {
-    let entry = whole_line(line)?;
-    let blank = blank_in(entry)?;
-    let hour = hour_of(&entry[..blank])?;
-    Some((hour, &entry[blank + 1..]))
+    let Some(entry) = whole_line(line) else {
+        return Err(b"it does not end in LF");
+    };
+    let Some(blank) = blank_in(entry) else {
+        return Err(b"it has no blank");
+    };
+    match hour_of(&entry[..blank]) {
+        Some(hour) => Ok((hour, &entry[blank + 1..])),
+        None => Err(b"what stands before its first blank is no hour"),
+    }
 }

@@ -1,15 +1,16 @@
 // The samples that a text tells.
-ghost use Rattle.std.specs.Prelude.{◌≡◌, ◌<◌, ◌∷◌, ◌+◌, min, Option, map, length, option_map, IfOk};
+ghost use Rattle.std.specs.Prelude.{◌≡◌, ◌<◌, ◌∷◌, ◌+◌, min, [], get_or, map, length, IfOk};
 ghost use Rattle.std.specs.List.{position, position_or_len};
 ghost use Rattle.hourly_table.specs.Samples.{sampled};
 ghost use Rattle.hourly_run.specs.Lines.{is_lf, lines_of};
 ghost use Rattle.hourly_run.specs.Entries.{entry_of};
 ghost use Rattle.hourly_run.specs.Pages.{shelved};
 ghost use Rattle.hourly_run.specs.Samples.{MayTell, SamplesOf};
-ghost use Rattle.hourly_run.specs.Kept.{reading, readings_told};
+ghost use Rattle.hourly_run.specs.Kept.{reading, reading_told, readings_told};
 
 use crate::entries::entry_of;
 use crate::page_sources::page_of;
+use crate::saying::line_said;
 use hourly_table::Sample;
 use page_text::Shelf;
 use std::alloc::{AllocError, Global};
@@ -21,19 +22,21 @@ pub(crate) struct Reading {
     pub(crate) page: Vec<u8>,
 }
 
-// The sample of a line; none where it tells none.
+// The sample of a line; or why it tells none, in words.
 fn reading_of<S: Shelf>(
     alloc: Global,
     shelf: Option<&S>,
     line: &[u8],
-) -> Result<Option<Reading>, AllocError>
-    ensures { IfOk result (λ r. MayTell (shelved S.holds shelf.entry) (entry_of line.now) (option_map reading r)) }
+) -> Result<Result<Reading, Vec<u8>>, AllocError>
+    ensures { IfOk result (λ r. MayTell (shelved S.holds shelf.entry) (entry_of line.now) (reading_told r)) }
 {
-    let Some((hour, behind)) = entry_of(line) else {
-        return Ok(None);
-    };
-    let page = page_of(alloc, shelf, behind)?;
-    Ok(page.map(|page| Reading { hour, page }))
+    match entry_of(line) {
+        Ok((hour, behind)) => Ok(match page_of(alloc, shelf, behind)? {
+            Ok(page) => Ok(Reading { hour, page }),
+            Err(why) => Err(why),
+        }),
+        Err(why) => Ok(Err(Vec::from_slice(alloc, why)?)),
+    }
 }
 
 fn first_lf(text: &[u8]) -> Option<usize>
@@ -62,12 +65,29 @@ fn cut_line(text: &[u8]) -> (&[u8], &[u8])
     text.split_at(end)
 }
 
-/// The samples of a text; or the first line that tells none.
-pub(crate) fn readings_in<'t, S: Shelf>(
+/// The line at a place, from 0; an empty one behind the last.
+pub(crate) fn line_at(text: &[u8], place: usize) -> &[u8]
+    ensures { result.now ≡ get_or (lines_of text.now) place [] }
+{
+    let mut rest = text;
+    for _ in 0..place {
+        if rest.is_empty() {
+            return rest;
+        }
+        rest = cut_line(rest).1;
+    }
+    if rest.is_empty() {
+        return rest;
+    }
+    cut_line(rest).0
+}
+
+/// The samples of a text; or what is said of the first line that tells none.
+pub(crate) fn readings_in<S: Shelf>(
     alloc: Global,
     shelf: Option<&S>,
-    text: &'t [u8],
-) -> Result<Result<Vec<Reading>, &'t [u8]>, AllocError>
+    text: &[u8],
+) -> Result<Result<Vec<Reading>, Vec<u8>>, AllocError>
     ensures { IfOk result (λ r. SamplesOf (shelved S.holds shelf.entry) text.now (readings_told r)) }
 {
     let mut readings = Vec::new(alloc);
@@ -75,8 +95,11 @@ pub(crate) fn readings_in<'t, S: Shelf>(
     while !rest.is_empty() {
         let (line, behind) = cut_line(rest);
         match reading_of(alloc, shelf, line)? {
-            Some(reading) => readings.push(reading)?,
-            None => return Ok(Err(line)),
+            Ok(reading) => readings.push(reading)?,
+            Err(why) => {
+                let number = readings.len() as u64 + 1;
+                return Ok(Err(line_said(alloc, shelf, number, entry_of(line), &why)?));
+            }
         }
         rest = behind;
     }

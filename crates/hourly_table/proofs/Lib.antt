@@ -14,3 +14,4 @@ pub mod Smalls
 pub mod AllRead
 pub mod TableOnce
 pub mod Tied
+pub mod Blamed

@@ -1,5 +1,6 @@
 pub mod Samples
 pub mod Reading
+pub mod Places
 pub mod Changes
 pub mod Rows
 pub mod Refused

@@ -5,6 +5,7 @@
 mod changes;
 mod checking;
 mod hours;
+mod places;
 mod reasons;
 mod rows;
 mod samples;
@@ -12,6 +13,7 @@ mod sizing;
 mod tables;
 mod writing;
 
+pub use places::place_of;
 pub use reasons::TableRefusal;
 pub use samples::Sample;
 pub use tables::{table_size, write_table};
