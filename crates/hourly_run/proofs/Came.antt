@@ -1,4 +1,4 @@
--- What holds of a value that came. Assumes nothing.
+-- What holds of a value that came.
 use Rattle.std.proofs.Common.{Result, Ok, Err, IfOk}
 
 pub ok_so : {A E : Type 0} (r : Result A E) (P Q : A → Type 0) → IfOk r P → ((a : A) → P a → Q a) → IfOk r Q

@@ -1,4 +1,4 @@
--- What is asked of a run, and what is owed to that. Assumes nothing.
+-- What is asked of a run, and what is owed to that.
 use Rattle.std.specs.Prelude.{◌≡◌, ℕ, Bool, List, [], codes, map, if◌then◌else◌, Option, Some, None, Result, Ok, Err}
 use Rattle.page_text.specs.Opened.{Agrees}
 use Rattle.hourly_run.specs.Numbers.{numbers_in}

@@ -1,4 +1,4 @@
--- What is said of a table that is refused: which counter, or which line, and why. Assumes nothing.
+-- What is said of a table that is refused: which counter, or which line, and why.
 use Rattle.std.specs.Prelude.{ℕ, ◌+◌, Bool, true, false, List, [], ◌++◌, codes, decimal, find, get_or, length, ltb, map, unwrap_or, if◌then◌else◌, Option, Some, None}
 use Rattle.refusals.specs.declared.reasons.Refusal.{Refusal}
 use Rattle.refusals.specs.declared.reasons.Refusal.TheVariants.{PageLength, PageSum, PageDamaged, NoCounter}

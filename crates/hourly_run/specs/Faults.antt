@@ -1,4 +1,4 @@
--- What is wrong with a file, a line or its page, in words. Assumes nothing.
+-- What is wrong with a file, a line or its page, in words.
 use Rattle.std.specs.Prelude.{ℕ, List, ◌++◌, codes}
 use Rattle.hourly_run.specs.Shown.{shown}
 

@@ -1,4 +1,4 @@
--- The numbers of counters that words tell. Assumes nothing.
+-- The numbers of counters that words tell.
 use Rattle.std.specs.Prelude.{ℕ, Bool, ◌&&◌, ltb, if◌then◌else◌, List, [], ◌∷◌, length, Option, Some, None, Result, Ok, Err}
 use Rattle.std.specs.Char.{is_ascii_hexdigit}
 use Rattle.std.specs.List.{list_all}

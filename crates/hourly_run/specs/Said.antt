@@ -1,4 +1,4 @@
--- What is said on standard error, a line. Assumes nothing.
+-- What is said on standard error, a line.
 use Rattle.std.specs.Prelude.{ℕ, List, [], ◌++◌, codes, decimal, Option, Some, None, Result, Ok, Err}
 use Rattle.hourly_run.specs.Entries.{Entry}
 use Rattle.hourly_run.specs.Pages.{Shelved}

@@ -1,4 +1,4 @@
--- How a name is said on standard error. Assumes nothing.
+-- How a name is said on standard error.
 use Rattle.std.specs.Prelude.{ℕ, List, [], ◌++◌, take, length, ltb, if◌then◌else◌, codes, flat_map}
 use Rattle.std.specs.Char.Escape.{escape_ascii}
 

@@ -1,4 +1,4 @@
--- Which sample a refusal is about. Assumes nothing.
+-- Which sample a refusal is about.
 use Rattle.std.specs.Prelude.{ℕ, suc, ◌==◌, Bool, ◌||◌, List, drop, ltb, position, Option, None}
 use Rattle.std.specs.List.{list_any, zip}
 use Rattle.std.specs.Option.{option_map}
