@@ -21,5 +21,5 @@ returns g c = λ calm base before none i read.
     let line = first_line c.args.traced c.args.settings base _ c.start-begun.ensures c.as_ref.ensures.value c.err.ensures.value c.copied.ensures none c.tell.ensures in
     let on = sym (ap powered_of c.in-Ok.is) ∙ c.start-begun.ensures in
     let f = medium_fits c.args.settings c.start-begun.ensures c.in-Ok.is in
-    let begun = c.new-bench.ensures ∙ started_is c.args.settings _ _ _ on _ c.medium_size-size.ensures (take-replicate _ 32768 0 (omega (arith, f, c.medium_size-size.ensures))) refl in
+    let begun = c.new-bench.ensures ∙ started_is c.args.settings _ _ _ on _ (rw c.state.ensures at c.medium_size-size.ensures) (take-replicate _ 32768 0 (omega (arith, f, (rw c.state.ensures at c.medium_size-size.ensures)))) refl in
     c.play_on.ensures calm c.args.settings base before (refused_no c.args.settings _ on) begun line i read
