@@ -1,7 +1,9 @@
 -- What each promise says.
 use Rattle.std.specs.Prelude.{◌≡◌, List, [], ◌∷◌, ℕ, map, ◌<◌, ◌^◌, ◌/◌, ◌⊎◌, true, false, get_or, Option, Some, None, Result, Ok}
 use Rattle.device_state.specs.declared.shapes.Settings.{Settings}
+use Rattle.device.specs.Counter.{CounterGiven, CountGiven}
 use Rattle.device.specs.DataDue.{data_due}
+use Rattle.device.specs.Sealing.{Seals}
 use Rattle.device.specs.Device.{power_on}
 use Rattle.device.specs.Lent.{Lent}
 use Rattle.device.specs.declared.state.Outcome.{Outcome}
@@ -128,7 +130,7 @@ tied_exists_always = say (λ κs a. tt) (λ κs a r ws p. p)
 
 -- ---- any state that is handed in
 
-pub tied_any_state_refused : Says states-said.any_state_refused.ended states.any_state_refused.Reads.Asked states.any_state_refused.Reads.Post (λ κs a r ws. ((d : Device) → TurnedDown Given d) × PowerSound)
+pub tied_any_state_refused : Says states-said.any_state_refused.ended states.any_state_refused.Reads.Asked states.any_state_refused.Reads.Post (λ κs a r ws. ((d : Device) → TurnedDown Given CounterGiven CountGiven Seals d) × PowerSound)
 tied_any_state_refused = say (λ κs a. tt) (λ κs a r ws p. (p.0, p.1))
 
 pub tied_any_state_serves : Says states-said.any_state_serves.ended states.any_state_serves.Reads.Asked states.any_state_serves.Reads.Post (λ κs a r ws. (d : Device) → (Contradicts d → ⊥) → Serves Given d)

@@ -1,7 +1,8 @@
 -- What contradicts itself is turned down, and nothing else is.
-use Rattle.std.proofs.Common.{◌≡◌, refl, sym, ap, ◌∙◌, true, false, ⊎_elim, List, [], ◌∷◌, ℕ, zero, suc, ◌<◌, get_or, length, arith, lit<, slice_get, Option, Some, None, Result, Ok, Err, option_and_then, IfOk}
+use Rattle.std.proofs.Common.{◌≡◌, refl, sym, ap, ◌∙◌, true, false, ⊎_elim, List, [], ◌∷◌, ℕ, zero, suc, ◌<◌, get_or, length, lit<, slice_get, Option, Some, None, Result, Ok, Err, option_and_then}
+use Rattle.bits.specs.Contract.{Allows}
 use Rattle.bits.proofs.Picks.{tested}
-use Rattle.refusals.specs.First.{Rung, rung, no_rung, first_of, Iff}
+use Rattle.refusals.specs.First.{Rung, rung, no_rung, Iff}
 use Rattle.refusals.specs.declared.reasons.Refusal.{Refusal}
 use Rattle.refusals.specs.declared.reasons.Refusal.TheVariants.{Contradiction}
 use Rattle.rules.specs.Call.{Call, host_frame, happens}
@@ -10,7 +11,7 @@ use Rattle.rules.specs.Tests.{tests}
 use Rattle.rules.specs.declared.facts.Facts.{Facts}
 use Rattle.device_state.specs.State.{zero_entry}
 use Rattle.device_state.specs.declared.shapes.Entry.{Entry}
-use Rattle.device.specs.Counter.{counter_of, count_of, CounterGiven, CountGiven}
+use Rattle.device.specs.Counter.{CounterGiven, CountGiven}
 use Rattle.device.specs.DataDue.{data_due}
 use Rattle.device.specs.Device.{contradictory_device, power_on}
 use Rattle.device.specs.FactsOf.{facts_of}
@@ -19,6 +20,8 @@ use Rattle.device.specs.Sealing.{Seals}
 use Rattle.device.specs.Step.{step, Given}
 use Rattle.device.specs.declared.state.Device.{Device}
 use Rattle.device.specs.declared.sealed.Sealed.{Sealed}
+use Rattle.device.proofs.sealed as calls
+use Rattle.device.specs.contracts.sealed as said
 use Rattle.device.proofs.Contradicted.{contradicted}
 use Rattle.device.proofs.Exactly.{first_exactly}
 use Rattle.device.proofs.Refusals.{Unchanged, refused_unchanged}
@@ -26,14 +29,15 @@ use Rattle.device.proofs.Turns.{none_some}
 use Rattle.device.proofs.Never.{never_contradicts_power}
 use Rattle.device.proofs.NeverCalls.{never_contradicts_call}
 use Rattle.history.specs.Serves.{Serves}
-use Rattle.history.proofs.Allowed.{Allowed}
-use Rattle.history.proofs.Contracts.{allowed_given}
+use Rattle.history.proofs.Allowed.{Allowed, CounterCode, CountCode}
+use Rattle.history.proofs.Contracts.{allowed_given, counter_code, count_code}
 use Rattle.history.proofs.Serves.{serves}
 use Rattle.promises.specs.Contradicts.{Contradicts}
 use Rattle.promises.specs.DueTold.{due_of, due_told}
-use Rattle.promises.specs.TurnedDown.{AsItWas, TurnedDown, PowerSound}
+use Rattle.promises.specs.TurnedDown.{AsItWas, SealTold, TurnedDown, PowerSound}
 use Rattle.promises.proofs.Agrees.{none_holds}
 use Rattle.promises.proofs.Found.{some_holds}
+use Rattle.promises.proofs.Questions.{agrees, counter_told, count_told}
 
 -- the first test of every call is that of 1
 first_rung : (v : Facts) (c : Call) → (get_or (tests v c) 0 no_rung ≡ rung Contradiction v.contradicts) × (0 < length (tests v c))
@@ -42,12 +46,15 @@ first_rung v (host_frame f) = (refl, lit< tt)
 first_rung v (happens SendData) = (refl, lit< tt)
 first_rung v _ = (refl, lit< tt)
 
-module _ (d : Device) where
-  -- the clauses of the rules, and the test that the device goes by
-  agrees : Iff (contradictory_device d ≡ true) (Contradicts d)
-  agrees =
-      (some_holds d, λ c. ⊎_elim (λ (b : contradictory_device d ≡ true). b) (λ (b : contradictory_device d ≡ false). absurd (none_holds d b c)) (tested (contradictory_device d)))
+-- an answer that the contract of `Sealed::try_from` allows
+pub data SealCode : Device → Result Sealed Refusal → Type 0 where
+  tried : (d : Device) (k : Result Sealed Refusal) → Allows said.SealedTryFromDevice.try_from.ended calls.SealedTryFromDevice.try_from.Reads.Post tt (d, tt) k (tt, tt) → SealCode d k
 
+-- which promises that answer
+seal_code : (d : Device) (k : Result Sealed Refusal) → SealCode d k → Seals d k
+seal_code d k (tried x r p) = p
+
+module _ (d : Device) where
   -- ---- a call
   stepped : (l : Lent) → Iff ((step d l).refusal ≡ Some Contradiction) (contradictory_device d ≡ true)
   stepped l =
@@ -58,7 +65,7 @@ module _ (d : Device) where
       (λ z. sym test ∙ (e.0 (z ∙ ap Some (sym name))).0, contradicted d l)
 
   refused : (l : Lent) (g : Gave) → Given d l g → Iff (g.outcome.refusal ≡ Some Contradiction) (Contradicts d)
-  refused l g p = (λ z. agrees.0 ((stepped l).0 (sym p.refusal ∙ z)), λ c. p.refusal ∙ (stepped l).1 (agrees.1 c))
+  refused l g p = (λ z. (agrees d).0 ((stepped l).0 (sym p.refusal ∙ z)), λ c. p.refusal ∙ (stepped l).1 ((agrees d).1 c))
 
   kept : (l : Lent) (g : Gave) → Given d l g → Contradicts d → AsItWas d l g
   kept l g p c =
@@ -68,40 +75,22 @@ module _ (d : Device) where
   leaves : (l : Lent) (g : Gave) → Typed l.call → Given d l g → g.outcome.refusal ≡ None → Contradicts g.outcome.state → ⊥
   leaves l g t p z = none_holds g.outcome.state (ap contradictory_device p.state ∙ never_contradicts_call d l t.1 (sym p.refusal ∙ z))
 
-  -- ---- a question
-  counted : (number : ℕ) → Iff (counter_of d number ≡ Err Contradiction) (contradictory_device d ≡ true)
-  unfolding counter_of first_of
-  counted number = (λ z. grind arith, λ h. rw h)
-
-  summed : Iff (count_of d ≡ Err Contradiction) (contradictory_device d ≡ true)
-  unfolding count_of first_of
-  summed = (λ z. grind arith, λ h. rw h)
-
-  counter : (number : ℕ) (c : Result (Option ℕ) Refusal) → CounterGiven d number c → Iff (c ≡ Err Contradiction) (Contradicts d)
-  counter number c p = (λ z. agrees.0 ((counted number).0 (sym p.answer ∙ z)), λ k. p.answer ∙ (counted number).1 (agrees.1 k))
-
-  count : (c : Result ℕ Refusal) → CountGiven d c → Iff (c ≡ Err Contradiction) (Contradicts d)
-  count c p = (λ z. agrees.0 (summed.0 (sym p.answer ∙ z)), λ k. p.answer ∙ summed.1 (agrees.1 k))
-
   -- ---- a device to keep
-  sealed : (k : Result Sealed Refusal) → Seals d k → Iff (k ≡ Err Contradiction) (Contradicts d) × IfOk k (λ s. s.device ≡ d)
-  sealed (Ok s) p = ((λ z. absurd (ok_err s z), λ c. absurd (none_holds d (ap contradictory_device (sym p) ∙ s.sound) c)), p)
-    where
-      ok_err : (s : Sealed) → ◌≡◌ {A = Result Sealed Refusal} (Ok s) (Err Contradiction) → ⊥
-      ok_err s e = cc
-  sealed (Err e) p = ((λ z. agrees.0 p.1, λ c. ap Err p.0), tt)
+  sealed : (k : Result Sealed Refusal) → Seals d k → SealTold d k
+  sealed (Ok s) p = (p, none_holds d (ap contradictory_device (sym p) ∙ s.sound))
+  sealed (Err e) p = (p.0, (agrees d).0 p.1)
 
-  pub turned_down : TurnedDown Given d
-  turned_down = record { refused = refused; kept = kept; counter = counter; count = count; sealed = sealed; leaves = leaves }
+  pub turned_down : TurnedDown Given CounterGiven CountGiven Seals d
+  turned_down = record { refused = refused; kept = kept; counter = counter_told d; count = count_told d; sealed = sealed; leaves = leaves }
 
-  -- and of the code
-  pub turned_down_code : TurnedDown Allowed d
+  -- and of the code: each function's own contract
+  pub turned_down_code : TurnedDown Allowed CounterCode CountCode SealCode d
   turned_down_code = record {
     refused = λ l g p. refused l g (allowed_given p);
     kept = λ l g p. kept l g (allowed_given p);
-    counter = counter;
-    count = count;
-    sealed = sealed;
+    counter = λ number c p. counter_told d number c (counter_code d number c p);
+    count = λ c p. count_told d c (count_code d c p);
+    sealed = λ k p. sealed k (seal_code d k p);
     leaves = λ l g t p. leaves l g t (allowed_given p);
   }
 

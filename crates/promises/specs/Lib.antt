@@ -1,3 +1,4 @@
 pub mod Contradicts
+pub mod Questions
 pub mod TurnedDown
 pub mod DueTold

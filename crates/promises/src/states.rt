@@ -2,7 +2,9 @@
 #![tactic(auto, using(crate::proofs::Promised::states))]
 
 ghost use Rattle.std.specs.Prelude.{◌≡◌};
+ghost use Rattle.device.specs.Counter.{CounterGiven, CountGiven};
 ghost use Rattle.device.specs.DataDue.{data_due};
+ghost use Rattle.device.specs.Sealing.{Seals};
 ghost use Rattle.device.specs.Step.{Given};
 ghost use Rattle.device.specs.declared.state.Device.{Device};
 ghost use Rattle.history.specs.Serves.{Serves};
@@ -11,11 +13,13 @@ ghost use Rattle.promises.specs.Contradicts.{Contradicts};
 ghost use Rattle.promises.specs.DueTold.{due_told};
 ghost use Rattle.promises.specs.TurnedDown.{PowerSound, TurnedDown};
 
-/// A state is refused with 1 by every call and both questions, and is no device to keep, exactly if it
-/// contradicts itself in one of eighteen ways; all is then as it was. No power-on that is taken, and no
-/// taken call, leaves such a state.
+/// Every call refuses a state with 1, and so do the questions for a counter and for the number of
+/// commands and `Sealed::try_from`, exactly if it contradicts itself in one of eighteen ways; all is then
+/// as it was. Any other state is kept as it stands. It answers how many tags have their bit on, and of a
+/// counter's number what the kept row of that number holds, or that it is absent; 23 is for a number that
+/// is not 1 to FFFh. No power-on that is taken, and no taken call, leaves a state that contradicts itself.
 pub fn any_state_refused()
-    ensures states { (d : Device) → TurnedDown Given d }
+    ensures states { (d : Device) → TurnedDown Given CounterGiven CountGiven Seals d }
     ensures power { PowerSound }
 {}
 
