@@ -1,4 +1,4 @@
--- What each question answers, of any state.
+-- What each question answers, of any state, and that no other answer is told.
 use Rattle.std.proofs.Common.{◌≡◌, refl, sym, ap, subst, ◌∙◌, true, false, true≢false, ⊎_elim, ℕ, ◌/◌, ◌%◌, ◌^◌, ◌<◌, ◌⊎◌, cond, eqb, get_or, arith, Option, Some, None, Result, Ok, Err, mod-lt, lit<, eqb→eq}
 use lib.Count.{ones}
 use Rattle.bits.proofs.Picks.{tested, pick_yes, pick_no}
@@ -8,7 +8,7 @@ use Rattle.refusals.specs.declared.reasons.Refusal.{Refusal}
 use Rattle.refusals.specs.declared.reasons.Refusal.TheVariants.{Contradiction, NoCounter}
 use Rattle.counters.specs.Rows.{kept, row_of}
 use Rattle.counters.specs.Shown.{on_row, shown_for}
-use Rattle.counters.proofs.RowLaws.{row_found, row_only, row_missing}
+use Rattle.counters.proofs.RowLaws.{row_found, row_only, row_missing, id_positive, id_small}
 use Rattle.pages.specs.Read11.{no_number}
 use Rattle.device.specs.Counter.{counter_of, count_of, CounterGiven, CountGiven}
 use Rattle.device.specs.Device.{contradictory_device}
@@ -16,7 +16,7 @@ use Rattle.device.specs.declared.state.Device.{Device}
 use Rattle.history.specs.Carried.{span}
 use Rattle.promises.specs.Contradicts.{Contradicts}
 use Rattle.promises.specs.Questions.{IsKeptRow, CounterTold, contradicting, no_counter, value, absent, tags_on, CountTold}
-use Rattle.promises.proofs.Agrees.{none_holds, bit_on, on_bit}
+use Rattle.promises.proofs.Agrees.{none_holds, bit_on, on_bit, off_bit}
 use Rattle.promises.proofs.Found.{some_holds}
 
 -- ---- the ones of a mask are its bits that are on
@@ -35,6 +35,10 @@ module _ (d : Device) where
   pub agrees : Iff (contradictory_device d ≡ true) (Contradicts d)
   agrees =
       (some_holds d, λ c. ⊎_elim (λ (b : contradictory_device d ≡ true). b) (λ (b : contradictory_device d ≡ false). absurd (none_holds d b c)) (tested (contradictory_device d)))
+
+  -- any other state is one that the test lets pass
+  pub lets_pass : (Contradicts d → ⊥) → contradictory_device d ≡ false
+  lets_pass n = ⊎_elim (λ (b : contradictory_device d ≡ true). absurd (n (some_holds d b))) (λ (b : contradictory_device d ≡ false). b) (tested (contradictory_device d))
 
   ones_on : d.status.outstanding < 2 ^ 32 → ones d.status.outstanding ≡ tags_on d
   unfolding span
@@ -57,6 +61,11 @@ module _ (d : Device) where
       (λ (b : contradictory_device d ≡ true). subst (CountTold d) (sym (p.answer ∙ count_odd b)) (refl, some_holds d b))
       (λ (b : contradictory_device d ≡ false). subst (CountTold d) (sym (p.answer ∙ count_sound b)) (none_holds d b, ones_on))
       (tested (contradictory_device d))
+
+  -- and no other answer is told
+  pub count_only : (c : Result ℕ Refusal) → d.status.outstanding < 2 ^ 32 → CountTold d c → c ≡ count_of d
+  count_only (Ok n) w t = ap Ok (t.1 w ∙ sym (ones_on w)) ∙ sym (count_sound (lets_pass t.0))
+  count_only (Err e) w t = ap Err t.0 ∙ sym (count_odd (agrees.1 t.1))
 
   -- ---- a counter
   module _ (number : ℕ) where
@@ -114,3 +123,34 @@ module _ (d : Device) where
         (λ (n : no_number number ≡ false). subst (CounterTold d number) (sym (p.answer ∙ counter_shown b n)) (shown (none_holds d b) n))
         (tested (no_number number)))
         (tested (contradictory_device d))
+
+    -- ---- and no other answer is told
+    out_of : (number ≡ 0) ⊎ (4095 < number) → no_number number ≡ true
+    out_of o = grind arith
+
+    -- the number of a row is 1 to FFFh
+    named : (row : ℕ) → IsKeptRow d number row → no_number number ≡ false
+    named row r =
+        let low : 0 < number = subst (λ (n : ℕ). 0 < n) r.1 (id_positive row r.0) in
+        let high : number < 4096 = subst (λ (n : ℕ). n < 4096) r.1 (id_small row r.0) in
+        grind arith
+
+    shown_value : (row : ℕ) → IsKeptRow d number row → shown_for d.settings.mask d.values number ≡ Some (get_or d.values row 0)
+    unfolding shown_for on_row
+    shown_value row r =
+        ap (on_row d.settings.mask d.values) (ap row_of (sym r.1) ∙ row_found row r.0)
+        ∙ pick_yes (kept d.settings.mask row) (Some (get_or d.values row 0)) None (bit_on 16 d.settings.mask row r.0 r.2)
+
+    shown_absent : ((row : ℕ) → IsKeptRow d number row → ⊥) → (o : Option ℕ) → row_of number ≡ o → on_row d.settings.mask d.values o ≡ None
+    unfolding on_row
+    shown_absent never None e = refl
+    shown_absent never (Some k) e =
+        let has = row_only number k e in
+        pick_no (kept d.settings.mask k) (Some (get_or d.values k 0)) None (off_bit 16 d.settings.mask k (λ _ on. never k (has.0, has.1, on)))
+
+    pub counter_only : (c : Result (Option ℕ) Refusal) → CounterTold d number c → c ≡ counter_of d number
+    unfolding shown_for
+    counter_only c (contradicting k) = sym (counter_odd (agrees.1 k))
+    counter_only c (no_counter n o) = sym (counter_none (lets_pass n) (out_of o))
+    counter_only c (value n row r) = sym (counter_shown (lets_pass n) (named row r) ∙ ap Ok (shown_value row r))
+    counter_only c (absent n low high never) = sym (counter_shown (lets_pass n) (grind arith) ∙ ap Ok (shown_absent never (row_of number) refl))

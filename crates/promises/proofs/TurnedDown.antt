@@ -1,7 +1,6 @@
 -- What contradicts itself is turned down, and nothing else is.
-use Rattle.std.proofs.Common.{◌≡◌, refl, sym, ap, ◌∙◌, true, false, ⊎_elim, List, [], ◌∷◌, ℕ, zero, suc, ◌<◌, get_or, length, lit<, slice_get, Option, Some, None, Result, Ok, Err, option_and_then}
+use Rattle.std.proofs.Common.{◌≡◌, refl, sym, ap, ◌∙◌, true, List, [], ◌∷◌, ℕ, zero, suc, ◌<◌, get_or, length, lit<, slice_get, Option, Some, None, Result, Ok, Err, option_and_then}
 use Rattle.bits.specs.Contract.{Allows}
-use Rattle.bits.proofs.Picks.{tested}
 use Rattle.refusals.specs.First.{Rung, rung, no_rung, Iff}
 use Rattle.refusals.specs.declared.reasons.Refusal.{Refusal}
 use Rattle.refusals.specs.declared.reasons.Refusal.TheVariants.{Contradiction}
@@ -36,8 +35,7 @@ use Rattle.promises.specs.Contradicts.{Contradicts}
 use Rattle.promises.specs.DueTold.{due_of, due_told}
 use Rattle.promises.specs.TurnedDown.{AsItWas, SealTold, TurnedDown, PowerSound}
 use Rattle.promises.proofs.Agrees.{none_holds}
-use Rattle.promises.proofs.Found.{some_holds}
-use Rattle.promises.proofs.Questions.{agrees, counter_told, count_told}
+use Rattle.promises.proofs.Questions.{agrees, lets_pass, counter_told, count_told}
 
 -- the first test of every call is that of 1
 first_rung : (v : Facts) (c : Call) → (get_or (tests v c) 0 no_rung ≡ rung Contradiction v.contradicts) × (0 < length (tests v c))
@@ -80,6 +78,11 @@ module _ (d : Device) where
   sealed (Ok s) p = (p, none_holds d (ap contradictory_device (sym p) ∙ s.sound))
   sealed (Err e) p = (p.0, (agrees d).0 p.1)
 
+  -- and nothing else comes of it
+  pub seal_only : (k : Result Sealed Refusal) → SealTold d k → Seals d k
+  seal_only (Ok s) p = p.0
+  seal_only (Err e) p = (p.0, (agrees d).1 p.1)
+
   pub turned_down : TurnedDown Given CounterGiven CountGiven Seals d
   turned_down = record { refused = refused; kept = kept; counter = counter_told d; count = count_told d; sealed = sealed; leaves = leaves }
 
@@ -96,7 +99,7 @@ module _ (d : Device) where
 
 -- so any other state serves its commands
 pub others_serve : (d : Device) → (Contradicts d → ⊥) → Serves Given d
-others_serve d n = serves d (⊎_elim (λ (b : contradictory_device d ≡ true). absurd (n (some_holds d b))) (λ (b : contradictory_device d ≡ false). b) (tested (contradictory_device d)))
+others_serve d n = serves d (lets_pass d n)
 
 -- power-on
 pub power_sound : PowerSound
