@@ -3,10 +3,13 @@
 of their counters.
 
     gaps.py samples                     the samples, as `hourly` reads them
-    gaps.py counted SAMPLES COUNTER..   of each counter: how many hours are known, how many are
+    gaps.py counted SAMPLES HOURS COUNTER..
+                                        of each counter: how many hours are known, how many are
                                         gaps, and the mean of what is known, or `-`: from the
-                                        pages, by rule [table-change]
-    gaps.py same COUNTED <PRINTED       whether a tool printed this; if not, status 1 and both
+                                        pages, by rule [table-change], where HOURS are left out
+    gaps.py same COUNTED <PRINTED       whether a tool printed this and nothing else but heads; if
+                                        not, status 1 and both
+    gaps.py emptied TABLE HOURS         the table with the fields of these hours empty
     gaps.py table HOURS                 a table of so many hours and sixteen counters
 """
 import random
@@ -68,8 +71,8 @@ def values_of(page):
     return values
 
 
-def counted(path, counters):
-    """Each counter's known hours, gaps and mean."""
+def counted(path, left_out, counters):
+    """Each counter's known hours, gaps and mean; the hours that are left out are gaps."""
     pages = {}
     with open(path, encoding="ascii") as lines:
         for line in lines:
@@ -81,19 +84,28 @@ def counted(path, counters):
         for hour in hours[1:]:
             old, old_top = pages.get(hour - 1, {}).get(counter, (None, None))
             new, new_top = pages.get(hour, {}).get(counter, (None, None))
-            if None not in (old, new) and old < old_top and old <= new < new_top:
+            known = None not in (old, new) and old < old_top and old <= new < new_top
+            if known and hour not in left_out:
                 changes.append(new - old)
         known = len(changes)
         yield counter, known, len(hours) - known, sum(changes) / known if known else None
 
 
+def is_head(words):
+    """Whether a line only names the columns, or underlines them."""
+    return set(words) <= {"counter", "known", "gaps", "mean"} or set("".join(words)) == {"-"}
+
+
 def told(lines):
-    """What a tool told of each counter, whatever it sets between the numbers."""
+    """What a tool told of each counter, whatever it sets between the numbers. A line that is no
+    counter's stands for itself, so it is like nothing that is expected."""
     for line in lines:
         words = [word for word in re.split(r"[,|\s]+", line) if word]
-        if words and re.fullmatch("[0-9A-F]{3}", words[0]):
+        if len(words) in (3, 4) and re.fullmatch("[0-9A-F]{3}", words[0]):
             mean = None if words[3:] in ([], ["-"], ["NaN"], ["NA"], ["<NA>"]) else float(words[3])
             yield words[0], int(words[1]), int(words[2]), mean
+        elif not is_head(words):
+            yield line, 0, 0, None
 
 
 def alike(one, other):
@@ -108,6 +120,14 @@ def same(expected, printed):
     expected, printed = (sorted(rows, key=lambda row: row[:3]) for rows in (expected, printed))
     return [row[:3] for row in expected] == [row[:3] for row in printed] and all(
         alike(row[3], other[3]) for row, other in zip(expected, printed))
+
+
+def emptied(path, left_out):
+    """The table with the fields of these hours empty, line by line."""
+    with open(path, newline="", encoding="ascii") as lines:
+        for line in lines:
+            hour, counter, _ = line.split(",")
+            print(f"{hour},{counter},\r\n" if hour in left_out else line, end="")
 
 
 def table(hours):
@@ -127,7 +147,8 @@ def main(command, *words):
     if command == "samples":
         samples()
     elif command == "counted":
-        for counter, known, gaps, mean in counted(words[0], words[1:]):
+        left_out = {int(hour) for hour in words[1].split()}
+        for counter, known, gaps, mean in counted(words[0], left_out, words[2:]):
             print(counter, known, gaps, "-" if mean is None else mean)
     elif command == "same":
         with open(words[0], encoding="ascii") as lines:
@@ -136,6 +157,8 @@ def main(command, *words):
         if not expected or not same(expected, told(text.splitlines())):
             print("expected:", *expected, "printed:", text, sep="\n")
             return 1
+    elif command == "emptied":
+        emptied(words[0], words[1].split())
     elif command == "table":
         table(int(words[0]))
     else:
