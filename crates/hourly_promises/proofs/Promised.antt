@@ -3,12 +3,12 @@ use Rattle.hourly_table.proofs.AllRead.{all_read, numbers_known, pages_whole, ho
 use Rattle.hourly_table.proofs.ChangeLaws.{change_exactly, empty_absent_before, empty_absent, empty_fallen, empty_old_top, empty_new_top}
 use Rattle.hourly_table.proofs.Exactly.{first_exactly}
 use Rattle.hourly_table.proofs.Smalls.{never_zero}
-use Rattle.hourly_table.proofs.StandLaws.{later_stands, stands_before, none_before_0, empty_first}
+use Rattle.hourly_table.proofs.StandLaws.{later_stands, empty_first}
 use Rattle.hourly_promises.proofs.EveryHour.{hours_count, hour_at}
 use Rattle.hourly_promises.proofs.Given.{table_given}
 use Rattle.hourly_promises.proofs.Hex.{number_length, number_read}
 use Rattle.hourly_promises.proofs.Told.{field_told, field_gap}
-use Rattle.hourly_promises.proofs.Gaps.{no_sample, none_before}
+use Rattle.hourly_promises.proofs.Gaps.{stands_before, none_before_0, no_sample, none_before}
 use Rattle.hourly_promises.proofs.Plain.{row_is_csv}
 use Rattle.hourly_promises.proofs.ReadTable.{table_is_csv}
 

@@ -1,5 +1,5 @@
 -- Which page stands for an hour.
-use Rattle.std.proofs.Common.{◌≡◌, refl, ap, ℕ, zero, suc, ◌+◌, ◌<◌, true, false, eqb, List, [], ◌∷◌, ◌++◌, length, get_or, filter, Option, Some, None, arith, add-one, ne_eqb, eq-eqb, zero-lt-suc, suc-le-suc, ⊎_elim}
+use Rattle.std.proofs.Common.{◌≡◌, refl, ap, ℕ, zero, suc, ◌<◌, true, false, eqb, List, [], ◌∷◌, ◌++◌, length, get_or, filter, Option, Some, None, arith, ne_eqb, eq-eqb, zero-lt-suc, suc-le-suc, ⊎_elim}
 use Rattle.std.specs.List.{last_or}
 use Rattle.std.specs.List.Sorted.{IsNonDecreasingBy}
 use Rattle.std.specs.Option.{option_map}
@@ -28,16 +28,6 @@ last_of o hour (x ∷ xs) s ys e none =
 pub later_stands : (xs : List Sampled) (s : Sampled) (ys : List Sampled) → ((k : ℕ) (d : Sampled) → k < length ys → (get_or ys k d).hour ≡ s.hour → ⊥) → page_of_hour (xs ++ s ∷ ys) s.hour ≡ Some s.page
 unfolding page_of_hour
 later_stands xs s ys none = ap (option_map (λ s. s.page)) (last_of None s.hour xs s ys refl none)
-
--- and that is the page of the hour before for the one behind it
-pub stands_before : (xs : List Sampled) (s : Sampled) (ys : List Sampled) → ((k : ℕ) (d : Sampled) → k < length ys → (get_or ys k d).hour ≡ s.hour → ⊥) → page_before (xs ++ s ∷ ys) (s.hour + 1) ≡ Some s.page
-unfolding page_before
-stands_before xs s ys none = rw add-one (later_stands xs s ys none)
-
--- hour 0 has none before it
-pub none_before_0 : (samples : List Sampled) → page_before samples 0 ≡ None
-unfolding page_before
-none_before_0 samples = refl
 
 -- for an hour of which there is no sample none does
 pub none_there : (samples : List Sampled) (hour : ℕ) → ((k : ℕ) (d : Sampled) → k < length samples → (get_or samples k d).hour ≡ hour → ⊥) → page_of_hour samples hour ≡ None
