@@ -24,7 +24,7 @@ asks_well() {
 # asked NAME: the recipe does so, and no wrong way of it
 asked() {
   local number what
-  [ -x "$program" ] || return
+  [ -x "$program" ] || { not_tried "$1" 'no program'; return; }
   there xxd || { not_tried "$1" 'no xxd'; return; }
   sed '3s/../ff/8' crates/hourly/data/samples >"$work/damaged"
   asks_well "$work/$1"
