@@ -60,15 +60,17 @@ pub(crate) fn lies_there(buffer: &[u8]) -> bool
 }
 
 /// The next event, where as many bytes as the longest has lie in the reader's buffer, which are copied at once; else nothing is read.
+// Its kind is read off the buffer, and not off the copy: that would be made in pieces that overlap.
 #[inline(always)]
 pub(crate) fn read_ahead<R: Read>(reader: &mut Watched<BufReader<R>>) -> Option<EventBytes>
     ensures read { ReadAhead (reader_remaining R.remaining reader.old.inner) result (reader_remaining R.remaining reader.new.inner) }
     ensures same { reader.new.failed ≡ reader.old.failed }
 {
-    let bytes = *reader.buffer().first_chunk::<EVENT_LIMIT>()?;
-    let (kind, size) = first_kind(&bytes)?;
+    let front = reader.buffer().first_chunk::<EVENT_LIMIT>()?;
+    let (kind, size) = first_kind(front)?;
+    let event = EventBytes::new(kind, *front);
     reader.skip(size);
-    Some(EventBytes::new(kind, bytes))
+    Some(event)
 }
 
 /// The next event, read to its end; or how the input ends.

@@ -18,8 +18,8 @@ tied_error = say (λ κs a. tt) (λ κs a r ws p. p)
 
 pub tied_pass_on : (W : RattleType) (l : Laws W) (g : Writer.Ghosts W.Denot) (d : Dict)
     → SaysOver (gathered-said.Lines.pass_on.ended W g d) (gathered.Lines.pass_on.Reads.Asked W l g d) (gathered.Lines.pass_on.Reads.Post W l g d)
-    (λ κs a r ws. (held_back ws.0 ≡ []) × Pushes (gathering (g.contents a.1.0.now.inner) (held_back a.0.now) a.1.0.now.failed) (gathering (g.contents ws.1.0.inner) (held_back ws.0) ws.1.0.failed) [])
-tied_pass_on W l g d = record { same = λ κs a b h. h; some = (([], ([], (W.lives, tt))), λ a x h. h); says = λ κs a r ws p. (p.0, p.1) }
+    (λ κs a r ws. (held_back ws.0 ≡ []) × (ws.0.held ≡ 0) × Pushes (gathering (g.contents a.1.0.now.inner) (held_back a.0.now) a.1.0.now.failed) (gathering (g.contents ws.1.0.inner) (held_back ws.0) ws.1.0.failed) [])
+tied_pass_on W l g d = record { same = λ κs a b h. h; some = (([], ([], (W.lives, tt))), λ a x h. h); says = λ κs a r ws p. (p.0, p.1.0, p.1.1) }
 
 pub tied_push : (W : RattleType) (l : Laws W) (g : Writer.Ghosts W.Denot) (d : Dict)
     → SaysOver (gathered-said.Lines.push.ended W g d) (gathered.Lines.push.Reads.Asked W l g d) (gathered.Lines.push.Reads.Post W l g d)

@@ -1,5 +1,5 @@
 // Lines that are gathered in a fixed room and written in large pieces.
-ghost use Rattle.std.specs.Prelude.{◌≡◌, []};
+ghost use Rattle.std.specs.Prelude.{◌≡◌, ◌+◌, ◌≤◌, []};
 ghost use Rattle.streams.specs.Gathered.{held_back, gathering, Pushes};
 
 use crate::watched::Watched;
@@ -36,6 +36,7 @@ impl Lines {
     #[inline(never)]
     pub fn pass_on<W: Write>(&mut self, out: &mut Watched<W>)
         ensures none { held_back self.new ≡ [] }
+        ensures empty { self.new.held ≡ 0 }
         ensures pushed { Pushes (gathering (W.contents out.old.inner) (held_back self.old) out.old.failed) (gathering (W.contents out.new.inner) (held_back self.new) out.new.failed) [] }
     {
         let held = self.held.min(ROOM);
@@ -58,18 +59,25 @@ impl Lines {
         }
     }
 
-    // A text for which there is no room behind what is held.
+    // Behind what is held so many bytes have room then: where there was none it is written.
+    #[inline(always)]
+    fn make_room<W: Write>(&mut self, out: &mut Watched<W>, n: usize)
+        requires { n ≤ ROOM }
+        ensures room { self.new.held + n ≤ ROOM }
+        ensures pushed { Pushes (gathering (W.contents out.old.inner) (held_back self.old) out.old.failed) (gathering (W.contents out.new.inner) (held_back self.new) out.new.failed) [] }
+    {
+        if self.held > ROOM - n {
+            self.pass_on(out);
+        }
+    }
+
+    // A text that is longer than the room.
     #[inline(never)]
-    fn push_long<W: Write>(&mut self, out: &mut Watched<W>, text: &[u8])
+    fn push_past<W: Write>(&mut self, out: &mut Watched<W>, text: &[u8])
         ensures pushed { Pushes (gathering (W.contents out.old.inner) (held_back self.old) out.old.failed) (gathering (W.contents out.new.inner) (held_back self.new) out.new.failed) text.now }
     {
         self.pass_on(out);
         if out.has_failed() {
-            return;
-        }
-        if text.len() <= ROOM {
-            self.room[..text.len()].copy_from_slice(text);
-            self.held = text.len();
             return;
         }
         if let Err(e) = out.put(text) {
@@ -78,13 +86,16 @@ impl Lines {
     }
 
     /// A text, behind what is gathered.
+    // Where the length is fixed the compiler drops the call of `push_past`, and stores the text where it is to stand. What is handed
+    // to a call that stays is laid in memory first, and read again in other pieces, for which the processor waits.
     #[inline(always)]
     pub fn push<W: Write>(&mut self, out: &mut Watched<W>, text: &[u8])
         ensures pushed { Pushes (gathering (W.contents out.old.inner) (held_back self.old) out.old.failed) (gathering (W.contents out.new.inner) (held_back self.new) out.new.failed) text.now }
     {
-        if text.len() > ROOM || self.held > ROOM - text.len() {
-            return self.push_long(out, text);
+        if text.len() > ROOM {
+            return self.push_past(out, text);
         }
+        self.make_room(out, text.len());
         let end = self.held + text.len();
         self.room[self.held..end].copy_from_slice(text);
         self.held = end;

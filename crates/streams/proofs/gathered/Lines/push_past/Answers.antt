@@ -1,6 +1,6 @@
 use Rattle.std.proofs.Common.{◌≡◌, sym, ap, rules, true, false, ◌++◌}
 use Rattle.streams.proofs.Gathering.{held_front, past_room, pushes_then}
-use Rattle.streams.proofs.gathered.Lines.push_long.Goals as goal
+use Rattle.streams.proofs.gathered.Lines.push_past.Goals as goal
 
 pub returns-in-Err : goal.returns-in-Err
 returns-in-Err g c =
