@@ -12,7 +12,7 @@ use Rattle.call_scripts.specs.Bench.{Kept}
 use Rattle.call_scripts.specs.Lines.{after_line}
 use Rattle.call_scripts.specs.Parts.{before, behind, lines_of}
 use Rattle.call_scripts.specs.Scripts.{fresh}
-use Rattle.call_scripts.specs.Checks.{line_told, line_check, differences, found_of, unchecked, check_text, Checked, IsAllOf, HasChecked}
+use Rattle.call_scripts.specs.Checks.{line_told, line_check, differences, found_of, unchecked, lines_told, CheckedLines, silent_told, Checked, IsAllOf, HasChecked}
 use Rattle.call_scripts.specs.declared.found.Found.{Found}
 use Rattle.call_scripts.specs.declared.checking.Check.{Check}
 use Rattle.call_scripts.proofs.PartLaws.{lines_first}
@@ -30,7 +30,7 @@ none_left empty (c ∷ cs) e t = grind (arith, e, t)
 pub record Stands (name : List ℕ) (first : Kept) (script : List ℕ) (old new : Option (List ℕ)) (k : Kept) (check : Check) (rest : List ℕ) : Type 0 where
   pub done : List ℕ
   pub written : Appends old new done
-  pub text : check_text name first script ≡ done ++ differences name k check (lines_of rest)
+  pub text : lines_told name first script ≡ done ++ differences name k check (lines_of rest)
   pub found : found_of first unchecked (lines_of script) ≡ found_of k check (lines_of rest)
 
 -- before the first line
@@ -42,7 +42,7 @@ module _ {name : List ℕ} {first : Kept} {script : List ℕ} {old new : Option 
   left line others h el eo = lines_first rest h ∙ sym (ap₂ (λ (a b : List ℕ). a ∷ lines_of b) el eo)
 
   text_on : (line others : List ℕ) → 0 < length rest → line ≡ before 10 rest → others ≡ behind 10 rest
-      → check_text name first script ≡ p.done ++ (line_told name k check line ++ differences name (after_line k line) (line_check k check line) (lines_of others))
+      → lines_told name first script ≡ p.done ++ (line_told name k check line ++ differences name (after_line k line) (line_check k check line) (lines_of others))
   unfolding differences
   text_on line others h el eo = p.text ∙ ap (λ (ls : List (List ℕ)). p.done ++ differences name k check ls) (left line others h el eo)
 
@@ -62,11 +62,11 @@ module _ {name : List ℕ} {first : Kept} {script : List ℕ} {old new : Option 
   })
 
   -- what is told of it is lost
-  pub line_lost : (new' : Option (List ℕ)) (e : RunError) (line others : List ℕ) → 0 < length rest → line ≡ before 10 rest → others ≡ behind 10 rest → Loses e new new' (line_told name k check line) → Loses e old new' (check_text name first script)
+  pub line_lost : (new' : Option (List ℕ)) (e : RunError) (line others : List ℕ) → 0 < length rest → line ≡ before 10 rest → others ≡ behind 10 rest → Loses e new new' (line_told name k check line) → Loses e old new' (lines_told name first script)
   line_lost new' e line others h el eo l = subst (Loses e old new') (sym (text_on line others h el eo)) (loses_then e old new new' p.done _ p.written (loses_first e new new' (line_told name k check line) _ l))
 
   -- there are no more
-  pub all_checked : rest ≡ [] → Checked name first script old new (Ok check.found)
+  pub all_checked : rest ≡ [] → CheckedLines name first script old new (Ok check.found)
   unfolding differences found_of lines_of
   all_checked e = (
     subst (Appends old new) (sym (p.text ∙ ap (λ (l : List ℕ). p.done ++ differences name k check (lines_of l)) e ∙ append-nil p.done)) p.written,
@@ -74,10 +74,22 @@ module _ {name : List ℕ} {first : Kept} {script : List ℕ} {old new : Option 
   )
 
 -- an error that is handed on
-pub check_lost : (name : List ℕ) (first : Kept) (script : List ℕ) (old new : Option (List ℕ)) (r : Result Found RunError) (e : RunError) → IsErr r → IsErrAnd r (λ x. x ≡ e) → Loses e old new (check_text name first script)
-    → Checked name first script old new r
+pub check_lost : (name : List ℕ) (first : Kept) (script : List ℕ) (old new : Option (List ℕ)) (r : Result Found RunError) (e : RunError) → IsErr r → IsErrAnd r (λ x. x ≡ e) → Loses e old new (lines_told name first script)
+    → CheckedLines name first script old new r
 check_lost name first script old new (Ok f) e i h l = absurd (false≢true i)
-check_lost name first script old new (Err x) e i h l = subst (λ (y : RunError). Loses y old new (check_text name first script)) (sym h) l
+check_lost name first script old new (Err x) e i h l = subst (λ (y : RunError). Loses y old new (lines_told name first script)) (sym h) l
+
+-- the lines are lost, or what is told behind them
+pub lines_lost : (name : List ℕ) (k : Kept) (script : List ℕ) (old new : Option (List ℕ)) (r : Result Found RunError) (e : RunError) → IsErr r → IsErrAnd r (λ x. x ≡ e) → Loses e old new (lines_told name k script)
+    → Checked name k script old new r
+lines_lost name k script old new (Ok f) e i h l = absurd (false≢true i)
+lines_lost name k script old new (Err x) e i h l = loses_first x old new (lines_told name k script) _ (subst (λ (y : RunError). Loses y old new (lines_told name k script)) (sym h) l)
+
+pub silent_lost : (name : List ℕ) (k : Kept) (script : List ℕ) (old new new' : Option (List ℕ)) (found : Found) (r : Result Found RunError) (e : RunError) → IsErr r → IsErrAnd r (λ x. x ≡ e) → CheckedLines name k script old new (Ok found)
+    → Loses e new new' (silent_told name found) → Checked name k script old new' r
+silent_lost name k script old new new' found (Ok f) e i h c l = absurd (false≢true i)
+silent_lost name k script old new new' found (Err x) e i h c l =
+    loses_then x old new new' (lines_told name k script) _ c.0 (subst (λ (f : Found). Loses x new new' (silent_told name f)) c.1 (subst (λ (y : RunError). Loses y new new' (silent_told name found)) (sym h) l))
 
 -- nothing is written where there is no memory for a bench
 pub check_none : (name : List ℕ) (first : Kept) (script : List ℕ) (old : Option (List ℕ)) → Checked name first script old old (Err Memory)

@@ -7,16 +7,32 @@ use Rattle.std.proofs.lemmas.List.Elements.{All-nil, All-cons, All-append}
 use Rattle.std.proofs.KnownBytes.{Appends-nil, Appends-trans, Appends-kept}
 use Rattle.std.specs.Borrow.{Bor}
 use Rattle.std.specs.Io.KnownBytes.{Appends, Keeps}
-use Rattle.streams.proofs.Fronts.{front_then}
-use Rattle.events.proofs.Fronts.{loses_first, loses_then}
+use Rattle.streams.specs.Fronts.{AppendsSome}
+use Rattle.streams.proofs.Fronts.{front_then, some_then}
+use Rattle.events.proofs.Fronts.{front_first, loses_then}
 use Rattle.events.specs.Output.{Loses}
 use Rattle.events.specs.declared.errors.RunError.{RunError}
+use Rattle.events.specs.declared.errors.RunError.TheVariants.{Input, Output, Memory, TooMany}
 use Rattle.events.specs.Runs.{Said}
-use Rattle.call_scripts.specs.CheckEnds.{HasCome, LosesOne, LookedAtAll, HasLookedAt, HasWritten, HasCheckedAll, last_behind, said_last}
+use Rattle.call_scripts.specs.CheckEnds.{HasCome, LosesOne, LosesAll, LookedAtAll, HasLookedAt, HasWritten, HasCheckedAll, last_behind, said_last}
 use Rattle.call_scripts.specs.Found.{both, nothing_found, last_line}
 use Rattle.call_scripts.specs.Named.{Named, MayCome, LookedAt, named_text, named_said, named_found, all_text, all_said, all_found}
 use Rattle.call_scripts.specs.declared.check_ends.CheckEnd.{CheckEnd}
 use Rattle.call_scripts.specs.declared.found.Found.{Found}
+
+-- a text is lost before its last line is begun
+lost_before : (e : RunError) (a b : Option (List ℕ)) (text last : List ℕ) → Loses e a b text → LosesAll e a b text last
+lost_before (Input x) a b text last l = l
+lost_before (Output x) a b text last l = front_first a b text last l
+lost_before Memory a b text last l = l
+lost_before TooMany a b text last l = l
+
+-- or is written, and the last line is lost
+lost_behind : (e : RunError) (a b c : Option (List ℕ)) (text last : List ℕ) → Appends a b text → LosesAll e b c [] last → LosesAll e a c text last
+lost_behind (Input x) a b c text last p l = l
+lost_behind (Output x) a b c text last p l = front_then a b c text last p l
+lost_behind Memory a b c text last p l = subst (AppendsSome a c) (append-nil text) (some_then a b c text [] p l)
+lost_behind TooMany a b c text last p l = l
 
 abbrev text_by : Named → List ℕ
 text_by n = named_text n.name n.came
@@ -75,8 +91,8 @@ module _ {holds : List ℕ → Option (Option (List ℕ))} {names : List (List �
   last_written c l = (p.named, [], p.looked, (refl, p.sum, Appends-trans a b c (all_text p.named) (last_line found) p.written l), p.gathered)
 
   -- or that is lost
-  pub last_lost : (c : Option (List ℕ)) (e : RunError) → Loses e b c (last_line found) → HasWritten holds names a c said said' (Err e)
-  last_lost c e l = (p.named, [], p.looked, subst (λ (f : Found). Loses e a c (all_text p.named ++ last_line f)) p.sum (loses_then e a b c (all_text p.named) (last_line found) p.written l), p.gathered)
+  pub last_lost : (c : Option (List ℕ)) (e : RunError) → LosesAll e b c [] (last_line found) → HasWritten holds names a c said said' (Err e)
+  last_lost c e l = (p.named, [], p.looked, subst (λ (f : Found). LosesAll e a c (all_text p.named) (last_line f)) p.sum (lost_behind e a b c (all_text p.named) (last_line found) p.written l), p.gathered)
 
 abbrev name_of : Bor (List ℕ) → List ℕ
 name_of name = name.now
@@ -105,7 +121,7 @@ looked_handed holds names a b said said' (Err x) e i h l = subst (λ (y : RunErr
 
 written_lost : (holds : List ℕ → Option (Option (List ℕ))) (names : List (List ℕ)) (a b : Option (List ℕ)) (said said' : List ℕ) (e : RunError)
     → HasLookedAt holds names a b said said' (Err e) → HasWritten holds names a b said said' (Err e)
-written_lost holds names a b said said' e p = (p.0, p.1, p.2, loses_first e a b (all_text p.0) (last_behind p.1 (all_found p.0)) p.3, p.4)
+written_lost holds names a b said said' e p = (p.0, p.1, p.2, lost_before e a b (all_text p.0) (last_behind p.1 (all_found p.0)) p.3, p.4)
 
 pub written_handed : (holds : List ℕ → Option (Option (List ℕ))) (names : List (List ℕ)) (a b : Option (List ℕ)) (said said' : List ℕ) (r : Result Found RunError) (e : RunError) → IsErr r → IsErrAnd r (λ x. x ≡ e)
     → HasLookedAt holds names a b said said' (Err e) → HasWritten holds names a b said said' r
@@ -114,9 +130,9 @@ written_handed holds names a b said said' (Err x) e i h l = written_lost holds n
 
 -- where a last line is not even begun, or fails
 pub last_handed : (holds : List ℕ → Option (Option (List ℕ))) (names : List (List ℕ)) (a b c : Option (List ℕ)) (said said' : List ℕ) (found : Found) (r : Result Found RunError) (e : RunError) → IsErr r → IsErrAnd r (λ x. x ≡ e)
-    → LookedAtAll holds names a b said said' found → Loses e b c (last_line found) → HasWritten holds names a c said said' r
+    → LookedAtAll holds names a b said said' found → LosesAll e b c [] (last_line found) → HasWritten holds names a c said said' r
 last_handed holds names a b c said said' found (Ok f) e i h p l = absurd (false≢true i)
-last_handed holds names a b c said said' found (Err x) e i h p l = last_lost p c x (subst (λ (y : RunError). Loses y b c (last_line found)) (sym h) l)
+last_handed holds names a b c said said' found (Err x) e i h p l = last_lost p c x (subst (λ (y : RunError). LosesAll y b c [] (last_line found)) (sym h) l)
 
 -- what is said behind what was
 pub said_then : {E : Type 0} (a b c : Option (List ℕ)) (s t : List ℕ) (r : Result Unit E) → Appends a b s → Said t b c r → Said (s ++ t) a c r

@@ -3,10 +3,12 @@ use Rattle.std.specs.Prelude.{◌≡◌, ℕ, eqb, List, [], ◌∷◌, ◌++◌
 use Rattle.std.specs.declared.io.Error.{Error}
 use Rattle.std.specs.Io.KnownBytes.{Appends}
 use Rattle.bits.specs.Pick.{pick}
+use Rattle.streams.specs.Fronts.{AppendsFront, AppendsSome}
 use Rattle.streams.specs.Lost.{complaint}
 use Rattle.events.specs.Output.{Loses}
 use Rattle.events.specs.Runs.{Said}
 use Rattle.events.specs.declared.errors.RunError.{RunError}
+use Rattle.events.specs.declared.errors.RunError.TheVariants.{Input, Output, Memory, TooMany}
 use Rattle.call_scripts.specs.Found.{status_of, last_line}
 use Rattle.call_scripts.specs.Named.{Named, MayHold, MayCome, LookedAt, named_text, named_said, named_found, all_text, all_said, all_found}
 use Rattle.call_scripts.specs.declared.check_ends.CheckEnd.{CheckEnd}
@@ -25,10 +27,17 @@ HasCome held name old new said said' found = (came : Result (List ℕ) (List ℕ
 abbrev pub LosesOne : Option (Option (List ℕ)) → List ℕ → RunError → (old new : Option (List ℕ)) → Type 0
 LosesOne held name e old new = ((script : List ℕ) × MayHold held script × Loses e old new (named_text name (Ok script))) ⊎ Loses e old new []
 
--- of the scripts that were looked at all is written, and there are no others; or text is lost, it may be that of the last line [script-files]
+-- a text and a last line behind it are lost: a write failed, and a front of both was written; or there is no memory, and some of the text was, it may be all of it, and nothing of the last line [script-files]
+abbrev pub LosesAll : RunError → (old new : Option (List ℕ)) → (text last : List ℕ) → Type 0
+LosesAll (Input e) old new text last = ⊥
+LosesAll (Output e) old new text last = AppendsFront old new (text ++ last)
+LosesAll Memory old new text last = AppendsSome old new text
+LosesAll TooMany old new text last = ⊥
+
+-- of the scripts that were looked at all is written, and there are no others; or text is lost [script-files]
 abbrev pub Wrote : List Named → List (List ℕ) → (old new : Option (List ℕ)) → Result Found RunError → Type 0
 Wrote named others old new (Ok found) = (others ≡ []) × (found ≡ all_found named) × Appends old new (all_text named ++ last_line found)
-Wrote named others old new (Err e) = Loses e old new (all_text named ++ last_behind others (all_found named))
+Wrote named others old new (Err e) = LosesAll e old new (all_text named) (last_behind others (all_found named))
 
 -- all scripts were looked at: what was found in them and written of them, and what is to be said behind what was
 pub record LookedAtAll (holds : List ℕ → Option (Option (List ℕ))) (names : List (List ℕ)) (old new : Option (List ℕ)) (said said' : List ℕ) (found : Found) : Type 0 where

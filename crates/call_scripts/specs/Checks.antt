@@ -8,11 +8,11 @@ use Rattle.events.specs.declared.errors.RunError.TheVariants.{Input}
 use Rattle.events.specs.Output.{Loses}
 use Rattle.call_scripts.specs.Answers.{what_text}
 use Rattle.call_scripts.specs.Bench.{Kept}
-use Rattle.call_scripts.specs.Found.{sum_of, nothing_found, found_in, at_fault}
+use Rattle.call_scripts.specs.Found.{sum_of, nothing_found, found_in, at_fault, is_silent}
 use Rattle.call_scripts.specs.Lines.{line_text, after_line}
 use Rattle.call_scripts.specs.Parts.{lines_of}
 use Rattle.call_scripts.specs.Scripts.{fresh}
-use Rattle.call_scripts.specs.Told.{one_line, told, fault_text, unasked_said, hidden_said}
+use Rattle.call_scripts.specs.Told.{one_line, told, fault_text, unasked_said, hidden_said, silent_text}
 use Rattle.call_scripts.specs.Wanted.{wanted, trimmed, is_hidden}
 use Rattle.call_scripts.specs.declared.found.Found.{Found}
 use Rattle.call_scripts.specs.declared.checking.Check.{Check}
@@ -57,13 +57,33 @@ found_of k check (line ∷ lines) = found_of (after_line k line) (line_check k c
 abbrev pub unchecked : Check
 unchecked = record { number = 0; found = nothing_found }
 
+-- what is told of the lines of a script
+abbrev pub lines_told : List ℕ → Kept → List ℕ → List ℕ
+lines_told name k script = differences name k unchecked (lines_of script)
+
+-- and what is found in them
+abbrev pub lines_found : Kept → List ℕ → Found
+lines_found k script = (found_of k unchecked (lines_of script)).found
+
+-- all of that is written, and found; or text is lost
+abbrev pub CheckedLines : List ℕ → Kept → List ℕ → (old new : Option (List ℕ)) → Result Found RunError → Type 0
+CheckedLines name k script old new (Ok found) = Appends old new (lines_told name k script) × (found ≡ lines_found k script)
+CheckedLines name k script old new (Err e) = Loses e old new (lines_told name k script)
+
+-- behind them it is told that none of them says what it is to print, which is a fault of the script [script-check]
+abbrev pub silent_told : List ℕ → Found → List ℕ
+silent_told name found = pick (is_silent found) (silent_text name) []
+
+abbrev pub silent_found : Found → Found
+silent_found found = at_fault found (is_silent found)
+
 -- what a check writes of a script
 abbrev pub check_text : List ℕ → Kept → List ℕ → List ℕ
-check_text name k script = differences name k unchecked (lines_of script)
+check_text name k script = lines_told name k script ++ silent_told name (lines_found k script)
 
 -- and what it has found
 abbrev pub check_found : Kept → List ℕ → Found
-check_found k script = (found_of k unchecked (lines_of script)).found
+check_found k script = silent_found (lines_found k script)
 
 -- all is written, and found; or text is lost
 abbrev pub Checked : List ℕ → Kept → List ℕ → (old new : Option (List ℕ)) → Result Found RunError → Type 0

@@ -28,13 +28,17 @@ found_in found wanted printed = record found { asked = sum_of found.asked 1; dif
 abbrev pub at_fault : Found → Bool → Found
 at_fault found fault = record found { faults = pick fault (sum_of found.faults 1) found.faults }
 
+-- no line says what it is to print
+abbrev pub is_silent : Found → Bool
+is_silent found = eqb found.asked 0
+
 -- all lines that say what they are to print print it, and none is at fault
 abbrev pub all_right : Found → Bool
 all_right found = eqb found.differing 0 && eqb found.faults 0
 
 -- the exit status: 3 a script is unread, 2 no line says what it is to print, 1 a line differs or is at fault; the greatest that holds, else 0 [script-status]
 abbrev pub status_of : Found → ℕ
-status_of found = pick (eqb found.unread 0) (pick (eqb found.asked 0) 2 (pick (all_right found) 0 1)) 3
+status_of found = pick (eqb found.unread 0) (pick (is_silent found) 2 (pick (all_right found) 0 1)) 3
 
 -- how many faults there are, if there is one
 abbrev pub faults_text : ℕ → List ℕ

@@ -38,3 +38,7 @@ hidden_said = codes "a -> behind # asks for nothing"
 -- it is no line, and does not say that it is to be none
 abbrev pub unasked_said : List ℕ
 unasked_said = codes "what? is printed, and not asked for"
+
+-- a whole script, and what is wrong with it: no line of it says what it is to print [script-check]
+unfoldable pub silent_text : List ℕ → List ℕ
+silent_text name = name ++ labelled (codes ":\n  fault ") (codes "no line says what it is to print")

@@ -7,7 +7,7 @@ ghost use Rattle.call_scripts.specs.Lines.{after_line};
 ghost use Rattle.call_scripts.specs.Scripts.{fresh};
 ghost use Rattle.call_scripts.specs.Found.{at_fault};
 ghost use Rattle.call_scripts.specs.Wanted.{wanted, is_hidden};
-ghost use Rattle.call_scripts.specs.Checks.{told_by, found_by, comment_told, line_told, line_check, Checked, IsAllOf, HasChecked};
+ghost use Rattle.call_scripts.specs.Checks.{told_by, found_by, comment_told, line_told, line_check, CheckedLines, silent_told, silent_found, Checked, IsAllOf, HasChecked};
 
 use crate::MEDIUM_SIZE;
 use crate::bench::Bench;
@@ -15,7 +15,7 @@ use crate::found::Found;
 use crate::lines::answer_line;
 use crate::parts::parts_at;
 use crate::pieces::zeros;
-use crate::told::{one_line, write_difference, write_hidden, write_unasked};
+use crate::told::{one_line, write_difference, write_hidden, write_silent, write_unasked};
 use crate::wanted::{is_hidden, trimmed, wanted};
 use events::RunError;
 use std::alloc::Global;
@@ -143,7 +143,7 @@ fn check_lines<W: Write>(
     script: &[u8],
     out: &mut W,
 ) -> Result<Found, RunError>
-    ensures { Checked name.now bench.old script.now (W.contents out.old) (W.contents out.new) result }
+    ensures { CheckedLines name.now bench.old script.now (W.contents out.old) (W.contents out.new) result }
 {
     let mut check = Check {
         number: 0,
@@ -156,6 +156,41 @@ fn check_lines<W: Write>(
         rest = behind;
     }
     Ok(check.found)
+}
+
+// Behind its lines a script of which none says what it is to print is told as at fault.
+fn end_script<W: Write>(
+    alloc: Global,
+    name: &str,
+    out: &mut W,
+    found: &mut Found,
+) -> Result<(), RunError>
+    ensures found { OnOk result (found.new ≡ silent_found found.old) }
+    ensures ok { OnOk result (Appends (W.contents out.old) (W.contents out.new) (silent_told name.now found.old)) }
+    ensures err { IfErr result (λ e. Loses e (W.contents out.old) (W.contents out.new) (silent_told name.now found.old)) }
+{
+    if !found.is_silent() {
+        return Ok(());
+    }
+    found.fault();
+    let mut told = Vec::new(alloc);
+    write_silent(&mut told, name).map_err(|_| RunError::Memory)?;
+    put(out, &told).map_err(RunError::Output)
+}
+
+// The lines of a script, and what is told behind them.
+fn check_whole<W: Write>(
+    alloc: Global,
+    name: &str,
+    bench: &mut Bench,
+    script: &[u8],
+    out: &mut W,
+) -> Result<Found, RunError>
+    ensures { Checked name.now bench.old script.now (W.contents out.old) (W.contents out.new) result }
+{
+    let mut found = check_lines(alloc, name, bench, script, out)?;
+    end_script(alloc, name, out, &mut found)?;
+    Ok(found)
 }
 
 // On a medium of so many bytes.
@@ -172,7 +207,7 @@ fn check_bytes<W: Write>(
     let Ok(mut medium) = zeros(alloc, size) else {
         return Err(RunError::Memory);
     };
-    check_lines(alloc, name, &mut Bench::new(&mut medium), script, out)
+    check_whole(alloc, name, &mut Bench::new(&mut medium), script, out)
 }
 
 fn read_all<R: Read>(alloc: Global, reader: &mut R) -> io::Result<Vec<u8>>

@@ -2,7 +2,7 @@
 ghost use Rattle.std.specs.Prelude.{◌≡◌, true, OnOk};
 ghost use Rattle.std.specs.Str.{bytes_eq};
 ghost use Rattle.std.specs.Io.KnownBytes.{Appends};
-ghost use Rattle.call_scripts.specs.Found.{both, found_in, at_fault, status_of, lines_text, faults_text, numbers_text, last_line};
+ghost use Rattle.call_scripts.specs.Found.{both, found_in, at_fault, is_silent, status_of, lines_text, faults_text, numbers_text, last_line};
 
 use std::io;
 use std::io::Write;
@@ -14,7 +14,7 @@ pub struct Found {
     pub asked: u64,
     /// those that print something else
     pub differing: u64,
-    /// what asks for something and is not held: a `->` behind `#`, and `what?` of a line without `->`
+    /// what would be dropped: a `->` behind `#`, `what?` of a line without `->`, and a script of which no line says what it is to print
     pub faults: u64,
     /// scripts that could not be opened or read
     pub unread: u64,
@@ -67,6 +67,13 @@ impl Found {
         self.faults = self.faults.saturating_add(1);
     }
 
+    /// No line says what it is to print.
+    pub(crate) fn is_silent(self) -> bool
+        ensures { result ≡ is_silent self }
+    {
+        self.asked == 0
+    }
+
     /// The exit status of a program that has found this: 3 a script is unread, 2 no line says what it is to print, 1 a line differs or is at
     /// fault; the greatest that holds, and else 0.
     pub(crate) fn status(self) -> u8
@@ -75,7 +82,7 @@ impl Found {
         if self.unread != 0 {
             return 3;
         }
-        if self.asked == 0 {
+        if self.is_silent() {
             return 2;
         }
         if self.differing == 0 && self.faults == 0 {

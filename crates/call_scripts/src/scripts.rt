@@ -1,9 +1,8 @@
 // All scripts that are named, one after the other.
-ghost use Rattle.std.specs.Prelude.{map, IfErr, OnOk};
+ghost use Rattle.std.specs.Prelude.{[], map, IfErr, OnOk};
 ghost use Rattle.std.specs.Io.KnownBytes.{Appends};
-ghost use Rattle.events.specs.Output.{Loses};
 ghost use Rattle.call_scripts.specs.Found.{last_line};
-ghost use Rattle.call_scripts.specs.CheckEnds.{HasLookedAt, HasWritten, HasCheckedAll};
+ghost use Rattle.call_scripts.specs.CheckEnds.{LosesAll, HasLookedAt, HasWritten, HasCheckedAll};
 
 use crate::check_ends::{CheckEnd, say_all};
 use crate::files::check_named;
@@ -34,7 +33,7 @@ fn check_each<S: Shelf, W: Write>(
 // The last line.
 fn end<W: Write>(alloc: Global, out: &mut W, found: Found) -> Result<(), RunError>
     ensures ok { OnOk result (Appends (W.contents out.old) (W.contents out.new) (last_line found)) }
-    ensures err { IfErr result (λ e. Loses e (W.contents out.old) (W.contents out.new) (last_line found)) }
+    ensures err { IfErr result (λ e. LosesAll e (W.contents out.old) (W.contents out.new) [] (last_line found)) }
 {
     let mut last = Vec::new(alloc);
     found.write_last(&mut last).map_err(|_| RunError::Memory)?;

@@ -1,7 +1,7 @@
 // What is told of a line that prints something else than it is to, or is at fault.
 ghost use Rattle.std.specs.Prelude.{◌≡◌, ◌++◌, IfOk, OnOk};
 ghost use Rattle.std.specs.Io.KnownBytes.{Appends};
-ghost use Rattle.call_scripts.specs.Told.{in_line, one_line, place_text, labelled, difference_text, fault_text, hidden_said, unasked_said};
+ghost use Rattle.call_scripts.specs.Told.{in_line, one_line, place_text, labelled, difference_text, fault_text, hidden_said, unasked_said, silent_text};
 
 use std::alloc::{AllocError, Global};
 use std::io;
@@ -83,4 +83,13 @@ pub(crate) fn write_unasked<W: Write>(out: &mut W, name: &str, number: u64) -> i
     ensures { OnOk result (Appends (W.contents out.old) (W.contents out.new) (fault_text name.now number unasked_said)) }
 {
     write_fault(out, name, number, b"what? is printed, and not asked for")
+}
+
+/// What is told of a script of which no line says what it is to print.
+#[tactic(auto, unfolding(crate::specs::Told::silent_text))]
+pub(crate) fn write_silent<W: Write>(out: &mut W, name: &str) -> io::Result<()>
+    ensures { OnOk result (Appends (W.contents out.old) (W.contents out.new) (silent_text name.now)) }
+{
+    out.write_all(name.as_bytes())?;
+    write_labelled(out, b":\n  fault ", b"no line says what it is to print")
 }

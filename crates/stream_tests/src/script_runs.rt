@@ -97,6 +97,10 @@ const DIFFERENCES: &str =
 const UNREAD: &str =
     "run_calls: broken: input failed: other error\nrun_calls: gone: input failed: entity not found\n";
 
+// Of a script with a line and no `->`, and of one without a byte.
+const SILENT: &str =
+    "unsaid:\n  fault no line says what it is to print\nempty:\n  fault no line says what it is to print\n";
+
 /// Scripts by their names.
 #[derive(Clone, Copy)]
 struct Scripts;
@@ -114,6 +118,7 @@ impl Shelf for Scripts {
             "broken" => (CHECKED, true),
             "same" => (b"count -> refused 1".as_slice(), false),
             "unsaid" => (b"count\n".as_slice(), false),
+            "empty" => (b"".as_slice(), false),
             _ => return Err(Error::from(ErrorKind::NotFound)),
         };
         Ok(Source { bytes, breaks })
@@ -154,7 +159,8 @@ fn lines_of_a_script(rt: HostRuntime) {
     }
 }
 
-// Scripts one behind the other, and what is said of those that are unread: they are counted, and the others are checked.
+// Scripts one behind the other, and what is told of those that ask nothing and said of those that are unread: they are counted, and the
+// others are checked.
 #[test]
 fn several_scripts(rt: HostRuntime) {
     let none_asked = "run_calls: no line says what it is to print\n";
@@ -167,11 +173,11 @@ fn several_scripts(rt: HostRuntime) {
             0,
         ),
         (
-            ["unsaid", "same"].as_slice(),
+            ["unsaid", "same", "empty"].as_slice(),
+            SILENT,
+            "1 lines asked for, 0 differ, 2 faults\n",
             "",
-            "1 lines asked for, 0 differ\n",
-            "",
-            0,
+            1,
         ),
         (
             ["same", "same", "s", "same"].as_slice(),
@@ -180,7 +186,7 @@ fn several_scripts(rt: HostRuntime) {
             "",
             1,
         ),
-        (["unsaid"].as_slice(), "", "", none_asked, 2),
+        (["unsaid", "empty"].as_slice(), SILENT, "", none_asked, 2),
         ([].as_slice(), "", "", none_asked, 2),
         (
             ["broken", "same", "gone", "s"].as_slice(),

@@ -13,11 +13,12 @@ pub struct Found {
     pub asked: u64,
     /// those that print something else
     pub differing: u64,
-    /// lines without `->` that print `what?`, and comments with a `->`
+    /// lines without `->` that print `what?`, and comments with a `->`; one more if no line asks
     pub faults: u64,
 }
 
-/// Runs a script from the all-zero state; each line that differs or is at fault is told.
+/// Runs a script from the all-zero state; each line that differs or is at fault is told, and behind them a script
+/// of which no line says what it is to print.
 pub fn file(path: &str) -> io::Result<Found> {
     let script = fs::read(path)?;
     let (mut bench, mut found) = (Bench::new(), Found::default());
@@ -42,6 +43,10 @@ pub fn file(path: &str) -> io::Result<Found> {
             found.faults += 1;
             println!("{path}:{number}:\n  fault a -> behind # asks for nothing");
         }
+    }
+    if found.asked == 0 {
+        found.faults += 1;
+        println!("{path}:\n  fault no line says what it is to print");
     }
     Ok(found)
 }

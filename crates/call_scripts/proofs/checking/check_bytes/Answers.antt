@@ -12,4 +12,4 @@ pub returns : goal.returns
 unfolding fresh
 returns g c =
     let bench : c.new.result ≡ fresh c.args.size = c.new.ensures ∙ ap (λ (m : List ℕ). kept zero_device m None) (c.deref_mut.ensures.value ∙ c.in-Ok.ensures) in
-    rw bench at c.check_lines.ensures
+    rw bench at c.check_whole.ensures
