@@ -7,5 +7,6 @@ pub mod Told
 pub mod EveryHour
 pub mod Hex
 pub mod Given
+pub mod LineLaws
 pub mod Promised
 pub mod Tied

@@ -9,6 +9,7 @@ use Rattle.hourly_promises.proofs.Given.{table_given}
 use Rattle.hourly_promises.proofs.Hex.{number_length, number_read}
 use Rattle.hourly_promises.proofs.Told.{field_told, field_gap}
 use Rattle.hourly_promises.proofs.Gaps.{stands_before, none_before_0, no_sample, none_before}
+use Rattle.hourly_promises.proofs.LineLaws.{line_counted, hour_worded, page_worded, none_worded}
 use Rattle.hourly_promises.proofs.Plain.{row_is_csv}
 use Rattle.hourly_promises.proofs.ReadTable.{table_is_csv}
 
@@ -19,3 +20,5 @@ pub ruleset refusals = (first_exactly, all_read, table_given, numbers_known, pag
 pub ruleset texts = (row_is_csv, table_is_csv, number_length, number_read)
 
 pub ruleset hours = (hours_count, hour_at)
+
+pub ruleset lines = (line_counted, hour_worded, page_worded, none_worded)

@@ -1,5 +1,5 @@
 -- The public functions' own contracts: what they say.
-use Rattle.std.specs.Prelude.{◌+◌, ◌≤◌, List, [], None, Ok, Option, Some, codes, decimal, false, get_or, is_err, length, true, ℕ, ◌++◌, ◌<◌, ◌^◌, ◌∷◌, ◌≡◌}
+use Rattle.std.specs.Prelude.{◌+◌, ◌≤◌, List, [], None, Err, Ok, Option, Some, codes, decimal, false, get_or, is_err, length, true, ℕ, ◌++◌, ◌<◌, ◌^◌, ◌∷◌, ◌≡◌}
 use Rattle.std.specs.Str.Parse.{digits_value}
 use Rattle.refusals.specs.First.{Iff}
 use Rattle.pages.specs.Read11.{read_counter}
@@ -23,6 +23,13 @@ use Rattle.hourly_promises.proofs.hours
 use Rattle.hourly_promises.specs.contracts.hours as hours-said
 use Rattle.hourly_promises.proofs.turned_down
 use Rattle.hourly_promises.specs.contracts.turned_down as turned_down-said
+use Rattle.hourly_run.specs.Entries.{entry_of}
+use Rattle.hourly_run.specs.Lines.{lines_of}
+use Rattle.hourly_run.specs.Pages.{Shelved}
+use Rattle.hourly_run.specs.Said.{line_said}
+use Rattle.hourly_run.specs.Samples.{MayTell, SamplesOf}
+use Rattle.hourly_promises.proofs.lines
+use Rattle.hourly_promises.specs.contracts.lines as lines-said
 use Rattle.hourly_promises.proofs.csv_text
 use Rattle.hourly_promises.specs.contracts.csv_text as csv_text-said
 
@@ -64,3 +71,9 @@ tied_table_given = say (λ κs a. tt) (λ κs a r ws p. p)
 
 pub tied_given_only : Says turned_down-said.given_only.ended turned_down.given_only.Reads.Asked turned_down.given_only.Reads.Post (λ κs a r ws. ((samples : List Sampled) (numbers : List ℕ) (room size : ℕ) → Ok size ≡ table_size samples numbers room → (j : ℕ) → j < length numbers → (1 ≤ get_or numbers j 0) × (get_or numbers j 0 < 4096)) × ((samples : List Sampled) (numbers : List ℕ) (room size : ℕ) → Ok size ≡ table_size samples numbers room → (i : ℕ) (s : Sampled) → i < length samples → is_err (count_others (get_or samples i s).page) ≡ false) × ((samples : List Sampled) (numbers : List ℕ) (room size : ℕ) → Ok size ≡ table_size samples numbers room → (i : ℕ) (s : Sampled) → i + 1 < length samples → (get_or samples i s).hour ≤ (get_or samples (i + 1) s).hour) × ((samples : List Sampled) (numbers : List ℕ) (room size : ℕ) → Ok size ≡ table_size samples numbers room → length (table samples numbers) ≤ room) × ((samples : List Sampled) (numbers : List ℕ) (room size : ℕ) → Ok size ≡ table_size samples numbers room → size ≡ length (table samples numbers)))
 tied_given_only = say (λ κs a. tt) (λ κs a r ws p. (p.0, p.1.0, p.1.1.0, p.1.1.1.0, p.1.1.1.1))
+
+pub tied_line_counted : Says lines-said.line_counted.ended lines.line_counted.Reads.Asked lines.line_counted.Reads.Post (λ κs a r ws. (shelf : Shelved) (text : List ℕ) (before : List (List ℕ)) (line : List ℕ) (after : List (List ℕ)) (why : List ℕ) → lines_of text ≡ before ++ line ∷ after → ((k : ℕ) → k < length before → (s : Sampled) × MayTell shelf (entry_of (get_or before k [])) (Ok s)) → MayTell shelf (entry_of line) (Err why) → SamplesOf shelf text (Err (line_said shelf (length before + 1) (entry_of line) why)))
+tied_line_counted = say (λ κs a. tt) (λ κs a r ws p. p)
+
+pub tied_line_worded : Says lines-said.line_worded.ended lines.line_worded.Reads.Asked lines.line_worded.Reads.Post (λ κs a r ws. ((why : List ℕ) → line_said None 17 (Ok (4711, [])) why ≡ codes "line 17, hour 4711: " ++ why) × ((holds : List ℕ → Option (Option (List ℕ))) → line_said (Some holds) 3 (Ok (100, codes "a\u{1b}.page")) (codes "x") ≡ codes "line 3, hour 100, page a\\x1b.page: x") × ((why : List ℕ) → line_said None 1 (Err why) why ≡ codes "line 1: " ++ why))
+tied_line_worded = say (λ κs a. tt) (λ κs a r ws p. (p.0, p.1.0, p.1.1))
