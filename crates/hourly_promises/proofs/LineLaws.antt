@@ -1,12 +1,12 @@
 -- The number of the first line that tells no sample, and the words of a line. Assumes nothing.
-use Rattle.std.proofs.Common.{◌≡◌, refl, sym, ap, ◌∙◌, subst, ℕ, suc, ◌+◌, ◌<◌, List, [], ◌∷◌, ◌++◌, length, get_or, codes, Option, Some, None, Ok, Err, arith, add-one, zero-lt-suc, suc-le-suc}
+use Rattle.std.proofs.Common.{◌≡◌, refl, sym, subst, ℕ, suc, ◌+◌, ◌<◌, List, [], ◌∷◌, ◌++◌, length, get_or, codes, Option, Some, None, Ok, Err, arith, zero-lt-suc, suc-le-suc}
 use Rattle.std.specs.Fmt.{digits}
 use Rattle.hourly_table.specs.Samples.{Sampled}
 use Rattle.hourly_run.specs.Entries.{entry_of}
 use Rattle.hourly_run.specs.Lines.{lines_of}
 use Rattle.hourly_run.specs.Pages.{Shelved}
 use Rattle.hourly_run.specs.Said.{line_said}
-use Rattle.hourly_run.specs.Samples.{Told, MayTell, SamplesIn, SamplesOf}
+use Rattle.hourly_run.specs.Samples.{MayTell, SamplesIn, SamplesOf}
 use Rattle.hourly_run.specs.Shown.{shown}
 
 counted : (shelf : Shelved) (n : ℕ) (before : List (List ℕ)) (line : List ℕ) (after : List (List ℕ)) (why : List ℕ) → ((k : ℕ) → k < length before → (s : Sampled) × MayTell shelf (entry_of (get_or before k [])) (Ok s)) → MayTell shelf (entry_of line) (Err why)

@@ -1,6 +1,5 @@
 -- What an input tells is one thing: of lines of hex whatever it is, and of files whose bytes are known wherever it is a table.
 use Rattle.std.proofs.Common.{◌≡◌, refl, sym, ap, ◌∙◌, subst, ℕ, ◌+◌, true, List, [], ◌∷◌, is_some, inl, inr, take, Option, Some, None, Result, Ok, Err}
-use Rattle.std.specs.Str.{IsUtf8}
 use Rattle.hourly_table.specs.Samples.{Sampled}
 use Rattle.page_text.specs.Opened.{Agrees}
 use Rattle.hourly_run.specs.Entries.{Entry, entry_of}

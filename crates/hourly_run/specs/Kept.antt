@@ -1,5 +1,5 @@
 -- Samples that own their pages: how the code keeps them, and no part of what is owed.
-use Rattle.std.specs.Prelude.{ℕ, List, Vec, map, Option, Result, Ok, Err}
+use Rattle.std.specs.Prelude.{ℕ, List, Vec, map, Result, Ok, Err}
 use Rattle.std.specs.Borrow.{Bor}
 use Rattle.hourly_table.specs.Samples.{Sampled}
 use Rattle.hourly_table.specs.declared.reasons.TableRefusal.{TableRefusal}

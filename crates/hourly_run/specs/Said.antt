@@ -1,5 +1,5 @@
 -- What is said on standard error, a line.
-use Rattle.std.specs.Prelude.{ℕ, List, [], ◌++◌, codes, decimal, Option, Some, None, Result, Ok, Err}
+use Rattle.std.specs.Prelude.{ℕ, List, [], ◌++◌, codes, decimal, Some, None, Ok, Err}
 use Rattle.hourly_run.specs.Entries.{Entry}
 use Rattle.hourly_run.specs.Pages.{Shelved}
 use Rattle.hourly_run.specs.Shown.{shown}

@@ -1,5 +1,5 @@
 -- Which sample a refusal is about: of samples and of their values the same.
-use Rattle.std.proofs.Common.{◌≡◌, refl, sym, ap, ◌∙◌, ℕ, suc, ◌+◌, ◌<◌, Bool, true, false, ltb, min, List, [], ◌∷◌, length, drop, map, arith, ⊎_elim, IfSome, Option, Some, None}
+use Rattle.std.proofs.Common.{◌≡◌, refl, sym, ap, ◌∙◌, ℕ, ◌+◌, ◌<◌, Bool, true, false, List, [], ◌∷◌, length, drop, map, arith, ⊎_elim, IfSome, Option, Some, None}
 use Rattle.std.proofs.lemmas.List.{length-map}
 use Rattle.std.specs.List.{zip, position, position_or_len}
 use Rattle.std.proofs.lemmas.List.Quantifiers.{position-Some}

@@ -1,4 +1,4 @@
-use Rattle.std.proofs.Common.{◌≡◌, sym, ap, ◌∙◌, ◌<◌, ℕ, length, map, get_or, arith}
+use Rattle.std.proofs.Common.{sym, ap, ◌∙◌, ◌<◌, ℕ, length, map, arith}
 use Rattle.std.proofs.lemmas.List.{get_or-map, length-map}
 use Rattle.hourly_table.specs.Samples.{Sampled, sampled}
 use Rattle.hourly_table.specs.declared.samples.Sample.{Sample}

@@ -1,4 +1,4 @@
-use Rattle.std.proofs.Common.{◌≡◌, sym, ap, ap₂, ◌∙◌, List, ℕ, [], ◌∷◌, ◌++◌, append_assoc, decimal}
+use Rattle.std.proofs.Common.{sym, ap, ap₂, ◌∙◌, List, ℕ, [], ◌∷◌, ◌++◌, append_assoc, decimal}
 use Rattle.hourly_table.specs.Refused.{table_number}
 use Rattle.hourly_run.specs.Blamed.{refusal_words}
 use Rattle.hourly_run.proofs.Came.{ok_so}

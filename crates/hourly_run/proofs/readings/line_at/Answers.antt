@@ -1,4 +1,4 @@
-use Rattle.std.proofs.Common.{◌≡◌, sym, ap, ◌∙◌, subst, ◌-◌, ℕ, [], length, get_or, eqb-true, arith}
+use Rattle.std.proofs.Common.{sym, ◌∙◌, ◌-◌, length, eqb-true}
 use Rattle.hourly_run.specs.Lines.{lines_of}
 use Rattle.hourly_run.proofs.Cutting.{at_none, at_more, at_first}
 use Rattle.hourly_run.proofs.readings.line_at.Goals as goal

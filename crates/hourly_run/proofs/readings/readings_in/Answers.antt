@@ -1,10 +1,9 @@
-use Rattle.std.proofs.Common.{◌≡◌, sym, ap, ◌∙◌, subst, map, List, [], ◌∷◌, ◌+◌, ℕ, length, Result, Ok, Err, eqb-true, arith}
+use Rattle.std.proofs.Common.{◌≡◌, sym, ap, ◌∙◌, subst, map, List, [], ◌∷◌, ◌+◌, ℕ, length, Result, Err, eqb-true, arith}
 use Rattle.std.proofs.lemmas.List.{map-append, length-map}
 use Rattle.hourly_table.specs.Samples.{Sampled}
 use Rattle.hourly_run.specs.Entries.{entry_of}
 use Rattle.hourly_run.specs.Kept.{reading, reading_told}
 use Rattle.hourly_run.specs.Pages.{shelved}
-use Rattle.hourly_run.specs.Said.{line_said}
 use Rattle.hourly_run.specs.Samples.{MayTell, SamplesOf}
 use Rattle.hourly_run.proofs.Cutting.{Begins, line_more, line_bad, lines_all}
 use Rattle.hourly_run.proofs.readings.readings_in.Goals as goal

@@ -1,5 +1,5 @@
-use Rattle.std.proofs.Common.{◌≡◌, sym, ap, ◌∙◌, ℕ, List, [], ◌∷◌, ◌++◌, take, drop, append_assoc, append-nil, arith}
-use Rattle.std.specs.Char.Iter.{escape_byte_rest, escape_byte_end}
+use Rattle.std.proofs.Common.{◌≡◌, sym, ap, ◌∙◌, ℕ, List, [], ◌∷◌, ◌++◌, take, drop, append_assoc, append-nil}
+use Rattle.std.specs.Char.Iter.{escape_byte_rest}
 use Rattle.hourly_run.proofs.saying.push_escaped.Goals as goal
 
 pub loop-c-init : goal.loop-c-init

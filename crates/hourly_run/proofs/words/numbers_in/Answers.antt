@@ -1,8 +1,8 @@
-use Rattle.std.proofs.Common.{◌≡◌, sym, ap, ◌∙◌, ◌<◌, ◌≤◌, ℕ, List, [], ◌∷◌, ◌++◌, length, map, get_or, drop, Some, None, Err, arith}
+use Rattle.std.proofs.Common.{sym, ◌∙◌, ◌<◌, ◌≤◌, ℕ, List, [], length, map, get_or, arith}
 use Rattle.std.specs.Borrow.{Bor}
 use Rattle.std.proofs.lemmas.List.{get_or-map, length-map}
-use Rattle.hourly_run.specs.Numbers.{number_of, numbers_in}
-use Rattle.hourly_run.proofs.HexNumbers.{none_behind, behind_numbers, word_more, word_none, words_all}
+use Rattle.hourly_run.specs.Numbers.{numbers_in}
+use Rattle.hourly_run.proofs.HexNumbers.{none_behind, word_more, word_none, words_all}
 use Rattle.hourly_run.proofs.words.numbers_in.Goals as goal
 
 abbrev now : Bor (List ℕ) → List ℕ

@@ -1,4 +1,4 @@
-use Rattle.std.proofs.Common.{sym, ap, ◌∙◌, ◌+◌, ◌<◌, length, map, suc, add-one, arith}
+use Rattle.std.proofs.Common.{sym, ap, ◌∙◌, ◌+◌, ◌<◌, length, suc, add-one, arith}
 use Rattle.std.specs.Option.{option_map}
 use Rattle.hourly_table.specs.Samples.{sampled}
 use Rattle.hourly_table.specs.Places.{refused_so}
