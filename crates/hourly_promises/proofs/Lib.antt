@@ -10,3 +10,4 @@ pub mod Given
 pub mod LineLaws
 pub mod Promised
 pub mod Tied
+pub mod Blames

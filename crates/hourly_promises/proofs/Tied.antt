@@ -15,6 +15,11 @@ use Rattle.hourly_table.specs.Table.{hours_of, table, table_size, table_tests}
 use Rattle.csv.specs.Reading.{default_config, records}
 use Rattle.csv.specs.Writing.{row_text}
 use Rattle.hourly_promises.specs.Csv.{AllHours, crlf_writer, fields_of, header_fields, records_of}
+use Rattle.refusals.specs.declared.reasons.Refusal.TheVariants.{PageLength, PageSum, PageDamaged}
+use Rattle.pages.specs.Sum.{sum256}
+use Rattle.hourly_table.specs.Places.{place_of}
+use Rattle.hourly_table.specs.declared.reasons.TableRefusal.TheVariants.{Reading, HourBackwards}
+use Rattle.hourly_promises.specs.Firsts.{FirstSo, FirstFall, RefusedFor}
 use Rattle.bits.specs.Contract.{Says}
 use Rattle.bits.proofs.Tying.{say}
 use Rattle.hourly_promises.proofs.fields
@@ -77,3 +82,6 @@ tied_line_counted = say (λ κs a. tt) (λ κs a r ws p. p)
 
 pub tied_line_worded : Says lines-said.line_worded.ended lines.line_worded.Reads.Asked lines.line_worded.Reads.Post (λ κs a r ws. ((why : List ℕ) → line_said None 17 (Ok (4711, [])) why ≡ codes "line 17, hour 4711: " ++ why) × ((holds : List ℕ → Option (Option (List ℕ))) → line_said (Some holds) 3 (Ok (100, codes "a\u{1b}.page")) (codes "x") ≡ codes "line 3, hour 100, page a\\x1b.page: x") × ((why : List ℕ) → line_said None 1 (Err why) why ≡ codes "line 1: " ++ why))
 tied_line_worded = say (λ κs a. tt) (λ κs a r ws p. (p.0, p.1.0, p.1.1))
+
+pub tied_first_blamed : Says turned_down-said.first_blamed.ended turned_down.first_blamed.Reads.Asked turned_down.first_blamed.Reads.Post (λ κs a r ws. ((samples : List Sampled) (numbers : List ℕ) (room : ℕ) → Err (Reading PageLength) ≡ table_size samples numbers room → FirstSo samples (λ s. length s.page ≡ 512 → ⊥) (place_of samples numbers (Reading PageLength))) × ((samples : List Sampled) (numbers : List ℕ) (room : ℕ) → Err (Reading PageSum) ≡ table_size samples numbers room → FirstSo samples (λ s. sum256 s.page ≡ 0 → ⊥) (place_of samples numbers (Reading PageSum))) × ((samples : List Sampled) (numbers : List ℕ) (room : ℕ) → Err (Reading PageDamaged) ≡ table_size samples numbers room → FirstSo samples (λ s. RefusedFor numbers s.page) (place_of samples numbers (Reading PageDamaged))) × ((samples : List Sampled) (numbers : List ℕ) (room : ℕ) → Err HourBackwards ≡ table_size samples numbers room → FirstFall samples (place_of samples numbers HourBackwards)))
+tied_first_blamed = say (λ κs a. tt) (λ κs a r ws p. (p.0, p.1.0, p.1.1.0, p.1.1.1))

@@ -1,12 +1,17 @@
 // Of the refusals of the table.
 #![tactic(auto, using(crate::proofs::Promised::refusals))]
 
-ghost use Rattle.std.specs.Prelude.{◌≡◌, ◌+◌, ◌<◌, ◌≤◌, false, ℕ, List, length, get_or, is_err, Ok};
+ghost use Rattle.std.specs.Prelude.{◌≡◌, ◌+◌, ◌<◌, ◌≤◌, false, ℕ, List, length, get_or, is_err, Ok, Err};
+ghost use Rattle.refusals.specs.declared.reasons.Refusal.TheVariants.{PageLength, PageSum, PageDamaged};
+ghost use Rattle.pages.specs.Sum.{sum256};
 ghost use Rattle.pages.specs.Read11.{read_counter};
 ghost use Rattle.pages.specs.Others11.{count_others};
 ghost use Rattle.hourly_table.specs.Samples.{Sampled};
 ghost use Rattle.hourly_table.specs.Refused.{FirstGiven, first_refusal};
+ghost use Rattle.hourly_table.specs.Places.{place_of};
 ghost use Rattle.hourly_table.specs.Table.{table, table_tests, table_size};
+ghost use Rattle.hourly_table.specs.declared.reasons.TableRefusal.TheVariants.{Reading, HourBackwards};
+ghost use Rattle.hourly_promises.specs.Firsts.{FirstSo, FirstFall, RefusedFor};
 
 /// 20, 23, 21, 22, 70 and 71 are each given exactly when their test holds and none in front of it does, and none exactly
 /// when none holds.
@@ -33,4 +38,13 @@ pub fn given_only()
     ensures hours { (samples : List Sampled) (numbers : List ℕ) (room size : ℕ) → Ok size ≡ table_size samples numbers room → (i : ℕ) (s : Sampled) → i + 1 < length samples → (get_or samples i s).hour ≤ (get_or samples (i + 1) s).hour }
     ensures fits { (samples : List Sampled) (numbers : List ℕ) (room size : ℕ) → Ok size ≡ table_size samples numbers room → length (table samples numbers) ≤ room }
     ensures size { (samples : List Sampled) (numbers : List ℕ) (room size : ℕ) → Ok size ≡ table_size samples numbers room → size ≡ length (table samples numbers) }
+{}
+
+/// Which sample a refusal is about, as it is said: the first whose page is not 512 bytes long (20), has a wrong sum (21), or is
+/// refused by a reader, by itself or for a number asked (22); or the first of a lower hour than the one before it (70).
+pub fn first_blamed()
+    ensures length { (samples : List Sampled) (numbers : List ℕ) (room : ℕ) → Err (Reading PageLength) ≡ table_size samples numbers room → FirstSo samples (λ s. length s.page ≡ 512 → ⊥) (place_of samples numbers (Reading PageLength)) }
+    ensures sum { (samples : List Sampled) (numbers : List ℕ) (room : ℕ) → Err (Reading PageSum) ≡ table_size samples numbers room → FirstSo samples (λ s. sum256 s.page ≡ 0 → ⊥) (place_of samples numbers (Reading PageSum)) }
+    ensures damage { (samples : List Sampled) (numbers : List ℕ) (room : ℕ) → Err (Reading PageDamaged) ≡ table_size samples numbers room → FirstSo samples (λ s. RefusedFor numbers s.page) (place_of samples numbers (Reading PageDamaged)) }
+    ensures fall { (samples : List Sampled) (numbers : List ℕ) (room : ℕ) → Err HourBackwards ≡ table_size samples numbers room → FirstFall samples (place_of samples numbers HourBackwards) }
 {}

@@ -15,7 +15,7 @@ use Rattle.hourly_table.proofs.Sizes.{given}
 use Rattle.hourly_table.proofs.Sorted.{rising}
 
 -- where none of a list passes, that at a place does not
-none_at : {A : Type 0} (p : A → Bool) (xs : List A) → list_any p xs ≡ false → (k : ℕ) (d : A) → k < length xs → p (get_or xs k d) ≡ false
+pub none_at : {A : Type 0} (p : A → Bool) (xs : List A) → list_any p xs ≡ false → (k : ℕ) (d : A) → k < length xs → p (get_or xs k d) ≡ false
 none_at p [] e k d h = absurd (not-suc-le-zero h)
 none_at p (x ∷ xs) e zero d h = or_left (p x) (list_any p xs) e
 none_at p (x ∷ xs) e (suc k) d h = none_at p xs (or_right (p x) (list_any p xs) e) k d (le_of_suc-le-suc h)
