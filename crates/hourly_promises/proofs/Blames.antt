@@ -1,4 +1,4 @@
--- The sample that a refusal is about is the first of which it is so. Assumes nothing.
+-- The sample that a refusal is about is the first of which it is so.
 use Rattle.std.proofs.Common.{◌≡◌, refl, sym, ap, ap₂, ◌∙◌, subst, ℕ, zero, suc, ◌+◌, ◌==◌, ◌<◌, Bool, true, false, not, ◌||◌, eqb, ne_eqb, ltb, lt-ltb, ltb-true, ltb-false, add-one, drop, List, [], ◌∷◌, length, get_or, Some, Err, arith, lit<, zero-lt-suc, suc-le-suc, is_err, inl, inr, ⊎_elim}
 use Rattle.std.specs.List.{list_any, position, position_or_len, zip}
 use Rattle.std.specs.Option.{option_map}

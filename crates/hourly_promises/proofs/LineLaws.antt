@@ -1,4 +1,4 @@
--- The number of the first line that tells no sample, and the words of a line. Assumes nothing.
+-- The number of the first line that tells no sample, and the words of a line.
 use Rattle.std.proofs.Common.{◌≡◌, refl, sym, subst, ℕ, suc, ◌+◌, ◌<◌, List, [], ◌∷◌, ◌++◌, length, get_or, codes, Option, Some, None, Ok, Err, arith, zero-lt-suc, suc-le-suc}
 use Rattle.std.specs.Fmt.{digits}
 use Rattle.hourly_table.specs.Samples.{Sampled}

@@ -1,4 +1,4 @@
--- The first of some samples of which something is so. Assumes nothing.
+-- The first of some samples of which something is so.
 use Rattle.std.specs.Prelude.{◌≡◌, ◌⊎◌, ℕ, ◌+◌, ◌<◌, ◌≤◌, true, is_err, List, length, get_or, Option, Some}
 use Rattle.pages.specs.Read11.{read_counter}
 use Rattle.pages.specs.Others11.{count_others}
