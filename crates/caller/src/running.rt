@@ -9,6 +9,9 @@ use std::io::{BufReader, Read, Write};
 use streams::Watched;
 
 /// The run of an event file.
+///
+/// # Errors
+/// Those of `events::run`.
 pub fn run<R: Read, W: Write>(
     traced: bool,
     reader: &mut Watched<BufReader<R>>,

@@ -43,7 +43,7 @@ abbrev pub Ran : Bool → (known left : Option (List ℕ)) → (input output : B
 Ran traced known left input false old new r = EndsWith traced known left input r (Appends old new)
 Ran traced known left input true old new r = IsLost r × (((input ≡ false) × WroteSoFar traced known left (AppendsFront old new)) ⊎ ((end : Result InputEnd RunError) × EndsWith traced known left input end (AppendsFront old new)))
 
--- the exit status of a program by its run: 0 where all was played, 1 behind `stop` and refused settings, and else that of the error [event-status]
+-- the exit status of a program by its run: 0 where all was played, 1 behind the `stop` of an input that ended in no event and refused settings, and else that of the error [event-status]
 abbrev pub run_status : Result InputEnd RunError → ℕ
 run_status (Ok ends.Clean) = 0
 run_status (Ok ends.NoEvent) = 1

@@ -42,8 +42,8 @@ pub fn run_aloud<R: Read, W: Write, E: Write>(
     ended
 }
 
-/// The exit status of a program whose run ended so: 0 where all was played, 1 behind `stop` and behind refused settings, and else
-/// that of the error.
+/// The exit status of a program whose run ended so: 0 where all was played, 1 behind the `stop` of an input that ended in no event
+/// and behind refused settings, and else that of the error.
 pub fn exit_status(run: &Result<InputEnd, RunError>) -> u8
     ensures { result ≡ run_status run.now }
 {

@@ -17,8 +17,8 @@ pub struct Ended {
 }
 
 impl Ended {
-    /// The exit status of a program whose run ended so: 0 where the input ended, also in no event or behind refused settings; 3
-    /// where a read failed, or the line numbers are used up; 4 where lines are missing.
+    /// The exit status of a program whose scripts ended so: 0 where the input ended, 3 where a read failed or the lines are too many,
+    /// 4 where lines are missing.
     pub fn exit_status(&self) -> u8
         ensures { result ≡ exit_status_of self.now.run }
     {

@@ -80,7 +80,12 @@ fn start_with<R: Read, W: Write>(
     play_on(traced, reader, out, lines, &mut bench)
 }
 
-/// Runs an event file: a line for each event, and `stop` where the input ends in no event.
+/// Runs an event file: a line for each event, and `stop` where the input ends in no event. Of a reader or a writer that had failed
+/// before nothing is promised.
+///
+/// # Errors
+/// `Output` exactly where a write failed: lines are missing. `Input` where a read failed and no write did, and `TooMany` where the
+/// line numbers are used up: `stop` is written then.
 pub fn run<R: Read, W: Write>(
     traced: bool,
     reader: &mut Watched<BufReader<R>>,

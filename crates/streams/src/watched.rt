@@ -148,7 +148,8 @@ impl<W: Write> Watched<W> {
     /// All of a text, or a front of it that is not all.
     ///
     /// # Errors
-    /// The writer's, exactly where a write fails.
+    /// The writer's, but for `ErrorKind::Interrupted`; `ErrorKind::WriteZero` where a write takes nothing; `ErrorKind::TimedOut`
+    /// where `u64::MAX` writes have not sufficed. A front of the text is written then, and not all of it.
     #[tactic(auto, using(crate::proofs::Pieces::writes))]
     pub fn put(&mut self, text: &[u8]) -> io::Result<()>
         ensures ok { OnOk result (Appends (W.contents self.old.inner) (W.contents self.new.inner) text.now) }
