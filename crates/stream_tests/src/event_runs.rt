@@ -164,3 +164,20 @@ fn whole_lines(rt: HostRuntime) {
         assert!(rt; out.bytes.len() > 65536);
     }
 }
+
+// The write of `stop` alone: the lines before it stand, and nothing behind them.
+#[test]
+fn a_stop_that_is_lost(rt: HostRuntime) {
+    let mut out = Sink::new(rt.alloc(), 5);
+    let mut errors = Sink::new(rt.alloc(), u64::MAX);
+    assert_eq!(rt;
+        run(rt.alloc(), false, 5, EVENTS, false, &mut out, &mut errors),
+        4
+    );
+    assert!(rt; out.failed_last());
+    assert_eq!(rt; out.bytes.as_slice(), LINES.as_bytes());
+    assert_eq!(rt;
+        errors.bytes.as_slice(),
+        "output failed: lines are missing\n".as_bytes()
+    );
+}
