@@ -1,5 +1,5 @@
 -- What each contract of a caller says. The answer itself is said by the contract of the device's call, which is tied there.
-use Rattle.std.proofs.Common.{◌≡◌, false, [], IfSome}
+use Rattle.std.proofs.Common.{◌≡◌, false, []}
 use Rattle.bits.specs.Contract.{Says, SaysOver}
 use Rattle.bits.proofs.Tying.{say}
 use Rattle.rules.specs.Call.{host_frame, happens}

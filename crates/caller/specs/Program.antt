@@ -1,5 +1,5 @@
 -- What the event program plays, event by event, and the calls of the device that are made.
-use Rattle.std.specs.Prelude.{◌≡◌, Bool, true, false, List, [], ◌∷◌, ◌++◌, ℕ, ◌+◌, Option, Some}
+use Rattle.std.specs.Prelude.{◌≡◌, Bool, true, false, List, [], ◌∷◌, ℕ, ◌+◌, Some}
 use Rattle.refusals.specs.declared.reasons.Refusal.TheVariants.{Contradiction}
 use Rattle.device_state.specs.declared.shapes.Settings.{Settings}
 use Rattle.device.specs.Device.{zero_device, power_on}
