@@ -14,7 +14,7 @@ use Rattle.rules.proofs.Ruled as by
 use Rattle.rules.specs.declared.acts.Act.{Act}
 use Rattle.rules.specs.declared.acts.Act.TheVariants.{Nothing, Bad, BadAndHalt, Accept, Log10, Log11, Identify, Reset, Release, ZeroCounters, Store, Open, Send, Finish, Media, Count, Renew}
 use Rattle.replies.specs.Replies.{replies_of}
-use Rattle.replies.specs.declared.shown.Shown.{Shown}
+use Rattle.replies.specs.StateShown.{StateShown}
 use Rattle.device.specs.Lent.{Lent}
 use Rattle.device.specs.FactsOf.{facts_with, tag_meant, medium_wrong, unready_in, facts_of}
 use Rattle.device.specs.After.{after_of}
@@ -83,7 +83,7 @@ part_by (Err r) m = []
 part_by (Ok a) m = part_of a m
 
 -- the replies, with such a part
-abbrev pub frames_by : Shown → List ℕ → Result Act Refusal → List FrameValue
+abbrev pub frames_by : StateShown → List ℕ → Result Act Refusal → List FrameValue
 frames_by s p (Err r) = []
 frames_by s p (Ok a) = replies_of s p a
 
@@ -117,7 +117,7 @@ frames_veiled d l o =
     frames_are_veiled d l ∙ ap (λ (p : List ℕ). frames_by (state_shown d) p x) (none (veil l).medium ∙ sym (none l.medium)) ∙ sym (frames_are d l)
 
 -- a send replies nothing, or one data frame
-send_by : (P : List FrameValue → Type 0) → P [] → ((p : List ℕ) → P (payload p ∷ [])) → (s : Shown) (v : Facts) (p : List ℕ) {c : Call} {x : Result Act Refusal} → by.Ruled v c x → is_send c ≡ true → P (frames_by s p x)
+send_by : (P : List FrameValue → Type 0) → P [] → ((p : List ℕ) → P (payload p ∷ [])) → (s : StateShown) (v : Facts) (p : List ℕ) {c : Call} {x : Result Act Refusal} → by.Ruled v c x → is_send c ≡ true → P (frames_by s p x)
 unfolding is_send replies_of
 send_by P none one s v p (by.refused c r e) o = none
 send_by P none one s v p (by.host f a g w t h) o = absurd (true≢false (sym o))
@@ -141,7 +141,7 @@ part_long (Err r) m n e = refl
 part_long (Ok a) m n e = sent_long (touch_of a) m n e
 
 -- of every act the replies are the same whatever part is sent, but for the one data frame of a send
-pub by_part : (R : List FrameValue → List FrameValue → Type 0) (s : Shown) (p q : List ℕ) → ((fs : List FrameValue) → R fs fs) → R (payload p ∷ []) (payload q ∷ []) → (a : Act) → R (replies_of s p a) (replies_of s q a)
+pub by_part : (R : List FrameValue → List FrameValue → Type 0) (s : StateShown) (p q : List ℕ) → ((fs : List FrameValue) → R fs fs) → R (payload p ∷ []) (payload q ∷ []) → (a : Act) → R (replies_of s p a) (replies_of s q a)
 unfolding replies_of
 by_part R s p q same sent (Send k) = sent
 by_part R s p q same sent Nothing = same _
@@ -162,7 +162,7 @@ by_part R s p q same sent (Count r) = same _
 by_part R s p q same sent Renew = same _
 
 -- the same of what a call comes to
-by_sent : (R : List FrameValue → List FrameValue → Type 0) (s : Shown) (p q : List ℕ) → ((fs : List FrameValue) → R fs fs) → R (payload p ∷ []) (payload q ∷ []) → (x : Result Act Refusal) → R (frames_by s p x) (frames_by s q x)
+by_sent : (R : List FrameValue → List FrameValue → Type 0) (s : StateShown) (p q : List ℕ) → ((fs : List FrameValue) → R fs fs) → R (payload p ∷ []) (payload q ∷ []) → (x : Result Act Refusal) → R (frames_by s p x) (frames_by s q x)
 by_sent R s p q same sent (Err r) = same []
 by_sent R s p q same sent (Ok a) = by_part R s p q same sent a
 

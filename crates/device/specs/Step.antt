@@ -10,7 +10,7 @@ use Rattle.rules.specs.declared.acts.Act.{Act}
 use Rattle.device_state.specs.declared.shapes.Settings.{Settings}
 use Rattle.identity.specs.declared.words.Identity.{Identity}
 use Rattle.replies.specs.Replies.{replies_of, sent_all}
-use Rattle.replies.specs.declared.shown.Shown.{Shown}
+use Rattle.replies.specs.StateShown.{StateShown}
 use Rattle.device.specs.Lent.{Lent, lent, Gave, gave, frame_in}
 use Rattle.device.specs.FactsOf.{facts_of}
 use Rattle.device.specs.After.{after_of}
@@ -29,7 +29,7 @@ abbrev pub identity_told : Settings → Identity
 identity_told s = record { depth = s.depth; capacity = s.capacity }
 
 -- what replies show of a device
-abbrev pub state_shown : Device → Shown
+abbrev pub state_shown : Device → StateShown
 state_shown d = record { halted = d.status.halted; identity = identity_told d.settings; mask = d.settings.mask; errors = d.errors; values = d.values }
 
 -- what is left behind, with what was lent: refused, all as it was and no reply; else by the act [unchanged]

@@ -7,6 +7,7 @@ ghost use Rattle.rules.specs.Handed.{handed};
 ghost use Rattle.rules.specs.Call.{host_frame, happens};
 ghost use Rattle.rules.specs.declared.event.DeviceEvent.TheVariants.{OpenPhase, SendData, FinishTags, MediaError, LinkEvent, LinkTally, Comreset};
 ghost use Rattle.replies.specs.Replies.{replies_of, RepliesGiven};
+ghost use Rattle.replies.specs.StateShown.{state_lent};
 ghost use Rattle.device.specs.Device.{power_on};
 ghost use Rattle.device.specs.Lent.{lent, gave, answered};
 ghost use Rattle.device.specs.FactsOf.{entry_meant, medium_wrong, facts_with, unready_in};
@@ -41,7 +42,7 @@ impl Device {
 
     // What replies show.
     fn shown(&self) -> Shown<'_>
-        ensures { result ≡ state_shown self.now }
+        ensures { state_lent result ≡ state_shown self.now }
     {
         Shown {
             halted: self.status.halted,

@@ -17,7 +17,7 @@ use Rattle.frames.specs.Pages.{page_named}
 use Rattle.rules.specs.Decide.{page_asked, log_page, other_act}
 use Rattle.rules.specs.declared.facts.Facts.{Facts}
 use Rattle.replies.specs.Replies.{replies_of, page10_of, page11_of, identity_of}
-use Rattle.replies.specs.declared.shown.Shown.{Shown}
+use Rattle.replies.specs.StateShown.{StateShown}
 use Rattle.history.specs.Answered.{answered_bad, sweep_reply, page_replies, well_formed}
 
 -- what it is answered: an error waits, or not; it is a well-formed READ LOG EXT of page 10h, of 11h; it is IDENTIFY DEVICE; something is outstanding; and the three pages
@@ -31,7 +31,7 @@ other_by waiting ten eleven identity busy task errors counters told =
 pub same_other : (x y : Bool) {a b c d e f i j : Bool} {k l m n o z : List ℕ} (task : Task) → x ≡ y → a ≡ b → c ≡ d → i ≡ j → e ≡ f → k ≡ l → m ≡ n → o ≡ z → other_by x a c i e task k m o ≡ other_by y b d j f task l n z
 same_other x y task p q r s t u v w = rw (p, q, r, s, t, u, v, w) refl
 
-module _ (v : Facts) (s : Shown) (part : List ℕ) (h : HostReg) (same : s.halted ≡ v.status.halted) (fit : task_fits h.task ≡ true) where
+module _ (v : Facts) (s : StateShown) (part : List ℕ) (h : HostReg) (same : s.halted ≡ v.status.halted) (fit : task_fits h.task ≡ true) where
   abbrev Answer : Bool → Bool → Bool → Bool → Bool → Type 0
   Answer x ten eleven identity busy = replies_of s part (other_act v h) ≡ other_by x ten eleven identity busy h.task (page10_of s.errors) (page11_of s.mask s.values) (identity_of s.identity)
 

@@ -9,7 +9,7 @@ use Rattle.frames.specs.declared.shapes.HostReg.{HostReg}
 use Rattle.frames.specs.declared.shapes.Frame.TheVariants as fs
 use Rattle.pages.specs.Page10.{read_log}
 use Rattle.replies.specs.Replies.{log_replies, activate_if, page10_of}
-use Rattle.replies.specs.declared.shown.Shown.{Shown}
+use Rattle.replies.specs.StateShown.{StateShown}
 use Rattle.history.specs.FrameAsks.{asks_page}
 use Rattle.history.specs.FrameReading.{frame_asks}
 use Rattle.history.specs.Replied.{FrameRead, some, set_bits_in, collect}
@@ -36,7 +36,7 @@ pub mild : (f : FrameRead) (rs : List FrameValue) → some_bits rs ≡ false →
 mild f rs a b = record { swept = λ x. absurd (false≢true (sym a ∙ x)); tells = λ x. absurd (false≢true (sym a ∙ x)); paged = λ x. absurd (false≢true (sym b ∙ x)) }
 
 -- page 10h tells an error
-abbrev pub Telling : Shown → Type 0
+abbrev pub Telling : StateShown → Type 0
 Telling s = TellsError (read_log (page10_of s.errors))
 
 -- page 10h, with or without the sweep

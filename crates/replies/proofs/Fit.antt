@@ -8,7 +8,7 @@ use Rattle.pages.specs.Page10.{fits10}
 use Rattle.counters.specs.Rows.{keeps_both}
 use Rattle.identity.specs.Words.{fits_identity}
 use Rattle.device_state.specs.State.{placed_bytes}
-use Rattle.replies.specs.declared.shown.Shown.{Shown}
+use Rattle.replies.specs.StateShown.{StateShown}
 use Rattle.rules.specs.declared.acts.Act.{Act}
 use Rattle.rules.specs.declared.acts.Act.TheVariants.{Bad, BadAndHalt, Accept, Log10, Log11, Identify, Open, Send, Finish, Media}
 use Rattle.replies.specs.Replies.{log_of}
@@ -19,7 +19,7 @@ Fitting [] = Unit
 Fitting (f ∷ fs) = (fits f ≡ true) × Fitting fs
 
 -- by the act; where the replies are the same whatever it holds, nothing is asked
-unfoldable pub Fit : Shown → List ℕ → Act → Type 0
+unfoldable pub Fit : StateShown → List ℕ → Act → Type 0
 Fit s part (Bad b) = (b.error < 256) × (task_fits b.task ≡ true)
 Fit s part (BadAndHalt f) = (f.error < 256) × Bytes (placed_bytes f.echo)
 Fit s part (Accept q) = Bytes (placed_bytes q.entry.echo)

@@ -22,7 +22,7 @@ use Rattle.identity.proofs.Standing as standing
 use Rattle.device_state.specs.State.{placed_bytes, task_in, whole_of}
 use Rattle.device_state.specs.declared.shapes.Echo.{Echo}
 use Rattle.device_state.specs.declared.shapes.ErrorRecord.{ErrorRecord}
-use Rattle.replies.specs.declared.shown.Shown.{Shown}
+use Rattle.replies.specs.StateShown.{StateShown}
 use Rattle.rules.specs.declared.acts.Act.{Act}
 use Rattle.rules.specs.declared.acts.Act.TheVariants.{Nothing, Bad, BadAndHalt, Accept, Log10, Log11, Identify, Reset, Release, ZeroCounters, Store, Open, Send, Finish, Media, Count, Renew}
 use Rattle.replies.specs.Replies.{register, activate_if, pio_reply, log_of, page10_of, page11_of, identity_of, log_replies, replies_of, sent_bytes, sent_all, RepliesGiven}
@@ -85,7 +85,7 @@ unfolding DataLast
 activate_data_last true = (off, tt)
 activate_data_last false = tt
 
-module _ (s : Shown) (part : List ℕ) where
+module _ (s : StateShown) (part : List ℕ) where
   -- by the act
   pub replies_fit : (a : Act) → Fit s part a → Fitting (replies_of s part a)
   unfolding Fit Fitting replies_of fits

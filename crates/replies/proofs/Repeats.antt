@@ -5,7 +5,7 @@ use Rattle.frames.specs.declared.shared.Task.{Task}
 use Rattle.frames.specs.Write.{FrameValue}
 use Rattle.frames.specs.declared.shapes.HostReg.{HostReg}
 use Rattle.rules.specs.Decide.{bad, fault, tag_asked, entry_for}
-use Rattle.replies.specs.declared.shown.Shown.{Shown}
+use Rattle.replies.specs.StateShown.{StateShown}
 use Rattle.rules.specs.declared.acts.Act.TheVariants.{Accept}
 use Rattle.device_state.proofs.EchoLaws.{echo_task}
 use Rattle.replies.specs.Replies.{good, bad_reply, replies_of}
@@ -13,7 +13,7 @@ use Rattle.replies.specs.Replies.{good, bad_reply, replies_of}
 abbrev one : FrameValue → List FrameValue
 one f = f ∷ []
 
-module _ (s : Shown) (part : List ℕ) (h : HostReg) where
+module _ (s : StateShown) (part : List ℕ) (h : HostReg) where
   -- bad without a halt
   pub bad_repeats : (e : ℕ) → replies_of s part (bad h e) ≡ bad_reply e h.task ∷ []
   unfolding replies_of

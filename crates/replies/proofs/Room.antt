@@ -21,7 +21,7 @@ use Rattle.device_state.specs.declared.shapes.ErrorRecord.{ErrorRecord}
 use Rattle.rules.specs.declared.acts.Queued.{Queued}
 use Rattle.rules.specs.declared.acts.Act.{Act}
 use Rattle.rules.specs.declared.acts.Act.TheVariants.{Nothing, Log10, Log11, Identify, Reset, ZeroCounters, Store, Open, Count}
-use Rattle.replies.specs.declared.shown.Shown.{Shown}
+use Rattle.replies.specs.StateShown.{StateShown}
 use Rattle.replies.specs.Replies.{sweep, sweep_if, activate_if, pio_reply, setup_reply, log_of, page10_of, page11_of, identity_of, log_replies, open_replies, replies_of, sent_bytes, sent_all}
 use Rattle.replies.proofs.Sending.{sent_one, length_sent}
 
@@ -91,7 +91,7 @@ unfolding sent_all joined_bytes
 none_room = omega arith
 
 -- by the act
-pub replies_room : (s : Shown) (part : List ℕ) (a : Act) → length (sent_all (replies_of s part a)) ≤ 8196
+pub replies_room : (s : StateShown) (part : List ℕ) (a : Act) → length (sent_all (replies_of s part a)) ≤ 8196
 unfolding replies_of
 replies_room s part Nothing = none_room
 replies_room s part Reset = none_room

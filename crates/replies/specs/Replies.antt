@@ -14,7 +14,7 @@ use Rattle.identity.specs.Page.{identity_page}
 use Rattle.identity.specs.declared.words.Identity.{Identity}
 use Rattle.device_state.specs.State.{task_in, whole_of}
 use Rattle.device_state.specs.declared.shapes.ErrorRecord.{ErrorRecord}
-use Rattle.replies.specs.declared.shown.Shown.{Shown}
+use Rattle.replies.specs.StateShown.{StateShown}
 use Rattle.rules.specs.declared.acts.Queued.{Queued}
 use Rattle.rules.specs.declared.acts.Act.{Act}
 use Rattle.rules.specs.declared.acts.Act.TheVariants.{Nothing, Bad, BadAndHalt, Accept, Log10, Log11, Identify, Reset, Release, ZeroCounters, Store, Open, Send, Finish, Media, Count, Renew}
@@ -91,7 +91,7 @@ abbrev pub open_replies : Queued → List FrameValue
 open_replies q = (setup_reply q ∷ []) ++ activate_if q.entry.write
 
 -- the replies of an act; `part` is what of the medium it sends, and the rest is looked up in what the state shows [all-sent]
-unfoldable pub replies_of : Shown → List ℕ → Act → List FrameValue
+unfoldable pub replies_of : StateShown → List ℕ → Act → List FrameValue
 replies_of s part Nothing = []
 replies_of s part (Bad b) = bad_reply b.error b.task ∷ []
 replies_of s part (BadAndHalt f) = bad_reply f.error (task_in f.echo) ∷ []

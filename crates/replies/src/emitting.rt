@@ -5,6 +5,7 @@ ghost use Rattle.bits.specs.Pick.{pick};
 ghost use Rattle.replies.specs.Replies.{page10_of, page11_of, identity_of, log_replies, open_replies, replies_of, RepliesGiven};
 ghost use Rattle.replies.specs.Framed.{framed};
 ghost use Rattle.replies.specs.Sends.{Sends};
+ghost use Rattle.replies.specs.StateShown.{state_lent};
 
 use crate::reply::Reply;
 use crate::shown::{Shown, log_of};
@@ -67,7 +68,7 @@ fn put_log(room: &mut [u8], sweep: bool, task: Task, page: Result<Page, Refusal>
 #[inline(never)]
 #[tactic(auto, using(crate::proofs::Sending::page_bytes_pick))]
 fn put_errors(room: &mut [u8], task: &Task, shown: &Shown<'_>) -> usize
-    ensures { Sends (log_replies shown.now.halted task.now (page10_of shown.now.errors)) room.old result room.new }
+    ensures { Sends (log_replies shown.now.halted task.now (page10_of shown.now.errors.now)) room.old result room.new }
 {
     put_log(room, shown.halted, *task, log_of(shown.errors).page())
 }
@@ -75,7 +76,7 @@ fn put_errors(room: &mut [u8], task: &Task, shown: &Shown<'_>) -> usize
 #[inline(never)]
 #[tactic(auto, using(crate::proofs::Sending::page_bytes_pick))]
 fn put_counters(room: &mut [u8], log: &CountersRead, shown: &Shown<'_>) -> usize
-    ensures { Sends (log_replies false log.now.task (page11_of shown.now.mask shown.now.values)) room.old result room.new }
+    ensures { Sends (log_replies false log.now.task (page11_of shown.now.mask shown.now.values.now)) room.old result room.new }
 {
     let page = pages::counters_page(shown.mask, shown.values);
     put_log(room, false, log.task, page)
@@ -93,7 +94,7 @@ fn put_identity(room: &mut [u8], task: &Task, shown: &Shown<'_>) -> usize
 #[inline(always)]
 #[tactic(auto, using(crate::proofs::Sending::sends_nothing), unfolding(crate::specs::Replies::replies_of))]
 fn put_all(room: &mut [u8], act: &Act, shown: &Shown<'_>, part: &[u8]) -> usize
-    ensures { Sends (replies_of shown.now part.now act.now) room.old result room.new }
+    ensures { Sends (replies_of (state_lent shown.now) part.now act.now) room.old result room.new }
 {
     match act {
         Act::Bad(bad) => put(room, Reply::bad(bad.error, bad.task)),
@@ -117,7 +118,7 @@ fn put_all(room: &mut [u8], act: &Act, shown: &Shown<'_>, part: &[u8]) -> usize
 #[inline(always)]
 #[tactic(auto, unfolding(crate::specs::Replies::sent_all, frames::specs::Cut::joined_bytes), using(crate::proofs::Room::replies_room))]
 pub fn emit(reply: &mut [u8], act: &Act, shown: &Shown<'_>, part: &[u8]) -> usize
-    ensures { RepliesGiven (pick (leb 8196 (length reply.old)) (replies_of shown.now part.now act.now) []) reply.old result reply.new }
+    ensures { RepliesGiven (pick (leb 8196 (length reply.old)) (replies_of (state_lent shown.now) part.now act.now) []) reply.old result reply.new }
 {
     if reply.len() < DATA_FRAME_LIMIT {
         return 0;

@@ -8,10 +8,9 @@ use device_state::ErrorRecord;
 use frames::Task;
 use identity::Identity;
 use pages::ErrorLog;
-use std::marker::Model;
 
-/// What replies show of the state. A contract sees the record and the counters themselves.
-#[derive(Debug, Drop)]
+/// What replies show of the state. A contract sees the record and the counters themselves (`state_lent`).
+#[derive(Clone, Copy, Debug)]
 pub struct Shown<'a> {
     /// whether the sweep goes before page 10h
     pub halted: bool,
@@ -23,14 +22,6 @@ pub struct Shown<'a> {
     pub errors: &'a ErrorRecord,
     /// what page 11h shows, by its rows
     pub values: &'a Counters,
-}
-
-impl<'a> Model for Shown<'a> {
-    ghost use Rattle.replies.specs.StateShown.{StateShown};
-
-    ghost Value = { StateShown };
-
-    ghost view = { λ s. record { halted = s.halted; identity = s.identity; mask = s.mask; errors = s.errors.now; values = s.values.now } };
 }
 
 // The record as page 10h shows it.
