@@ -1,10 +1,10 @@
 -- Laws of single bits and masks, over the width and the index. Bit `t` of `m` is `m / 2 ^ t % 2`.
-use Rattle.std.proofs.Common.{◌≡◌, sym, ap, ◌∙◌, ℕ, zero, suc, ◌+◌, ◌-◌, ◌*◌, ◌/◌, ◌%◌, ◌^◌, ◌<◌, min, false, mod-lt, pow-suc, le_of_suc-le-suc, one-add, arith, pow_pos, shr-shr, bit_and, bit_or, ltb}
+use Rattle.std.proofs.Common.{◌≡◌, sym, ap, ◌∙◌, ℕ, zero, suc, ◌+◌, ◌-◌, ◌*◌, ◌/◌, ◌%◌, ◌^◌, ◌≤◌, ◌<◌, min, false, mod-lt, pow-suc, le_of_suc-le-suc, one-add, arith, pow_pos, shr-shr, bit_and, bit_or, ltb}
 use mathlib.Core.Bool.{and-false}
 use native.Mathlib.Nat.{zero-div}
-use Rattle.std.proofs.lemmas.Nat.Bits.{bit_at_or, bit_at_and, bit_at-pow_same, bit_at-pow_other, bit_at-lt}
-use lib.Pow.{split}
-use lib.Bits.{and_block}
+use Rattle.std.proofs.lemmas.Nat.Bits.{bit_at_or, bit_at_and, bit_at-pow_same, bit_at-pow_other, bit_at-lt, bit_at-zero, same_from_bits_below}
+use lib.Pow.{ones_sub-lt, pow-lt, split}
+use lib.Bits.{and_block, and_lt}
 use Rattle.bits.specs.Bit.{bit_in}
 
 -- a mask of two runs: the digits from k on by a, those below by b
@@ -39,3 +39,20 @@ bit_set_other m t k ne = bit_at_or m (2 ^ t) k ∙ omega (arith, bit_at-pow_othe
 
 pub bit_clear : (w m s k : ℕ) → s < 2 ^ w → k < w → bit_and m ((2 ^ w - 1) - s) / 2 ^ k % 2 ≡ min (m / 2 ^ k % 2) (1 - s / 2 ^ k % 2)
 bit_clear w m s k hs hk = bit_at_and m ((2 ^ w - 1) - s) k ∙ ap (min (m / 2 ^ k % 2)) (bit_not w s k hs hk)
+
+pub bit_clear_same : (w m t : ℕ) → t < w → bit_and m ((2 ^ w - 1) - 2 ^ t) / 2 ^ t % 2 ≡ 0
+bit_clear_same w m t h = bit_clear w m (2 ^ t) t (pow-lt h) h ∙ omega (arith, bit_at-pow_same t)
+
+pub bit_clear_other : (w m t k : ℕ) → t < w → k < w → (k ≡ t → ⊥) → bit_and m ((2 ^ w - 1) - 2 ^ t) / 2 ^ k % 2 ≡ m / 2 ^ k % 2
+bit_clear_other w m t k h hk ne = bit_clear w m (2 ^ t) k (pow-lt h) hk ∙ omega (arith, bit_at-pow_other t k ne, bit_at-lt m k)
+
+-- ---- `s & !m == 0`: every bit of s is one of m, and the other way round
+pub subset_bits : (w m s : ℕ) → m < 2 ^ w → bit_and s ((2 ^ w - 1) - m) ≡ 0 → (k : ℕ) → k < w → s / 2 ^ k % 2 ≤ m / 2 ^ k % 2
+subset_bits w m s hm e k hk =
+    let z : bit_and s ((2 ^ w - 1) - m) / 2 ^ k % 2 ≡ 0 = ap (λ (x : ℕ). x / 2 ^ k % 2) e ∙ bit_at-zero k in
+    omega (arith, bit_clear w s m k hm hk, bit_at-lt s k, bit_at-lt m k)
+
+pub bits_subset : (w m s : ℕ) → m < 2 ^ w → s < 2 ^ w → ((k : ℕ) → k < w → s / 2 ^ k % 2 ≤ m / 2 ^ k % 2) → bit_and s ((2 ^ w - 1) - m) ≡ 0
+bits_subset w m s hm hs h =
+    same_from_bits_below w (bit_and s ((2 ^ w - 1) - m)) 0 (and_lt w s ((2 ^ w - 1) - m) hs (ones_sub-lt w m)) (pow_pos w)
+    (λ k hk. let b = h k hk in bit_clear w s m k hm hk ∙ omega (arith, bit_at-zero k, bit_at-lt s k, bit_at-lt m k))
