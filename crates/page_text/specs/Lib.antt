@@ -12,3 +12,4 @@ pub mod Both
 pub mod Fields
 pub mod Counters
 pub mod Identity
+pub mod Given
