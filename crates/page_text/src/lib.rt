@@ -11,6 +11,7 @@ mod giving;
 mod hex_words;
 mod identity_lines;
 mod inputs;
+mod page_bytes;
 mod parsing;
 mod queries;
 mod running;
