@@ -13,6 +13,7 @@ pub mod Starting
 pub mod Statuses
 pub mod Steps
 pub mod TiedErrors
+pub mod TiedKinds
 pub mod TiedRuns
 pub mod TiedScripts
 pub mod Frames

@@ -3,7 +3,7 @@ ghost use Rattle.std.specs.Prelude.{◌≡◌};
 ghost use Rattle.events.specs.Kinds.{kind_named, body_of};
 
 /// The most bytes of an event, its kind among them.
-pub(crate) const EVENT_LIMIT: usize = 20;
+pub const EVENT_LIMIT: usize = 20;
 
 /// How a run ends where nothing fails.
 #[derive(Clone, Copy, Debug, PartialEq, Eq)]
@@ -16,9 +16,9 @@ pub enum InputEnd {
     Refused,
 }
 
-/// The kinds of events.
+/// The kinds of events behind the settings record.
 #[derive(Clone, Copy, Debug, PartialEq, Eq)]
-pub(crate) enum Kind {
+pub enum Kind {
     /// 01h: the device opens a phase.
     OpenPhase,
     /// 02h: it sends the next data frame.
@@ -40,10 +40,10 @@ pub(crate) enum Kind {
 }
 
 impl Kind {
-    /// The kind that a byte names, if it names one.
+    /// The kind that a byte names, if it names one. 00h names none: settings come before events.
     #[inline(always)]
     #[tactic(auto, unfolding(crate::specs::Kinds::kind_named))]
-    pub(crate) fn from_byte(byte: u8) -> Option<Kind>
+    pub fn from_byte(byte: u8) -> Option<Kind>
         ensures { result ≡ kind_named byte }
     {
         match byte {
@@ -61,10 +61,10 @@ impl Kind {
         }
     }
 
-    /// The length of the kind's body.
+    /// The length of the kind's body: the bytes of an event behind its first.
     #[inline(always)]
     #[tactic(auto, unfolding(crate::specs::Kinds::body_of))]
-    pub(crate) fn body_length(self) -> usize
+    pub fn body_length(self) -> usize
         ensures { result ≡ body_of self }
     {
         match self {

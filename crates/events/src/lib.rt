@@ -24,7 +24,7 @@ pub use asked::{Event, first_event};
 pub use by_value::play_by_value;
 pub use ended::{Ended, say};
 pub use errors::RunError;
-pub use kinds::InputEnd;
+pub use kinds::{EVENT_LIMIT, InputEnd, Kind};
 pub use lines::Format;
 pub use plays::play;
 pub use running::{a_run_has_one_text, run};

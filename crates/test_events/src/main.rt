@@ -6,6 +6,7 @@
 mod by_value;
 
 use events::{PIECE, run_aloud};
+use std::env::{Env, FillError};
 use std::io::{BufReader, Read, Write};
 use std::{env, fs, io};
 use streams::Watched;
@@ -54,34 +55,57 @@ fn count_file(rt: HostRuntime, path: &str) -> io::Result<()> {
     )
 }
 
-// Whether the words of the command line ask for the version, and for nothing else.
-fn asks_version(rt: &HostRuntime) -> io::Result<bool> {
-    let mut words = env::args(rt)?.skip(1);
-    let Some(word) = words.next() else {
-        return Ok(false);
+// What the files that are named behind so many words come to by value.
+fn count_files(rt: HostRuntime, words: usize) -> io::Result<()> {
+    for path in env::args(&rt)?.skip(words) {
+        if path.as_str() != "--by-value" {
+            count_file(rt, &path)?;
+        }
+    }
+    Ok(())
+}
+
+// What the file of a name comes to; a name that is no text is that of no file.
+fn run_name(rt: HostRuntime, name: &[u8]) -> io::Result<()> {
+    let mut out = rt.stdout();
+    out.write_all(name)?;
+    out.write_all(b"\n")?;
+    let Ok(path) = str::from_utf8(name) else {
+        return out.write_all(b"cannot be opened\n");
     };
-    Ok(word.as_str() == "--version" && words.next().is_none())
+    run_file(rt, path, false, PIECE)?;
+    run_file(rt, path, true, PIECE)?;
+    run_file(rt, path, false, 23)?;
+    compare_file(rt, path)
+}
+
+// The most bytes of a name. Names end before a word that is longer, or that has no bytes.
+const NAME_LIMIT: usize = 4096;
+
+// The word of the command line at a place, in front of the room; no bytes where names end.
+fn word_at(rt: HostRuntime, place: usize, room: &mut [u8; NAME_LIMIT]) -> &[u8] {
+    let size = rt.arg(place, room).unwrap_or(0);
+    &room[..size]
+}
+
+// Whether the words of the command line ask for the version, and for nothing else.
+fn asks_version(rt: HostRuntime) -> bool {
+    let mut room = [0; NAME_LIMIT];
+    matches!(word_at(rt, 1, &mut room), b"--version")
+        && matches!(rt.arg(2, &mut room), Err(FillError::NotPresent))
 }
 
 fn main(rt: HostRuntime) -> io::Result<()> {
-    if asks_version(&rt)? {
+    if asks_version(rt) {
         return println!(rt; "test_events {VERSION}");
     }
-    let mut counting = false;
-    for path in env::args(&rt)?.skip(1) {
-        if path.as_str() == "--by-value" {
-            counting = true;
-            continue;
+    let mut room = [0; NAME_LIMIT];
+    for place in 1..usize::MAX {
+        match word_at(rt, place, &mut room) {
+            b"" => return Ok(()),
+            b"--by-value" => return count_files(rt, place + 1),
+            name => run_name(rt, name)?,
         }
-        if counting {
-            count_file(rt, &path)?;
-            continue;
-        }
-        println!(rt; "{path}")?;
-        run_file(rt, &path, false, PIECE)?;
-        run_file(rt, &path, true, PIECE)?;
-        run_file(rt, &path, false, 23)?;
-        compare_file(rt, &path)?;
     }
     Ok(())
 }
