@@ -2,4 +2,4 @@
 #![tactic(auto)]
 
 /// The version, as `docs/CHANGES.md` has it.
-pub const VERSION: &str = "0.4.0";
+pub const VERSION: &str = "0.4.1";
